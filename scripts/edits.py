@@ -1,14 +1,20 @@
 #!/usr/bin/env python3
-"""Says of the wrong bodies in crates/*/must-fail what refuses each, and what each changes.
+"""Says of the wrong bodies in crates/*/must-fail and wrong-bodies/* what refuses each, and what each changes.
 
+    scripts/edits.py refused CRATE[/EDIT]..     whether the prover refuses those of wrong-bodies/, which no gate tries
     scripts/edits.py clauses CRATE[/EDIT]..     which clause refuses it: the gate says only that something does
     scripts/edits.py behaviour CRATE[/EDIT]..   the first line that a program of cases prints otherwise
     scripts/edits.py list                       the edits, a line each
 
+The gate tries crates/CRATE/must-fail/*.edit. A crate's first edit costs a whole check of it, so the other wrong bodies
+that were thought of stand in wrong-bodies/CRATE/*.edit, in the same form, and are tried by `refused` where their crate's
+contracts change.
+
 An edit is refused by a clause where the prover's search leaves that clause open, or where, with the proof text of the
 functions that failed set aside, it is open at the wrong body and proved at the right one. What is open at both has to be
 decided by hand: by an input at which the clause's two sides differ. Behaviour is that of the unproved program (`rt try`).
-All is done in a copy of the repository, one edit after another: from a minute to ten for each.
+All is done in a copy of the repository, one edit after another, over what earlier checks kept in out/ of the crates that
+are looked at and of those below: so prove these first. An edit takes from half a minute to ten.
 """
 import argparse
 import pathlib
@@ -26,7 +32,9 @@ class Edit:
     """A wrong body: a file of a crate, and lines of it with what stands in their place."""
 
     def __init__(self, path):
-        self.name, self.crate = path.stem, path.parent.parent.name
+        self.path, self.name = path, path.stem
+        self.is_gated = path.parent.name == "must-fail"
+        self.crate = (path.parent.parent if self.is_gated else path.parent).name
         lines = path.read_text(encoding="utf-8").splitlines()
         self.file = lines[0].removeprefix("file: ")
         self.pairs = [(old.removeprefix("old: "), new.removeprefix("new: ")) for old, new in zip(lines[1::2], lines[2::2])]
@@ -40,7 +48,8 @@ class Edit:
 
 
 def edits_of(top, wanted):
-    found = [Edit(path) for path in sorted(top.glob("crates/*/must-fail/*.edit"))]
+    paths = [*top.glob("crates/*/must-fail/*.edit"), *top.glob("wrong-bodies/*/*.edit")]
+    found = sorted((Edit(path) for path in paths), key=lambda it: (it.crate, it.name))
     return [it for it in found if not wanted or it.crate in wanted or f"{it.crate}/{it.name}" in wanted]
 
 
@@ -95,6 +104,23 @@ def refusal(crate, edit):
         shutil.rmtree(aside, ignore_errors=True)
 
 
+def tried(top, edits):
+    """Tries these edits as the gate tries its own, a crate after the other, and says of each what `rt must-fail` says."""
+    bad = 0
+    for crate in sorted({it.crate for it in edits}):
+        folder = top / "crates" / crate / "must-fail"
+        shutil.rmtree(folder, ignore_errors=True)
+        folder.mkdir()
+        for edit in edits:
+            if edit.crate == crate:
+                shutil.copyfile(edit.path, folder / edit.path.name)
+        ran = subprocess.run(["rt", "must-fail", crate], cwd=top, capture_output=True, text=True, check=False)
+        said = [it for it in ran.stdout.splitlines() if f"must-fail {crate}/" in it]
+        print("\n".join(said or [f"{crate}: {ran.stdout[-300:]}{ran.stderr[-300:]}"]), flush=True)
+        bad += ran.returncode != 0
+    return 1 if bad else 0
+
+
 def stands_on(top):
     """Each crate, with all crates of the repository below it."""
     lines = [it.split("#")[0] for it in (top / "crates.txt").read_text(encoding="utf-8").splitlines()]
@@ -108,6 +134,16 @@ def stands_on(top):
         return found
 
     return {name: below(name, set()) for name in direct}
+
+
+def copy_of(top, folder, crates):
+    """The repository's files in a folder, with what was proved of these crates and of those below them."""
+    shutil.copytree(top, folder, ignore=shutil.ignore_patterns("out", ".git"))
+    below = stands_on(top)
+    for crate in set(crates).union(*(below[it] for it in crates)):
+        kept = top / "crates" / crate / "out"
+        if kept.is_dir():
+            shutil.copytree(kept, folder / "crates" / crate / "out")
 
 
 def printed(folder):
@@ -144,7 +180,7 @@ def change(top, edit):
 
 def main():
     parser = argparse.ArgumentParser(description=__doc__, formatter_class=argparse.RawDescriptionHelpFormatter)
-    parser.add_argument("part", choices=("clauses", "behaviour", "list"))
+    parser.add_argument("part", choices=("refused", "clauses", "behaviour", "list"))
     parser.add_argument("wanted", nargs="*", metavar="CRATE[/EDIT]")
     words = parser.parse_args()
     found = edits_of(TOP, words.wanted)
@@ -153,7 +189,9 @@ def main():
         return 0 if found else 1
     with tempfile.TemporaryDirectory(prefix="edits-") as folder:
         top = pathlib.Path(folder) / "copy"
-        shutil.copytree(TOP, top, ignore=shutil.ignore_patterns("out", ".git"))
+        copy_of(TOP, top, {it.crate for it in found})
+        if words.part == "refused":
+            return tried(top, [it for it in found if not it.is_gated])
         bad = 0
         for edit in found:
             said = refusal(top / "crates" / edit.crate, edit) if words.part == "clauses" else change(top, edit)

@@ -93,8 +93,10 @@ def other_versions(top):
     told = (top / "crates" / "command_line" / "src" / "versions.rt").read_text(encoding="utf-8")
     version, kit = (re.search(rf'const {name}: &str = "(.*)";', told)[1] for name in ("VERSION", "KIT"))
     readme = (top / "README.md").read_text(encoding="utf-8")
-    for kits in sorted(set(re.findall(r"rattle-kit-\w+ logic \w+", readme)) - {kit}):
-        yield f"README.md: has {kits}, and the program says {kit}"
+    for kits in sorted(set(re.findall(r"rattle-kit-\w+ logic \w+", readme))):
+        # The program says a kit without the letter behind its number.
+        if re.sub(r"[a-z]* logic", " logic", kits) != kit:
+            yield f"README.md: has {kits}, and the program says {kit}"
     if f"says the version, {version}," not in readme:
         yield f"README.md: hasn't the version {version}, which the program says"
     packaged = (top / "packaging" / "deb" / "changelog").read_text(encoding="utf-8")

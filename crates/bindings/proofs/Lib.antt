@@ -23,6 +23,7 @@ mod Walks
 mod Dropping
 mod Lived
 mod Renewed
+mod Listed
 mod Timed
 mod Merged
 pub mod Offered

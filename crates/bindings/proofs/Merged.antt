@@ -1,28 +1,27 @@
--- The idle entries are those among the due keys, in the same order.
-use Rattle.std.proofs.Common.{◌≡◌, ℕ, zero, suc, ◌+◌, ◌<◌, ◌≤◌, Bool, true, false, cond, ◌&&◌, Option, Some, None, List, [], ◌∷◌, length, map, get_or, refl, ap, subst, sym, ◌∙◌, arith}
+-- The idle entries are those among the keys that came due, in the same order.
+use Rattle.std.proofs.Common.{◌≡◌, ℕ, suc, Bool, true, false, cond, ◌&&◌, Option, Some, None, List, [], ◌∷◌, refl, ap, subst, sym, ◌∙◌, arith}
 use Rattle.std.specs.List.{filter}
 use Rattle.std.specs.Option.{option_map}
-use Rattle.std.proofs.lemmas.Bool.{cond-true, cond-false, and_parts, le-leb, leb-true}
+use Rattle.std.proofs.lemmas.Bool.{and_parts, le-leb, leb-true}
 use Rattle.nat_types.specs.declared.pairs.Key.{Key}
 use Rattle.nat_types.specs.Same.{same_key}
-use Rattle.nat_types.proofs.Offered.{key-true}
+use Rattle.nat_types.proofs.Offered.{key-eq}
 use Rattle.activity.specs.Lives.{Activity, looks_idle}
 use Rattle.activity.specs.Dues.{due_moment}
 use Rattle.activity.proofs.Offered.{idle-from}
-use Rattle.timers.specs.Due.{is_due, due_from}
-use Rattle.slots.specs.Cells.{cell_of, key_at}
-use Rattle.slots.specs.Dues.{due_keys}
+use Rattle.timers.specs.Due.{is_due}
+use Rattle.slots.specs.Dues.{AreDue}
 use Rattle.slots.specs.Rows.{Row}
 use Rattle.slots.specs.Rows as slots
-use Rattle.slots.proofs.Offered.{places_rise, other_key}
 use Rattle.bindings.specs.declared.entries.Entry.{Entry}
 use Rattle.bindings.specs.declared.store.Item.{Item}
 use Rattle.bindings.specs.Lists.{key_place}
 use Rattle.bindings.specs.Lives.{life_in, may_go, is_idle_row, idle_keys_in, rests_by}
 use Rattle.bindings.specs.Stores.{entries_of, lives_of, AreKeyed}
-use Rattle.bindings.specs.Dues.{AreTimed, may_go_by, is_idle_key, idle_among}
+use Rattle.bindings.specs.Dues.{AreTimed, AreListed, key_times, may_go_by, is_idle_key, idle_among}
 use Rattle.bindings.proofs.Kept.{slot-is, life-is, below-none}
-use Rattle.bindings.proofs.Timed.{item-first, item-next}
+use Rattle.bindings.proofs.Timed.{row-key}
+use Rattle.bindings.proofs.Listed.{times-first, times-other, filter-times, Climbs, Rising, climbs-filter, rising-lower, one-order}
 
 -- an item under a key is idle and may be let go
 abbrev rests_here : Bool → ℕ → Key → Option Item → Bool
@@ -42,167 +41,92 @@ test-is lone now rows key k =
     at None = refl
     at (Some i) = refl
 
--- ---- the keys of the due cells
+-- ---- the keys of the idle entries
 
-filter-same : (p q : Key → Bool) (now first : ℕ) (ms : List (Option ℕ)) → ((d : ℕ) → first ≤ d → p (key_at d) ≡ q (key_at d)) → filter p (map key_at (due_from now first ms)) ≡ filter q (map key_at (due_from now first ms))
-filter-same p q now first [] same = refl
-filter-same p q now first (m ∷ ms) same = at (is_due now m) (filter-same p q now (first + 1) ms (λ d h. same d (omega (arith, h))))
+item-first : (key : Key) (x : Row Item) (rows : List (Row Item)) → same_key x.key key ≡ true → slots.item_of (x ∷ rows) key ≡ Some x.item
+item-first key x rows e = ap (λ b. option_map (λ (r : Row Item). r.item) (cond b (Some x) (slots.row_of rows key))) e
+
+item-next : (key : Key) (x : Row Item) (rows : List (Row Item)) → same_key x.key key ≡ false → slots.item_of (x ∷ rows) key ≡ slots.item_of rows key
+item-next key x rows e = ap (λ b. option_map (λ (r : Row Item). r.item) (cond b (Some x) (slots.row_of rows key))) e
+
+abbrev one_if : Bool → ℕ
+one_if b = cond b 1 0
+
+-- each is listed once
+idle-times : (lone : Bool) (now low : ℕ) (key : Key) (rows : List (Row Item)) → slots.Rises low rows → AreKeyed rows
+    → key_times key (idle_keys_in lone now (entries_of rows) (lives_of rows)) ≡ one_if (row_test lone now rows key)
+idle-times lone now low key [] rises keyed = refl
+idle-times lone now low key (r ∷ rows) rises keyed =
+    at (is_idle_row lone now r.item.entry r.item.life) (same_key r.key key) refl refl (idle-times lone now (suc (key_place r.key)) key rows rises.1 keyed.1)
   where
-    at : (b : Bool) → filter p (map key_at (due_from now (first + 1) ms)) ≡ filter q (map key_at (due_from now (first + 1) ms))
-        → filter p (map key_at (cond b (first ∷ due_from now (first + 1) ms) (due_from now (first + 1) ms))) ≡ filter q (map key_at (cond b (first ∷ due_from now (first + 1) ms) (due_from now (first + 1) ms)))
-    at true ih =
-        let rest = filter p (map key_at (due_from now (first + 1) ms)) in
-        ap (λ b. cond b (key_at first ∷ rest) rest) (same first (omega arith)) ∙ ap (λ ks. cond (q (key_at first)) (key_at first ∷ ks) ks) ih
-    at false ih = ih
-
-filter-none : (p : Key → Bool) (now first : ℕ) (ms : List (Option ℕ)) → ((key : Key) → p key ≡ false) → filter p (map key_at (due_from now first ms)) ≡ []
-filter-none p now first [] none = refl
-filter-none p now first (m ∷ ms) none = at (is_due now m) (filter-none p now (first + 1) ms none)
-  where
-    at : (b : Bool) → filter p (map key_at (due_from now (first + 1) ms)) ≡ [] → filter p (map key_at (cond b (first ∷ due_from now (first + 1) ms) (due_from now (first + 1) ms))) ≡ []
-    at true ih = cond-false (p (key_at first)) _ _ (none (key_at first)) ∙ ih
-    at false ih = ih
-
--- ---- rows and cells
-
--- from this cell on, a row's cell is one of these, and is due where the row is idle
-record IsDueRow (lone : Bool) (now first : ℕ) (ms : List (Option ℕ)) (r : Row Item) : Type 0 where
-  own : key_at (cell_of r.key) ≡ r.key
-  index : ℕ
-  cell : cell_of r.key ≡ first + index
-  within : index < length ms
-  due : is_idle_row lone now r.item.entry r.item.life ≡ true → is_due now (get_or ms index None) ≡ true
-
-abbrev AreDue : Bool → ℕ → ℕ → List (Option ℕ) → List (Row Item) → Type 0
-AreDue lone now first ms [] = Unit {0}
-AreDue lone now first ms (r ∷ rows) = IsDueRow lone now first ms r × AreDue lone now first ms rows
-
--- rows behind the first cell's have later cells
-shift : (lone : Bool) (now first low : ℕ) (m : Option ℕ) (ms : List (Option ℕ)) (rows : List (Row Item)) → slots.Rises low rows → key_place (key_at first) < low → AreDue lone now first (m ∷ ms) rows → AreDue lone now (first + 1) ms rows
-shift lone now first low m ms [] rises h due = tt
-shift lone now first low m ms (r ∷ rows) rises h due =
-    (one due.0.index refl, shift lone now first (suc (key_place r.key)) m ms rows rises.1 (let l = rises.0 in omega (arith, h, l)) due.1)
-  where
-    one : (i : ℕ) → due.0.index ≡ i → IsDueRow lone now (first + 1) ms r
-    one zero e =
-        let c : cell_of r.key ≡ first = (let d = due.0.cell in omega (arith, d, e)) in
-        let place = ap key_place (sym due.0.own ∙ ap key_at c) in
-        let l = rises.0 in
-        absurd (omega (arith, place, l, h))
-    one (suc j) e = record {
-      own = due.0.own;
-      index = j;
-      cell = (let d = due.0.cell in omega (arith, d, e));
-      within = (let w = due.0.within in omega (arith, w, e));
-      due = λ t. subst (λ i. is_due now (get_or (m ∷ ms) i None) ≡ true) e (due.0.due t);
-    }
-
--- what is to be shown, of all rows from a cell on
-abbrev AreMerged : Bool → ℕ → ℕ → List (Option ℕ) → Type 0
-AreMerged lone now first ms =
-    (low : ℕ) (rows : List (Row Item)) → slots.Rises low rows → AreKeyed rows → AreDue lone now first ms rows
-    → idle_keys_in lone now (entries_of rows) (lives_of rows) ≡ filter (row_test lone now rows) (map key_at (due_from now first ms))
-
-merged : (lone : Bool) (now first low : ℕ) (ms : List (Option ℕ)) (rows : List (Row Item)) → slots.Rises low rows → AreKeyed rows → AreDue lone now first ms rows
-    → idle_keys_in lone now (entries_of rows) (lives_of rows) ≡ filter (row_test lone now rows) (map key_at (due_from now first ms))
-merged lone now first low ms [] rises keyed due = sym (filter-none (row_test lone now []) now first ms (λ key. refl))
-merged lone now first low [] (r ∷ rows) rises keyed due = absurd (let w = due.0.within in omega (arith, w))
-merged lone now first low (m ∷ ms) (r ∷ rows) rises keyed due =
-    by (λ low rows rises keyed due. merged lone now (first + 1) low ms rows rises keyed due) due.0.index refl
-  where
-    T : Key → Bool
-    T = row_test lone now (r ∷ rows)
-
-    D : List Key
-    D = map key_at (due_from now (first + 1) ms)
-
     K : List Key
     K = idle_keys_in lone now (entries_of rows) (lives_of rows)
 
-    -- the first cell has the first row
-    here : AreMerged lone now (first + 1) ms → r.key ≡ key_at first → cond (is_idle_row lone now r.item.entry r.item.life) (r.item.entry.pair.key ∷ K) K ≡ filter T (map key_at (due_from now first (m ∷ ms)))
-    here less same = at (is_idle_row lone now r.item.entry r.item.life) (is_due now m) refl refl
-      where
-        test : T (key_at first) ≡ is_idle_row lone now r.item.entry r.item.life
-        test =
-            ap (rests_here lone now (key_at first)) (item-first (key_at first) r rows (key-true r.key (key_at first) same))
-            ∙ ap (λ (q : Key). may_go lone r.item.entry.state && looks_idle q.protocol r.item.life now) (sym same ∙ keyed.0)
+    own : same_key r.item.entry.pair.key key ≡ same_key r.key key
+    own = ap (λ (k : Key). same_key k key) (sym keyed.0)
 
-        later : (d : ℕ) → first + 1 ≤ d → row_test lone now rows (key_at d) ≡ T (key_at d)
-        later d h =
-            let differs = ap (λ (q : Key). same_key q (key_at d)) same ∙ other_key first d (λ e. omega (arith, h, e)) in
-            ap (rests_here lone now (key_at d)) (sym (item-next (key_at d) r rows differs))
+    test : same_key r.key key ≡ true → row_test lone now (r ∷ rows) key ≡ is_idle_row lone now r.item.entry r.item.life
+    test f =
+        ap (rests_here lone now key) (item-first key r rows f)
+        ∙ ap (λ (q : Key). may_go lone r.item.entry.state && looks_idle q.protocol r.item.life now) (sym (key-eq r.key key f) ∙ keyed.0)
 
-        rest : K ≡ filter T D
-        rest =
-            let place = ap key_place same in
-            less (suc (key_place r.key)) rows rises.1 keyed.1 (shift lone now first (suc (key_place r.key)) m ms rows rises.1 (omega (arith, place)) due.1)
-            ∙ filter-same (row_test lone now rows) T now (first + 1) ms later
+    zero : same_key r.key key ≡ true → key_times key K ≡ one_if (row_test lone now rows key) → key_times key K ≡ 0
+    zero f ih =
+        let place = ap key_place (key-eq r.key key f) in
+        let none = below-none (suc (key_place r.key)) rows key rises.1 (omega (arith, place)) in
+        ih ∙ ap (λ (o : Option (Row Item)). one_if (rests_here lone now key (option_map (λ (x : Row Item). x.item) o))) none
 
-        key : r.item.entry.pair.key ≡ key_at first
-        key = sym keyed.0 ∙ same
+    at : (b s : Bool) → is_idle_row lone now r.item.entry r.item.life ≡ b → same_key r.key key ≡ s → key_times key K ≡ one_if (row_test lone now rows key)
+        → key_times key (cond b (r.item.entry.pair.key ∷ K) K) ≡ one_if (row_test lone now (r ∷ rows) key)
+    at true true e f ih = times-first key r.item.entry.pair.key K (own ∙ f) ∙ ap suc (zero f ih) ∙ sym (ap one_if (test f ∙ e))
+    at false true e f ih = zero f ih ∙ sym (ap one_if (test f ∙ e))
+    at true false e f ih = times-other key r.item.entry.pair.key K (own ∙ f) ∙ ih ∙ sym (ap (λ o. one_if (rests_here lone now key o)) (item-next key r rows f))
+    at false false e f ih = ih ∙ sym (ap (λ o. one_if (rests_here lone now key o)) (item-next key r rows f))
 
-        at : (b c : Bool) → is_idle_row lone now r.item.entry r.item.life ≡ b → is_due now m ≡ c → cond b (r.item.entry.pair.key ∷ K) K ≡ filter T (map key_at (cond c (first ∷ due_from now (first + 1) ms) (due_from now (first + 1) ms)))
-        at true true e f = ap (λ q. q ∷ K) key ∙ ap (λ ks. key_at first ∷ ks) rest ∙ sym (cond-true (T (key_at first)) (key_at first ∷ filter T D) (filter T D) (test ∙ e))
-        at false true e f = rest ∙ sym (cond-false (T (key_at first)) (key_at first ∷ filter T D) (filter T D) (test ∙ e))
-        at false false e f = rest
-        at true false e f = absurd (none due.0.index refl)
-          where
-            none : (i : ℕ) → due.0.index ≡ i → ⊥
-            none zero g = (let t = subst (λ j. is_due now (get_or (m ∷ ms) j None) ≡ true) g (due.0.due e) in Rattle.std.proofs.lemmas.Bool.both_ways (is_due now m) f t)
-            none (suc j) g =
-                let c = due.0.cell in
-                let p = places_rise first (cell_of r.key) (omega (arith, c, g)) in
-                let q = ap key_place (sym same) in
-                let o = ap key_place due.0.own in
-                omega (arith, p, q, o)
+-- they stand in order
+idle-rising : (lone : Bool) (now low : ℕ) (rows : List (Row Item)) → slots.Rises low rows → AreKeyed rows → Rising low (idle_keys_in lone now (entries_of rows) (lives_of rows))
+idle-rising lone now low [] rises keyed = tt
+idle-rising lone now low (r ∷ rows) rises keyed = at (is_idle_row lone now r.item.entry r.item.life) (idle-rising lone now (suc (key_place r.key)) rows rises.1 keyed.1)
+  where
+    K : List Key
+    K = idle_keys_in lone now (entries_of rows) (lives_of rows)
 
-    -- no row has the first cell
-    beyond : AreMerged lone now (first + 1) ms → first < cell_of r.key → cond (is_idle_row lone now r.item.entry r.item.life) (r.item.entry.pair.key ∷ K) K ≡ filter T (map key_at (due_from now first (m ∷ ms)))
-    beyond less h = rest ∙ sym (at (is_due now m))
-      where
-        before : key_place (key_at first) < key_place r.key
-        before = (let p = places_rise first (cell_of r.key) h in let o = ap key_place due.0.own in omega (arith, p, o))
+    place : key_place r.key ≡ key_place r.item.entry.pair.key
+    place = ap key_place keyed.0
 
-        up : slots.Rises (key_place r.key) (r ∷ rows)
-        up = (omega arith, rises.1)
+    at : (b : Bool) → Rising (suc (key_place r.key)) K → Rising low (cond b (r.item.entry.pair.key ∷ K) K)
+    at true ih = ((let l = rises.0 in omega (arith, l, place)), subst (λ n. Rising (suc n) K) place ih)
+    at false ih = rising-lower low (suc (key_place r.key)) K (let l = rises.0 in omega (arith, l)) ih
 
-        none : T (key_at first) ≡ false
-        none = ap (λ (o : Option (Row Item)). rests_here lone now (key_at first) (option_map (λ (x : Row Item). x.item) o)) (below-none (key_place r.key) (r ∷ rows) (key_at first) up before)
+-- ---- among the keys that came due
 
-        rest : cond (is_idle_row lone now r.item.entry r.item.life) (r.item.entry.pair.key ∷ K) K ≡ filter T D
-        rest = less low (r ∷ rows) rises keyed (shift lone now first (key_place r.key) m ms (r ∷ rows) up before due)
-
-        at : (c : Bool) → filter T (map key_at (cond c (first ∷ due_from now (first + 1) ms) (due_from now (first + 1) ms))) ≡ filter T D
-        at true = cond-false (T (key_at first)) (key_at first ∷ filter T D) (filter T D) none
-        at false = refl
-
-    by : AreMerged lone now (first + 1) ms → (i : ℕ) → due.0.index ≡ i → cond (is_idle_row lone now r.item.entry r.item.life) (r.item.entry.pair.key ∷ K) K ≡ filter T (map key_at (due_from now first (m ∷ ms)))
-    by less zero e = here less (sym due.0.own ∙ ap key_at (let c = due.0.cell in omega (arith, c, e)))
-    by less (suc j) e = beyond less (let c = due.0.cell in omega (arith, c, e))
-
-are-due : (lone : Bool) (now : ℕ) (dues : List (Option ℕ)) (rows : List (Row Item)) → length dues ≡ 196608 → AreKeyed rows → AreTimed lone dues rows → AreDue lone now 0 dues rows
-are-due lone now dues [] count keyed timed = tt
-are-due lone now dues (r ∷ rows) count keyed timed = (
-  record {
-    own = timed.0.own;
-    index = cell_of r.key;
-    cell = omega arith;
-    within = (let w = timed.0.within in omega (arith, w, count));
-    due = λ t.
-        let parts = and_parts (may_go lone r.item.entry.state) (looks_idle r.item.entry.pair.key.protocol r.item.life now) t in
-        let w = timed.0.timed parts.0 in
-        let rests = ap (λ (q : Key). looks_idle q.protocol r.item.life now) keyed.0 ∙ parts.1 in
-        let late = leb-true (due_moment r.key.protocol r.item.life) now (sym (idle-from r.key.protocol r.item.life now) ∙ rests) in
+-- an idle entry's key came due
+once : (lone : Bool) (now : ℕ) (moments : List (Option ℕ)) (found : List ℕ) (keys : List Key) (rows : List (Row Item)) (key : Key) → AreTimed lone moments rows → AreDue now moments found → AreListed rows found keys
+    → row_test lone now rows key ≡ true → key_times key keys ≡ 1
+once lone now moments found keys rows key timed due listed e = by (slots.row_of rows key) refl
+  where
+    by : (o : Option (Row Item)) → slots.row_of rows key ≡ o → key_times key keys ≡ 1
+    by None h = (let none = sym (ap (λ (o : Option (Row Item)). rests_here lone now key (option_map (λ (x : Row Item). x.item) o)) h) ∙ e in absurd (cc))
+    by (Some r) h =
+        let is : rests_here lone now key (Some r.item) ≡ true = sym (ap (λ (o : Option (Row Item)). rests_here lone now key (option_map (λ (x : Row Item). x.item) o)) h) ∙ e in
+        let parts = and_parts (may_go lone r.item.entry.state) (looks_idle key.protocol r.item.life now) is in
+        let w = timed key r h parts.0 in
+        let late = leb-true (due_moment key.protocol r.item.life) now (sym (idle-from key.protocol r.item.life now) ∙ parts.1) in
+        let own = ap (λ (k : Key). due_moment k.protocol r.item.life) (row-key rows key r h) in
         let early = w.2 in
-        ap (is_due now) w.1 ∙ le-leb w.0 now (omega (arith, late, early));
-  },
-  are-due lone now dues rows count keyed.1 timed.1,
-)
+        let has-come : is_due now (Some w.0) ≡ true = le-leb w.0 now (omega (arith, late, early, own)) in
+        listed key r.number (ap (option_map (λ (x : Row Item). x.number)) h) ∙ due r.number.0 ∙ ap (λ (o : Option ℕ). cond {A = ℕ} (is_due now o) 1 0) w.1 ∙ ap one_if has-come
 
--- all idle entries are among the due keys, and those of the due keys are all
-pub idle-among : (lone : Bool) (now : ℕ) (dues : List (Option ℕ)) (rows : List (Row Item)) → length dues ≡ 196608 → slots.Rises 0 rows → AreKeyed rows → AreTimed lone dues rows
-    → idle_keys_in lone now (entries_of rows) (lives_of rows) ≡ idle_among lone now (entries_of rows) (lives_of rows) (due_keys now dues)
-idle-among lone now dues rows count rises keyed timed =
-    merged lone now 0 0 dues rows rises keyed (are-due lone now dues rows count keyed timed)
-    ∙ filter-same (row_test lone now rows) (is_idle_key lone now (entries_of rows) (lives_of rows)) now 0 dues (λ d h. sym (test-is lone now rows (key_at d) keyed))
+-- all idle entries are among the keys that came due, and those of these keys are all
+pub idle-among : (lone : Bool) (now : ℕ) (moments : List (Option ℕ)) (found : List ℕ) (keys : List Key) (rows : List (Row Item)) → slots.Rises 0 rows → AreKeyed rows → AreTimed lone moments rows
+    → AreDue now moments found → AreListed rows found keys → Climbs 0 keys → idle_keys_in lone now (entries_of rows) (lives_of rows) ≡ idle_among lone now (entries_of rows) (lives_of rows) keys
+idle-among lone now moments found keys rows rises keyed timed due listed climbs =
+    one-order 0 (filter T keys) (idle_keys_in lone now (entries_of rows) (lives_of rows)) (climbs-filter 0 T keys climbs) (idle-rising lone now 0 rows rises keyed) (λ key.
+    filter-times T key keys ∙ ap (λ b. cond b (key_times key keys) 0) (test-is lone now rows key keyed) ∙ at key (row_test lone now rows key) refl ∙ sym (idle-times lone now 0 key rows rises keyed))
+  where
+    T : Key → Bool
+    T = is_idle_key lone now (entries_of rows) (lives_of rows)
+
+    at : (key : Key) (b : Bool) → row_test lone now rows key ≡ b → cond b (key_times key keys) 0 ≡ one_if b
+    at key true e = once lone now moments found keys rows key timed due listed e
+    at key false e = refl

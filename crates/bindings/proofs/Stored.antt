@@ -22,30 +22,35 @@ use Rattle.bindings.specs.Stores.{Store, entries_of, lives_of, one_of, AreKeyed,
 use Rattle.bindings.proofs.Kept.{slot-is, life-is, entry-is, after-is, own-row, rises-up, keyed-put, entries-put, number-put, keyed-without, entries-without, rows-without_none}
 use Rattle.bindings.proofs.Changes.{keyed-with, entries-turned, entries-same, lives-same, lives-changed, lives-nowhere, number-with, number-same, number-without}
 use Rattle.bindings.proofs.Counts.{lost_by, count-put, count-without, count-turned}
+use Rattle.bindings.proofs.Slots.{slot-key}
 use Rattle.bindings.proofs.Walks.{rises-distinct}
 
 -- what callers see of slots and an index
-abbrev pub seen : PortSlots Item → EndpointIndex Hashers → Store
-seen slots index = record { entries = entries_of slots.rows; lives = lives_of slots.rows; room = slots.room; spare = index.spare; hashers = index.hasher }
+abbrev pub seen : PortSlots Item → EndpointIndex Hashers → List Key → Store
+seen slots index found = record { entries = entries_of slots.rows; lives = lives_of slots.rows; room = slots.room; spare = index.spare; hashers = index.hasher; found = found }
 
 -- the entry of a key's item is the key's
 pub held-by : (rows : List (Row Item)) (key : Key) (i : Item) → AreKeyed rows → slots.item_of rows key ≡ Some i → slot_of (entries_of rows) key ≡ Some i.entry
 held-by rows key i k h = slot-is rows key k ∙ ap (option_map (λ (z : Item). z.entry)) h
 
+-- and has the key
+pub item-key : (rows : List (Row Item)) (key : Key) (i : Item) → AreKeyed rows → slots.item_of rows key ≡ Some i → i.entry.pair.key ≡ key
+item-key rows key i k h = slot-key (entries_of rows) key i.entry (held-by rows key i k h)
+
 cancelled : (m n p q k : ℕ) → m ≡ n + k → m ≡ p → p ≡ q + k → n ≡ q
 cancelled m n p q k h g f = omega (arith, h, g, f)
 
 -- a key's life was changed, or there was none
-pub changed-life : (old new : PortSlots Item) (index : EndpointIndex Hashers) (key : Key) (g : Activity → Activity) → IsIndexed old.rows index → slots.Rises 0 old.rows
+pub changed-life : (old new : PortSlots Item) (index : EndpointIndex Hashers) (found : List Key) (key : Key) (g : Activity → Activity) → IsIndexed old.rows index → slots.Rises 0 old.rows
     → ((i : Item) → slots.item_of old.rows key ≡ Some i → new ≡ record old { rows = slots.with_item key (record i { life = g i.life }) old.rows }) → (slots.item_of old.rows key ≡ None → new ≡ old)
-    → IsIndexed new.rows index × (seen new index ≡ record (seen old index) { lives = lives_with g key (entries_of old.rows) (lives_of old.rows) })
-changed-life old new index key g k r some none = by (slots.item_of old.rows key) refl
+    → IsIndexed new.rows index × (seen new index found ≡ record (seen old index found) { lives = lives_with g key (entries_of old.rows) (lives_of old.rows) })
+changed-life old new index found key g k r some none = by (slots.item_of old.rows key) refl
   where
-    by : (o : Option Item) → slots.item_of old.rows key ≡ o → IsIndexed new.rows index × (seen new index ≡ record (seen old index) { lives = lives_with g key (entries_of old.rows) (lives_of old.rows) })
+    by : (o : Option Item) → slots.item_of old.rows key ≡ o → IsIndexed new.rows index × (seen new index found ≡ record (seen old index found) { lives = lives_with g key (entries_of old.rows) (lives_of old.rows) })
     by None e =
         let same = none e in (
           rw same k,
-          rw same (ap (λ ls. (let s : Store = record { entries = entries_of old.rows; lives = ls; room = old.room; spare = index.spare; hashers = index.hasher } in s)) (lives-nowhere key g old.rows k.keyed e)),
+          rw same (ap (λ ls. (let s : Store = record { entries = entries_of old.rows; lives = ls; room = old.room; spare = index.spare; hashers = index.hasher; found = found } in s)) (lives-nowhere key g old.rows k.keyed e)),
         )
     by (Some i) e =
         let t : Item = record i { life = g i.life } in

@@ -1,222 +1,160 @@
 -- What changes of the rows and of the moments leave of their being looked at in time.
-use Rattle.std.proofs.Common.{◌≡◌, ℕ, zero, suc, ◌<◌, ◌⊎◌, inl, inr, Bool, true, false, not, ◌&&◌, cond, nat_lt, nat_le, Option, Some, None, List, [], ◌∷◌, map, slice_set, refl, ap, subst, sym, ◌∙◌, arith}
-use Rattle.std.specs.List.{Contains}
+use Rattle.std.proofs.Common.{◌≡◌, ℕ, ◌≤◌, Bool, true, false, not, ◌&&◌, ◌||◌, cond, nat_lt, nat_le, Option, Some, None, List, [], ◌∷◌, map, refl, ap, sym, ◌∙◌, arith}
 use Rattle.std.specs.Option.{option_map}
 use Rattle.std.proofs.Math.ListN.{get_or-map}
-use Rattle.std.proofs.lemmas.Bool.{cond-true, cond-false, both_ways, cases_Bool}
-use Rattle.std.proofs.lemmas.List.{get_or-set_other}
-use Rattle.std.proofs.lemmas.List.Elements.{Contains-append_cases, Contains-append_right, Contains-push_cases}
+use Rattle.std.proofs.lemmas.Bool.{cond-false, both_ways, leb-true}
 use Rattle.nat_types.specs.declared.pairs.EntryState.{EntryState}
 use Rattle.nat_types.specs.declared.pairs.EntryState.TheVariants.{Pending, Doomed, Live, Closing, Held}
 use Rattle.nat_types.specs.declared.pairs.Key.{Key}
 use Rattle.nat_types.specs.Same.{same_key}
-use Rattle.nat_types.proofs.Offered.{key-eq, key-true, key-self}
-use Rattle.timers.specs.Due.{is_due, cleared, due_slots}
-use Rattle.timers.proofs.Offered.{listed-due}
-use Rattle.slots.specs.Cells.{cell_of, key_at}
-use Rattle.slots.specs.Dues.{due_keys}
+use Rattle.nat_types.proofs.Offered.{key-eq, key-true}
+use Rattle.timers.specs.Due.{is_due, cleared}
+use Rattle.activity.specs.Dues.{due_moment}
+use Rattle.slots.specs.Dues.{AreDue, moment_of}
+use Rattle.slots.specs.declared.numbers.SlotNumber.{SlotNumber}
 use Rattle.slots.specs.Rows.{Row}
 use Rattle.slots.specs.Rows as slots
-use Rattle.slots.proofs.Offered.{with-absent}
 use Rattle.bindings.specs.declared.entries.Entry.{Entry}
 use Rattle.bindings.specs.declared.store.Item.{Item}
-use Rattle.bindings.specs.Lists.{key_place}
-use Rattle.bindings.specs.Lives.{may_go}
+use Rattle.bindings.specs.Lives.{may_go, is_among}
 use Rattle.bindings.specs.Stores.{entries_of, AreKeyed}
-use Rattle.bindings.specs.Dues.{IsTimed, IsTimedRow, AreTimed, AreTimedBut, KeepsDues}
-use Rattle.bindings.proofs.Found.{find-none}
-use Rattle.bindings.proofs.Kept.{below-none}
+use Rattle.bindings.specs.Dues.{IsTimed, IsTimedAt, AreTimed, AreTimedBut, KeepsDues, AreListed}
+use Rattle.bindings.proofs.Found.{find-passes}
+use Rattle.bindings.proofs.Listed.{none-listed}
+
+-- ---- which row stands under a key
+
+pub row-key : (rows : List (Row Item)) (key : Key) (r : Row Item) → slots.row_of rows key ≡ Some r → r.key ≡ key
+row-key rows key r h = key-eq r.key key (find-passes (slots.has_key key) rows r h)
+
+differs : (key q : Key) → same_key key q ≡ false → q ≡ key → ⊥
+differs key q e same = both_ways (same_key key q) e (key-true key q (sym same))
+
+row-put : (r : Row Item) (rows : List (Row Item)) (q : Key) → same_key r.key q ≡ false → slots.row_of (slots.put_in r rows) q ≡ slots.row_of rows q
+row-put r [] q e = cond-false (same_key r.key q) (Some r) None e
+row-put r (x ∷ rows) q e = by (nat_lt (slots.key_place r.key) (slots.key_place x.key)) (row-put r rows q e)
+  where
+    by : (b : Bool) → slots.row_of (slots.put_in r rows) q ≡ slots.row_of rows q → slots.row_of (cond b (r ∷ x ∷ rows) (x ∷ slots.put_in r rows)) q ≡ slots.row_of (x ∷ rows) q
+    by true ih = cond-false (same_key r.key q) (Some r) (slots.row_of (x ∷ rows) q) e
+    by false ih = ap (cond (same_key x.key q) (Some x)) ih
+
+other-row : (key q : Key) (x : Row Item) → same_key key q ≡ false → same_key x.key key ≡ true → same_key x.key q ≡ false
+other-row key q x e f = ap (λ (k : Key). same_key k q) (key-eq x.key key f) ∙ e
+
+row-with : (key : Key) (t : Item) (rows : List (Row Item)) (q : Key) → same_key key q ≡ false → slots.row_of (slots.with_item key t rows) q ≡ slots.row_of rows q
+row-with key t [] q e = refl
+row-with key t (x ∷ rows) q e = by (same_key x.key key) refl (row-with key t rows q e)
+  where
+    by : (b : Bool) → same_key x.key key ≡ b → slots.row_of (slots.with_item key t rows) q ≡ slots.row_of rows q → slots.row_of (cond b (record x { item = t }) x ∷ slots.with_item key t rows) q ≡ slots.row_of (x ∷ rows) q
+    by true f ih =
+        let other = other-row key q x e f in
+        cond-false (same_key x.key q) (Some (record x { item = t })) (slots.row_of (slots.with_item key t rows) q) other ∙ ih ∙ sym (cond-false (same_key x.key q) (Some x) (slots.row_of rows q) other)
+    by false f ih = ap (cond (same_key x.key q) (Some x)) ih
+
+row-without : (key : Key) (rows : List (Row Item)) (q : Key) → same_key key q ≡ false → slots.row_of (slots.without key rows) q ≡ slots.row_of rows q
+row-without key [] q e = refl
+row-without key (x ∷ rows) q e = by (same_key x.key key) refl (row-without key rows q e)
+  where
+    by : (b : Bool) → same_key x.key key ≡ b → slots.row_of (slots.without key rows) q ≡ slots.row_of rows q → slots.row_of (cond (not b) (x ∷ slots.without key rows) (slots.without key rows)) q ≡ slots.row_of (x ∷ rows) q
+    by true f ih = ih ∙ sym (cond-false (same_key x.key q) (Some x) (slots.row_of rows q) (other-row key q x e f))
+    by false f ih = ap (cond (same_key x.key q) (Some x)) ih
+
+none-without : (key : Key) (rows : List (Row Item)) → slots.row_of (slots.without key rows) key ≡ None
+none-without key [] = refl
+none-without key (x ∷ rows) = by (same_key x.key key) refl (none-without key rows)
+  where
+    by : (b : Bool) → same_key x.key key ≡ b → slots.row_of (slots.without key rows) key ≡ None → slots.row_of (cond (not b) (x ∷ slots.without key rows) (slots.without key rows)) key ≡ None
+    by true f ih = ih
+    by false f ih = cond-false (same_key x.key key) (Some x) (slots.row_of (slots.without key rows) key) f ∙ ih
 
 -- ---- one key
 
--- the moment of a key is set: those of the others stay
-pub keeps-set : (key : Key) (dues : List (Option ℕ)) (v : Option ℕ) → key_at (cell_of key) ≡ key → KeepsDues key dues (slice_set dues (cell_of key) v)
-keeps-set key dues v own q mine differs =
-    get_or-set_other dues (cell_of key) (cell_of q) v None (λ e. differs (sym mine ∙ ap key_at e ∙ own))
+-- a key's slot is due in time
+pub timed-by : (alone : Bool) (rows : List (Row Item)) (key : Key) (n : SlotNumber) (i : Item) (moments : List (Option ℕ)) (m : ℕ) → slots.number_of rows key ≡ Some n → slots.item_of rows key ≡ Some i
+    → moment_of moments n ≡ Some m → m ≤ due_moment key.protocol i.life → IsTimedAt alone moments rows key
+timed-by alone rows key n i moments m has holds is early r h go =
+    let some : Some r.number ≡ Some n = sym (ap (option_map (λ (x : Row Item). x.number)) h) ∙ has in
+    let thing : Some r.item ≡ Some i = sym (ap (option_map (λ (x : Row Item). x.item)) h) ∙ holds in
+    let number : r.number ≡ n = cc in
+    let item : r.item ≡ i = cc in
+    let own = ap (λ (k : Key). due_moment k.protocol r.item.life) (row-key rows key r h) in
+    let same = ap (λ (x : Item). due_moment key.protocol x.life) item in
+    (m, ap (moment_of moments) number ∙ is, omega (arith, early, own, same))
 
-pub keeps-same : (key : Key) (dues : List (Option ℕ)) → KeepsDues key dues dues
-keeps-same key dues q own differs = refl
+-- a slot that is due has a moment
+pub due-by : (now : ℕ) (o : Option ℕ) → is_due now o ≡ true → (m : ℕ) × (o ≡ Some m) × (m ≤ now)
+due-by now None h = absurd (cc)
+due-by now (Some m) h = (m, refl, leb-true m now h)
 
-kept-row : (alone : Bool) (key : Key) (old new : List (Option ℕ)) (r : Row Item) → KeepsDues key old new → (r.key ≡ key → ⊥) → IsTimedRow alone old r → IsTimedRow alone new r
-kept-row alone key old new r keeps differs timed = record {
-  own = timed.own;
-  within = timed.within;
-  timed = λ t. (let w = timed.timed t in (w.0, keeps r.key timed.own differs ∙ w.1, w.2));
-}
+-- ---- one key's row changes
 
--- rows of other keys
-pub elsewhere : (alone : Bool) (key : Key) (old new : List (Option ℕ)) (rows : List (Row Item)) → KeepsDues key old new → slots.row_of rows key ≡ None → AreTimed alone old rows → AreTimed alone new rows
-elsewhere alone key old new [] keeps none timed = tt
-elsewhere alone key old new (r ∷ rows) keeps none timed =
-    let parts = find-none (slots.has_key key) r rows none in
-    (kept-row alone key old new r keeps (λ e. both_ways (same_key r.key key) parts.0 (key-true r.key key e)) timed.0, elsewhere alone key old new rows keeps parts.1 timed.1)
-
--- ---- one more row
-
-put-timed : (alone : Bool) (dues : List (Option ℕ)) (r : Row Item) (rows : List (Row Item)) → IsTimedRow alone dues r → AreTimed alone dues rows → AreTimed alone dues (slots.put_in r rows)
-put-timed alone dues r [] row timed = (row, tt)
-put-timed alone dues r (x ∷ rows) row timed = by (nat_lt (slots.key_place r.key) (slots.key_place x.key)) (put-timed alone dues r rows row timed.1)
+-- the other keys' rows stay, and that key is looked at in time
+kept-timed : (alone : Bool) (key : Key) (old new : List (Option ℕ)) (rows rows2 : List (Row Item)) → ((q : Key) → same_key key q ≡ false → slots.row_of rows2 q ≡ slots.row_of rows q)
+    → KeepsDues rows2 key old new → IsTimedAt alone new rows2 key → AreTimed alone old rows → AreTimed alone new rows2
+kept-timed alone key old new rows rows2 others keeps set timed q r h go = by (same_key key q) refl
   where
-    by : (b : Bool) → AreTimed alone dues (slots.put_in r rows) → AreTimed alone dues (cond b (r ∷ x ∷ rows) (x ∷ slots.put_in r rows))
-    by true ih = (row, timed)
-    by false ih = (timed.0, ih)
+    by : (b : Bool) → same_key key q ≡ b → IsTimed new r
+    by true e = set r (ap (slots.row_of rows2) (key-eq key q e) ∙ h) go
+    by false e =
+        let w = timed q r (sym (others q e) ∙ h) go in
+        (w.0, keeps q r.number (ap (option_map (λ (x : Row Item). x.number)) h) (differs key q e) ∙ w.1, w.2)
 
-item-put : (r : Row Item) (rows : List (Row Item)) → slots.row_of rows r.key ≡ None → slots.row_of (slots.put_in r rows) r.key ≡ Some r
-item-put r [] none = cond-true (same_key r.key r.key) (Some r) None (key-self r.key)
-item-put r (x ∷ rows) none = by (nat_lt (slots.key_place r.key) (slots.key_place x.key)) (item-put r rows parts.1)
+pub added-timed : (alone : Bool) (old new : List (Option ℕ)) (r : Row Item) (rows : List (Row Item)) → KeepsDues (slots.put_in r rows) r.key old new → IsTimedAt alone new (slots.put_in r rows) r.key
+    → AreTimed alone old rows → AreTimed alone new (slots.put_in r rows)
+added-timed alone old new r rows = kept-timed alone r.key old new rows (slots.put_in r rows) (row-put r rows)
+
+-- a key's item was changed, or there was none
+pub changed-timed : (alone : Bool) (key : Key) (change : Item → Item) (old new : List (Option ℕ)) (rows rows2 : List (Row Item))
+    → ((i : Item) → slots.item_of rows key ≡ Some i → rows2 ≡ slots.with_item key (change i) rows) → (slots.item_of rows key ≡ None → rows2 ≡ rows)
+    → KeepsDues rows2 key old new → IsTimedAt alone new rows2 key → AreTimed alone old rows → AreTimed alone new rows2
+changed-timed alone key change old new rows rows2 some none = kept-timed alone key old new rows rows2 (λ q e. by q e (slots.item_of rows key) refl)
   where
-    parts : (same_key x.key r.key ≡ false) × (slots.row_of rows r.key ≡ None)
-    parts = find-none (slots.has_key r.key) x rows none
+    by : (q : Key) → same_key key q ≡ false → (o : Option Item) → slots.item_of rows key ≡ o → slots.row_of rows2 q ≡ slots.row_of rows q
+    by q e None f = ap (λ rs. slots.row_of rs q) (none f)
+    by q e (Some i) f = ap (λ rs. slots.row_of rs q) (some i f) ∙ row-with key (change i) rows q e
 
-    by : (b : Bool) → slots.row_of (slots.put_in r rows) r.key ≡ Some r → slots.row_of (cond b (r ∷ x ∷ rows) (x ∷ slots.put_in r rows)) r.key ≡ Some r
-    by true ih = cond-true (same_key r.key r.key) (Some r) (slots.row_of (x ∷ rows) r.key) (key-self r.key)
-    by false ih = cond-false (same_key x.key r.key) (Some x) (slots.row_of (slots.put_in r rows) r.key) parts.0 ∙ ih
-
-pub added-timed : (alone : Bool) (old new : List (Option ℕ)) (r : Row Item) (rows : List (Row Item)) → slots.row_of rows r.key ≡ None → key_at (cell_of r.key) ≡ r.key → cell_of r.key < 196608 → KeepsDues r.key old new
-    → ((i : Item) → slots.item_of (slots.put_in r rows) r.key ≡ Some i → may_go alone i.entry.state ≡ true → IsTimed new r.key i.life) → AreTimed alone old rows → AreTimed alone new (slots.put_in r rows)
-added-timed alone old new r rows none own within keeps set timed =
-    let there = ap (option_map (λ (x : Row Item). x.item)) (item-put r rows none) in
-    put-timed alone new r rows (record { own = own; within = within; timed = set r.item there }) (elsewhere alone r.key old new rows keeps none timed)
-
--- ---- one row less
-
-pub without-timed : (alone : Bool) (key : Key) (dues : List (Option ℕ)) (rows : List (Row Item)) → AreTimed alone dues rows → AreTimed alone dues (slots.without key rows)
-without-timed alone key dues [] timed = tt
-without-timed alone key dues (x ∷ rows) timed = by (not (same_key x.key key)) (without-timed alone key dues rows timed.1)
+pub without-timed : (alone : Bool) (key : Key) (moments : List (Option ℕ)) (rows : List (Row Item)) → AreTimed alone moments rows → AreTimed alone moments (slots.without key rows)
+without-timed alone key moments rows timed q r h go = by (same_key key q) refl
   where
-    by : (b : Bool) → AreTimed alone dues (slots.without key rows) → AreTimed alone dues (cond b (x ∷ slots.without key rows) (slots.without key rows))
-    by true ih = (timed.0, ih)
-    by false ih = ih
+    by : (b : Bool) → same_key key q ≡ b → IsTimed moments r
+    by true e = (let none = sym (ap (slots.row_of (slots.without key rows)) (key-eq key q e)) ∙ none-without key rows in absurd (cc))
+    by false e = timed q r (sym (row-without key rows q e) ∙ h) go
 
--- ---- another item
-
-none-behind : (low : ℕ) (key : Key) (x : Row Item) (rows : List (Row Item)) → slots.Rises low (x ∷ rows) → same_key x.key key ≡ true → slots.row_of rows key ≡ None
-none-behind low key x rows r e =
-    let here = ap key_place (key-eq x.key key e) in
-    below-none (suc (key_place x.key)) rows key r.1 (omega (arith, here))
-
-pub item-first : (key : Key) (x : Row Item) (rows : List (Row Item)) → same_key x.key key ≡ true → slots.item_of (x ∷ rows) key ≡ Some x.item
-item-first key x rows e = ap (λ b. option_map (λ (r : Row Item). r.item) (cond b (Some x) (slots.row_of rows key))) e
-
-pub item-next : (key : Key) (x : Row Item) (rows : List (Row Item)) → same_key x.key key ≡ false → slots.item_of (x ∷ rows) key ≡ slots.item_of rows key
-item-next key x rows e = ap (λ b. option_map (λ (r : Row Item). r.item) (cond b (Some x) (slots.row_of rows key))) e
-
-item-with : (low : ℕ) (key : Key) (t i : Item) (rows : List (Row Item)) → slots.item_of rows key ≡ Some i → slots.item_of (slots.with_item key t rows) key ≡ Some t
-item-with low key t i [] h = absurd (cc)
-item-with low key t i (x ∷ rows) h = by (same_key x.key key) refl (item-with low key t i rows)
-  where
-    by : (b : Bool) → same_key x.key key ≡ b → (slots.item_of rows key ≡ Some i → slots.item_of (slots.with_item key t rows) key ≡ Some t) → slots.item_of (slots.with_item key t (x ∷ rows)) key ≡ Some t
-    by true e ih = rw e (item-first key (record x { item = t }) (slots.with_item key t rows) e)
-    by false e ih = rw e (item-next key x (slots.with_item key t rows) e ∙ ih (sym (item-next key x rows e) ∙ h))
-
-pub with-timed : (alone : Bool) (low : ℕ) (key : Key) (t i : Item) (old new : List (Option ℕ)) (rows : List (Row Item)) → slots.Rises low rows → slots.item_of rows key ≡ Some i → KeepsDues key old new
-    → (may_go alone t.entry.state ≡ true → IsTimed new key t.life) → AreTimed alone old rows → AreTimed alone new (slots.with_item key t rows)
-with-timed alone low key t i old new [] rises h keeps set timed = absurd (cc)
-with-timed alone low key t i old new (x ∷ rows) rises h keeps set timed =
-    by (same_key x.key key) refl (λ there. with-timed alone (suc (key_place x.key)) key t i old new rows rises.1 there keeps set timed.1)
-  where
-    by : (b : Bool) → same_key x.key key ≡ b → (slots.item_of rows key ≡ Some i → AreTimed alone new (slots.with_item key t rows)) → AreTimed alone new (cond (same_key x.key key) (record x { item = t }) x ∷ slots.with_item key t rows)
-    by true e ih =
-        let none = none-behind low key x rows rises e in
-        let same : x.key ≡ key = key-eq x.key key e in
-        rw (e, with-absent key t rows none) (
-          record {
-            own = timed.0.own;
-            within = timed.0.within;
-            timed = λ p. subst (λ (q : Key). IsTimed new q t.life) (sym same) (set p);
-          },
-          elsewhere alone key old new rows keeps none timed.1,
-        )
-    by false e ih =
-        rw e (
-          kept-row alone key old new x keeps (λ s. both_ways (same_key x.key key) e (key-true x.key key s)) timed.0,
-          ih (sym (item-next key x rows e) ∙ h),
-        )
-
--- a key's item was changed, or there was none, and the key is due in time
-pub changed-timed : (alone : Bool) (key : Key) (change : Item → Item) (old new : List (Option ℕ)) (rows rows2 : List (Row Item)) → slots.Rises 0 rows
-    → ((i : Item) → slots.item_of rows key ≡ Some i → rows2 ≡ slots.with_item key (change i) rows) → (slots.item_of rows key ≡ None → rows2 ≡ rows) → KeepsDues key old new
-    → ((i : Item) → slots.item_of rows2 key ≡ Some i → may_go alone i.entry.state ≡ true → IsTimed new key i.life) → AreTimed alone old rows → AreTimed alone new rows2
-changed-timed alone key change old new rows rows2 rises some none keeps set timed = by (slots.item_of rows key) refl
-  where
-    absent : (o : Option (Row Item)) → option_map (λ (r : Row Item). r.item) o ≡ None → o ≡ None
-    absent None h = refl
-    absent (Some r) h = cc
-
-    by : (o : Option Item) → slots.item_of rows key ≡ o → AreTimed alone new rows2
-    by None e = rw (none e) (elsewhere alone key old new rows keeps (absent (slots.row_of rows key) e) timed)
-    by (Some i) e =
-        let is = some i e in
-        let there : slots.item_of rows2 key ≡ Some (change i) = ap (λ rs. slots.item_of rs key) is ∙ item-with 0 key (change i) i rows e in
-        rw is (with-timed alone 0 key (change i) i old new rows rises e keeps (set (change i) there) timed)
+pub none-timed : (alone : Bool) (moments : List (Option ℕ)) → AreTimed alone moments []
+none-timed alone moments key r h go = absurd (cc)
 
 -- ---- all that came due
 
-contains-cons : (key q : Key) (keys : List Key) → Contains (key ∷ keys) q → (q ≡ key → ⊥) → Contains keys q
-contains-cons key q keys h differs =
-    elim (Contains-append_cases (key ∷ []) keys q h) [
-      | inl one ↦ elim (Contains-push_cases [] key q one) [ inl none ↦ absurd (omega (arith, none.1)) | inr same ↦ absurd (differs (sym same)) ]
-      | inr more ↦ more
-    ]
-
--- one of the listed keys is due in time again
-pub timed-again : (alone : Bool) (low : ℕ) (key : Key) (keys : List Key) (old new : List (Option ℕ)) (rows : List (Row Item)) → slots.Rises low rows → KeepsDues key old new
-    → ((i : Item) → slots.item_of rows key ≡ Some i → may_go alone i.entry.state ≡ true → IsTimed new key i.life) → AreTimedBut alone (key ∷ keys) old rows → AreTimedBut alone keys new rows
-timed-again alone low key keys old new [] rises keeps set but = tt
-timed-again alone low key keys old new (x ∷ rows) rises keeps set but =
-    by (same_key x.key key) refl (λ later. timed-again alone (suc (key_place x.key)) key keys old new rows rises.1 keeps later but.1)
+-- one of the listed keys is looked at in time again
+pub timed-again : (alone : Bool) (key : Key) (keys : List Key) (old new : List (Option ℕ)) (rows : List (Row Item)) → KeepsDues rows key old new → IsTimedAt alone new rows key
+    → AreTimedBut alone (key ∷ keys) old rows → AreTimedBut alone keys new rows
+timed-again alone key keys old new rows keeps set but q none r h go = by (same_key key q) refl
   where
-    behind-set : (b : Bool) → same_key x.key key ≡ b → (i : Item) → slots.item_of rows key ≡ Some i → may_go alone i.entry.state ≡ true → IsTimed new key i.life
-    behind-set true e i h = (let none = ap (option_map (λ (r : Row Item). r.item)) (none-behind low key x rows rises e) in absurd (cc))
-    behind-set false e i h = set i (item-next key x rows e ∙ h)
-
-    by : (b : Bool) → same_key x.key key ≡ b → (((i : Item) → slots.item_of rows key ≡ Some i → may_go alone i.entry.state ≡ true → IsTimed new key i.life) → AreTimedBut alone keys new rows) → AreTimedBut alone keys new (x ∷ rows)
-    by true e ih = (
-      (but.0.0, but.0.1, λ t. inr (subst (λ (q : Key). IsTimed new q x.item.life) (sym (key-eq x.key key e)) (set x.item (item-first key x rows e) t))),
-      ih (behind-set true e),
-    )
-    by false e ih =
-        let differs : x.key ≡ key → ⊥ = λ s. both_ways (same_key x.key key) e (key-true x.key key s) in (
-          (but.0.0, but.0.1, λ t. elim (but.0.2 t) [ inl listed ↦ inl (contains-cons key x.key keys listed differs) | inr w ↦ inr (w.0, keeps x.key but.0.0 differs ∙ w.1, w.2) ]),
-          ih (behind-set false e),
-        )
+    by : (b : Bool) → same_key key q ≡ b → IsTimed new r
+    by true e = set r (ap (slots.row_of rows) (key-eq key q e) ∙ h) go
+    by false e =
+        let w = but q (ap (λ b. b || is_among q keys) e ∙ none) r h go in
+        (w.0, keeps q r.number (ap (option_map (λ (x : Row Item). x.number)) h) (differs key q e) ∙ w.1, w.2)
 
 -- none is left
-pub timed-all : (alone : Bool) (dues : List (Option ℕ)) (rows : List (Row Item)) → AreTimedBut alone [] dues rows → AreTimed alone dues rows
-timed-all alone dues [] but = tt
-timed-all alone dues (x ∷ rows) but = (
-  record {
-    own = but.0.0;
-    within = but.0.1;
-    timed = λ t. elim (but.0.2 t) [ inl listed ↦ absurd (omega (arith, listed.1)) | inr w ↦ w ];
-  },
-  timed-all alone dues rows but.1,
-)
-
-contains-map : (cells : List ℕ) (c : ℕ) → Contains cells c → Contains (map key_at cells) (key_at c)
-contains-map [] c h = absurd (omega (arith, h.1))
-contains-map (x ∷ cells) c h =
-    elim (Contains-append_cases (x ∷ []) cells c h) [
-      | inl one ↦ elim (Contains-push_cases [] x c one) [ inl none ↦ absurd (omega (arith, none.1)) | inr same ↦ subst (λ d. Contains (key_at x ∷ map key_at cells) (key_at d)) same (zero, omega arith, refl) ]
-      | inr more ↦ (let there = contains-map cells c more in Contains-append_right (key_at x ∷ []) (map key_at cells) (key_at c) there)
-    ]
+pub timed-all : (alone : Bool) (moments : List (Option ℕ)) (rows : List (Row Item)) → AreTimedBut alone [] moments rows → AreTimed alone moments rows
+timed-all alone moments rows but key = but key refl
 
 -- once the due moments are cleared, those keys are left whose moments weren't due
-pub timed-but : (alone : Bool) (now : ℕ) (dues : List (Option ℕ)) (rows : List (Row Item)) → AreTimed alone dues rows → AreTimedBut alone (due_keys now dues) (map (cleared now) dues) rows
-timed-but alone now dues [] timed = tt
-timed-but alone now dues (x ∷ rows) timed = ((timed.0.own, timed.0.within, row), timed-but alone now dues rows timed.1)
+pub timed-but : (alone : Bool) (now : ℕ) (moments : List (Option ℕ)) (found : List ℕ) (keys : List Key) (rows : List (Row Item)) → AreDue now moments found → AreListed rows found keys
+    → AreTimed alone moments rows → AreTimedBut alone keys (map (cleared now) moments) rows
+timed-but alone now moments found keys rows due listed timed key none r h go =
+    let w = timed key r h go in
+    let moment = get_or-map (cleared now) moments r.number.0 None ∙ ap (cleared now) w.1 in
+    by w.0 w.1 moment w.2 (nat_le w.0 now) refl
   where
-    row : may_go alone x.item.entry.state ≡ true → Contains (due_keys now dues) x.key ⊎ IsTimed (map (cleared now) dues) x.key x.item.life
-    row t =
-        let w = timed.0.timed t in
-        let moment = get_or-map (cleared now) dues (cell_of x.key) None ∙ ap (cleared now) w.1 in
-        elim (cases_Bool (nat_le w.0 now)) [
-          | inl due ↦
-              (let listed = listed-due now 0 dues (cell_of x.key) (ap (is_due now) w.1 ∙ due) in
-              let there = contains-map (due_slots now dues) (cell_of x.key) (subst (Contains (due_slots now dues)) (omega arith) listed) in
-              inl (subst (Contains (due_keys now dues)) timed.0.own there))
-          | inr later ↦ inr (w.0, moment ∙ cond-false (nat_le w.0 now) None (Some w.0) later, w.2)
-        ]
+    by : (m : ℕ) → moment_of moments r.number ≡ Some m → moment_of (map (cleared now) moments) r.number ≡ cleared now (Some m)
+        → m ≤ due_moment r.key.protocol r.item.life → (b : Bool) → nat_le m now ≡ b → IsTimed (map (cleared now) moments) r
+    by m is moment early true e =
+        let once = due r.number.0 ∙ ap (λ (o : Option ℕ). cond {A = ℕ} (is_due now o) 1 0) is ∙ ap (λ b. (let n : ℕ = cond b 1 0 in n)) e in
+        let never = sym (listed key r.number (ap (option_map (λ (x : Row Item). x.number)) h)) ∙ none-listed key keys none in
+        absurd (omega (arith, once, never))
+    by m is moment early false e = (m, moment ∙ cond-false (nat_le m now) None (Some m) e, early)
 
 -- ---- lone gateways
 
@@ -232,35 +170,28 @@ more-go Live h = h
 more-go Closing h = h
 more-go Held h = absurd (cc)
 
-pub timed-less : (dues : List (Option ℕ)) (rows : List (Row Item)) → AreTimed true dues rows → AreTimed false dues rows
-timed-less dues [] timed = tt
-timed-less dues (x ∷ rows) timed = (
-  record {
-    own = timed.0.own;
-    within = timed.0.within;
-    timed = λ t. timed.0.timed (more-go x.item.entry.state t);
-  },
-  timed-less dues rows timed.1,
-)
-
 -- no more entries are to be looked at
-pub timed-as : (alone lone : Bool) (dues : List (Option ℕ)) (rows : List (Row Item)) → (lone && not alone) ≡ false → AreTimed alone dues rows → AreTimed lone dues rows
-timed-as true true dues rows h timed = timed
-timed-as true false dues rows h timed = timed-less dues rows timed
-timed-as false true dues rows h timed = absurd (cc)
-timed-as false false dues rows h timed = timed
+pub timed-as : (alone lone : Bool) (moments : List (Option ℕ)) (rows : List (Row Item)) → (lone && not alone) ≡ false → AreTimed alone moments rows → AreTimed lone moments rows
+timed-as true true moments rows h timed = timed
+timed-as true false moments rows h timed = λ key r is go. timed key r is (more-go r.item.entry.state go)
+timed-as false true moments rows h timed = absurd (cc)
+timed-as false false moments rows h timed = timed
 
-but-more : (alone : Bool) (key : Key) (keys : List Key) (dues : List (Option ℕ)) (rows : List (Row Item)) → AreTimedBut alone keys dues rows → AreTimedBut alone (key ∷ keys) dues rows
-but-more alone key keys dues [] but = tt
-but-more alone key keys dues (x ∷ rows) but = (
-  (but.0.0, but.0.1, λ t. elim (but.0.2 t) [ inl listed ↦ inl (Contains-append_right (key ∷ []) keys x.key listed) | inr w ↦ inr w ]),
-  but-more alone key keys dues rows but.1,
-)
+all-among : (rows : List (Row Item)) (key : Key) (r : Row Item) → AreKeyed rows → slots.row_of rows key ≡ Some r → is_among key (keys_of (entries_of rows)) ≡ true
+all-among [] key r keyed h = absurd (cc)
+all-among (x ∷ rows) key r keyed h = by (same_key x.key key) refl (all-among rows key r keyed.1)
+  where
+    rest : Bool
+    rest = is_among key (keys_of (entries_of rows))
+
+    own : (same_key x.item.entry.pair.key key || rest) ≡ (same_key x.key key || rest)
+    own = ap (λ (k : Key). same_key k key || rest) (sym keyed.0)
+
+    by : (b : Bool) → same_key x.key key ≡ b → (slots.row_of rows key ≡ Some r → rest ≡ true) → (same_key x.item.entry.pair.key key || rest) ≡ true
+    by true e ih = own ∙ ap (λ b. b || rest) e
+    by false e ih = own ∙ ap (λ b. b || rest) e ∙ ih (sym (cond-false (same_key x.key key) (Some x) (slots.row_of rows key) e) ∙ h)
 
 -- all entries are to be looked at
-pub timed-none : (alone lone : Bool) (dues : List (Option ℕ)) (rows : List (Row Item)) → AreKeyed rows → AreTimed alone dues rows → AreTimedBut lone (keys_of (entries_of rows)) dues rows
-timed-none alone lone dues [] keyed timed = tt
-timed-none alone lone dues (x ∷ rows) keyed timed = (
-  (timed.0.own, timed.0.within, λ t. inl (zero, omega arith, sym keyed.0)),
-  but-more lone x.item.entry.pair.key (keys_of (entries_of rows)) dues rows (timed-none alone lone dues rows keyed.1 timed.1),
-)
+pub timed-none : (lone : Bool) (moments : List (Option ℕ)) (rows : List (Row Item)) → AreKeyed rows → AreTimedBut lone (keys_of (entries_of rows)) moments rows
+timed-none lone moments rows keyed key none r h go =
+    absurd (both_ways (is_among key (keys_of (entries_of rows))) none (all-among rows key r keyed h))

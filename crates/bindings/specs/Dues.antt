@@ -1,40 +1,55 @@
 -- When a table looks at its entries again.
-use Rattle.std.specs.Prelude.{◌≡◌, ℕ, ◌<◌, ◌≤◌, ◌⊎◌, Bool, true, false, ◌&&◌, Option, Some, None, List, [], ◌∷◌}
-use Rattle.std.specs.List.{AllByRecursion, Contains, filter}
+use Rattle.std.specs.Prelude.{◌≡◌, ℕ, ◌≤◌, Bool, true, false, ◌&&◌, Option, Some, None, List, length, count_by}
+use Rattle.std.specs.List.{filter}
 use Rattle.nat_types.specs.declared.pairs.Key.{Key}
+use Rattle.nat_types.specs.Same.{same_key}
 use Rattle.activity.specs.Lives.{Activity}
 use Rattle.activity.specs.Dues.{due_moment}
-use Rattle.slots.specs.Cells.{cell_of, key_at}
-use Rattle.slots.specs.Dues.{moment_of}
-use Rattle.slots.specs.Rows.{Row}
+use Rattle.slots.specs.declared.numbers.SlotNumber.{SlotNumber}
+use Rattle.slots.specs.Dues.{moment_of, times}
+use Rattle.slots.specs.Rows.{PortSlots, Row, row_of, number_of}
 use Rattle.bindings.specs.declared.entries.Entry.{Entry}
 use Rattle.bindings.specs.declared.store.Item.{Item}
 use Rattle.bindings.specs.Entries.{slot_of}
-use Rattle.bindings.specs.Lives.{rests_at, may_go}
+use Rattle.bindings.specs.Lives.{rests_at, may_go, is_among}
 
--- a key is due at a moment that isn't later than the one from which its entry is idle
-abbrev pub IsTimed : List (Option ℕ) → Key → Activity → Type 0
-IsTimed dues key life = (moment : ℕ) × (moment_of dues key ≡ Some moment) × (moment ≤ due_moment key.protocol life)
+-- a row's slot is due at a moment that isn't later than the one from which its entry is idle
+abbrev pub IsTimed : List (Option ℕ) → Row Item → Type 0
+IsTimed moments r =
+    (moment : ℕ) × (moment_of moments r.number ≡ Some moment) × (moment ≤ due_moment r.key.protocol r.item.life)
 
--- a row's key is that of a cell, and is due in time where the entry may be let go
-pub record IsTimedRow (lone : Bool) (dues : List (Option ℕ)) (r : Row Item) : Type 0 where
-  pub own : key_at (cell_of r.key) ≡ r.key
-  pub within : cell_of r.key < 196608
-  pub timed : may_go lone r.item.entry.state ≡ true → IsTimed dues r.key r.item.life
+-- a key's entry is looked at in time where it may be let go
+abbrev pub IsTimedAt : Bool → List (Option ℕ) → List (Row Item) → Key → Type 0
+IsTimedAt lone moments rows key =
+    (r : Row Item) → row_of rows key ≡ Some r → may_go lone r.item.entry.state ≡ true → IsTimed moments r
 
 -- each entry that may be let go is looked at in time
 abbrev pub AreTimed : Bool → List (Option ℕ) → List (Row Item) → Type 0
-AreTimed lone dues rows = AllByRecursion (IsTimedRow lone dues) rows
+AreTimed lone moments rows = (key : Key) → IsTimedAt lone moments rows key
 
--- the same of the rows whose keys aren't listed
+-- the same of the entries whose keys aren't listed
 abbrev pub AreTimedBut : Bool → List Key → List (Option ℕ) → List (Row Item) → Type 0
-AreTimedBut lone keys dues [] = Unit {0}
-AreTimedBut lone keys dues (r ∷ rows) = ((key_at (cell_of r.key) ≡ r.key) × (cell_of r.key < 196608)
-    × (may_go lone r.item.entry.state ≡ true → Contains keys r.key ⊎ IsTimed dues r.key r.item.life)) × AreTimedBut lone keys dues rows
+AreTimedBut lone keys moments rows = (key : Key) → is_among key keys ≡ false → IsTimedAt lone moments rows key
 
--- all other keys are due as before
-abbrev pub KeepsDues : Key → List (Option ℕ) → List (Option ℕ) → Type 0
-KeepsDues key old new = (q : Key) → key_at (cell_of q) ≡ q → (q ≡ key → ⊥) → moment_of new q ≡ moment_of old q
+-- the slots of all other keys are due as before
+abbrev pub KeepsDues : List (Row Item) → Key → List (Option ℕ) → List (Option ℕ) → Type 0
+KeepsDues rows key old new =
+    (q : Key) (n : SlotNumber) → number_of rows q ≡ Some n → (q ≡ key → ⊥) → moment_of new n ≡ moment_of old n
+
+-- what a store keeps: there is a moment or none for each slot, and room to list so many keys
+pub record AreWatched (alone : Bool) (moments : List (Option ℕ)) (slots : PortSlots Item) (places : ℕ) : Type 0 where
+  pub timed : AreTimed alone moments slots.rows
+  pub count : length moments ≡ slots.limit
+  pub room : slots.limit ≤ places
+
+-- how often a key is listed
+abbrev pub key_times : Key → List Key → ℕ
+key_times key keys = count_by (λ k. same_key k key) keys
+
+-- each key is listed as often as its slot
+abbrev pub AreListed : List (Row Item) → List ℕ → List Key → Type 0
+AreListed rows found keys =
+    (key : Key) (n : SlotNumber) → number_of rows key ≡ Some n → key_times key keys ≡ times n.0 found
 
 abbrev pub may_go_by : Bool → Option Entry → Bool
 may_go_by lone None = false

@@ -4,6 +4,7 @@ use Rattle.std.specs.List.{find}
 use Rattle.std.specs.Option.{option_map}
 use Rattle.addresses.specs.declared.internet.Ip.{Ip}
 use Rattle.nat_types.specs.declared.pairs.Endpoint.{Endpoint}
+use Rattle.nat_types.specs.declared.pairs.Key.{Key}
 use Rattle.activity.specs.Lives.{Activity}
 use Rattle.slots.specs.declared.numbers.SlotNumber.{SlotNumber}
 use Rattle.slots.specs.declared.hashers.Hashers.{Hashers}
@@ -14,13 +15,15 @@ use Rattle.bindings.specs.declared.entries.Entry.{Entry}
 use Rattle.bindings.specs.declared.store.Item.{Item}
 use Rattle.bindings.specs.Entries.{serves, is_pair_of, pairs_of}
 
--- entries and their lives, how many there is room for, for how many more pairs the index has room, and by what it hashes
+-- entries and their lives, how many there is room for, for how many more pairs the index has room, by what it hashes, and
+-- the keys that were to be looked at last
 pub record Store : Type 0 where
   pub entries : List Entry
   pub lives : List Activity
   pub room : ℕ
   pub spare : ℕ
   pub hashers : Hashers
+  pub found : List Key
 
 abbrev pub entries_of : List (Row Item) → List Entry
 entries_of rows = map (λ r. r.item.entry) rows

@@ -8,26 +8,27 @@ ghost use Rattle.std.specs.Prelude.{IsSome};
 ghost use Rattle.std.specs.List.{insert};
 ghost use Rattle.bindings.specs.declared.entries.Entry.{Entry as Row};
 ghost use Rattle.bindings.specs.Entries.{is_pair, is_pair_of, pairs_of, serves, slot_of, entry_of, entry_in, HasDistinctEndpoints};
-ghost use Rattle.bindings.specs.Lists.{put_in, place_in, without, with_state, after_key, RisesUp};
+ghost use Rattle.bindings.specs.Lists.{put_in, place_in, without, with_state, after_key, key_place, RisesUp};
 ghost use Rattle.bindings.specs.Lives.{life_in, lives_with, lives_without, rests_at, is_unused_at};
 ghost use Rattle.activity.specs.Lives.{Activity as Lived, History, Agrees, with_packet, renewed, life_carried, life_renewed};
 ghost use Rattle.slots.specs.Rows.{item_of, number_of, with_item};
+ghost use Rattle.std.specs.Prelude.{IfSome};
+ghost use Rattle.std.specs.List.Sorted.{IsPermutation, IsNonDecreasingBy};
 ghost use Rattle.nat_types.specs.declared.pairs.Key.{Key as OutsidePort};
 ghost use Rattle.bindings.specs.declared.store.Item.{Item as Kept};
 ghost use Rattle.std.specs.Prelude.{vec_capacity};
 ghost use Rattle.timers.specs.Due.{is_due};
 ghost use Rattle.slots.specs.Dues.{moment_of};
-ghost use Rattle.slots.specs.Rows.{Rises};
-ghost use Rattle.bindings.specs.Lives.{idle_keys_in, may_go};
+ghost use Rattle.bindings.specs.Lives.{idle_keys_in};
 ghost use Rattle.bindings.specs.Stores.{AreKeyed};
-ghost use Rattle.bindings.specs.Dues.{AreTimed, AreTimedBut, IsTimed, KeepsDues, idle_among};
+ghost use Rattle.bindings.specs.Dues.{AreListed, AreTimed, AreTimedBut, IsTimedAt, KeepsDues, idle_among};
 
 use crate::Entry;
 use crate::entries::{endpoint_of, is_pair_state, key_of, may_go_state};
 use activity::{Activity, Packet};
 use addresses::Ip;
 use nat_types::{Endpoint, EntryState, Key, Pair};
-use slots::{Dues, EndpointIndex, Hashers, PortSlots, SlotNumber, recall_cell};
+use slots::{Dues, EndpointIndex, Hashers, PortSlots, SlotNumber};
 use std::alloc::{AllocError, Global};
 use std::marker::Model;
 
@@ -44,10 +45,13 @@ pub(crate) struct Store {
     slots: PortSlots<Item>,
     // The slot of each pair, by its endpoint, and how many pairs each inside address has. A Doomed entry is none.
     index: EndpointIndex<Hashers>,
-    // When each entry that may be let go is looked at again: at the latest when it is idle.
+    // When each entry that may be let go is looked at again: at the latest when it is idle. A slot that was given up may
+    // be due, too, and is looked at then for whoever has it.
     dues: Dues,
     // Whether Held entries are looked at, too.
     alone: bool,
+    // The keys that are to be looked at now, with room for one of each slot.
+    found: Vec<Key>,
 }
 
 impl Model for Store {
@@ -56,7 +60,8 @@ impl Model for Store {
     ghost Value = { Seen };
 
     ghost use Rattle.bindings.specs.Stores.{entries_of, lives_of, IsIndexed};
-    ghost use Rattle.bindings.specs.Dues.{AreTimed};
+    ghost use Rattle.bindings.specs.Dues.{AreWatched};
+    ghost use Rattle.std.specs.Prelude.{vec_capacity};
 
     ghost view = { λ s. record {
       entries = entries_of s.slots.rows;
@@ -64,9 +69,11 @@ impl Model for Store {
       room = s.slots.room;
       spare = s.index.spare;
       hashers = s.index.hasher;
+      found = s.found.items;
     } };
 
-    ghost invariant = { λ s. IsIndexed s.slots.rows s.index × AreTimed s.alone s.dues s.slots.rows };
+    ghost invariant = { λ s. IsIndexed s.slots.rows s.index
+        × AreWatched s.alone s.dues.moments s.slots (vec_capacity s.found) };
 }
 
 fn entry_of_item(item: &Item) -> Entry
@@ -148,6 +155,7 @@ fn put_state(slots: &mut PortSlots<Item>, key: Key, pair: Pair, state: EntryStat
           rows = with_item key (record item { entry = entry_in state pair }) slots.old.rows;
         } }
     ensures none { item_of slots.old.rows key ≡ None → slots.new ≡ slots.old }
+    ensures limit { slots.new.limit ≡ slots.old.limit }
 {
     if let Some(item) = slots.get_mut(key) {
         item.entry = Entry { pair, state };
@@ -164,6 +172,7 @@ fn put_packet(slots: &mut PortSlots<Item>, key: Key, packet: Packet)
           }) slots.old.rows;
         } }
     ensures none { item_of slots.old.rows key ≡ None → slots.new ≡ slots.old }
+    ensures limit { slots.new.limit ≡ slots.old.limit }
     ensures agrees { (item : Kept) → (past : History)
         → item_of slots.old.rows key ≡ Some item → Agrees
         key.protocol past item.life → Agrees key.protocol (with_packet packet past)
@@ -181,6 +190,7 @@ fn put_renewal(slots: &mut PortSlots<Item>, key: Key, now: u64)
           rows = with_item key (record item { life = life_renewed now item.life }) slots.old.rows;
         } }
     ensures none { item_of slots.old.rows key ≡ None → slots.new ≡ slots.old }
+    ensures limit { slots.new.limit ≡ slots.old.limit }
     ensures agrees { (item : Kept) → (past : History)
         → item_of slots.old.rows key ≡ Some item → Agrees
         key.protocol past item.life → Agrees key.protocol (renewed now past)
@@ -195,25 +205,29 @@ fn put_renewal(slots: &mut PortSlots<Item>, key: Key, now: u64)
 /// is looked at then, and set anew.
 #[inline(always)]
 fn set_in_time(slots: &PortSlots<Item>, dues: &mut Dues, alone: bool, key: Key)
-    ensures timed { (item : Kept) → item_of slots.now.rows key ≡ Some item → may_go
-        alone item.entry.state ≡ true → IsTimed dues.new key item.life }
-    ensures others { KeepsDues key dues.old dues.new }
+    requires count { length dues.old.moments ≡ slots.now.limit }
+    ensures timed { IsTimedAt alone dues.new.moments slots.now.rows key }
+    ensures others { KeepsDues slots.now.rows key dues.old.moments dues.new.moments }
+    ensures count { length dues.new.moments ≡ length dues.old.moments }
 {
-    if let Some(item) = slots.get(key)
+    slots.recall();
+    if let Some(number) = slots.number_of(key)
+        && let Some(item) = slots.at(number)
         && may_go_state(alone, item.entry.state)
     {
         let due = item.life.due(key.protocol);
-        if !is_due_by(dues, key, due) {
-            dues.set(key, due);
+        if !is_due_by(dues, number, due) {
+            dues.set(number, due);
         }
     }
 }
 
-/// Whether a key is due at that moment or before.
-fn is_due_by(dues: &Dues, key: Key, moment: u64) -> bool
-    ensures { result ≡ is_due moment (moment_of dues.now key) }
+/// Whether a slot is due at that moment or before.
+fn is_due_by(dues: &Dues, number: SlotNumber, moment: u64) -> bool
+    requires { number.0 < length dues.now.moments }
+    ensures { result ≡ is_due moment (moment_of dues.now.moments number) }
 {
-    match dues.get(key) {
+    match dues.get(number) {
         Some(due) => due <= moment,
         None => false,
     }
@@ -221,9 +235,10 @@ fn is_due_by(dues: &Dues, key: Key, moment: u64) -> bool
 
 /// Sets those keys again that came due and whose entries may be let go.
 fn set_again(slots: &PortSlots<Item>, dues: &mut Dues, alone: bool, keys: &[Key])
-    requires order { Rises 0 slots.now.rows }
-    requires timed { AreTimedBut alone keys.now dues.old slots.now.rows }
-    ensures timed { AreTimed alone dues.new slots.now.rows }
+    requires count { length dues.old.moments ≡ slots.now.limit }
+    requires timed { AreTimedBut alone keys.now dues.old.moments slots.now.rows }
+    ensures timed { AreTimed alone dues.new.moments slots.now.rows }
+    ensures count { length dues.new.moments ≡ length dues.old.moments }
 {
     for key in keys.iter() {
         set_in_time(slots, dues, alone, *key);
@@ -232,9 +247,10 @@ fn set_again(slots: &PortSlots<Item>, dues: &mut Dues, alone: bool, keys: &[Key]
 
 /// Sets all keys whose entries may be let go once the gateway is lone.
 fn set_all(slots: &PortSlots<Item>, dues: &mut Dues)
+    requires count { length dues.old.moments ≡ slots.now.limit }
     requires keyed { AreKeyed slots.now.rows }
-    requires timed { AreTimed false dues.old slots.now.rows }
-    ensures timed { AreTimed true dues.new slots.now.rows }
+    ensures timed { AreTimed true dues.new.moments slots.now.rows }
+    ensures count { length dues.new.moments ≡ length dues.old.moments }
 {
     slots.recall();
     let mut last = None;
@@ -246,13 +262,59 @@ fn set_all(slots: &PortSlots<Item>, dues: &mut Dues)
 
 /// The gateway is lone, or isn't: where it comes to be, all keys are set whose entries may now be let go.
 fn set_alone(slots: &PortSlots<Item>, dues: &mut Dues, alone: bool, lone: bool)
+    requires count { length dues.old.moments ≡ slots.now.limit }
     requires keyed { AreKeyed slots.now.rows }
-    requires timed { AreTimed alone dues.old slots.now.rows }
-    ensures timed { AreTimed lone dues.new slots.now.rows }
+    requires timed { AreTimed alone dues.old.moments slots.now.rows }
+    ensures timed { AreTimed lone dues.new.moments slots.now.rows }
+    ensures count { length dues.new.moments ≡ length dues.old.moments }
 {
     if lone && !alone {
         set_all(slots, dues);
     }
+}
+
+/// The key that has a slot, if one has.
+fn key_at(slots: &PortSlots<Item>, number: SlotNumber) -> Option<Key>
+    requires { AreKeyed slots.now.rows }
+    ensures own { (key : OutsidePort) → number_of slots.now.rows key ≡ Some number
+        → result ≡ Some key }
+    ensures held { IfSome result (λ key. number_of slots.now.rows key ≡ Some number) }
+{
+    match slots.at(number) {
+        Some(item) => Some(key_of(entry_of_item(item).pair)),
+        None => None,
+    }
+}
+
+/// Lists the keys of the slots that were found, in any order.
+fn list_keys(slots: &PortSlots<Item>, dues: &mut Dues, keys: &mut Vec<Key>)
+    requires keyed { AreKeyed slots.now.rows }
+    requires empty { keys.old.items ≡ [] }
+    requires room { length dues.old.found ≤ vec_capacity keys.old }
+    ensures listed { AreListed slots.now.rows dues.old.found keys.new.items }
+    ensures moments { dues.new.moments ≡ dues.old.moments }
+    ensures capacity { vec_capacity keys.new ≡ vec_capacity keys.old }
+{
+    while let Some(number) = dues.pop() {
+        if let Some(key) = key_at(slots, number) {
+            keys.push_reserved(key);
+        }
+    }
+}
+
+/// A key's place in the order by protocol (icmp first) and port.
+fn place(key: Key) -> u32
+    ensures { result ≡ key_place key }
+{
+    65536 * u32::from(key.protocol.number()) + u32::from(key.port.0)
+}
+
+fn sort_keys(keys: &mut Vec<Key>)
+    ensures order { IsNonDecreasingBy key_place keys.new.items }
+    ensures permutation { IsPermutation keys.old.items keys.new.items }
+    ensures capacity { vec_capacity keys.new ≡ vec_capacity keys.old }
+{
+    keys.sort_unstable_by_key(|key| place(*key));
 }
 
 impl Store {
@@ -265,12 +327,14 @@ impl Store {
     {
         let slots = PortSlots::new(alloc, room)?;
         let index = EndpointIndex::new(alloc, hashers);
-        let dues = Dues::new(alloc)?;
+        let dues = Dues::new(alloc, slots.limit())?;
+        let found = Vec::with_capacity(alloc, slots.limit())?;
         Ok(Store {
             slots,
             index,
             dues,
             alone: false,
+            found,
         })
     }
 
@@ -356,7 +420,6 @@ impl Store {
         let key = key_of(pair);
         let number = self.slots.insert(key, item_with(pair, state, life));
         list_pair(&mut self.index, pair, state, number);
-        recall_cell(key);
         set_in_time(&self.slots, &mut self.dues, self.alone, key);
     }
 
@@ -444,21 +507,27 @@ impl Store {
         set_in_time(&self.slots, &mut self.dues, self.alone, key);
     }
 
-    /// Lists the keys that are to be looked at, in order. The keys of all idle entries that may be let go are among them.
-    pub(crate) fn list_due(&mut self, lone: bool, now: u64, keys: &mut Vec<Key>)
-        requires empty { keys.old.items ≡ [] }
-        requires room { 196608 ≤ vec_capacity keys.old }
+    /// Finds the keys that are to be looked at, in order. The keys of all idle entries that may be let go are among them.
+    pub(crate) fn find_due(&mut self, lone: bool, now: u64)
         ensures among { idle_keys_in lone now self.old.entries self.old.lives
-            ≡ idle_among lone now self.old.entries self.old.lives keys.new.items }
-        ensures capacity { vec_capacity keys.new ≡ vec_capacity keys.old }
-        ensures same { self.new ≡ self.old }
+            ≡ idle_among lone now self.old.entries self.old.lives self.new.found }
+        ensures same { self.new ≡ record self.old { found = self.new.found } }
     {
         self.slots.recall();
         set_alone(&self.slots, &mut self.dues, self.alone, lone);
         self.alone = lone;
-        self.dues.recall();
-        self.dues.take(now, keys);
-        set_again(&self.slots, &mut self.dues, lone, keys);
+        self.dues.find(now);
+        self.found.clear();
+        list_keys(&self.slots, &mut self.dues, &mut self.found);
+        sort_keys(&mut self.found);
+        set_again(&self.slots, &mut self.dues, lone, &self.found);
+    }
+
+    /// The keys that were found last.
+    pub(crate) fn found(&self) -> &[Key]
+        ensures { result.now ≡ self.now.found }
+    {
+        &self.found
     }
 
     /// Whether a key's pair is idle.

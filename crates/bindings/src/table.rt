@@ -28,7 +28,7 @@ use crate::{Entry, PortBounds, TableFault};
 use activity::{Activity, Packet, Remote, Way};
 use addresses::{Ip, Parity, Port, Protocol, TcpFlags};
 use nat_types::{Endpoint, EntryState, Key, Pair};
-use slots::{CELLS, Hashers};
+use slots::Hashers;
 use std::alloc::{AllocError, Global};
 use std::marker::Model;
 
@@ -42,8 +42,6 @@ pub struct Table {
     one: PortBounds,
     capacity: usize,
     ready: usize,
-    // The keys that are to be looked at now.
-    found: Vec<Key>,
 }
 
 impl Model for Table {
@@ -62,10 +60,10 @@ impl Model for Table {
       hashers = t.store.hashers;
     } };
 
-    ghost use Rattle.std.specs.Prelude.{◌≤◌, vec_capacity};
+    ghost use Rattle.std.specs.Prelude.{◌≤◌};
 
     ghost invariant = { λ t. IsStored t.store.entries t.store.lives t.ports t.zero t.one t.capacity
-        t.store.room × (t.ready ≤ t.store.spare) × (196608 ≤ vec_capacity t.found) };
+        t.store.room × (t.ready ≤ t.store.spare) };
 }
 
 fn port_count(bounds: PortBounds) -> usize
@@ -95,7 +93,6 @@ impl Table {
         ensures empty { IfOk result (λ t. t ≡ empty_table zero one hashers) }
     {
         let capacity = 3 * (port_count(zero) + port_count(one));
-        let found = Vec::with_capacity(alloc, CELLS)?;
         let ports = Ports::new(alloc, lowest_port(zero, one), highest_port(zero, one))?;
         let store = Store::new(alloc, capacity, hashers)?;
         Ok(Table {
@@ -106,7 +103,6 @@ impl Table {
             one,
             capacity,
             ready: 0,
-            found,
         })
     }
 
@@ -463,10 +459,9 @@ impl Table {
             ≤ vec_capacity keys.old → IsOk result }
         ensures capacity { vec_capacity keys.old ≤ vec_capacity keys.new }
     {
-        self.found.clear();
-        self.store.list_due(lone, now, &mut self.found);
-        keys.reserve(count_idle(&self.store, &self.found, lone, now))?;
-        list_idle(&self.store, &self.found, lone, now, keys);
+        self.store.find_due(lone, now);
+        keys.reserve(count_idle(&self.store, self.store.found(), lone, now))?;
+        list_idle(&self.store, self.store.found(), lone, now, keys);
         Ok(())
     }
 }

@@ -1,10 +1,10 @@
 //! A frame cut at every length, and with every byte changed to every other value: how many of these are
 //! sent on, and how many steps note something.
 
-use anyhow::Result;
-use gateway::{Event, Gateway, Out, Outcome};
+use crate::stations::Station;
+use cases_words::Case;
+use gateway::{Event, Outcome};
 use nat_types::Side;
-use std::io::{self, Write};
 
 /// How the clock goes on between frames.
 #[derive(Clone, Copy)]
@@ -17,12 +17,11 @@ pub(crate) enum Pace {
 
 impl Pace {
     /// The next frame's moment comes.
-    fn go_on(&mut self, gateway: &mut Gateway, out: &mut Out) -> Result<()> {
+    fn go_on(&mut self, station: &mut Station, case: &mut Case) {
         if let Pace::Apart(moment) = *self {
-            let _outcome = gateway.step(Event::Tick(moment), out)?;
+            case.keep(station.step(Event::Tick(moment)));
             *self = Pace::Apart(moment.saturating_add(100));
         }
-        Ok(())
     }
 }
 
@@ -44,12 +43,12 @@ impl Count {
     }
 
     /// One frame more, and the clock before it.
-    fn add(&mut self, outcome: Outcome, out: &Out) {
+    fn add(&mut self, outcome: Outcome, has_noted: bool) {
         self.all = self.all.saturating_add(1);
         if outcome == Outcome::Sent {
             self.sent = self.sent.saturating_add(1);
         }
-        if !out.notes().is_empty() {
+        if has_noted {
             self.noted = self.noted.saturating_add(1);
         }
     }
@@ -62,69 +61,69 @@ impl Count {
         }
     }
 
-    fn tell<O: Write>(self, output: &mut O) -> io::Result<()> {
-        let Count { all, sent, noted } = self;
-        writeln!(output, "  {all} frames: sent {sent}, noted {noted}")
+    fn tell(self, case: &mut Case) {
+        case.say("  ", self.all);
+        case.say(" frames: sent ", self.sent);
+        case.say(", noted ", self.noted);
+        case.end();
     }
 }
 
 /// The frame at every length below its own, from no byte on.
-pub(crate) fn cut<O: Write>(
-    gateway: &mut Gateway,
+pub(crate) fn cut(
+    station: &mut Station,
     side: Side,
     frame: &[u8],
     mut pace: Pace,
-    out: &mut Out,
-    output: &mut O,
-) -> Result<()> {
+    case: &mut Case,
+) {
     let mut count = Count::none();
     for length in 0..frame.len() {
-        hand_in(gateway, side, &frame[..length], &mut pace, out, &mut count)?;
+        hand_in(station, side, &frame[..length], &mut pace, &mut count, case);
     }
-    count.tell(output)?;
-    Ok(())
+    count.tell(case);
 }
 
 /// The frame with one byte changed, each to each other value; and at which bytes a changed frame is sent.
-pub(crate) fn change<O: Write>(
-    gateway: &mut Gateway,
+pub(crate) fn change(
+    station: &mut Station,
     side: Side,
     frame: &mut [u8],
     mut pace: Pace,
-    out: &mut Out,
-    output: &mut O,
-) -> Result<()> {
+    case: &mut Case,
+) {
     let mut all = Count::none();
     for at in 0..frame.len() {
-        let count = change_at(gateway, side, frame, at, &mut pace, out)?;
+        let count = change_at(station, side, frame, at, &mut pace, case);
         if 0 < count.sent {
-            writeln!(output, "  byte {at}: sent {}", count.sent)?;
+            case.say("  byte ", at);
+            case.say(": sent ", count.sent);
+            case.end();
         }
         all = all.with(count);
     }
-    all.tell(output)?;
-    Ok(())
+    all.tell(case);
 }
 
 /// The frame with this byte changed to each other value. Afterwards it is as it was.
 fn change_at(
-    gateway: &mut Gateway,
+    station: &mut Station,
     side: Side,
     frame: &mut [u8],
     at: usize,
     pace: &mut Pace,
-    out: &mut Out,
-) -> Result<Count> {
+    case: &mut Case,
+) -> Count {
     let mut count = Count::none();
     let Some(was) = frame.get(at).copied() else {
-        return Ok(count);
+        return count;
     };
     for step in 1..=255u8 {
         set(frame, at, was.wrapping_add(step));
-        hand_in(gateway, side, frame, pace, out, &mut count)?;
+        hand_in(station, side, frame, pace, &mut count, case);
     }
     set(frame, at, was);
-    Ok(count)
+    count
 }
 
 fn set(frame: &mut [u8], at: usize, value: u8) {
@@ -135,16 +134,17 @@ fn set(frame: &mut [u8], at: usize, value: u8) {
 
 /// The clock goes on, and the frame comes.
 fn hand_in(
-    gateway: &mut Gateway,
+    station: &mut Station,
     side: Side,
     frame: &[u8],
     pace: &mut Pace,
-    out: &mut Out,
     count: &mut Count,
-) -> Result<()> {
-    out.clear();
-    pace.go_on(gateway, out)?;
-    let outcome = gateway.step(Event::Frame(side, frame), out)?;
-    count.add(outcome, out);
-    Ok(())
+    case: &mut Case,
+) {
+    station.clear();
+    pace.go_on(station, case);
+    match station.step(Event::Frame(side, frame)) {
+        Ok(outcome) => count.add(outcome, station.has_noted()),
+        Err(_) => case.fault(),
+    }
 }

@@ -1,35 +1,40 @@
 //! The files that the cases write and look at.
 
 use anyhow::{Context, Result};
+use cases_words::Case;
+use std::alloc::{AllocError, Global};
 use std::fs;
-use std::io::Write;
 
-/// Writes the file NAME, where `text` is `NAME;OLD;NEW`: S.toml with its first line OLD replaced by NEW.
-pub(crate) fn write(rt: &HostRuntime, text: &str) -> Result<()> {
+/// Writes the file NAME, where the rest of the line is `NAME;OLD;NEW`: S.toml with its first line OLD replaced by NEW.
+pub(crate) fn write(rt: &HostRuntime, case: &mut Case) {
+    let text = case.rest();
+    case.keep(written(rt, text.as_str()));
+}
+
+fn written(rt: &HostRuntime, text: &str) -> Result<()> {
     let (name, rest) = text.split_once(';').context("no name")?;
     let (old, new) = rest.split_once(';').context("no lines")?;
     let sample = fs::read_to_string(rt, "S.toml")?;
-    let mut edited = String::new(rt.alloc());
-    let mut done = false;
-    for line in sample.lines() {
-        let line = if line == old && !done {
-            done = true;
-            new
-        } else {
-            line
-        };
-        edited.push_str(line)?;
-        edited.push('\n')?;
-    }
+    let edited = edited(rt.alloc(), sample.as_str(), old, new)?;
     fs::write(rt, name, edited.as_str())?;
     Ok(())
 }
 
-/// Prints the bytes of a file.
-pub(crate) fn show<O: Write>(rt: &HostRuntime, name: &str, output: &mut O) -> Result<()> {
-    for byte in &fs::read(rt, name)? {
-        write!(output, "{byte:02x}")?;
+fn edited(alloc: Global, sample: &str, old: &str, new: &str) -> Result<String, AllocError> {
+    let mut edited = String::new(alloc);
+    let mut done = false;
+    for line in sample.lines() {
+        let is_old = line == old && !done;
+        done = done || is_old;
+        edited.push_str(if is_old { new } else { line })?;
+        edited.push('\n')?;
     }
-    writeln!(output)?;
-    Ok(())
+    Ok(edited)
+}
+
+/// Prints the bytes of a file.
+pub(crate) fn show(rt: &HostRuntime, case: &mut Case) {
+    let bytes = fs::read(rt, case.word());
+    case.hex_made("", bytes);
+    case.end();
 }

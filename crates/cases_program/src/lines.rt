@@ -1,56 +1,88 @@
 //! A line of the list: which script is run, and through what.
 
 use crate::memory::Memory;
-use anyhow::{Context, Result, bail};
+use anyhow::Result;
+use cases_words::{Actor, Case};
 use faults::text_of;
 use loopback::{Channel, Loopback};
 use loopback_run::run_loop;
 use simulation::simulate;
-use std::io::Write;
+use std::alloc::Global;
 
-/// Prints what the run of a line prints, with the settings of loops.toml where it names no others.
-///
-/// - `every COUNT NAME` runs the file NAME.script through a passage that loses each of COUNT parcels; none at 0
-/// - `ports NAME` runs it through the loopback ports of the settings
-/// - `with NAME SCRIPT` runs the file SCRIPT.script through the loopback ports of the settings of NAME.toml
-///
-/// A last line says whether the output is that of a run without a passage.
-pub(crate) fn print<O: Write>(rt: &HostRuntime, line: &str, output: &mut O) -> Result<()> {
-    let (verb, rest) = line.split_once(' ').context("no verb")?;
-    match verb {
-        "every" => {
-            let (count, name) = rest.split_once(' ').context("no count")?;
-            let mut memory = Memory::losing(count.parse::<u64>()?);
-            passed(rt, "loops", name, &mut memory, output)
-        }
-        "ports" => passed(rt, "loops", rest, &mut Loopback::new(rt), output),
-        "with" => {
-            let (settings, name) = rest.split_once(' ').context("no settings")?;
-            passed(rt, settings, name, &mut Loopback::new(rt), output)
-        }
-        _ => bail!("no verb {verb}"),
+#[derive(Drop)]
+pub(crate) struct Lines {
+    rt: HostRuntime,
+}
+
+impl Lines {
+    pub(crate) fn new(rt: HostRuntime) -> Lines {
+        Lines { rt }
     }
 }
 
+impl Actor for Lines {
+    /// Prints what the run of a line prints, with the settings of loops.toml where it names no others.
+    ///
+    /// - `every COUNT NAME` runs the file NAME.script through a passage that loses each of COUNT parcels; none at 0
+    /// - `ports NAME` runs it through the loopback ports of the settings
+    /// - `with NAME SCRIPT` runs the file SCRIPT.script through the loopback ports of the settings of NAME.toml
+    ///
+    /// A last line says whether the output is that of a run without a passage.
+    fn act(&mut self, case: &mut Case) {
+        case.title("== ", "\n");
+        match case.word() {
+            "every" => every(&self.rt, case),
+            "ports" => passed(&self.rt, "loops", &mut Loopback::new(&self.rt), case),
+            "with" => with(&self.rt, case),
+            _ => case.fault(),
+        }
+    }
+}
+
+fn every(rt: &HostRuntime, case: &mut Case) {
+    let mut memory = Memory::losing(case.number());
+    passed(rt, "loops", &mut memory, case);
+}
+
+fn with(rt: &HostRuntime, case: &mut Case) {
+    let settings = case.name();
+    passed(rt, settings.as_str(), &mut Loopback::new(rt), case);
+}
+
 /// Output, faults and status of a script's run through a passage, and whether the output is that of one without.
-fn passed<P: Channel, O: Write>(
-    rt: &HostRuntime,
-    settings: &str,
-    name: &str,
-    passage: &mut P,
-    output: &mut O,
-) -> Result<()> {
-    let alloc = rt.alloc();
-    let settings = text_of(rt, format!(in alloc; "{settings}.toml")?.as_str())?;
-    let script = text_of(rt, format!(in alloc; "{name}.script")?.as_str())?;
-    let (settings, script) = (settings.as_str(), script.as_str());
-    let (mut looped, mut plain, mut errors) = (Vec::new(alloc), Vec::new(alloc), Vec::new(alloc));
-    simulate(alloc, settings, script, &mut plain, &mut errors);
-    errors.clear();
+fn passed<P: Channel>(rt: &HostRuntime, settings: &str, passage: &mut P, case: &mut Case) {
+    match texts_of(rt, settings, case.word()) {
+        Ok((settings, script)) => run(settings.as_str(), script.as_str(), passage, case),
+        Err(_) => case.fault(),
+    }
+}
+
+fn texts_of(rt: &HostRuntime, settings: &str, script: &str) -> Result<(String, String)> {
+    let settings = text_at(rt, settings, "toml")?;
+    let script = text_at(rt, script, "script")?;
+    Ok((settings, script))
+}
+
+fn text_at(rt: &HostRuntime, name: &str, kind: &str) -> Result<String> {
+    let path = format!(in rt.alloc(); "{name}.{kind}")?;
+    Ok(text_of(rt, path.as_str())?)
+}
+
+fn run<P: Channel>(settings: &str, script: &str, passage: &mut P, case: &mut Case) {
+    let alloc = case.alloc;
+    let plain = plain(alloc, settings, script);
+    let (mut looped, mut errors) = (Vec::new(alloc), Vec::new(alloc));
     let status = run_loop(alloc, settings, script, passage, &mut looped, &mut errors);
-    output.write_all(looped.as_slice())?;
-    output.write_all(errors.as_slice())?;
-    let same = if looped == plain { "as" } else { "not as" };
-    writeln!(output, "status {status}, {same} sim")?;
-    Ok(())
+    case.text(looped.as_slice());
+    case.text(errors.as_slice());
+    case.say("status ", status);
+    let same = looped.as_slice() == plain.as_slice();
+    case.put(if same { ", as sim\n" } else { ", not as sim\n" });
+}
+
+/// The output of a run without a passage.
+fn plain(alloc: Global, settings: &str, script: &str) -> Vec<u8> {
+    let (mut plain, mut errors) = (Vec::new(alloc), Vec::new(alloc));
+    simulate(alloc, settings, script, &mut plain, &mut errors);
+    plain
 }

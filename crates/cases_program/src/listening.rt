@@ -1,43 +1,41 @@
 //! What comes to a socket while a line of words is acted on.
 
-use anyhow::{Context, Result};
-use mio::net::{UdpSocket, UnixListener};
+use anyhow::Result;
+use cases_words::Case;
+use mio::net::{UdpSocket, UnixListener, UnixStream};
 use std::fs;
-use std::io::{ErrorKind, Read, Write};
+use std::io::{ErrorKind, Read};
 use std::net::{Ipv4Addr, SocketAddr, SocketAddrV4};
 
 /// The bytes of the longest datagram of the link.
 const LONGEST: usize = 2_214;
 
 /// A port of the loopback address.
-fn at(port: &str) -> Result<SocketAddr> {
-    let port = port.parse::<u16>()?;
-    Ok(SocketAddr::V4(SocketAddrV4::new(Ipv4Addr::LOCALHOST, port)))
+fn at(port: u16) -> SocketAddr {
+    SocketAddr::V4(SocketAddrV4::new(Ipv4Addr::LOCALHOST, port))
 }
 
 /// A socket at a port.
-pub(crate) fn bind(rt: &HostRuntime, port: &str) -> Result<UdpSocket> {
-    Ok(UdpSocket::bind(rt, at(port)?)?)
+pub(crate) fn bind(rt: &HostRuntime, port: u16) -> Result<UdpSocket> {
+    Ok(UdpSocket::bind(rt, at(port))?)
 }
 
 /// A socket at a port, which speaks with another.
-pub(crate) fn bind_to(rt: &HostRuntime, port: &str, other: &str) -> Result<UdpSocket> {
+pub(crate) fn bind_to(rt: &HostRuntime, port: u16, other: u16) -> Result<UdpSocket> {
     let socket = bind(rt, port)?;
-    socket.connect(at(other)?)?;
+    socket.connect(at(other))?;
     Ok(socket)
 }
 
 /// Prints the bytes of the first datagram that has come.
-pub(crate) fn show_first<O: Write>(socket: &UdpSocket, output: &mut O) -> Result<()> {
+pub(crate) fn show_first(socket: &UdpSocket, case: &mut Case) {
     let mut room = [0u8; LONGEST];
     match socket.recv_from(&mut room) {
-        Ok((count, _)) => show("first", &room[..count.min(LONGEST)], output),
-        Err(error) if error.kind() == ErrorKind::WouldBlock => {
-            writeln!(output, "nothing came")?;
-            Ok(())
-        }
-        Err(error) => Err(error.into()),
+        Ok((count, _)) => case.hex("first ", &room[..count.min(LONGEST)]),
+        Err(error) if error.kind() == ErrorKind::WouldBlock => case.put("nothing came"),
+        Err(_) => case.fault(),
     }
+    case.end();
 }
 
 /// The control socket beside a boot file, with nobody who answers.
@@ -48,27 +46,19 @@ pub(crate) fn deaf(rt: &HostRuntime, boot_file: &str) -> Result<UnixListener> {
 }
 
 /// Prints what the first caller has said.
-pub(crate) fn show_said<O: Write>(listener: &UnixListener, output: &mut O) -> Result<()> {
-    let mut room = [0u8; LONGEST];
+pub(crate) fn show_said(listener: &UnixListener, case: &mut Case) {
     match listener.accept() {
-        Ok((mut caller, _)) => {
-            let count = caller.read(&mut room)?;
-            show("said", room.get(..count).context("too much")?, output)
-        }
-        Err(error) if error.kind() == ErrorKind::WouldBlock => {
-            writeln!(output, "nobody called")?;
-            Ok(())
-        }
-        Err(error) => Err(error.into()),
+        Ok((mut caller, _)) => show_word(&mut caller, case),
+        Err(error) if error.kind() == ErrorKind::WouldBlock => case.put("nobody called"),
+        Err(_) => case.fault(),
     }
+    case.end();
 }
 
-/// Prints bytes behind a word.
-fn show<O: Write>(word: &str, bytes: &[u8], output: &mut O) -> Result<()> {
-    write!(output, "{word} ")?;
-    for byte in bytes {
-        write!(output, "{byte:02x}")?;
+fn show_word(caller: &mut UnixStream, case: &mut Case) {
+    let mut room = [0u8; LONGEST];
+    match caller.read(&mut room) {
+        Ok(count) => case.hex("said ", room.get(..count).unwrap_or(&[])),
+        Err(_) => case.fault(),
     }
-    writeln!(output)?;
-    Ok(())
 }

@@ -9,21 +9,29 @@ mod memory;
 mod words;
 
 use anyhow::Result;
+use cases_words::{Actor, Case, play};
+use lines::Lines;
 use std::fs;
-use std::io::{self, BufWriter, Write};
+use words::Words;
+
+fn try_file<A: Actor>(
+    rt: &HostRuntime,
+    name: &str,
+    actor: &mut A,
+    case: &mut Case,
+) -> Result<()> {
+    let cases = fs::read_to_string(rt, name)?;
+    play(case, cases.as_str(), actor)
+}
+
+fn try_all(rt: &HostRuntime, case: &mut Case) -> Result<()> {
+    try_file(rt, "acts.cases", &mut Words::new(*rt), case)?;
+    try_file(rt, "loops.list", &mut Lines::new(*rt), case)
+}
 
 fn main(rt: HostRuntime) -> Result<()> {
-    let mut output = BufWriter::new(rt.alloc(), io::writer(&rt))?;
-    let cases = fs::read_to_string(&rt, "acts.cases")?;
-    words::run(&rt, cases.as_str(), &mut output)?;
-    let list = fs::read_to_string(&rt, "loops.list")?;
-    for line in list.lines() {
-        if line.is_empty() || line.starts_with("#") {
-            continue;
-        }
-        writeln!(output, "== {line}")?;
-        lines::print(&rt, line, &mut output)?;
-    }
-    output.flush()?;
-    Ok(())
+    let mut case = Case::new(rt.alloc());
+    let tried = try_all(&rt, &mut case);
+    case.flush(&rt);
+    tried
 }

@@ -1,13 +1,54 @@
 //! Lines of words, done as `natpair` would: what each prints, its faults and its status.
 
 use crate::{files, listening};
-use anyhow::{Context, Result, bail};
+use anyhow::{Context, Result};
+use cases_words::{Actor, Case};
 use commands::act;
-use std::alloc::Global;
+use mio::net::UdpSocket;
+use std::alloc::{AllocError, Global};
 use std::io::Write;
 use std::os::fd::AsRawFd;
 
-fn words_of(alloc: Global, line: &str) -> Result<Vec<String>> {
+#[derive(Drop)]
+pub(crate) struct Words {
+    rt: HostRuntime,
+}
+
+impl Words {
+    pub(crate) fn new(rt: HostRuntime) -> Words {
+        Words { rt }
+    }
+}
+
+impl Actor for Words {
+    /// A line is the words of a command line, or one of these:
+    ///
+    /// - `+ NAME;OLD;NEW` writes the file NAME: S.toml with its first line OLD replaced by NEW
+    /// - `= NAME` prints the bytes of the file NAME
+    /// - `? PORT WORDS` is the words, and then the bytes of the first datagram that came to a UDP port on the loopback address
+    /// - `! FILE WORDS` is the words while a box runs on the boot file FILE
+    /// - `@ FILE WORDS` is the words, and then what was said at the control socket beside the boot file FILE, where nobody
+    ///   answers
+    /// - `> PORT OTHER HEX WORDS` is the words with an open descriptor for `descriptor:N`, into which the bytes HEX came from the
+    ///   UDP port OTHER, and then the bytes of the first datagram that came to that
+    fn act(&mut self, case: &mut Case) {
+        case.title("== ", "\n");
+        match case.word() {
+            "+" => files::write(&self.rt, case),
+            "=" => files::show(&self.rt, case),
+            "?" => heard(&self.rt, case),
+            "!" => held(&self.rt, case),
+            "@" => unheard(&self.rt, case),
+            ">" => inherited(&self.rt, case),
+            _ => {
+                case.back();
+                acted(&self.rt, case);
+            }
+        }
+    }
+}
+
+fn words_of(alloc: Global, line: &str) -> Result<Vec<String>, AllocError> {
     let mut words = Vec::new(alloc);
     for word in line.split(' ') {
         words.push(String::from_str(alloc, word)?)?;
@@ -15,85 +56,100 @@ fn words_of(alloc: Global, line: &str) -> Result<Vec<String>> {
     Ok(words)
 }
 
-/// Output, faults and status of a line of words.
-fn acted<O: Write>(rt: &HostRuntime, line: &str, output: &mut O) -> Result<()> {
-    let words = words_of(rt.alloc(), line)?;
-    let mut errors = Vec::new(rt.alloc());
-    let status = act(rt, words.as_slice(), false, output, &mut errors);
-    output.write_all(errors.as_slice())?;
-    writeln!(output, "status {status}")?;
-    Ok(())
+/// The status of words. What a caller has to show stays small where this says nothing of it.
+fn status_of<O: Write>(
+    rt: &HostRuntime,
+    words: &[String],
+    output: &mut O,
+    errors: &mut Vec<u8>,
+) -> u8 {
+    act(rt, words, false, output, errors)
 }
 
-/// The same, with the first datagram that came to a port meanwhile; `text` is the port and the words.
-fn heard<O: Write>(rt: &HostRuntime, text: &str, output: &mut O) -> Result<()> {
-    let (port, line) = text.split_once(' ').context("no words")?;
-    let socket = listening::bind(rt, port)?;
-    acted(rt, line, output)?;
-    listening::show_first(&socket, output)
+/// Output, faults and status of the words that are left.
+fn acted(rt: &HostRuntime, case: &mut Case) {
+    let line = case.rest();
+    acted_on(rt, line.as_str(), case);
 }
 
-/// The same, while a box runs on a boot file; `text` is the file and the words.
-fn held<O: Write>(rt: &HostRuntime, text: &str, output: &mut O) -> Result<()> {
-    let (file, line) = text.split_once(' ').context("no words")?;
-    let Ok(disk) = boot_file::open(rt, file) else {
-        bail!("no boot file {file}");
-    };
-    let done = acted(rt, line, output);
-    drop(disk);
-    done
+fn acted_on(rt: &HostRuntime, line: &str, case: &mut Case) {
+    match words_of(case.alloc, line) {
+        Ok(words) => {
+            let mut errors = Vec::new(case.alloc);
+            let status = status_of(rt, words.as_slice(), &mut case.out, &mut errors);
+            case.text(errors.as_slice());
+            case.say("status ", status);
+            case.end();
+        }
+        Err(_) => case.fault(),
+    }
 }
 
-/// The same, with what was said at the control socket beside a boot file meanwhile, where nobody answers; `text` is the
-/// file and the words.
-fn unheard<O: Write>(rt: &HostRuntime, text: &str, output: &mut O) -> Result<()> {
-    let (file, line) = text.split_once(' ').context("no words")?;
-    let listener = listening::deaf(rt, file)?;
-    acted(rt, line, output)?;
-    listening::show_said(&listener, output)
+/// The same, with the first datagram that came to a port meanwhile.
+fn heard(rt: &HostRuntime, case: &mut Case) {
+    match listening::bind(rt, case.port().0) {
+        Ok(socket) => {
+            acted(rt, case);
+            listening::show_first(&socket, case);
+        }
+        Err(_) => case.fault(),
+    }
 }
 
-/// The same, with an open descriptor into which bytes came before, and what was sent by it; `text` is two ports, the bytes,
-/// and the words, in which `descriptor:N` stands for it.
-fn inherited<O: Write>(rt: &HostRuntime, text: &str, output: &mut O) -> Result<()> {
-    let (own, rest) = text.split_once(' ').context("no port")?;
-    let (other, rest) = rest.split_once(' ').context("no port")?;
-    let (hex, line) = rest.split_once(' ').context("no words")?;
-    let (before, behind) = line.split_once("descriptor:N").context("no descriptor")?;
+/// The same, while a box runs on a boot file.
+fn held(rt: &HostRuntime, case: &mut Case) {
+    match boot_file::open(rt, case.word()) {
+        Ok(disk) => {
+            acted(rt, case);
+            drop(disk);
+        }
+        Err(_) => case.fault(),
+    }
+}
+
+/// The same, with what was said at the control socket beside a boot file meanwhile, where nobody answers.
+fn unheard(rt: &HostRuntime, case: &mut Case) {
+    match listening::deaf(rt, case.word()) {
+        Ok(listener) => {
+            acted(rt, case);
+            listening::show_said(&listener, case);
+        }
+        Err(_) => case.fault(),
+    }
+}
+
+/// The same, with an open descriptor into which bytes came before, and what was sent by it.
+fn inherited(rt: &HostRuntime, case: &mut Case) {
+    let (own, other) = (case.port().0, case.port().0);
+    let bytes = case.bytes();
+    match ends(rt, own, other, bytes.as_slice()) {
+        Ok((far, near)) => {
+            let line = case.rest();
+            act_by(rt, line.as_str(), &near, case);
+            listening::show_first(&far, case);
+        }
+        Err(_) => case.fault(),
+    }
+}
+
+/// A socket at the other port, and one at the own port to which it has sent bytes.
+fn ends(rt: &HostRuntime, own: u16, other: u16, bytes: &[u8]) -> Result<(UdpSocket, UdpSocket)> {
     let far = listening::bind_to(rt, other, own)?;
     let near = listening::bind_to(rt, own, other)?;
-    far.send(hex::decode(rt.alloc(), hex)?.as_slice())?;
-    let number = near.as_raw_fd();
-    let line = format!(in rt.alloc(); "{before}descriptor:{number}{behind}")?;
-    acted(rt, line.as_str(), output)?;
-    listening::show_first(&far, output)
+    far.send(bytes)?;
+    Ok((far, near))
 }
 
-/// A line of the cases is empty, a `#` comment, the words of a command line, or one of these:
-///
-/// - `+ NAME;OLD;NEW` writes the file NAME: S.toml with its first line OLD replaced by NEW
-/// - `= NAME` prints the bytes of the file NAME
-/// - `? PORT WORDS` is the words, and then the bytes of the first datagram that came to a UDP port on the loopback address
-/// - `! FILE WORDS` is the words while a box runs on the boot file FILE
-/// - `@ FILE WORDS` is the words, and then what was said at the control socket beside the boot file FILE, where nobody
-///   answers
-/// - `> PORT OTHER HEX WORDS` is the words with an open descriptor for `descriptor:N`, into which the bytes HEX came from the
-///   UDP port OTHER, and then the bytes of the first datagram that came to that
-pub(crate) fn run<O: Write>(rt: &HostRuntime, cases: &str, output: &mut O) -> Result<()> {
-    for case in cases.lines() {
-        if case.is_empty() || case.starts_with("#") {
-            continue;
-        }
-        writeln!(output, "== {case}")?;
-        match case.split_once(' ') {
-            Some(("+", rest)) => files::write(rt, rest)?,
-            Some(("=", name)) => files::show(rt, name, output)?,
-            Some(("?", rest)) => heard(rt, rest, output)?,
-            Some(("!", rest)) => held(rt, rest, output)?,
-            Some(("@", rest)) => unheard(rt, rest, output)?,
-            Some((">", rest)) => inherited(rt, rest, output)?,
-            _ => acted(rt, case, output)?,
-        }
+/// The words, in which `descriptor:N` stands for a socket's descriptor.
+fn act_by(rt: &HostRuntime, line: &str, near: &UdpSocket, case: &mut Case) {
+    match named(case.alloc, line, near) {
+        Ok(line) => acted_on(rt, line.as_str(), case),
+        Err(_) => case.fault(),
     }
-    Ok(())
+}
+
+fn named(alloc: Global, line: &str, near: &UdpSocket) -> Result<String> {
+    let (before, behind) = line.split_once("descriptor:N").context("no descriptor")?;
+    let number = near.as_raw_fd();
+    Ok(format!(in alloc; "{before}descriptor:{number}{behind}")?)
 }

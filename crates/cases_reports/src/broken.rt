@@ -1,40 +1,56 @@
 //! Bytes that are whole, cut or changed, and what they are read as.
 
-use anyhow::{Context, Result};
+use cases_words::Case;
 use report_texts::{write_json, write_metrics, write_people};
-use reports::{Bytes, LONGEST, Report};
-use std::io::Write;
+use reports::{Bytes, LONGEST, ReadFault, Report};
+use std::io;
 
 /// A report of bytes, of which nothing is said.
-fn read_of(bytes: &[u8]) -> Result<Report> {
-    Ok(Report::read(bytes)?)
+fn read_of(bytes: &[u8]) -> Result<Report, ReadFault> {
+    Report::read(bytes)
+}
+
+/// Which text of a report is wanted.
+#[derive(Clone, Copy)]
+pub(crate) enum Kind {
+    People,
+    Json,
+    Metrics,
 }
 
 /// The text of a report, once it was written as bytes and read back.
-pub(crate) fn tell_text<O: Write>(report: &Report, kind: &str, output: &mut O) -> Result<()> {
-    let read = read_of(report.bytes().as_slice())?;
-    match kind {
-        "people" => write_people(output, &read)?,
-        "json" => write_json(output, &read)?,
-        _ => write_metrics(output, &read)?,
+pub(crate) fn tell_text(report: &Report, kind: Kind, case: &mut Case) {
+    match read_of(report.bytes().as_slice()) {
+        Ok(read) => {
+            let written = write_text(&read, kind, &mut case.out);
+            case.keep(written);
+        }
+        Err(_) => case.fault(),
     }
-    Ok(())
+}
+
+fn write_text(report: &Report, kind: Kind, output: &mut Vec<u8>) -> io::Result<()> {
+    match kind {
+        Kind::People => write_people(output, report),
+        Kind::Json => write_json(output, report),
+        Kind::Metrics => write_metrics(output, report),
+    }
 }
 
 /// How many bytes it has, and some of them.
-pub(crate) fn tell_bytes<O: Write>(
-    report: &Report,
-    from: usize,
-    count: usize,
-    output: &mut O,
-) -> Result<()> {
+pub(crate) fn tell_bytes(report: &Report, case: &mut Case) {
+    let (from, count) = (case.count(), case.count());
     let bytes = report.bytes();
-    write!(output, "{} bytes: ", bytes.len())?;
-    for byte in bytes.as_slice().iter().skip(from).take(count) {
-        write!(output, "{byte:02x}")?;
-    }
-    writeln!(output)?;
-    Ok(())
+    case.put(bytes.len());
+    case.put(" bytes: ");
+    case.hex("", part_of(bytes.as_slice(), from, count));
+    case.end();
+}
+
+/// So many bytes from a place on, or as many as there are.
+fn part_of(bytes: &[u8], from: usize, count: usize) -> &[u8] {
+    let behind = bytes.get(from..).unwrap_or(&[]);
+    behind.get(..count).unwrap_or(behind)
 }
 
 /// A copy of bytes in a place that has room for one more.
@@ -56,40 +72,42 @@ fn copy_of(bytes: &Bytes) -> Copied {
 }
 
 /// How many of the shorter lengths are refused, and whether one more byte is.
-pub(crate) fn tell_cuts<O: Write>(report: &Report, output: &mut O) -> Result<()> {
+pub(crate) fn tell_cuts(report: &Report, case: &mut Case) {
     let copied = copy_of(&report.bytes());
+    case.say("refused: ", count_refused(&copied));
+    case.say(" of ", copied.count);
+    let longer = part_of(&copied.room, 0, copied.count.saturating_add(1));
+    case.say(", one more byte ", read_of(longer).is_err());
+    case.end();
+}
+
+fn count_refused(copied: &Copied) -> u32 {
     let mut refused = 0u32;
     for length in 0..copied.count {
-        let front = copied.room.get(..length).context("no such length")?;
-        if read_of(front).is_err() {
+        if read_of(part_of(&copied.room, 0, length)).is_err() {
             refused = refused.saturating_add(1);
         }
     }
-    let longer = copied.room.get(..copied.count.saturating_add(1));
-    let more = read_of(longer.context("no room")?).is_err();
-    writeln!(
-        output,
-        "refused: {refused} of {}, one more byte {more}",
-        copied.count
-    )?;
-    Ok(())
+    refused
 }
 
 /// What bytes are read as of which one is another.
-pub(crate) fn tell_changed<O: Write>(
-    report: &Report,
-    at: usize,
-    byte: usize,
-    output: &mut O,
-) -> Result<()> {
+pub(crate) fn tell_changed(report: &Report, case: &mut Case) {
     let mut copied = copy_of(&report.bytes());
-    let place = copied.room.get_mut(at).context("no such place")?;
-    *place = u8::try_from(byte)?;
-    let front = copied.room.get(..copied.count).context("no room")?;
-    match Report::read(front) {
-        Ok(read) if read == *report => writeln!(output, "the same")?,
-        Ok(_) => writeln!(output, "another report")?,
-        Err(fault) => writeln!(output, "{fault}")?,
+    let at = case.count();
+    let byte = case.byte();
+    match copied.room.get_mut(at) {
+        Some(place) => *place = byte,
+        None => case.fault(),
     }
-    Ok(())
+    tell_read(report, part_of(&copied.room, 0, copied.count), case);
+}
+
+fn tell_read(report: &Report, bytes: &[u8], case: &mut Case) {
+    match read_of(bytes) {
+        Ok(read) if read == *report => case.put("the same"),
+        Ok(_) => case.put("another report"),
+        Err(fault) => case.put(fault),
+    }
+    case.end();
 }

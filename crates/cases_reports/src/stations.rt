@@ -1,16 +1,15 @@
 //! A gateway whose report and pages are taken.
 
 use crate::values::blank;
-use crate::words::{is_first, state};
-use anyhow::{Context, Result, bail};
-use cases_words::Given;
+use crate::words::state_of;
+use anyhow::Result;
+use cases_words::{Actor, Case};
 use gateway::{Event, Gateway, Hashers, Out};
 use nat_types::{GatewayId, Key, Side};
 use report_texts::{Filter, write_pairs, write_people};
 use reports::{GatewayReport, Page, Sides};
 use settings::Settings;
 use std::alloc::Global;
-use std::io::Write;
 
 /// A packet of 192.168.1.10 to 198.51.100.7 port 53, `hi`; its source port stands at 34.
 const FRAME: [u8; 44] = [
@@ -29,8 +28,14 @@ pub(crate) struct Station {
 
 fn founded(alloc: Global) -> Result<Gateway> {
     let settings = Settings::sample(alloc)?;
-    let gateway = Gateway::new(alloc, &settings, GatewayId::Zero, 1, true, Hashers::fixed())?;
-    Ok(gateway)
+    let gateway = begun(alloc, &settings);
+    drop(settings);
+    gateway
+}
+
+fn begun(alloc: Global, settings: &Settings) -> Result<Gateway> {
+    let hashers = Hashers::fixed();
+    Ok(Gateway::new(alloc, settings, GatewayId::Zero, 1, true, hashers)?)
 }
 
 /// One step, of which nothing is said.
@@ -51,7 +56,7 @@ fn look(sides: &mut Sides, gateway: &Gateway) {
 }
 
 /// What a report says of the gateway, and nothing is said of that.
-fn state_of(gateway: &Gateway) -> Result<GatewayReport> {
+fn state_of_gateway(gateway: &Gateway) -> Result<GatewayReport> {
     Ok(surveys::gateway_report(gateway)?)
 }
 
@@ -90,93 +95,125 @@ impl Station {
         drop(out);
     }
 
+    fn step(&mut self, event: Event<'_>, case: &mut Case) {
+        case.keep(step(&mut self.gateway, event, &mut self.out));
+        look(&mut self.sides, &self.gateway);
+    }
+
+    fn take(&mut self, case: &mut Case) {
+        let bytes = case.bytes();
+        self.step(Event::Datagram(bytes.as_slice()), case);
+    }
+
+    fn see(&mut self, case: &mut Case) {
+        let side = case.side();
+        let up = case.is_first("up", "down");
+        self.step(Event::Side(side, up), case);
+    }
+
+    fn send(&mut self, case: &mut Case) {
+        let first = case.number();
+        for more in 0..case.number() {
+            let frame = frame_from((first.saturating_add(more) % 65_536) as u16);
+            self.step(Event::Frame(Side::Inside, &frame), case);
+        }
+    }
+
+    fn tell(&self, case: &mut Case) {
+        match state_of_gateway(&self.gateway) {
+            Ok(state) => self.tell_state(state, case),
+            Err(_) => case.fault(),
+        }
+    }
+
+    fn tell_state(&self, state: GatewayReport, case: &mut Case) {
+        let mut report = blank();
+        report.gateway = state;
+        report.sides = self.sides;
+        let written = write_people(&mut case.out, &report);
+        case.keep(written);
+    }
+
+    /// Reads all pages, each once it was written as bytes.
+    fn list(&self, case: &mut Case) {
+        let filter = filter_of(case);
+        let mut last = None;
+        for _ in 0..10 {
+            match page_behind(self.alloc, &self.gateway, last) {
+                Ok(page) => {
+                    tell_page(&page, &filter, case);
+                    last = page.last();
+                    if !page.has_more() {
+                        break;
+                    }
+                }
+                Err(_) => case.fault(),
+            }
+        }
+    }
+}
+
+impl Actor for Station {
     /// Does what a line says.
     ///
     /// - `tick MOMENT`, `side SIDE up|down`, `datagram HEX`: a step, and the sides are looked at
     /// - `udp PORT COUNT`: packets of 192.168.1.10 from that port, and the next ones
     /// - `people`: the report's text
     /// - `list PROTOCOL ADDRESS PORT STATE`: all pages, and the lines of the entries that are wanted; `any` wants all
-    pub(crate) fn act<O: Write>(&mut self, given: &mut Given<'_>, output: &mut O) -> Result<()> {
-        match given.word()? {
-            "tick" => self.step(Event::Tick(given.number()?)),
-            "side" => {
-                let side = given.side()?;
-                let up = is_first(given, "up", "down")?;
-                self.step(Event::Side(side, up))
-            }
-            "datagram" => {
-                let bytes = given.bytes()?;
-                self.step(Event::Datagram(bytes.as_slice()))
-            }
-            "udp" => self.send(given.number()?, given.number()?),
-            "people" => self.tell(output),
-            "list" => self.list(&filter_of(given)?, output),
-            word => bail!("no line of the cases: {word}"),
+    fn act(&mut self, case: &mut Case) {
+        case.title("> ", "\n");
+        match case.word() {
+            "tick" => self.step(Event::Tick(case.number()), case),
+            "side" => self.see(case),
+            "datagram" => self.take(case),
+            "udp" => self.send(case),
+            "people" => self.tell(case),
+            "list" => self.list(case),
+            _ => case.fault(),
         }
-    }
-
-    fn step(&mut self, event: Event<'_>) -> Result<()> {
-        step(&mut self.gateway, event, &mut self.out)?;
-        look(&mut self.sides, &self.gateway);
-        Ok(())
-    }
-
-    fn send(&mut self, first: u64, count: u64) -> Result<()> {
-        for more in 0..count {
-            let port = u16::try_from(first.saturating_add(more))?;
-            let mut frame = FRAME;
-            let [high, low] = port.to_be_bytes();
-            frame[34] = high;
-            frame[35] = low;
-            self.step(Event::Frame(Side::Inside, &frame))?;
-        }
-        Ok(())
-    }
-
-    fn tell<O: Write>(&self, output: &mut O) -> Result<()> {
-        let mut report = blank();
-        report.gateway = state_of(&self.gateway)?;
-        report.sides = self.sides;
-        write_people(output, &report)?;
-        Ok(())
-    }
-
-    /// Reads all pages, each once it was written as bytes.
-    fn list<O: Write>(&self, filter: &Filter, output: &mut O) -> Result<()> {
-        let mut last = None;
-        for _ in 0..10 {
-            let read = page_behind(self.alloc, &self.gateway, last)?;
-            writeln!(output, "page {} {}", read.entries().len(), read.has_more())?;
-            write_pairs(output, &read, filter)?;
-            last = read.last();
-            if !read.has_more() {
-                return Ok(());
-            }
-        }
-        Ok(())
     }
 }
 
+/// The packet from a port.
+fn frame_from(port: u16) -> [u8; 44] {
+    let mut frame = FRAME;
+    let [high, low] = port.to_be_bytes();
+    frame[34] = high;
+    frame[35] = low;
+    frame
+}
+
+fn tell_page(page: &Page, filter: &Filter, case: &mut Case) {
+    case.say("page ", page.entries().len());
+    case.say(" ", page.has_more());
+    case.end();
+    let written = write_pairs(&mut case.out, page, filter);
+    case.keep(written);
+}
+
+/// Whether the next word is `any`; another is read once more.
+fn is_any(case: &mut Case) -> bool {
+    let is_any = case.word() == "any";
+    if !is_any {
+        case.back();
+    }
+    is_any
+}
+
 /// Which entries are wanted: a protocol, an address, a port and a state, each of them or `any`.
-fn filter_of(given: &mut Given<'_>) -> Result<Filter> {
-    let [protocol, address, port, wanted] = given.left() else {
-        bail!("four words are wanted");
-    };
-    let mut words = Given::new(given.alloc, given.left());
+fn filter_of(case: &mut Case) -> Filter {
     let mut filter = Filter::ALL;
-    if *protocol != "any" {
-        filter.protocol = Some(words.protocol()?);
-    } else {
-        words.word()?;
+    if !is_any(case) {
+        filter.protocol = Some(case.protocol());
     }
-    if *address != "any" {
-        filter.address = Some(words.ip()?);
-    } else {
-        words.word()?;
+    if !is_any(case) {
+        filter.address = Some(case.ip());
     }
-    if *port != "any" {
-        filter.port = Some(words.port()?);
+    if !is_any(case) {
+        filter.port = Some(case.port());
     }
-    filter.state = state(wanted)?;
-    Ok(filter)
+    if !is_any(case) {
+        filter.state = Some(state_of(case));
+    }
+    filter
 }

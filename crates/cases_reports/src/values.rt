@@ -1,8 +1,8 @@
 //! A report's value, field by field.
 
-use crate::words::{is_first, origin, role, what};
-use anyhow::{Result, bail};
-use cases_words::Given;
+use crate::broken::{Kind, tell_bytes, tell_changed, tell_cuts, tell_text};
+use crate::words::{origin, role, what};
+use cases_words::{Actor, Case};
 use nat_types::{GatewayId, Side};
 use reports::{
     Counters, GatewayReport, PairCounts, PeerReport, PortCounts, Report, SideReport, Sides,
@@ -47,83 +47,117 @@ pub(crate) fn blank() -> Report {
     }
 }
 
+/// The report that the lines so far have set.
+#[derive(Drop)]
+pub(crate) struct Reports {
+    report: Report,
+}
+
+impl Reports {
+    pub(crate) fn new() -> Reports {
+        Reports { report: blank() }
+    }
+}
+
+impl Actor for Reports {
+    /// What a line says of the report: `set`'s lines, and
+    ///
+    /// - `people`, `json`, `metrics`: its text, once it was written as bytes and read back
+    /// - `bytes FROM COUNT`: how many bytes it has, and some of them
+    /// - `cuts`: its bytes are cut at each length, and made longer by one
+    /// - `change AT BYTE`: one of its bytes is another
+    fn act(&mut self, case: &mut Case) {
+        case.title("> ", "\n");
+        match case.word() {
+            "people" => tell_text(&self.report, Kind::People, case),
+            "json" => tell_text(&self.report, Kind::Json, case),
+            "metrics" => tell_text(&self.report, Kind::Metrics, case),
+            "bytes" => tell_bytes(&self.report, case),
+            "cuts" => tell_cuts(&self.report, case),
+            "change" => tell_changed(&self.report, case),
+            _ => set(&mut self.report, case),
+        }
+    }
+}
+
 /// Sets what a line says.
 ///
 /// - `new ID BOOT DIGEST`: a blank report of a box
-/// - `clock MOMENT`, `table synced|unsynced`, `turn away|here`
 /// - `look SIDE ROLE up|down MOMENT`: the side is seen so then
-/// - `peer BOOT serves|idle`, `heard CENTISECONDS`: how long ago
-/// - `pairs PROTOCOL STATE COUNT`: so many more entries
-/// - `ports OWNED ICMP TCP UDP`, `waiting PAIR HOP`
 /// - `count ORIGIN WHAT COUNT`: so many more
 /// - `lines COUNT`
-pub(crate) fn set(report: &mut Report, line: &str, given: &mut Given<'_>) -> Result<()> {
-    match given.word()? {
-        "new" => begin(report, given),
-        "look" => look(report, given),
-        "count" => {
-            let (origin, what) = (origin(given)?, what(given)?);
-            report.counters.add(origin, what, given.number()?);
-            Ok(())
-        }
-        "lines" => {
-            report.lines_left_out = given.number()?;
-            Ok(())
-        }
-        "clock" | "table" | "turn" | "peer" | "heard" | "pairs" | "ports" | "waiting" => {
-            set_gateway(&mut report.gateway, line, given)
-        }
-        word => bail!("no line of the cases: {word}"),
+/// - one of `set_gateway`
+fn set(report: &mut Report, case: &mut Case) {
+    case.back();
+    match case.word() {
+        "new" => begin(report, case),
+        "look" => look(&mut report.sides, case),
+        "count" => count(&mut report.counters, case),
+        "lines" => report.lines_left_out = case.number(),
+        _ => set_gateway(&mut report.gateway, case),
     }
 }
 
-fn begin(report: &mut Report, given: &mut Given<'_>) -> Result<()> {
-    let (id, boot, digest) = (given.gateway()?, given.number()?, given.number()?);
+fn begin(report: &mut Report, case: &mut Case) {
     *report = blank();
-    report.id = id;
-    report.boot = boot;
-    report.digest = digest;
-    Ok(())
+    report.id = case.gateway();
+    report.boot = case.number();
+    report.digest = case.number();
 }
 
-fn look(report: &mut Report, given: &mut Given<'_>) -> Result<()> {
-    let (side, role) = (given.side()?, role(given)?);
-    let (up, moment) = (is_first(given, "up", "down")?, given.number()?);
+fn look(sides: &mut Sides, case: &mut Case) {
+    let (side, role) = (case.side(), role(case));
+    let (up, moment) = (case.is_first("up", "down"), case.number());
     match side {
-        Side::Inside => report.sides.inside.look(role, up, moment),
-        Side::Outside => report.sides.outside.look(role, up, moment),
+        Side::Inside => sides.inside.look(role, up, moment),
+        Side::Outside => sides.outside.look(role, up, moment),
     }
-    Ok(())
+}
+
+fn count(counters: &mut Counters, case: &mut Case) {
+    let (origin, what) = (origin(case), what(case));
+    counters.add(origin, what, case.number());
 }
 
 /// Sets a part of what the gateway shows.
-fn set_gateway(state: &mut GatewayReport, line: &str, given: &mut Given<'_>) -> Result<()> {
-    let verb = line.split(' ').next().unwrap_or("");
-    match verb {
-        "clock" => state.moment = given.number()?,
-        "table" => state.synced = is_first(given, "synced", "unsynced")?,
-        "turn" => state.away = is_first(given, "away", "here")?,
+///
+/// - `clock MOMENT`, `table synced|unsynced`, `turn away|here`
+/// - `peer BOOT serves|idle`, `heard CENTISECONDS`: how long ago
+/// - `pairs PROTOCOL STATE COUNT`: so many more entries
+/// - `ports OWNED ICMP TCP UDP`, `waiting PAIR HOP`
+fn set_gateway(state: &mut GatewayReport, case: &mut Case) {
+    case.back();
+    match case.word() {
+        "clock" => state.moment = case.number(),
+        "table" => state.synced = case.is_first("synced", "unsynced"),
+        "turn" => state.away = case.is_first("away", "here"),
         "peer" => {
-            state.peer.boot = given.number()?;
-            state.peer.serves = is_first(given, "serves", "idle")?;
+            state.peer.boot = case.number();
+            state.peer.serves = case.is_first("serves", "idle");
         }
-        "heard" => state.peer.heard = Some(given.number()?),
-        "pairs" => {
-            let (protocol, found) = (given.protocol()?, given.state()?);
-            for _ in 0..given.number()? {
-                state.pairs.count(protocol, found);
-            }
+        "heard" => state.peer.heard = Some(case.number()),
+        "pairs" => count_pairs(&mut state.pairs, case),
+        "ports" => state.ports = ports(case),
+        "waiting" => {
+            state.waiting.pair = case.number();
+            state.waiting.next_hop = case.number();
         }
-        "ports" => {
-            state.ports.owned = given.number()?;
-            state.ports.free_icmp = given.number()?;
-            state.ports.free_tcp = given.number()?;
-            state.ports.free_udp = given.number()?;
-        }
-        _ => {
-            state.waiting.pair = given.number()?;
-            state.waiting.next_hop = given.number()?;
-        }
+        _ => case.fault(),
     }
-    Ok(())
+}
+
+fn count_pairs(pairs: &mut PairCounts, case: &mut Case) {
+    let (protocol, state) = (case.protocol(), case.state());
+    for _ in 0..case.number() {
+        pairs.count(protocol, state);
+    }
+}
+
+fn ports(case: &mut Case) -> PortCounts {
+    PortCounts {
+        owned: case.number(),
+        free_icmp: case.number(),
+        free_tcp: case.number(),
+        free_udp: case.number(),
+    }
 }

@@ -1,7 +1,6 @@
 //! The words of a line.
 
-use anyhow::{Result, bail};
-use cases_words::Given;
+use cases_words::Case;
 use journal::{Cause, Origin};
 use nat_types::EntryState;
 use packet_rules::Reason;
@@ -32,67 +31,74 @@ const REASONS: [Reason; 20] = [
     Reason::TooMany,
 ];
 
-pub(crate) fn role(given: &mut Given<'_>) -> Result<State> {
-    match given.word()? {
-        "Initialize" => Ok(State::Initialize),
-        "Backup" => Ok(State::Backup),
-        "Active" => Ok(State::Active),
-        word => bail!("no role {word}"),
+pub(crate) fn role(case: &mut Case) -> State {
+    let read = role_named(case.word());
+    case.or(read, State::Initialize)
+}
+
+fn role_named(word: &str) -> Option<State> {
+    match word {
+        "Initialize" => Some(State::Initialize),
+        "Backup" => Some(State::Backup),
+        "Active" => Some(State::Active),
+        _ => None,
     }
 }
 
-/// The first of two words, or the second.
-pub(crate) fn is_first(given: &mut Given<'_>, first: &str, second: &str) -> Result<bool> {
-    let word = given.word()?;
-    if word == first {
-        Ok(true)
-    } else if word == second {
-        Ok(false)
-    } else {
-        bail!("neither {first} nor {second}")
-    }
+pub(crate) fn origin(case: &mut Case) -> Origin {
+    let read = origin_named(case.word());
+    case.or(read, Origin::Own)
 }
 
-pub(crate) fn origin(given: &mut Given<'_>) -> Result<Origin> {
-    match given.word()? {
-        "inside" => Ok(Origin::Inside),
-        "outside" => Ok(Origin::Outside),
-        "link" => Ok(Origin::Link),
-        "own" => Ok(Origin::Own),
-        word => bail!("no origin {word}"),
+fn origin_named(word: &str) -> Option<Origin> {
+    match word {
+        "inside" => Some(Origin::Inside),
+        "outside" => Some(Origin::Outside),
+        "link" => Some(Origin::Link),
+        "own" => Some(Origin::Own),
+        _ => None,
     }
 }
 
 /// What is counted: by its name, or of what was dropped by the reason's number.
-pub(crate) fn what(given: &mut Given<'_>) -> Result<Count> {
-    match given.word()? {
-        "received" => Ok(Count::Received),
-        "sent" => Ok(Count::Sent),
-        "failed" => Ok(Count::SendFailed),
-        "too-long" => Ok(Count::TooLong),
-        "NoMemory" => Ok(Count::Lost(Cause::NoMemory)),
-        word => reason(word.parse::<u8>()?),
+pub(crate) fn what(case: &mut Case) -> Count {
+    let read = count_named(case.word());
+    case.or(read, Count::Received)
+}
+
+fn count_named(word: &str) -> Option<Count> {
+    match word {
+        "received" => Some(Count::Received),
+        "sent" => Some(Count::Sent),
+        "failed" => Some(Count::SendFailed),
+        "too-long" => Some(Count::TooLong),
+        "NoMemory" => Some(Count::Lost(Cause::NoMemory)),
+        word => reason_numbered(word.parse::<u8>().ok()?),
     }
 }
 
-fn reason(number: u8) -> Result<Count> {
+fn reason_numbered(number: u8) -> Option<Count> {
     for reason in REASONS {
         if reason.number() == number {
-            return Ok(Count::Lost(Cause::Dropped(reason)));
+            return Some(Count::Lost(Cause::Dropped(reason)));
         }
     }
-    bail!("no reason {number}")
+    None
 }
 
-/// A state by its name, or any for `any`.
-pub(crate) fn state(word: &str) -> Result<Option<EntryState>> {
+/// A state by its name.
+pub(crate) fn state_of(case: &mut Case) -> EntryState {
+    let read = state_named(case.word());
+    case.or(read, EntryState::Pending)
+}
+
+fn state_named(word: &str) -> Option<EntryState> {
     match word {
-        "any" => Ok(None),
-        "pending" => Ok(Some(EntryState::Pending)),
-        "doomed" => Ok(Some(EntryState::Doomed)),
-        "live" => Ok(Some(EntryState::Live)),
-        "closing" => Ok(Some(EntryState::Closing)),
-        "held" => Ok(Some(EntryState::Held)),
-        _ => bail!("no state {word}"),
+        "pending" => Some(EntryState::Pending),
+        "doomed" => Some(EntryState::Doomed),
+        "live" => Some(EntryState::Live),
+        "closing" => Some(EntryState::Closing),
+        "held" => Some(EntryState::Held),
+        _ => None,
     }
 }

@@ -1,118 +1,135 @@
 //! What a box answers to those who say a word to it.
 
 use addresses::Protocol;
+use cases_words::Case;
 use control::Answer;
 use journal::{Cause, Origin};
 use nat_types::EntryState;
 use packet_rules::Reason;
-use reports::{Count, PROTOCOLS, Page, PairCounts, Report, SideReport};
-use std::alloc::Global;
-use std::io::{self, Write};
+use reports::{Count, Counters, GatewayReport, PROTOCOLS, Page, PairCounts, Report, SideReport};
+use std::fmt::Display;
 
 /// Prints an answer: that the word is taken, or why it isn't; or how the box stands, or which pairs it has.
-pub(crate) fn show_answer<O: Write>(alloc: Global, bytes: &[u8], output: &mut O) -> io::Result<()> {
+pub(crate) fn show_answer(bytes: &[u8], case: &mut Case) {
     match Answer::read(bytes) {
-        Some(Answer::Heard) => writeln!(output, "  answer heard"),
-        Some(Answer::Refused(refusal)) => writeln!(output, "  answer {refusal}"),
-        Some(Answer::Report(bytes)) => match Report::read(bytes) {
-            Ok(report) => show_report(&report, output),
-            Err(fault) => writeln!(output, "  answer {fault}"),
-        },
-        Some(Answer::Page(bytes)) => match Page::read(alloc, bytes) {
-            Ok(page) => show_page(&page, output),
-            Err(fault) => writeln!(output, "  answer {fault}"),
-        },
-        None => writeln!(output, "  answer of {} bytes", bytes.len()),
+        Some(Answer::Heard) => case.tell("answer heard"),
+        Some(Answer::Refused(refusal)) => tell_refused(case, refusal),
+        Some(Answer::Report(bytes)) => show_report_of(bytes, case),
+        Some(Answer::Page(bytes)) => show_page_of(bytes, case),
+        None => {
+            case.say("  answer of ", bytes.len());
+            case.put(" bytes\n");
+        }
+    }
+}
+
+/// Prints why something is refused.
+fn tell_refused<D: Display + Drop>(case: &mut Case, fault: D) {
+    case.say("  answer ", fault);
+    case.end();
+}
+
+fn show_report_of(bytes: &[u8], case: &mut Case) {
+    match Report::read(bytes) {
+        Ok(report) => show_report(&report, case),
+        Err(fault) => tell_refused(case, fault),
+    }
+}
+
+fn show_page_of(bytes: &[u8], case: &mut Case) {
+    match Page::read(case.alloc, bytes) {
+        Ok(page) => show_page(&page, case),
+        Err(fault) => tell_refused(case, fault),
     }
 }
 
 /// How a box stands, in six lines and more.
-fn show_report<O: Write>(report: &Report, output: &mut O) -> io::Result<()> {
-    let gateway = &report.gateway;
-    let id = report.id;
-    let (boot, digest, moment) = (report.boot, report.digest, gateway.moment);
-    writeln!(
-        output,
-        "  answer box {id} boot {boot} digest {digest} at {moment}"
-    )?;
-    let (synced, away, peer) = (gateway.synced, gateway.away, gateway.peer);
-    let (known, heard, serves) = (peer.boot, peer.heard, peer.serves);
-    writeln!(
-        output,
-        "    synced {synced} away {away} peer {known} heard {heard:?} serves {serves}"
-    )?;
-    show_side("inside", &report.sides.inside, output)?;
-    show_side("outside", &report.sides.outside, output)?;
+fn show_report(report: &Report, case: &mut Case) {
+    case.say("  answer box ", report.id);
+    case.say(" boot ", report.boot);
+    case.say(" digest ", report.digest);
+    case.say(" at ", report.gateway.moment);
+    show_gateway(&report.gateway, case);
+    show_side("inside", &report.sides.inside, case);
+    show_side("outside", &report.sides.outside, case);
     for protocol in PROTOCOLS {
-        show_pairs(&gateway.pairs, protocol, output)?;
+        show_pairs(&report.gateway.pairs, protocol, case);
     }
+    show_ports(&report.gateway, case);
+    show_counts(report, case);
+    case.say("    lines left out ", report.lines_left_out);
+    case.end();
+}
+
+fn show_gateway(gateway: &GatewayReport, case: &mut Case) {
+    case.say("\n    synced ", gateway.synced);
+    case.say(" away ", gateway.away);
+    case.say(" peer ", gateway.peer.boot);
+    case.show(" heard ", gateway.peer.heard);
+    case.say(" serves ", gateway.peer.serves);
+    case.end();
+}
+
+fn show_ports(gateway: &GatewayReport, case: &mut Case) {
     let ports = gateway.ports;
-    let (icmp, tcp, udp) = (ports.free_icmp, ports.free_tcp, ports.free_udp);
-    let owned = ports.owned;
-    writeln!(
-        output,
-        "    ports {owned} free icmp {icmp} tcp {tcp} udp {udp}"
-    )?;
-    let (pair, next_hop) = (gateway.waiting.pair, gateway.waiting.next_hop);
-    writeln!(output, "    waiting {pair} {next_hop}")?;
-    show_counts(report, output)?;
-    let lines = report.lines_left_out;
-    writeln!(output, "    lines left out {lines}")
+    case.say("    ports ", ports.owned);
+    case.say(" free icmp ", ports.free_icmp);
+    case.say(" tcp ", ports.free_tcp);
+    case.say(" udp ", ports.free_udp);
+    case.say("\n    waiting ", gateway.waiting.pair);
+    case.say(" ", gateway.waiting.next_hop);
+    case.end();
 }
 
 /// The role of a side, and whether its cable is in; each with the moment since when.
-fn show_side<O: Write>(name: &str, side: &SideReport, output: &mut O) -> io::Result<()> {
-    let (role, role_since) = (side.role, side.role_since);
-    let (up, up_since) = (side.up, side.up_since);
-    writeln!(
-        output,
-        "    {name} {role:?} {role_since} up {up} {up_since}"
-    )
+fn show_side(name: &str, side: &SideReport, case: &mut Case) {
+    case.say("    ", name);
+    case.show(" ", side.role);
+    case.say(" ", side.role_since);
+    case.say(" up ", side.up);
+    case.say(" ", side.up_since);
+    case.end();
 }
 
 /// How many entries of a protocol have each state.
-fn show_pairs<O: Write>(pairs: &PairCounts, protocol: Protocol, output: &mut O) -> io::Result<()> {
-    let pending = pairs.of(protocol, EntryState::Pending);
-    let doomed = pairs.of(protocol, EntryState::Doomed);
-    let live = pairs.of(protocol, EntryState::Live);
-    let closing = pairs.of(protocol, EntryState::Closing);
-    let held = pairs.of(protocol, EntryState::Held);
-    writeln!(
-        output,
-        "    {protocol} pending {pending} doomed {doomed} live {live} closing {closing} held {held}"
-    )
+fn show_pairs(pairs: &PairCounts, protocol: Protocol, case: &mut Case) {
+    case.say("    ", protocol);
+    case.say(" pending ", pairs.of(protocol, EntryState::Pending));
+    case.say(" doomed ", pairs.of(protocol, EntryState::Doomed));
+    case.say(" live ", pairs.of(protocol, EntryState::Live));
+    case.say(" closing ", pairs.of(protocol, EntryState::Closing));
+    case.say(" held ", pairs.of(protocol, EntryState::Held));
+    case.end();
 }
 
 /// What came, was sent, failed and was too long; and what was dropped for the reasons 1 and 16.
-fn show_counts<O: Write>(report: &Report, output: &mut O) -> io::Result<()> {
-    let origins = [
-        ("inside", Origin::Inside),
-        ("outside", Origin::Outside),
-        ("link", Origin::Link),
-        ("own", Origin::Own),
-    ];
-    for (name, origin) in origins {
-        let counters = &report.counters;
-        let received = counters.of(origin, Count::Received);
-        let sent = counters.of(origin, Count::Sent);
-        let failed = counters.of(origin, Count::SendFailed);
-        let long = counters.of(origin, Count::TooLong);
-        let short = counters.of(origin, Count::Lost(Cause::Dropped(Reason::ShortFrame)));
-        let bad = counters.of(origin, Count::Lost(Cause::Dropped(Reason::BadDatagram)));
-        writeln!(
-            output,
-            "    {name} in {received} out {sent} failed {failed} long {long} 1 {short} 16 {bad}"
-        )?;
-    }
-    Ok(())
+fn show_counts(report: &Report, case: &mut Case) {
+    show_count("inside", &report.counters, Origin::Inside, case);
+    show_count("outside", &report.counters, Origin::Outside, case);
+    show_count("link", &report.counters, Origin::Link, case);
+    show_count("own", &report.counters, Origin::Own, case);
+}
+
+fn show_count(name: &str, counters: &Counters, origin: Origin, case: &mut Case) {
+    let short = Count::Lost(Cause::Dropped(Reason::ShortFrame));
+    let bad = Count::Lost(Cause::Dropped(Reason::BadDatagram));
+    case.say("    ", name);
+    case.say(" in ", counters.of(origin, Count::Received));
+    case.say(" out ", counters.of(origin, Count::Sent));
+    case.say(" failed ", counters.of(origin, Count::SendFailed));
+    case.say(" long ", counters.of(origin, Count::TooLong));
+    case.say(" 1 ", counters.of(origin, short));
+    case.say(" 16 ", counters.of(origin, bad));
+    case.end();
 }
 
 /// Each entry of a page, and whether others follow.
-fn show_page<O: Write>(page: &Page, output: &mut O) -> io::Result<()> {
-    writeln!(output, "  answer page")?;
+fn show_page(page: &Page, case: &mut Case) {
+    case.tell("answer page");
     for entry in page.entries() {
-        writeln!(output, "    {}", entry.pair)?;
+        case.say("    ", entry.pair);
+        case.end();
     }
-    let more = page.has_more();
-    writeln!(output, "    more {more}")
+    case.say("    more ", page.has_more());
+    case.end();
 }

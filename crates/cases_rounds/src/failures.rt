@@ -1,74 +1,72 @@
 //! Rounds of which something fails: a call of the wire, or to write.
 
 use crate::stations::{Orders, Station};
-use anyhow::Result;
+use cases_words::Case;
 use nat_types::{GatewayId, Side};
 use settings::Settings;
 use sockets::Place;
-use std::alloc::Global;
 use std::cell::RefCell;
 use std::io::{self, ErrorKind, Write};
 
 /// A packet of a new pair, from 192.168.1.10:5000 to 198.51.100.7:53.
-const OUT: &str =
-    "00005e00010b02000000000a08004500001e0001000040118ee1c0a8010ac633640713880035000a97c66869";
+const OUT: [u8; 44] = [
+    0x00, 0x00, 0x5e, 0x00, 0x01, 0x0b, 0x02, 0x00, 0x00, 0x00, 0x00, 0x0a, 0x08, 0x00, 0x45, 0x00,
+    0x00, 0x1e, 0x00, 0x01, 0x00, 0x00, 0x40, 0x11, 0x8e, 0xe1, 0xc0, 0xa8, 0x01, 0x0a, 0xc6, 0x33,
+    0x64, 0x07, 0x13, 0x88, 0x00, 0x35, 0x00, 0x0a, 0x97, 0xc6, 0x68, 0x69,
+];
 
 /// Its reply, to port 20000.
-const BACK: &str =
-    "00005e00010a0200000000fe08004500001e000200003c119291c6336407c000020100354e20000a55dd6f6b";
+const BACK: [u8; 44] = [
+    0x00, 0x00, 0x5e, 0x00, 0x01, 0x0a, 0x02, 0x00, 0x00, 0x00, 0x00, 0xfe, 0x08, 0x00, 0x45, 0x00,
+    0x00, 0x1e, 0x00, 0x02, 0x00, 0x00, 0x3c, 0x11, 0x92, 0x91, 0xc6, 0x33, 0x64, 0x07, 0xc0, 0x00,
+    0x02, 0x01, 0x00, 0x35, 0x4e, 0x20, 0x00, 0x0a, 0x55, 0xdd, 0x6f, 0x6b,
+];
 
 /// A frame of no host's, which is dropped.
-const SHORT: &str = "00";
+const SHORT: [u8; 1] = [0];
 
 /// Rounds of gateway 0 as it is founded, once both its sides are Active and three frames have come.
 ///
 /// - `errors`: there is no room for their lines
 /// - `output`: what they write there is refused
 /// - a number: the call of the wire with that number fails
-pub(crate) fn run<O: Write>(
-    alloc: Global,
-    settings: &Settings,
-    what: &str,
-    output: &mut O,
-) -> Result<()> {
-    let mut station = Station::new(alloc, settings, GatewayId::Zero, 1, true)?;
-    let failed = fail(&mut station, what, output);
-    station.end();
-    failed
+pub(crate) fn run(settings: &Settings, case: &mut Case) {
+    match Station::new(case.alloc, settings, GatewayId::Zero, 1, true) {
+        Some(mut station) => {
+            make_ready(&mut station, case);
+            fail(&mut station, case);
+            station.end();
+        }
+        None => case.fault(),
+    }
 }
 
-fn fail<O: Write>(station: &mut Station, what: &str, output: &mut O) -> Result<()> {
-    make_ready(station)?;
-    match what {
-        "errors" => run_untold(station, output),
-        "output" => run_endless(station, output),
-        number => run_failing(station, number.parse::<u64>()?, output),
+fn fail(station: &mut Station, case: &mut Case) {
+    match case.word() {
+        "errors" => run_untold(station, case),
+        "output" => run_endless(station, case),
+        _ => {
+            case.back();
+            station.serve_failing(case.number(), ORDERS, case);
+        }
     }
 }
 
 /// A first round, after which both sides are Active. Then three frames come.
-fn make_ready(station: &mut Station) -> Result<()> {
-    let _lines = station.run(1, 360, true);
-    station.bring(Place::Side(Side::Inside), OUT)?;
-    station.bring(Place::Side(Side::Outside), BACK)?;
-    station.bring(Place::Side(Side::Inside), SHORT)
+fn make_ready(station: &mut Station, case: &mut Case) {
+    let _lines = station.go_on(1, 360, true);
+    station.bring(Place::Side(Side::Inside), &OUT, case);
+    station.bring(Place::Side(Side::Outside), &BACK, case);
+    station.bring(Place::Side(Side::Inside), &SHORT, case);
 }
 
-/// Four rounds, 360 centiseconds apart, and the end.
+/// Four rounds, 360 centiseconds apart, and the end. A send that fails is a datagram less; where to receive fails, what is
+/// there comes later.
 const ORDERS: Orders = Orders {
     rounds: Some(4),
     pace: 360,
     told: None,
 };
-
-/// They are run over a wire of which a call fails. A send that fails is a datagram less; where to receive fails, what is
-/// there comes later.
-fn run_failing<O: Write>(station: &mut Station, number: u64, output: &mut O) -> Result<()> {
-    let written = station.serve_failing(number, ORDERS)?;
-    station.wire.count(output)?;
-    output.write_all(written.as_slice())?;
-    Ok(())
-}
 
 /// A writer that takes nothing.
 #[derive(Drop)]
@@ -84,25 +82,23 @@ impl Write for Shut {
     }
 }
 
-/// The same rounds, where no line for the operator can be written. It is left out.
-fn run_untold<O: Write>(station: &mut Station, output: &mut O) -> Result<()> {
-    let lines = RefCell::new(Vec::new(station.wire.alloc));
-    let mut written = Vec::new(station.wire.alloc);
-    station.serve_into(ORDERS, &lines, true, &mut written)?;
-    station.wire.count(output)?;
-    output.write_all(lines.into_inner().as_slice())?;
-    output.write_all(written.as_slice())?;
-    Ok(())
+/// The rounds, where no line for the operator can be written. It is left out.
+fn run_untold(station: &mut Station, case: &mut Case) {
+    let lines = RefCell::new(Vec::new(case.alloc));
+    let mut written = Vec::new(case.alloc);
+    case.keep(station.serve_into(ORDERS, &lines, true, &mut written));
+    station.wire.count(case);
+    case.text(lines.into_inner().as_slice());
+    case.text(written.as_slice());
 }
 
-/// The same rounds, where `end` can't be written. All else is done before.
-fn run_endless<O: Write>(station: &mut Station, output: &mut O) -> Result<()> {
-    let lines = RefCell::new(Vec::new(station.wire.alloc));
+/// The rounds, where `end` can't be written. All else is done before.
+fn run_endless(station: &mut Station, case: &mut Case) {
+    let lines = RefCell::new(Vec::new(case.alloc));
     let ended = station.serve_into(ORDERS, &lines, false, &mut Shut);
-    station.wire.count(output)?;
-    output.write_all(lines.into_inner().as_slice())?;
+    station.wire.count(case);
+    case.text(lines.into_inner().as_slice());
     if ended.is_err() {
-        writeln!(output, "  no end")?;
+        case.tell("no end");
     }
-    Ok(())
 }

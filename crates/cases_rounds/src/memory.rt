@@ -4,13 +4,12 @@ ghost use Rattle.std.specs.Prelude.{◌≡◌, ◌≤◌, IfSome};
 ghost use Rattle.sockets.specs.Letters.{AnyCall};
 
 use crate::answers::show_answer;
-use anyhow::Result as Checked;
+use cases_words::Case;
 use control::word_of;
 use nat_types::Side;
 use rounds::Clockwork;
 use sockets::{LONGEST, Losses, Place, SendFault, Wire, WireFault};
 use std::alloc::Global;
-use std::io::{self, Write};
 use std::time::Duration;
 
 /// A datagram, and where it came from or went to.
@@ -21,7 +20,7 @@ pub(crate) struct Letter {
 }
 
 /// A place fails in some of the next rounds, of which the first has the number 1.
-#[derive(Clone, Copy, Debug, PartialEq, Eq)]
+#[derive(Clone, Copy)]
 pub(crate) struct Outage {
     pub(crate) place: Place,
     pub(crate) first: u32,
@@ -35,7 +34,7 @@ impl Outage {
 }
 
 /// A place takes no more bytes than these at once.
-#[derive(Clone, Copy, Debug, PartialEq, Eq)]
+#[derive(Clone, Copy)]
 pub(crate) struct Limit {
     pub(crate) place: Place,
     pub(crate) most: usize,
@@ -82,16 +81,16 @@ impl Memory {
     }
 
     /// Copies of what was sent on the link.
-    pub(crate) fn sent_on_link(&self) -> Checked<Vec<Letter>> {
+    pub(crate) fn sent_on_link(&self, case: &mut Case) -> Vec<Letter> {
         let mut letters = Vec::new(self.alloc);
         for letter in &self.sent {
             if letter.place == Place::Link {
-                let bytes = letter.bytes.clone()?;
                 let place = letter.place;
-                letters.push(Letter { place, bytes })?;
+                let bytes = case.or_none(letter.bytes.clone());
+                case.keep(letters.push(Letter { place, bytes }));
             }
         }
-        Ok(letters)
+        letters
     }
 
     /// The next datagram that is to come, if one is.
@@ -123,33 +122,32 @@ impl Memory {
     }
 
     /// These datagrams come, after those that are to come already.
-    pub(crate) fn add(&mut self, letters: Vec<Letter>) -> Checked<()> {
+    pub(crate) fn add(&mut self, letters: Vec<Letter>, case: &mut Case) {
         for letter in letters {
-            self.coming.push(letter)?;
+            case.keep(self.coming.push(letter));
         }
-        Ok(())
     }
 
     /// Prints what was sent, and how many datagrams are still to come, if any.
-    pub(crate) fn show<O: Write>(&self, output: &mut O) -> io::Result<()> {
+    pub(crate) fn show(&self, case: &mut Case) {
         for letter in &self.sent {
-            show_letter(self.alloc, letter, output)?;
+            show_letter(letter, case);
         }
-        match self.coming.len().saturating_sub(self.come) {
-            0 => Ok(()),
-            left => writeln!(output, "  left {left}"),
+        let left = self.coming.len().saturating_sub(self.come);
+        if 0 < left {
+            case.say("  left ", left);
+            case.end();
         }
     }
 
     /// Prints where what was sent went to, in order, and how many datagrams have come.
-    pub(crate) fn count<O: Write>(&self, output: &mut O) -> io::Result<()> {
-        write!(output, "  sent")?;
+    pub(crate) fn count(&self, case: &mut Case) {
+        case.put("  sent");
         for letter in &self.sent {
-            let name = name_of(letter.place);
-            write!(output, " {name}")?;
+            case.say(" ", name_of(letter.place));
         }
-        let come = self.come;
-        writeln!(output, ", came {come}")
+        case.say(", came ", self.come);
+        case.end();
     }
 }
 
@@ -162,16 +160,13 @@ fn name_of(place: Place) -> &'static str {
     }
 }
 
-fn show_letter<O: Write>(alloc: Global, letter: &Letter, output: &mut O) -> io::Result<()> {
-    let name = name_of(letter.place);
+fn show_letter(letter: &Letter, case: &mut Case) {
     if letter.place == Place::Operator {
-        return show_answer(alloc, letter.bytes.as_slice(), output);
+        return show_answer(letter.bytes.as_slice(), case);
     }
-    write!(output, "  {name} ")?;
-    for byte in &letter.bytes {
-        write!(output, "{byte:02x}")?;
-    }
-    writeln!(output)
+    case.say("  ", name_of(letter.place));
+    case.hex(" ", letter.bytes.as_slice());
+    case.end();
 }
 
 impl Wire for Memory {

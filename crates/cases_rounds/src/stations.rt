@@ -1,12 +1,12 @@
 //! A box whose wire lies in memory.
 
-use crate::memory::{Letter, Memory, Steps};
+use crate::memory::{Letter, Limit, Memory, Outage, Steps};
 use crate::pages::{Page, Patience};
 use crate::supervisors::Alive;
-use anyhow::{Result, bail};
+use cases_words::Case;
 use gateway::{Gateway, Hashers};
 use journal::{Format, Journal, Unhindered};
-use nat_types::GatewayId;
+use nat_types::{GatewayId, Side};
 use rounds::{Identity, run_rounds, serve};
 use settings::Settings;
 use sockets::{Failing, Place, Wire};
@@ -27,23 +27,21 @@ pub(crate) struct Station {
 }
 
 impl Station {
-    /// A gateway of that number in that boot, at moment 0.
+    /// A gateway of that number in that boot, at moment 0; none where there is no such gateway.
     pub(crate) fn new(
         alloc: Global,
         settings: &Settings,
         id: GatewayId,
         boot: u64,
         found: bool,
-    ) -> Result<Station> {
+    ) -> Option<Station> {
         let gateway = begun(alloc, settings, id, boot, found)?;
-        let wire = Memory::new(alloc);
-        let clock = Steps { moment: 0, pace: 0 };
         let digest = DIGEST;
-        Ok(Station {
+        Some(Station {
             gateway,
             identity: Identity { id, boot, digest },
-            wire,
-            clock,
+            wire: Memory::new(alloc),
+            clock: Steps { moment: 0, pace: 0 },
             alive: Alive::new(),
         })
     }
@@ -63,17 +61,56 @@ impl Station {
         drop(alive);
     }
 
+    /// Prepares the next rounds.
+    ///
+    /// - `come PLACE HEX`, `come PLACE HEX N`: a datagram comes, or comes N times
+    /// - `fails PLACE N M`: a place fails in the rounds N to M of the next line of rounds
+    /// - `takes PLACE N`: a place takes at most N bytes at once from now on
+    pub(crate) fn prepare(&mut self, case: &mut Case) {
+        case.back();
+        match case.word() {
+            "come" => self.come(case),
+            "fails" => self.fail(case),
+            "takes" => self.limit(case),
+            _ => case.fault(),
+        }
+    }
+
+    fn come(&mut self, case: &mut Case) {
+        let place = place_in(case);
+        let bytes = case.bytes();
+        let count = if case.left() == 0 { 1 } else { case.times() };
+        for _ in 0..count {
+            self.bring(place, bytes.as_slice(), case);
+        }
+    }
+
+    fn fail(&mut self, case: &mut Case) {
+        let outage = Outage {
+            place: place_in(case),
+            first: case.times(),
+            last: case.times(),
+        };
+        case.keep(self.wire.outages.push(outage));
+    }
+
+    fn limit(&mut self, case: &mut Case) {
+        self.wire.limit = Some(Limit {
+            place: place_in(case),
+            most: case.count(),
+        });
+    }
+
     /// A datagram comes.
-    pub(crate) fn bring(&mut self, place: Place, text: &str) -> Result<()> {
-        let text = if text == "-" { "" } else { text };
-        let bytes = hex::decode(self.wire.alloc, text)?;
-        self.wire.coming.push(Letter { place, bytes })?;
-        Ok(())
+    pub(crate) fn bring(&mut self, place: Place, bytes: &[u8], case: &mut Case) {
+        let copied = Vec::from_slice(case.alloc, bytes);
+        let bytes = case.or_none(copied);
+        case.keep(self.wire.coming.push(Letter { place, bytes }));
     }
 
     /// Runs so many rounds, at each of which so many centiseconds more have passed. What is answered are the lines for
     /// the operator.
-    pub(crate) fn run(&mut self, rounds: u32, pace: u64, track: bool) -> Vec<u8> {
+    pub(crate) fn go_on(&mut self, rounds: u32, pace: u64, track: bool) -> Vec<u8> {
         let lines = RefCell::new(Vec::new(self.wire.alloc));
         self.clock.pace = pace;
         self.wire.begin();
@@ -82,17 +119,29 @@ impl Station {
         lines.into_inner()
     }
 
-    /// Runs the box to its end. What is answered are the lines for the operator, and then the output.
-    pub(crate) fn serve(&mut self, orders: Orders) -> Result<Vec<u8>> {
-        let lines = RefCell::new(Vec::new(self.wire.alloc));
-        let mut output = Vec::new(self.wire.alloc);
-        self.serve_into(orders, &lines, false, &mut output)?;
-        let mut written = lines.into_inner();
-        written.write_all(output.as_slice())?;
-        Ok(written)
+    /// Runs rounds as the next words say, and prints what comes of them. What is answered was sent on the link.
+    pub(crate) fn run(&mut self, case: &mut Case) -> Vec<Letter> {
+        let (rounds, pace) = (case.times(), case.number());
+        let lines = self.go_on(rounds, pace, case.left() == 0);
+        self.wire.show(case);
+        case.text(lines.as_slice());
+        self.wire.sent_on_link(case)
     }
 
-    /// The same with a writer for the output, and lines for the operator, which may have no room.
+    /// Runs the box to its end as the next words say, and prints what comes of it. What is answered was sent on the link.
+    pub(crate) fn serve(&mut self, case: &mut Case) -> Vec<Letter> {
+        let lines = RefCell::new(Vec::new(self.wire.alloc));
+        let mut output = Vec::new(self.wire.alloc);
+        let orders = orders_in(case);
+        case.keep(self.serve_into(orders, &lines, false, &mut output));
+        self.wire.show(case);
+        case.text(lines.into_inner().as_slice());
+        case.text(output.as_slice());
+        self.alive.show(case);
+        self.wire.sent_on_link(case)
+    }
+
+    /// Runs the box to its end, with a writer for the output, and lines for the operator, which may have no room.
     pub(crate) fn serve_into<O: Write>(
         &mut self,
         orders: Orders,
@@ -117,22 +166,21 @@ impl Station {
         )
     }
 
-    /// The same over a wire whose call with that number fails; answers as `serve` does.
-    pub(crate) fn serve_failing(&mut self, number: u64, orders: Orders) -> Result<Vec<u8>> {
-        let alloc = self.wire.alloc;
-        let lines = RefCell::new(Vec::new(alloc));
-        let mut output = Vec::new(alloc);
+    /// The same over a wire whose call with that number fails; prints where what was sent went, and what was written.
+    pub(crate) fn serve_failing(&mut self, number: u64, orders: Orders, case: &mut Case) {
+        let lines = RefCell::new(Vec::new(self.wire.alloc));
+        let mut output = Vec::new(self.wire.alloc);
         self.clock.pace = orders.pace;
         self.wire.begin();
-        serve_failing(self, number, orders, &lines, &mut output)?;
-        let mut written = lines.into_inner();
-        written.write_all(output.as_slice())?;
-        Ok(written)
+        case.keep(serve_failing(self, number, orders, &lines, &mut output));
+        self.wire.count(case);
+        case.text(lines.into_inner().as_slice());
+        case.text(output.as_slice());
     }
 }
 
 /// How a box is run to its end.
-#[derive(Clone, Copy, Debug, PartialEq, Eq)]
+#[derive(Clone, Copy)]
 pub(crate) struct Orders {
     /// How many rounds it has at most.
     pub(crate) rounds: Option<u32>,
@@ -140,6 +188,53 @@ pub(crate) struct Orders {
     pub(crate) pace: u64,
     /// After how many rounds it is told to end.
     pub(crate) told: Option<u32>,
+}
+
+/// As `4 360`, or `- 360 told 3`.
+fn orders_in(case: &mut Case) -> Orders {
+    let rounds = rounds_in(case);
+    let pace = case.number();
+    let told = told_in(case);
+    Orders {
+        rounds,
+        pace,
+        told,
+    }
+}
+
+/// A number of rounds, or any for `-`.
+fn rounds_in(case: &mut Case) -> Option<u32> {
+    if case.word() == "-" {
+        return None;
+    }
+    case.back();
+    Some(case.times())
+}
+
+fn told_in(case: &mut Case) -> Option<u32> {
+    if case.left() == 0 {
+        return None;
+    }
+    if case.word() != "told" {
+        case.fault();
+    }
+    Some(case.times())
+}
+
+/// The place that the next word names.
+fn place_in(case: &mut Case) -> Place {
+    let read = place_named(case.word());
+    case.or(read, Place::Link)
+}
+
+fn place_named(word: &str) -> Option<Place> {
+    match word {
+        "link" => Some(Place::Link),
+        "inside" => Some(Place::Side(Side::Inside)),
+        "outside" => Some(Place::Side(Side::Outside)),
+        "operator" => Some(Place::Operator),
+        _ => None,
+    }
 }
 
 /// So many rounds of a box.
@@ -199,12 +294,11 @@ fn begun(
     id: GatewayId,
     boot: u64,
     found: bool,
-) -> Result<Gateway> {
+) -> Option<Gateway> {
     if boot == 0 || (found && id == GatewayId::One) {
-        bail!("no such gateway");
+        return None;
     }
-    let hashers = Hashers::fixed();
-    Ok(Gateway::new(alloc, settings, id, boot, found, hashers)?)
+    Gateway::new(alloc, settings, id, boot, found, Hashers::fixed()).ok()
 }
 
 /// A box is run to its end. It says nothing of the gateway either.

@@ -1,7 +1,7 @@
 //! What a box tells whoever sees to it.
 
+use cases_words::Case;
 use std::cell::Cell;
-use std::io::{self, Write};
 use supervision::Supervisor;
 
 /// Counts what it is told.
@@ -26,9 +26,10 @@ impl Alive {
     }
 
     /// Prints how often it was told that the box goes on, and that it ends.
-    pub(crate) fn show<O: Write>(&self, output: &mut O) -> io::Result<()> {
-        let (alive, endings) = (self.alive.get(), self.endings.get());
-        writeln!(output, "  alive {alive} ending {endings}")
+    pub(crate) fn show(&self, case: &mut Case) {
+        case.say("  alive ", self.alive.get());
+        case.say(" ending ", self.endings.get());
+        case.end();
     }
 }
 

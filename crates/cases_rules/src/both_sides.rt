@@ -1,26 +1,23 @@
 //! The two interfaces of gateway 0.
-ghost use Rattle.std.specs.Prelude.{IfOk};
 ghost use Rattle.vrrp_states.specs.Table.{IsMoment};
 
-use anyhow::{Result, bail, ensure};
-use cases_words::Given;
+use anyhow::Result;
+use cases_words::{Case, beside};
 use interfaces::Interface;
 use nat_types::{GatewayId, Side};
 use packet_rules::Networks;
 use settings::Settings;
-use std::alloc::Global;
+use std::alloc::{AllocError, Global};
 use vrrp_states::Action;
 
-/// The greatest moment of a gateway's clock, in centiseconds.
+/// The greatest moment of a clock, in centiseconds.
 const LAST_MOMENT: u64 = 4_000_000_000_000;
 
-/// A moment of a gateway's clock, in centiseconds.
-pub fn moment(given: &mut Given<'_>) -> Result<u64>
-    ensures { IfOk result IsMoment }
+/// A moment of a clock, in centiseconds.
+pub fn moment(case: &mut Case) -> u64
+    ensures { IsMoment result }
 {
-    let now = given.number()?;
-    ensure!(now <= LAST_MOMENT, "past the last moment");
-    Ok(now)
+    case.within(0, LAST_MOMENT)
 }
 
 #[derive(Drop)]
@@ -33,11 +30,12 @@ pub struct Interfaces {
 impl Interfaces {
     /// Both before their first event.
     pub fn new(alloc: Global, settings: &Settings) -> Result<Interfaces> {
-        let id = GatewayId::Zero;
+        let inside = begun(alloc, settings, Side::Inside)?;
+        let (inside, outside) = beside(inside, begun(alloc, settings, Side::Outside))?;
         Ok(Interfaces {
-            networks: Networks::of_gateway(settings, id),
-            inside: Interface::new(alloc, settings, id, Side::Inside)?,
-            outside: Interface::new(alloc, settings, id, Side::Outside)?,
+            networks: Networks::of_gateway(settings, GatewayId::Zero),
+            inside,
+            outside,
         })
     }
 
@@ -55,31 +53,45 @@ impl Interfaces {
         }
     }
 
-    /// What both interfaces send at `start NOW`, `tick NOW` or `stop`, the inside one first.
-    pub fn moved(&mut self, given: &mut Given, call: &str) -> Result<String> {
-        let alloc = given.alloc;
-        let (inside, outside) = match call {
-            "start" => {
-                let now = moment(given)?;
-                self.inside.start(now);
-                self.outside.start(now);
-                (Action::Nothing, Action::Nothing)
-            }
-            "tick" => {
-                let now = moment(given)?;
-                (self.inside.tick(now), self.outside.tick(now))
-            }
-            "stop" => (self.inside.stop(), self.outside.stop()),
-            call => bail!("no call {call}"),
-        };
-        let inside = acted(alloc, &self.inside, inside)?;
-        let outside = acted(alloc, &self.outside, outside)?;
-        Ok(format!(in alloc; "inside [{inside}] outside [{outside}]")?)
+    pub fn start(&mut self, case: &mut Case) {
+        let now = moment(case);
+        self.inside.start(now);
+        self.outside.start(now);
+        self.tell(case, Action::Nothing, Action::Nothing);
+    }
+
+    pub fn tick(&mut self, case: &mut Case) {
+        let now = moment(case);
+        let inside = self.inside.tick(now);
+        let outside = self.outside.tick(now);
+        self.tell(case, inside, outside);
+    }
+
+    pub fn stop(&mut self, case: &mut Case) {
+        let inside = self.inside.stop();
+        let outside = self.outside.stop();
+        self.tell(case, inside, outside);
+    }
+
+    /// What both interfaces send, the inside one first.
+    fn tell(&self, case: &mut Case, inside: Action, outside: Action) {
+        tell_sent(case, "inside [", &self.inside, inside);
+        tell_sent(case, " outside [", &self.outside, outside);
     }
 }
 
-/// The frames that an action sends, end to end.
-pub fn acted(alloc: Global, station: &Interface, action: Action) -> Result<String> {
+fn begun(alloc: Global, settings: &Settings, side: Side) -> Result<Interface> {
+    Ok(Interface::new(alloc, settings, GatewayId::Zero, side)?)
+}
+
+/// The frames that an action sends, end to end, behind a text with an open bracket.
+pub fn tell_sent(case: &mut Case, text: &str, station: &Interface, action: Action) {
+    let frames = frames_of(case.alloc, station, action);
+    case.hex_made(text, frames);
+    case.put("]");
+}
+
+fn frames_of(alloc: Global, station: &Interface, action: Action) -> Result<Vec<u8>, AllocError> {
     let mut bytes = Vec::with_capacity(alloc, vrrp_packet::ADVERT_FRAME + arp::ARP_FRAME)?;
     match action {
         Action::Nothing => {}
@@ -89,5 +101,5 @@ pub fn acted(alloc: Global, station: &Interface, action: Action) -> Result<Strin
             station.append_gratuitous(&mut bytes);
         }
     }
-    Ok(hex::encode(alloc, bytes.as_slice())?)
+    Ok(bytes)
 }

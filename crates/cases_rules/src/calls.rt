@@ -1,14 +1,76 @@
 //! Which call a case names.
 use crate::both_sides::Interfaces;
 use crate::{own, packets};
-use anyhow::{Result, bail};
-use cases_words::Given;
+use anyhow::Result;
+use cases_words::{Actor, Case, beside};
 use settings::Settings;
+use std::alloc::Global;
+use std::mem;
 
-/// What the call that the next word names answers.
-///
-/// - `fresh` gives both interfaces anew, before their first event
-/// - `start NOW`, `tick NOW`, `stop`: the frames that both send, the inside one first
+/// It answers a name and the call behind it, at the two interfaces of a gateway of these settings.
+#[derive(Drop)]
+pub(crate) struct Calls {
+    settings: Settings,
+    interfaces: Interfaces,
+}
+
+impl Calls {
+    /// The settings are the sample, and the interfaces are before their first event.
+    pub(crate) fn new(alloc: Global) -> Result<Calls> {
+        let settings = Settings::sample(alloc)?;
+        let interfaces = Interfaces::new(alloc, &settings);
+        let (settings, interfaces) = beside(settings, interfaces)?;
+        Ok(Calls {
+            settings,
+            interfaces,
+        })
+    }
+
+    /// Both interfaces anew.
+    fn renew(&mut self, case: &mut Case) {
+        match Interfaces::new(case.alloc, &self.settings) {
+            Ok(interfaces) => drop(mem::replace(&mut self.interfaces, interfaces)),
+            Err(_) => case.fault(),
+        }
+        case.put("ready");
+    }
+
+    /// What the call that the next word names answers.
+    ///
+    /// - `fresh` gives both interfaces anew, before their first event
+    /// - `speak MTU MTU`: from here on the box answers Echos and complains, with these longest packets inside and
+    ///   outside; and both interfaces anew
+    /// - `start NOW`, `tick NOW`, `stop`: the frames that both send, the inside one first
+    /// - `reply SIDE HEX MAC`: the frame that answers an Echo to the box
+    /// - `complain SIDE HEX MAC`: the frame that is sent where a packet's hops are used up, or else where it
+    ///   is too long for the side at which it would leave
+    /// - `count SIDE reply|error TIMES NOW`: how often in that many tries one more may be sent
+    fn answer(&mut self, case: &mut Case) {
+        match case.word() {
+            "fresh" => self.renew(case),
+            "speak" => {
+                own::speak(&mut self.settings, case);
+                self.renew(case);
+            }
+            "start" => self.interfaces.start(case),
+            "tick" => self.interfaces.tick(case),
+            "stop" => self.interfaces.stop(case),
+            "reply" => own::reply(&self.interfaces, case),
+            "complain" => own::complain(&self.interfaces, case),
+            "count" => own::count(&mut self.interfaces, case),
+            _ => answer_packets(&mut self.interfaces, case),
+        }
+    }
+}
+
+impl Actor for Calls {
+    fn act(&mut self, case: &mut Case) {
+        case.echo(": ");
+        self.answer(case);
+        case.end();
+    }
+}
+
 /// - `read SIDE up|down HEX`: what a frame is read as, or why it is dropped
 /// - `padded SIDE LENGTH HEX`: the same of a frame with zeros behind it up to a length
 /// - `advert SIDE HEX NOW`: what an interface sends when it hears this frame
@@ -16,41 +78,19 @@ use settings::Settings;
 /// - `mac SIDE ADDRESS NOW`: a neighbour's Ethernet address
 /// - `ask SIDE ADDRESS NOW`: whether a packet just sent to a neighbour asks for it
 /// - `request SIDE ADDRESS`: the frame that asks for it
-/// - `speak MTU MTU`: from here on the box answers Echos and complains, with these longest packets inside and
-///   outside; and both interfaces anew
-/// - `reply SIDE HEX MAC`: the frame that answers an Echo to the box
-/// - `complain SIDE HEX MAC`: the frame that is sent where a packet's hops are used up, or else where it
-///   is too long for the side at which it would leave
-/// - `count SIDE reply|error TIMES NOW`: how often in that many tries one more may be sent
 /// - `send SIDE HEX MAC PORT ADDRESS PORT ..`: the frame by which a packet is sent on to a next hop,
 ///   by one pair, or for a hairpin two
-pub fn answer(
-    settings: &mut Settings,
-    interfaces: &mut Interfaces,
-    given: &mut Given,
-) -> Result<String> {
-    match given.word()? {
-        "fresh" => {
-            *interfaces = Interfaces::new(given.alloc, settings)?;
-            Ok(format!(in given.alloc; "ready")?)
-        }
-        "speak" => {
-            own::speak(settings, given)?;
-            *interfaces = Interfaces::new(given.alloc, settings)?;
-            Ok(format!(in given.alloc; "ready")?)
-        }
-        "reply" => own::reply(interfaces, given),
-        "complain" => own::complain(interfaces, given),
-        "count" => own::count(interfaces, given),
-        call @ ("start" | "tick" | "stop") => interfaces.moved(given, call),
-        "read" => packets::read(interfaces, given),
-        "padded" => packets::read_padded(interfaces, given),
-        "advert" => packets::hear_advert(interfaces, given),
-        "arp" => packets::hear_arp(interfaces, given),
-        "mac" => packets::find_mac(interfaces, given),
-        "ask" => packets::ask(interfaces, given),
-        "request" => packets::request(interfaces, given),
-        "send" => packets::send(interfaces, given),
-        call => bail!("no call {call}"),
+fn answer_packets(interfaces: &mut Interfaces, case: &mut Case) {
+    case.back();
+    match case.word() {
+        "read" => packets::read(interfaces, case),
+        "padded" => packets::read_padded(interfaces, case),
+        "advert" => packets::hear_advert(interfaces, case),
+        "arp" => packets::hear_arp(interfaces, case),
+        "mac" => packets::find_mac(interfaces, case),
+        "ask" => packets::ask(interfaces, case),
+        "request" => packets::request(interfaces, case),
+        "send" => packets::send(interfaces, case),
+        _ => case.fault(),
     }
 }

@@ -11,53 +11,37 @@ mod packets;
 mod routers;
 
 use anyhow::Result;
-use both_sides::Interfaces;
-use cases_words::{Given, is_silent, words_of};
+use calls::Calls;
+use cases_words::{Actor, Case, play};
 use routers::Routers;
-use settings::Settings;
-use std::alloc::Global;
 use std::fs;
+use std::io::{self, Write};
 
-/// The lines for the cases of frames.
-fn frame_answers(alloc: Global, settings: &mut Settings, text: &str) -> Result<String> {
-    let mut interfaces = Interfaces::new(alloc, settings)?;
-    let mut out = String::new(alloc);
-    for line in text.lines() {
-        if is_silent(line) {
-            continue;
-        }
-        let words = line.split_whitespace().collect::<Vec<&str>>(alloc)?;
-        let mut given = Given::new(alloc, words.as_slice());
-        let name = given.word()?;
-        let answer = calls::answer(settings, &mut interfaces, &mut given)?;
-        writeln!(out, "{name}: {answer}")?;
-    }
-    Ok(out)
+fn try_file<A: Actor>(
+    rt: &HostRuntime,
+    name: &str,
+    actor: &mut A,
+    case: &mut Case,
+) -> Result<()> {
+    let cases = fs::read_to_string(rt, name)?;
+    play(case, cases.as_str(), actor)
 }
 
-/// The lines for the events of routers.
-fn router_answers(alloc: Global, text: &str) -> Result<String> {
-    let mut routers = Routers::new();
-    let mut out = String::new(alloc);
-    for line in text.lines() {
-        if is_silent(line) {
-            continue;
-        }
-        let words = words_of(alloc, line)?;
-        let answer = routers.answer(alloc, words.as_slice())?;
-        writeln!(out, "{line}: {answer}")?;
-    }
-    Ok(out)
+fn try_frames(rt: &HostRuntime, case: &mut Case) -> Result<()> {
+    let mut calls = Calls::new(rt.alloc())?;
+    let tried = try_file(rt, "rules.cases", &mut calls, case);
+    drop(calls);
+    tried
+}
+
+fn try_all(rt: &HostRuntime, case: &mut Case) -> Result<()> {
+    try_frames(rt, case)?;
+    try_file(rt, "routers.cases", &mut Routers::new(), case)
 }
 
 fn main(rt: HostRuntime) -> Result<()> {
-    let alloc = rt.alloc();
-    let mut settings = Settings::sample(alloc)?;
-    let text = fs::read_to_string(&rt, "rules.cases")?;
-    let answers = frame_answers(alloc, &mut settings, text.as_str())?;
-    print!(rt; "{answers}")?;
-    let text = fs::read_to_string(&rt, "routers.cases")?;
-    let answers = router_answers(alloc, text.as_str())?;
-    print!(rt; "{answers}")?;
-    Ok(())
+    let mut case = Case::new(rt.alloc());
+    let tried = try_all(&rt, &mut case);
+    io::writer(&rt).write_all(case.out.as_slice())?;
+    tried
 }

@@ -1,208 +1,202 @@
 //! Frames that come in, and what is sent on.
-use crate::both_sides::{Interfaces, acted, moment};
+use crate::both_sides::{Interfaces, moment, tell_sent};
 use addresses::Protocol;
-use anyhow::{Context, Result};
 use arp::ArpPacket;
-use cases_words::Given;
-use icmp::ErrorFlow;
+use cases_words::Case;
 use interfaces::Interface;
 use ipv4::Flow;
-use nat_types::{Key, Pair};
+use nat_types::{Key, Pair, Side};
 use packet_rules::{
-    Asked, Direction, Reading, Reason, Translation, append_answer, append_request, append_sent,
+    Direction, Reading, Reason, Translation, append_answer, append_request, append_sent,
     direction_taken,
 };
-use std::alloc::Global;
+use std::alloc::{AllocError, Global};
 use vrrp_packet::Advert;
 
-fn flow_text(alloc: Global, flow: Flow) -> Result<String> {
-    let Flow {
-        protocol,
-        source,
-        source_port,
-        destination,
-        destination_port,
-    } = flow;
-    Ok(format!(in alloc; "{protocol} {source} {source_port} to {destination} {destination_port}")?)
+fn tell_flow(case: &mut Case, flow: Flow) {
+    case.put(flow.protocol);
+    case.say(" ", flow.source);
+    case.say(" ", flow.source_port);
+    case.say(" to ", flow.destination);
+    case.say(" ", flow.destination_port);
 }
 
-fn error_text(alloc: Global, flow: ErrorFlow) -> Result<String> {
-    let (source, destination) = (flow.source, flow.destination);
-    let inside = flow_text(alloc, flow.inside)?;
-    Ok(format!(in alloc; "error {source} to {destination} about {inside}")?)
+fn tell_arp(case: &mut Case, packet: ArpPacket) {
+    case.show("", packet.operation);
+    case.say(" for ", packet.target_ip);
+    case.say(" from ", packet.sender_mac);
+    case.say(" ", packet.sender_ip);
 }
 
-fn arp_text(alloc: Global, packet: &ArpPacket) -> Result<String> {
-    let (operation, from, ip) = (packet.operation, packet.sender_mac, packet.sender_ip);
-    let target = packet.target_ip;
-    Ok(format!(in alloc; "{operation:?} for {target} from {from} {ip}")?)
+fn tell_advert(case: &mut Case, advert: Advert) {
+    case.say("router ", advert.router);
+    case.say(" of priority ", advert.priority);
+    case.say(", ", advert.interval);
+    case.say(" cs, ", advert.address);
 }
 
-fn advert_text(alloc: Global, advert: Advert) -> Result<String> {
-    let Advert {
-        router,
-        priority,
-        interval,
-        address,
-    } = advert;
-    Ok(format!(in alloc; "router {router} of priority {priority}, {interval} cs, {address}")?)
-}
-
-fn asked_text(alloc: Global, asked: Asked) -> Result<String> {
-    let Asked {
-        source,
-        destination,
-        length,
-    } = asked;
-    Ok(format!(in alloc; "{source} asks {destination}, {length} bytes")?)
-}
-
-pub fn reading_text(alloc: Global, reading: Result<Reading, Reason>) -> Result<String> {
+pub fn tell_reading(case: &mut Case, reading: Result<Reading, Reason>) {
     match reading {
-        Ok(Reading::Arp(packet)) => arp_text(alloc, &packet),
+        Ok(Reading::Arp(packet)) => tell_arp(case, packet),
         Ok(Reading::Advert(advert, from)) => {
-            let advert = advert_text(alloc, advert)?;
-            Ok(format!(in alloc; "{advert}, from {from}")?)
+            tell_advert(case, advert);
+            case.say(", from ", from);
         }
-        Ok(Reading::Packet(packet)) => flow_text(alloc, packet.flow),
-        Ok(Reading::Error(packet)) => error_text(alloc, packet.flow),
-        Ok(Reading::Asked(asked)) => asked_text(alloc, asked),
+        Ok(Reading::Packet(packet)) => tell_flow(case, packet.flow),
+        Ok(Reading::Error(packet)) => {
+            case.say("error ", packet.flow.source);
+            case.say(" to ", packet.flow.destination);
+            case.put(" about ");
+            tell_flow(case, packet.flow.inside);
+        }
+        Ok(Reading::Asked(asked)) => {
+            case.put(asked.source);
+            case.say(" asks ", asked.destination);
+            case.say(", ", asked.length);
+            case.put(" bytes");
+        }
         Err(reason) => {
-            let number = reason.number();
-            Ok(format!(in alloc; "dropped {number}, {reason}")?)
+            case.say("dropped ", reason.number());
+            case.say(", ", reason);
         }
     }
 }
 
-pub fn read(interfaces: &Interfaces, given: &mut Given) -> Result<String> {
-    let side = given.side()?;
-    let station = interfaces.at(side);
-    let up = given.word()? == "up";
-    let bytes = given.bytes()?;
-    reading_text(given.alloc, station.read_frame(side, up, bytes.as_slice()))
+/// What a frame is read as. What a caller has to show stays small where this says nothing of it.
+fn read_at(
+    interfaces: &Interfaces,
+    side: Side,
+    up: bool,
+    bytes: &[u8],
+) -> Result<Reading, Reason> {
+    interfaces.at(side).read_frame(side, up, bytes)
 }
 
-pub fn read_padded(interfaces: &Interfaces, given: &mut Given) -> Result<String> {
-    let side = given.side()?;
-    let station = interfaces.at(side);
-    let length = given.number()?.min(2000) as usize;
-    let mut bytes = given.bytes()?;
-    bytes.resize(length, 0)?;
-    reading_text(
-        given.alloc,
-        station.read_frame(side, true, bytes.as_slice()),
-    )
+pub fn read(interfaces: &Interfaces, case: &mut Case) {
+    let side = case.side();
+    let up = case.word() == "up";
+    let bytes = case.bytes();
+    tell_reading(case, read_at(interfaces, side, up, bytes.as_slice()));
 }
 
-pub fn hear_advert(interfaces: &mut Interfaces, given: &mut Given) -> Result<String> {
-    let side = given.side()?;
+pub fn read_padded(interfaces: &Interfaces, case: &mut Case) {
+    let side = case.side();
+    let length = case.number().min(2000) as usize;
+    let mut bytes = case.bytes();
+    case.keep(bytes.resize(length, 0));
+    tell_reading(case, read_at(interfaces, side, true, bytes.as_slice()));
+}
+
+pub fn hear_advert(interfaces: &mut Interfaces, case: &mut Case) {
+    let side = case.side();
     let station = interfaces.at_mut(side);
-    let bytes = given.bytes()?;
-    let now = moment(given)?;
+    let bytes = case.bytes();
+    let now = moment(case);
     match station.read_frame(side, true, bytes.as_slice()) {
         Ok(Reading::Advert(advert, from)) => {
             let action = station.heard(&advert, from, now);
-            let sent = acted(given.alloc, station, action)?;
-            Ok(format!(in given.alloc; "sends [{sent}]")?)
+            tell_sent(case, "sends [", station, action);
         }
-        reading => reading_text(given.alloc, reading),
+        reading => tell_reading(case, reading),
     }
 }
 
 /// The answer to a packet, if there is one.
-fn answered(alloc: Global, station: &Interface, packet: &ArpPacket) -> Result<String> {
+fn answer_to(
+    alloc: Global,
+    station: &Interface,
+    packet: &ArpPacket,
+) -> Result<Vec<u8>, AllocError> {
     let mut bytes = Vec::with_capacity(alloc, arp::ARP_FRAME)?;
     if let Some(mac) = station.answer_to(packet) {
         append_answer(&mut bytes, &station.network(), packet, mac);
     }
-    Ok(hex::encode(alloc, bytes.as_slice())?)
+    Ok(bytes)
 }
 
-pub fn hear_arp(interfaces: &mut Interfaces, given: &mut Given) -> Result<String> {
-    let side = given.side()?;
+pub fn hear_arp(interfaces: &mut Interfaces, case: &mut Case) {
+    let side = case.side();
     let station = interfaces.at_mut(side);
-    let bytes = given.bytes()?;
-    let now = moment(given)?;
+    let bytes = case.bytes();
+    let now = moment(case);
     match station.read_frame(side, true, bytes.as_slice()) {
         Ok(Reading::Arp(packet)) => {
-            let learnt = station.learn(&packet, now);
-            let answer = answered(given.alloc, station, &packet)?;
-            Ok(format!(in given.alloc; "learnt {learnt}, sends [{answer}]")?)
+            case.say("learnt ", station.learn(&packet, now));
+            case.hex_made(", sends [", answer_to(case.alloc, station, &packet));
+            case.put("]");
         }
-        reading => reading_text(given.alloc, reading),
+        reading => tell_reading(case, reading),
     }
 }
 
-pub fn find_mac(interfaces: &Interfaces, given: &mut Given) -> Result<String> {
-    let station = interfaces.at(given.side()?);
-    match station.mac_of(given.hex_ip()?, moment(given)?) {
-        Some(mac) => Ok(format!(in given.alloc; "{mac}")?),
-        None => Ok(format!(in given.alloc; "unknown")?),
+pub fn find_mac(interfaces: &Interfaces, case: &mut Case) {
+    let station = interfaces.at(case.side());
+    let address = case.hex_ip();
+    match station.mac_of(address, moment(case)) {
+        Some(mac) => case.put(mac),
+        None => case.put("unknown"),
     }
 }
 
-pub fn ask(interfaces: &mut Interfaces, given: &mut Given) -> Result<String> {
-    let station = interfaces.at_mut(given.side()?);
-    let address = given.hex_ip()?;
-    let asks = station.ask(address, moment(given)?);
-    Ok(format!(in given.alloc; "{asks}")?)
+pub fn ask(interfaces: &mut Interfaces, case: &mut Case) {
+    let station = interfaces.at_mut(case.side());
+    let address = case.hex_ip();
+    let asks = station.ask(address, moment(case));
+    case.put(asks);
 }
 
-pub fn request(interfaces: &Interfaces, given: &mut Given) -> Result<String> {
-    let station = interfaces.at(given.side()?);
-    let address = given.hex_ip()?;
-    let mut bytes = Vec::with_capacity(given.alloc, arp::ARP_FRAME)?;
-    append_request(&mut bytes, &station.network(), address);
-    Ok(hex::encode(given.alloc, bytes.as_slice())?)
+pub fn request(interfaces: &Interfaces, case: &mut Case) {
+    let station = interfaces.at(case.side());
+    let address = case.hex_ip();
+    match Vec::with_capacity(case.alloc, arp::ARP_FRAME) {
+        Ok(mut bytes) => {
+            append_request(&mut bytes, &station.network(), address);
+            case.hex("", bytes.as_slice());
+        }
+        Err(_) => case.fault(),
+    }
 }
 
 /// A pair of this protocol.
-fn pair(given: &mut Given, protocol: Protocol) -> Result<Pair> {
-    let port = given.hex_port()?;
+fn pair(case: &mut Case, protocol: Protocol) -> Pair {
+    let port = case.hex_port();
     let key = Key { protocol, port };
-    Ok(Pair::new(key, given.hex_ip()?, given.hex_port()?))
+    Pair::new(key, case.hex_ip(), case.hex_port())
 }
 
-fn translation(given: &mut Given, way: Direction, protocol: Protocol) -> Result<Translation> {
-    let own = pair(given, protocol)?;
+fn translation(case: &mut Case, way: Direction, protocol: Protocol) -> Translation {
+    let own = pair(case, protocol);
     match way {
-        Direction::Outward => Ok(Translation::Outward(own)),
-        Direction::Inward => Ok(Translation::Inward(own)),
-        Direction::Hairpin => {
-            let other = pair(given, protocol)?;
-            Ok(Translation::Hairpin(own, other))
-        }
+        Direction::Outward => Translation::Outward(own),
+        Direction::Inward => Translation::Inward(own),
+        Direction::Hairpin => Translation::Hairpin(own, pair(case, protocol)),
     }
 }
 
-pub fn send(interfaces: &Interfaces, given: &mut Given) -> Result<String> {
-    let side = given.side()?;
-    let bytes = given.bytes()?;
-    let mac = given.mac()?;
+pub fn send(interfaces: &Interfaces, case: &mut Case) {
+    let side = case.side();
+    let bytes = case.bytes();
+    let mac = case.mac();
     let networks = &interfaces.networks;
-    match interfaces.at(side).read_frame(side, true, bytes.as_slice()) {
-        Ok(Reading::Packet(packet)) => {
-            let flow = packet.flow;
-            match direction_taken(networks, side, flow.protocol, flow.source, flow.destination) {
-                Ok(way) => {
-                    let translation = translation(given, way, flow.protocol)?;
-                    let hop = translation.next_hop(networks, flow.destination);
-                    let exit = translation.direction().exit();
-                    let mut out = Vec::with_capacity(given.alloc, bytes.len())?;
-                    append_sent(
-                        &mut out,
-                        networks,
-                        &translation,
-                        mac,
-                        bytes.as_slice(),
-                        &packet,
-                    );
-                    let sent = hex::encode(given.alloc, out.as_slice())?;
-                    Ok(format!(in given.alloc; "{way:?} to {hop} at {exit} [{sent}]")?)
-                }
-                Err(reason) => reading_text(given.alloc, Err(reason)),
-            }
+    let packet = match interfaces.at(side).read_frame(side, true, bytes.as_slice()) {
+        Ok(Reading::Packet(packet)) => packet,
+        reading => return tell_reading(case, reading),
+    };
+    let flow = packet.flow;
+    let way = match direction_taken(networks, side, flow.protocol, flow.source, flow.destination) {
+        Ok(way) => way,
+        Err(reason) => return tell_reading(case, Err(reason)),
+    };
+    let translation = translation(case, way, flow.protocol);
+    case.show("", way);
+    case.say(" to ", translation.next_hop(networks, flow.destination));
+    case.say(" at ", translation.direction().exit());
+    match Vec::with_capacity(case.alloc, bytes.len()) {
+        Ok(mut out) => {
+            append_sent(&mut out, networks, &translation, mac, bytes.as_slice(), &packet);
+            case.hex(" [", out.as_slice());
+            case.put("]");
         }
-        reading => reading_text(given.alloc, reading),
+        Err(_) => case.fault(),
     }
 }

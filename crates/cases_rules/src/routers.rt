@@ -1,17 +1,10 @@
 //! A VRRP router (RFC 9568, section 6), one event a line.
 
-ghost use Rattle.std.specs.Prelude.{IfOk};
-ghost use Rattle.vrrp_states.specs.Table.{IsMoment};
-
+use crate::both_sides::moment;
 use addresses::Ip;
-use anyhow::{Context, Result, bail, ensure};
-use cases_words::{number, octets};
-use std::alloc::Global;
+use cases_words::{Actor, Case};
 use vrrp_packet::Advert;
-use vrrp_states::Router;
-
-/// The greatest moment of a router's clock, in centiseconds.
-const LAST_MOMENT: u64 = 4_000_000_000_000;
+use vrrp_states::{Action, Router};
 
 /// The router of the last line `router`.
 #[derive(Drop)]
@@ -29,53 +22,58 @@ impl Routers {
     /// - `router PRIORITY INTERVAL PREEMPT ADDRESS` makes a new one
     /// - `start NOW`, `stop`, `tick NOW`
     /// - `heard PRIORITY INTERVAL ADDRESS NOW` hears an advertisement from an address
-    pub fn answer(&mut self, alloc: Global, words: &[&str]) -> Result<String> {
-        if let ["router", priority, interval, preempt, address] = words {
-            let router = made(priority, interval, preempt, address)?;
-            let state = router.state();
+    fn answer(&mut self, case: &mut Case) {
+        if case.word() == "router" {
+            let router = made(case);
+            case.show("", router.state());
             self.router = Some(router);
-            return Ok(format!(in alloc; "{state:?}")?);
+            return;
         }
-        let router = self.router.as_mut().context("no router is made")?;
-        let action = match words {
-            ["start", now] => router.start(moment(now)?),
-            ["stop"] => router.stop(),
-            ["tick", now] => router.tick(moment(now)?),
-            ["heard", priority, interval, from, now] => {
-                router.heard(&advert(priority, interval)?, ip(from)?, moment(now)?)
-            }
-            _ => bail!("no line about a router"),
-        };
-        let state = router.state();
-        Ok(format!(in alloc; "{action:?}, {state:?}")?)
+        match self.router.as_mut() {
+            Some(router) => happen(router, case),
+            None => case.fault(),
+        }
     }
 }
 
-/// A router whose own values are within their limits.
-fn made(priority: &str, interval: &str, preempt: &str, address: &str) -> Result<Router> {
-    let (priority, interval) = (priority.parse::<u8>()?, interval.parse::<u16>()?);
-    ensure!(priority >= 1 && priority <= 254, "no priority");
-    ensure!(interval >= 1 && interval <= 4095, "no interval");
-    Ok(Router::new(priority, interval, preempt == "preempts", ip(address)?))
+impl Actor for Routers {
+    fn act(&mut self, case: &mut Case) {
+        case.title("", ": ");
+        self.answer(case);
+        case.end();
+    }
 }
 
-fn advert(priority: &str, interval: &str) -> Result<Advert> {
-    Ok(Advert {
+/// An event, and what the router does then.
+fn happen(router: &mut Router, case: &mut Case) {
+    case.back();
+    let action = match case.word() {
+        "start" => router.start(moment(case)),
+        "stop" => router.stop(),
+        "tick" => router.tick(moment(case)),
+        _ => hear(router, case),
+    };
+    case.show("", action);
+    case.show(", ", router.state());
+}
+
+fn hear(router: &mut Router, case: &mut Case) -> Action {
+    let priority = case.byte();
+    let interval = case.within(0, 65_535) as u16;
+    let from = case.hex_ip();
+    let advert = Advert {
         router: 10,
-        priority: priority.parse::<u8>()?,
-        interval: interval.parse::<u16>()?,
+        priority,
+        interval,
         address: Ip(0xc000_0201),
-    })
+    };
+    router.heard(&advert, from, moment(case))
 }
 
-fn ip(word: &str) -> Result<Ip> {
-    Ok(Ip::new(octets::<4>(word)?))
-}
-
-fn moment(word: &str) -> Result<u64>
-    ensures { IfOk result IsMoment }
-{
-    let now = number(word)?;
-    ensure!(now <= LAST_MOMENT, "past the last moment");
-    Ok(now)
+/// A router whose own values are within their limits.
+fn made(case: &mut Case) -> Router {
+    let priority = case.within(1, 254) as u8;
+    let interval = case.within(1, 4095) as u16;
+    let preempts = case.word() == "preempts";
+    Router::new(priority, interval, preempts, case.hex_ip())
 }

@@ -1,10 +1,11 @@
 //! Boot files that `check` is shown.
 use anyhow::Result;
-use boot_file::Blocks;
 use std::fs::{self, OpenFile, OpenOptions, Permissions};
 use std::io::Write;
 use std::os::unix::fs::PermissionsExt;
-use std::rt::Files;
+
+/// The bytes of a whole boot file.
+const WHOLE: u64 = 32;
 
 /// A valid slot: a number, and its complement.
 fn slot(number: u64) -> [u8; 16] {
@@ -14,29 +15,24 @@ fn slot(number: u64) -> [u8; 16] {
     slot
 }
 
-/// A boot file whose first slot has these bytes. Its mode is 0600, whatever the mask of new files is.
-fn made<R: Files + AllocGlobal>(rt: &R, path: &str, first: &[u8]) -> Result<R::File>
-where
-    R::File: Blocks,
-{
+/// A boot file whose first slot has these bytes, cut at a length. Its mode is 0600, whatever the mask of new files is.
+fn make_one(rt: &HostRuntime, path: &str, first: &[u8], length: u64) -> Result<()> {
     boot_file::create(rt, path)?;
     let mut file = OpenOptions::new().write(true).open(rt, path)?;
     file.write_all(first)?;
-    Ok(file)
+    file.set_len(length)?;
+    Ok(())
 }
 
 /// Makes the files that the cases name.
-pub(crate) fn make<R: Files + AllocGlobal>(rt: &R) -> Result<()>
-where
-    R::File: Blocks,
-{
-    made(rt, "fresh", &slot(0))?;
-    made(rt, "used", &slot(7))?;
-    made(rt, "full", &slot(u64::MAX))?;
-    made(rt, "open", &slot(0))?;
-    made(rt, "locked", &slot(0))?;
-    made(rt, "torn", &[1; 32])?;
-    made(rt, "cut", &slot(7))?.set_len(31)?;
+pub(crate) fn make(rt: &HostRuntime) -> Result<()> {
+    make_one(rt, "fresh", &slot(0), WHOLE)?;
+    make_one(rt, "used", &slot(7), WHOLE)?;
+    make_one(rt, "full", &slot(u64::MAX), WHOLE)?;
+    make_one(rt, "open", &slot(0), WHOLE)?;
+    make_one(rt, "locked", &slot(0), WHOLE)?;
+    make_one(rt, "torn", &[1; 32], WHOLE)?;
+    make_one(rt, "cut", &slot(7), 31)?;
     fs::set_permissions(rt, "open", Permissions::from_mode(0o644))?;
     fs::create_dir(rt, "folder")?;
     Ok(())

@@ -1,13 +1,11 @@
-//! Cases of `check`, `compare` and the digest.
+//! Cases of `check` and `compare`.
 use crate::edits::edited;
 use crate::full::Full;
-use anyhow::{Context, Result};
-use boot_file::{Blocks, Lockable};
-use checks::{Request, check, compare, digest};
+use cases_words::{Actor, Case};
+use checks::{Request, check, compare};
 use nat_types::GatewayId;
-use std::fs;
 use std::io::Write;
-use std::rt::Files;
+use std::{fs, mem};
 
 /// Where an edited text lies while it is checked.
 const EDITED: &str = "edited.toml";
@@ -39,28 +37,19 @@ fn request(options: &str) -> Request<'_> {
 }
 
 /// The sample with all edits, which are pairs of an old line and its new text.
-fn all_edited<R: AllocGlobal>(rt: &R, sample: &str, edits: &[&str]) -> Result<String> {
-    let mut text = String::from_str(rt.alloc(), sample)?;
-    for pair in edits.chunks(2) {
-        match pair {
-            [old, new] => text = edited(rt.alloc(), text.as_str(), old, new)?,
-            _ => {}
-        }
+fn all_edited(sample: &str, case: &mut Case) -> String {
+    let copied = String::from_str(case.alloc, sample);
+    let mut text = case.or_empty(copied);
+    for _ in 0..case.left() / 2 {
+        let new = edited(text.as_str(), case);
+        drop(mem::replace(&mut text, new));
     }
-    Ok(text)
+    text
 }
 
 /// What `check` says of the edited sample; with `compare` what `compare` says of it beside the sample, and with `other=PATH`
 /// of the file there.
-fn say<R: Files + AllocGlobal, O: Write, E: Write>(
-    rt: &R,
-    options: &str,
-    output: &mut O,
-    errors: &mut E,
-) -> u8
-where
-    R::File: Lockable,
-{
+fn say<O: Write>(rt: &HostRuntime, options: &str, output: &mut O, errors: &mut Vec<u8>) -> u8 {
     match (option(options, "compare"), option(options, "other=")) {
         (Some(_), _) => compare(rt, "S.toml", EDITED, output, errors),
         (None, Some(other)) => compare(rt, "S.toml", other, output, errors),
@@ -69,55 +58,37 @@ where
 }
 
 /// What is said of the edited sample, and after it what is told of faults, and the status.
-fn told<R: Files + AllocGlobal, O: Write>(rt: &R, options: &str, output: &mut O) -> Result<()>
-where
-    R::File: Lockable,
-{
-    let mut errors = Vec::new(rt.alloc());
+fn tell(rt: &HostRuntime, options: &str, case: &mut Case) {
+    let mut errors = Vec::new(case.alloc);
     let status = match option(options, "full") {
         Some(_) => say(rt, options, &mut Full, &mut errors),
-        None => say(rt, options, output, &mut errors),
+        None => say(rt, options, &mut case.out, &mut errors),
     };
-    output.write_all(errors.as_slice())?;
-    writeln!(output, "  status {status}")?;
-    Ok(())
+    case.text(errors.as_slice());
+    case.say("  status ", status);
+    case.end();
 }
 
-fn case<R: Files + AllocGlobal, O: Write>(
-    rt: &R,
-    sample: &str,
-    line: &str,
-    output: &mut O,
-) -> Result<()>
-where
-    R::File: Lockable,
-{
-    let parts: Vec<&str> = line.split(';').collect(rt.alloc())?;
-    let [name, options, edits @ ..] = parts.as_slice() else {
-        return Ok(());
-    };
-    let text = all_edited(rt, sample, edits)?;
-    fs::write(rt, EDITED, text.as_bytes())?;
-    writeln!(output, "{name}")?;
-    told(rt, options, output)
+#[derive(Drop)]
+pub(crate) struct Checks<'a> {
+    rt: HostRuntime,
+    sample: &'a str,
 }
 
-/// A line is empty, a `#` comment, or `NAME;OPTIONS;OLD;NEW;OLD;NEW..`: what is said where the sample is edited so, and with
-/// `full` what is told where the output is on a full disk.
-pub(crate) fn run<R: Files + AllocGlobal, O: Write>(
-    rt: &R,
-    sample: &str,
-    cases: &str,
-    output: &mut O,
-) -> Result<()>
-where
-    R::File: Lockable,
-{
-    for line in cases.lines() {
-        if line.is_empty() || line.starts_with("#") {
-            continue;
-        }
-        case(rt, sample, line, output)?;
+impl<'a> Checks<'a> {
+    pub(crate) fn new(rt: HostRuntime, sample: &'a str) -> Checks<'a> {
+        Checks { rt, sample }
     }
-    Ok(())
+}
+
+impl Actor for Checks<'_> {
+    /// A line is `NAME;OPTIONS;OLD;NEW;OLD;NEW..`: what is said where the sample is edited so, and with
+    /// `full` what is told where the output is on a full disk.
+    fn act(&mut self, case: &mut Case) {
+        case.echo("\n");
+        let options = case.name();
+        let text = all_edited(self.sample, case);
+        case.keep(fs::write(&self.rt, EDITED, text.as_bytes()));
+        tell(&self.rt, options.as_str(), case);
+    }
 }

@@ -1,47 +1,52 @@
 //! Cases that change the sample settings.
 use crate::reading;
-use anyhow::{Context, Result};
-use std::alloc::Global;
-use std::io::Write;
+use cases_words::{Actor, Case};
+use std::alloc::{AllocError, Global};
 
-/// The sample with its first line that is `old` replaced by `new`, whose `|` stand for line ends.
-pub(crate) fn edited(alloc: Global, sample: &str, old: &str, new: &str) -> Result<String> {
-    let mut text = String::new(alloc);
+/// The text with its first line that is `old` replaced by `new`, whose `|` stand for line ends.
+fn replaced(alloc: Global, text: &str, old: &str, new: &str) -> Result<String, AllocError> {
+    let mut edited = String::new(alloc);
     let mut done = false;
-    for line in sample.lines() {
+    for line in text.lines() {
         if line == old && !done {
             done = true;
-            for part in new.split('|') {
-                text.push_str(part)?;
-                text.push('\n')?;
-            }
+            add_lines(&mut edited, new)?;
         } else {
-            text.push_str(line)?;
-            text.push('\n')?;
+            add(&mut edited, line)?;
         }
     }
-    Ok(text)
+    Ok(edited)
 }
 
-fn case<O: Write>(alloc: Global, sample: &str, line: &str, output: &mut O) -> Result<()> {
-    let (name, rest) = line.split_once(';').context("a case has a name")?;
-    let (old, new) = rest.split_once(';').context("a case has two lines")?;
-    let text = edited(alloc, sample, old, new)?;
-    reading::say(alloc, name, text.as_str(), output)
-}
-
-/// A line is empty, a `#` comment, or `NAME;OLD;NEW`: the first line OLD of the sample becomes NEW.
-pub(crate) fn run<O: Write>(
-    alloc: Global,
-    sample: &str,
-    cases: &str,
-    output: &mut O,
-) -> Result<()> {
-    for line in cases.lines() {
-        if line.is_empty() || line.starts_with("#") {
-            continue;
-        }
-        case(alloc, sample, line, output)?;
+fn add_lines(text: &mut String, lines: &str) -> Result<(), AllocError> {
+    for line in lines.split('|') {
+        add(text, line)?;
     }
     Ok(())
+}
+
+fn add(text: &mut String, line: &str) -> Result<(), AllocError> {
+    text.push_str(line)?;
+    text.push('\n')
+}
+
+/// The text with its first line that is the next word replaced by the word behind it.
+pub(crate) fn edited(text: &str, case: &mut Case) -> String {
+    let (old, new) = (case.name(), case.name());
+    let edited = replaced(case.alloc, text, old.as_str(), new.as_str());
+    case.or_empty(edited)
+}
+
+#[derive(Drop)]
+pub(crate) struct Edits<'a> {
+    pub(crate) sample: &'a str,
+}
+
+impl Actor for Edits<'_> {
+    /// A line is `NAME;OLD;NEW`: the first line OLD of the sample becomes NEW.
+    fn act(&mut self, case: &mut Case) {
+        case.echo(": ");
+        let text = edited(self.sample, case);
+        reading::say(text.as_str(), case);
+    }
 }

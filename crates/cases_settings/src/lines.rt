@@ -1,12 +1,11 @@
 //! Lines of words as command lines: what each asks for, or why it is refused.
 
-use anyhow::Result;
+use cases_words::{Actor, Case};
 use command_line::{LineFault, Task, command};
-use std::alloc::Global;
-use std::io::{self, Write};
+use std::alloc::{AllocError, Global};
 
 /// The words of a line, which stand apart by single spaces. `''` is the empty word.
-fn words_of(alloc: Global, line: &str) -> Result<Vec<String>> {
+fn words_of(alloc: Global, line: &str) -> Result<Vec<String>, AllocError> {
     let mut words = Vec::new(alloc);
     for word in line.split(' ') {
         let text = if word == "''" { "" } else { word };
@@ -20,49 +19,62 @@ fn asked(alloc: Global, words: &[String]) -> Result<Task, LineFault> {
     command(alloc, words)
 }
 
+/// What words ask for.
+fn say(words: &[String], case: &mut Case) {
+    match asked(case.alloc, words) {
+        Ok(task) => {
+            case.show("  task ", &task);
+            drop(task);
+        }
+        Err(fault) => {
+            case.say("  status ", fault.status());
+            case.put(": ");
+            say_reason(&fault, case);
+            drop(fault);
+        }
+    }
+    case.end();
+}
+
 /// Why a line is refused: the kind of `clap`'s error, or the fault's own text.
-fn reason<O: Write>(fault: &LineFault, output: &mut O) -> io::Result<()> {
+fn say_reason(fault: &LineFault, case: &mut Case) {
     match fault {
-        LineFault::Refused(error) => writeln!(output, "{:?}", error.kind()),
-        fault => writeln!(output, "{fault}"),
+        LineFault::Refused(error) => case.show("", error.kind()),
+        fault => case.put(fault),
     }
 }
 
-/// What a line asks for.
-fn line<O: Write>(alloc: Global, words: &[String], output: &mut O) -> Result<()> {
-    match asked(alloc, words) {
-        Ok(task) => writeln!(output, "  task {task:?}")?,
+/// What a user is told of words that are refused.
+fn tell(words: &[String], case: &mut Case) {
+    match asked(case.alloc, words) {
+        Ok(task) => {
+            drop(task);
+            case.put("  taken");
+        }
         Err(fault) => {
-            write!(output, "  status {}: ", fault.status())?;
-            reason(&fault, output)?;
+            let status = fault.tell(&mut case.out);
+            case.say("  status ", status);
         }
     }
-    Ok(())
+    case.end();
 }
 
-/// What a user is told of a line that is refused.
-fn told<O: Write>(alloc: Global, words: &[String], output: &mut O) -> Result<()> {
-    match asked(alloc, words) {
-        Ok(_) => writeln!(output, "  taken")?,
-        Err(fault) => {
-            let status = fault.tell(output);
-            writeln!(output, "  status {status}")?;
-        }
-    }
-    Ok(())
-}
+#[derive(Drop)]
+pub(crate) struct Lines;
 
-/// A line of the cases is empty, a `#` comment, words, or `? ` and words: then the whole text is printed.
-pub fn run<O: Write>(alloc: Global, cases: &str, output: &mut O) -> Result<()> {
-    for case in cases.lines() {
-        if case.is_empty() || case.starts_with("#") {
-            continue;
+impl Actor for Lines {
+    /// A line is words, or `? ` and words: then the whole text is printed.
+    fn act(&mut self, case: &mut Case) {
+        case.title("", "\n");
+        let is_whole = case.word() == "?";
+        if !is_whole {
+            case.back();
         }
-        writeln!(output, "{case}")?;
-        match case.strip_prefix("? ") {
-            Some(rest) => told(alloc, words_of(alloc, rest)?.as_slice(), output)?,
-            None => line(alloc, words_of(alloc, case)?.as_slice(), output)?,
+        let line = case.rest();
+        match words_of(case.alloc, line.as_str()) {
+            Ok(words) if is_whole => tell(words.as_slice(), case),
+            Ok(words) => say(words.as_slice(), case),
+            Err(_) => case.fault(),
         }
     }
-    Ok(())
 }

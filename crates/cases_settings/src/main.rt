@@ -13,101 +13,99 @@ mod reading;
 mod sample;
 
 use anyhow::Result;
+use cases_words::{Actor, Case, play};
+use checking::Checks;
 use checks::digest;
+use clashes::Clashes;
+use edits::Edits;
+use lines::Lines;
+use lists::Lists;
 use reading::settings_in;
 use settings::Settings;
-use std::alloc::Global;
 use std::fs;
-use std::io::{self, BufWriter, Write};
 
 /// Whether two settings are the same, as far as their texts say.
-fn are_same(alloc: Global, one: &Settings, other: &Settings) -> Result<bool> {
-    let one = format!(in alloc; "{one:?}")?;
-    let other = format!(in alloc; "{other:?}")?;
-    Ok(one == other)
+fn are_same(one: &Settings, other: &Settings, case: &mut Case) -> bool {
+    let (one, other) = (shown(one, case), shown(other, case));
+    one == other
+}
+
+fn shown(settings: &Settings, case: &mut Case) -> String {
+    let shown = format!(in case.alloc; "{settings:?}");
+    case.or_empty(shown)
 }
 
 /// Whether the sample text says the built-in settings, and what its digest is.
-fn say_sample<O: Write>(alloc: Global, read: &Settings, output: &mut O) -> Result<()> {
-    let built = Settings::sample(alloc)?;
-    let same = are_same(alloc, read, &built);
+fn say_sample(read: &Settings, case: &mut Case) -> Result<()> {
+    let built = Settings::sample(case.alloc)?;
+    let same = are_same(read, &built, case);
     drop(built);
-    writeln!(output, "sample: {}", same?)?;
+    case.say("sample: ", same);
+    case.end();
     Ok(())
 }
 
-fn say_digest<O: Write>(alloc: Global, read: &Settings, output: &mut O) -> Result<()> {
-    let digest = digest(alloc, read)?;
-    writeln!(output, "digest: {digest:016x}")?;
+fn say_digest(read: &Settings, case: &mut Case) -> Result<()> {
+    let digest = digest(case.alloc, read)?;
+    case.hex("digest: ", &digest.to_be_bytes());
+    case.end();
     Ok(())
 }
 
-fn say_built<O: Write>(alloc: Global, output: &mut O) -> Result<()> {
-    let built = Settings::sample(alloc)?;
-    let printed = sample::print(output, &built);
+fn say_built(case: &mut Case) -> Result<()> {
+    let built = Settings::sample(case.alloc)?;
+    sample::print(case, &built);
     drop(built);
-    Ok(printed?)
+    Ok(())
 }
 
-fn try_edits<O: Write>(rt: &HostRuntime, sample: &str, output: &mut O) -> Result<()> {
-    let cases = fs::read_to_string(rt, "settings.cases")?;
-    edits::run(rt.alloc(), sample, cases.as_str(), output)
+fn try_file<A: Actor>(
+    rt: &HostRuntime,
+    name: &str,
+    actor: &mut A,
+    case: &mut Case,
+) -> Result<()> {
+    let cases = fs::read_to_string(rt, name)?;
+    play(case, cases.as_str(), actor)
 }
 
-fn try_lists<O: Write>(rt: &HostRuntime, sample: &str, output: &mut O) -> Result<()> {
-    let cases = fs::read_to_string(rt, "lists.cases")?;
-    lists::run(rt.alloc(), sample, cases.as_str(), output)
-}
-
-fn try_clashes<O: Write>(rt: &HostRuntime, sample: &str, output: &mut O) -> Result<()> {
-    let cases = fs::read_to_string(rt, "clashes.cases")?;
-    clashes::run(rt.alloc(), sample, cases.as_str(), output)
-}
-
-fn try_checks<O: Write>(rt: &HostRuntime, sample: &str, output: &mut O) -> Result<()> {
+fn try_checks(rt: &HostRuntime, sample: &str, case: &mut Case) -> Result<()> {
     boots::make(rt)?;
-    let cases = fs::read_to_string(rt, "checks.cases")?;
     let locked = boot_file::open(rt, "locked")?;
-    let done = checking::run(rt, sample, cases.as_str(), output);
+    let tried = try_file(rt, "checks.cases", &mut Checks::new(*rt, sample), case);
     drop(locked);
-    done
-}
-
-fn try_lines<O: Write>(rt: &HostRuntime, output: &mut O) -> Result<()> {
-    let cases = fs::read_to_string(rt, "lines.cases")?;
-    lines::run(rt.alloc(), cases.as_str(), output)
+    tried
 }
 
 /// All that is said of texts, and the digest of the settings that the sample says.
-fn try_texts<O: Write>(
-    rt: &HostRuntime,
-    sample: &str,
-    read: &Settings,
-    output: &mut O,
-) -> Result<()> {
-    say_sample(rt.alloc(), read, output)?;
-    try_edits(rt, sample, output)?;
-    try_lists(rt, sample, output)?;
-    try_clashes(rt, sample, output)?;
-    say_digest(rt.alloc(), read, output)
+fn try_texts(rt: &HostRuntime, sample: &str, read: &Settings, case: &mut Case) -> Result<()> {
+    say_sample(read, case)?;
+    try_file(rt, "settings.cases", &mut Edits { sample }, case)?;
+    try_file(rt, "lists.cases", &mut Lists { sample }, case)?;
+    try_file(rt, "clashes.cases", &mut Clashes { sample }, case)?;
+    say_digest(read, case)
 }
 
-fn try_all<O: Write>(rt: &HostRuntime, sample: &str, output: &mut O) -> Result<()> {
+fn try_sample(rt: &HostRuntime, sample: &str, case: &mut Case) -> Result<()> {
     let read = settings_in(rt.alloc(), sample)?;
-    let tried = try_texts(rt, sample, &read, output);
+    let tried = try_texts(rt, sample, &read, case);
     drop(read);
-    tried?;
-    try_checks(rt, sample, output)?;
-    say_built(rt.alloc(), output)?;
-    try_lines(rt, output)?;
-    output.flush()?;
-    Ok(())
+    tried
+}
+
+fn try_all(rt: &HostRuntime, case: &mut Case) -> Result<()> {
+    let sample = fs::read_to_string(rt, "S.toml")?;
+    case.part_by(';');
+    try_sample(rt, sample.as_str(), case)?;
+    try_checks(rt, sample.as_str(), case)?;
+    say_built(case)?;
+    case.part_by(' ');
+    try_file(rt, "lines.cases", &mut Lines, case)
 }
 
 fn main(rt: HostRuntime) -> Result<()> {
-    let sample = fs::read_to_string(&rt, "S.toml")?;
-    let mut output = BufWriter::new(rt.alloc(), io::writer(&rt))?;
-    let tried = try_all(&rt, sample.as_str(), &mut output);
-    drop(output);
+    let mut case = Case::new(rt.alloc());
+    let tried = try_all(&rt, &mut case);
+    case.flush(&rt);
     tried
 }

@@ -1,84 +1,73 @@
 //! The built-in settings, as the text that spells them.
 
 use addresses::Ip;
+use cases_words::Case;
 use settings::{GatewaySettings, IcmpSettings, InterfaceSettings, Neighbour, PortRange, Settings};
-use std::io::{self, Write};
 
-pub fn print<O: Write>(output: &mut O, settings: &Settings) -> io::Result<()> {
-    writeln!(output, "[ports]")?;
-    range(output, "zero", settings.ports.zero)?;
-    range(output, "one", settings.ports.one)?;
-    interface(output, "inside", &settings.inside, None)?;
-    interface(output, "outside", &settings.outside, Some(settings.router))?;
-    icmp(output, settings.icmp)?;
-    gateway(output, 0, &settings.zero)?;
-    gateway(output, 1, &settings.one)?;
+pub(crate) fn print(case: &mut Case, settings: &Settings) {
+    case.put("[ports]\n");
+    range(case, "zero", settings.ports.zero);
+    range(case, "one", settings.ports.one);
+    interface(case, "\n[inside", &settings.inside, None);
+    interface(case, "\n[outside", &settings.outside, Some(settings.router));
+    icmp(case, settings.icmp);
+    gateway(case, 0, &settings.zero);
+    gateway(case, 1, &settings.one);
     for host in &settings.neighbours {
-        neighbour(output, host)?;
+        neighbour(case, host);
     }
-    Ok(())
 }
 
-fn range<O: Write>(output: &mut O, name: &str, range: PortRange) -> io::Result<()> {
-    let (lowest, highest) = (range.lowest.0, range.highest.0);
-    writeln!(output, "{name} = [{lowest}, {highest}]")
+fn range(case: &mut Case, name: &str, range: PortRange) {
+    case.put(name);
+    case.say(" = [", range.lowest.0);
+    case.say(", ", range.highest.0);
+    case.put("]\n");
 }
 
-fn interface<O: Write>(
-    output: &mut O,
-    name: &str,
-    it: &InterfaceSettings,
-    router: Option<Ip>,
-) -> io::Result<()> {
-    let (address, prefix) = (it.virtual_ip, it.prefix_length);
-    let (number, wire) = (it.virtual_router, it.wire);
-    writeln!(
-        output,
-        "\n[{name}]\nvirtual = \"{address}\"\nprefix = {prefix}"
-    )?;
-    writeln!(output, "vrid = {number}\nwire = {wire}")?;
+fn interface(case: &mut Case, text: &str, it: &InterfaceSettings, router: Option<Ip>) {
+    case.put(text);
+    case.say("]\nvirtual = \"", it.virtual_ip);
+    case.say("\"\nprefix = ", it.prefix_length);
+    case.say("\nvrid = ", it.virtual_router);
+    case.say("\nwire = ", it.wire);
     if let Some(router) = router {
-        writeln!(output, "router = \"{router}\"")?;
+        case.say("\nrouter = \"", router);
+        case.put("\"");
     }
-    let mtu = it.mtu;
-    writeln!(output, "mtu = {mtu}")
+    case.say("\nmtu = ", it.mtu);
+    case.end();
 }
 
-fn icmp<O: Write>(output: &mut O, it: IcmpSettings) -> io::Result<()> {
-    let (echo, errors) = (it.echo, it.errors);
-    writeln!(output, "\n[icmp]\necho = {echo}\nerrors = {errors}")
+fn icmp(case: &mut Case, it: IcmpSettings) {
+    case.say("\n[icmp]\necho = ", it.echo);
+    case.say("\nerrors = ", it.errors);
+    case.end();
 }
 
-fn gateway<O: Write>(output: &mut O, number: u8, it: &GatewaySettings) -> io::Result<()> {
-    let (inside_ip, inside_mac) = (it.inside_ip, it.inside_mac);
-    let (outside_ip, outside_mac) = (it.outside_ip, it.outside_mac);
-    let (priority, interval, preempt) = (it.priority, it.interval, it.preempt);
-    let (file, link) = (it.boot_file.as_str(), it.link);
-    let (inside_port, outside_port) = (it.inside_port, it.outside_port);
-    writeln!(output, "\n[gateway_{number}]")?;
-    writeln!(
-        output,
-        "inside_ip = \"{inside_ip}\"\ninside_mac = \"{inside_mac}\""
-    )?;
-    writeln!(
-        output,
-        "outside_ip = \"{outside_ip}\"\noutside_mac = \"{outside_mac}\""
-    )?;
-    writeln!(
-        output,
-        "priority = {priority}\ninterval = {interval}\npreempt = {preempt}"
-    )?;
-    writeln!(output, "boot_file = \"{file}\"\nlink = {link}")?;
-    writeln!(
-        output,
-        "inside_port = {inside_port}\noutside_port = {outside_port}"
-    )
+fn gateway(case: &mut Case, number: u8, it: &GatewaySettings) {
+    case.say("\n[gateway_", number);
+    case.say("]\ninside_ip = \"", it.inside_ip);
+    case.say("\"\ninside_mac = \"", it.inside_mac);
+    case.say("\"\noutside_ip = \"", it.outside_ip);
+    case.say("\"\noutside_mac = \"", it.outside_mac);
+    case.say("\"\npriority = ", it.priority);
+    case.say("\ninterval = ", it.interval);
+    case.say("\npreempt = ", it.preempt);
+    places(case, it);
 }
 
-fn neighbour<O: Write>(output: &mut O, host: &Neighbour) -> io::Result<()> {
-    let Neighbour { side, ip, mac } = host;
-    writeln!(
-        output,
-        "\n[[neighbour]]\nside = \"{side}\"\nip = \"{ip}\"\nmac = \"{mac}\""
-    )
+fn places(case: &mut Case, it: &GatewaySettings) {
+    case.say("\nboot_file = \"", it.boot_file.as_str());
+    case.say("\"\nlink = ", it.link);
+    case.say("\ninside_port = ", it.inside_port);
+    case.say("\noutside_port = ", it.outside_port);
+    case.end();
+}
+
+fn neighbour(case: &mut Case, host: &Neighbour) {
+    case.say("\n[[neighbour]]\nside = \"", host.side);
+    case.say("\"\nip = \"", host.ip);
+    case.say("\"\nmac = \"", host.mac);
+    case.put("\"\n");
 }

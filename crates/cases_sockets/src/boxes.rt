@@ -1,8 +1,8 @@
 //! Two boxes, the hub at the other end of gateway 0's wires, and one whose ways the cases say.
 
 use crate::callers::Callers;
-use anyhow::{Context, Result, bail};
-use cases_words::Given;
+use anyhow::{Context, Result};
+use cases_words::Case;
 use control::{Control, ControlPath};
 use nat_types::Side;
 use sockets::{Place, Ports, Sockets, Way, Ways};
@@ -25,6 +25,30 @@ const ON_LOOPBACK: Ways = Ways {
     link: Way::Loopback,
 };
 
+/// The ports of the boxes, in the order of their list. The hub's link leads nowhere.
+const PORTS: [Ports; 4] = [
+    Ports {
+        link: (27_001, 27_002),
+        inside: (27_011, 27_101),
+        outside: (27_021, 27_102),
+    },
+    Ports {
+        link: (27_002, 27_001),
+        inside: (27_012, 27_101),
+        outside: (27_022, 27_102),
+    },
+    Ports {
+        link: (27_003, 27_004),
+        inside: (27_101, 27_011),
+        outside: (27_102, 27_021),
+    },
+    Ports {
+        link: (27_005, 27_006),
+        inside: (27_015, 27_016),
+        outside: (27_025, 27_026),
+    },
+];
+
 impl Boxes {
     pub(crate) fn open(rt: &HostRuntime) -> Result<Boxes> {
         let inherited = inherited(rt)?;
@@ -35,37 +59,40 @@ impl Boxes {
         })
     }
 
-    pub(crate) fn named(&mut self, name: &str) -> Result<&mut Sockets> {
-        self.sockets.get_mut(number_of(name)?).context("not opened")
+    /// Opens the box with ways of its own, in place of the one before; `descriptor` is what is inherited.
+    pub(crate) fn open_other(&mut self, rt: &HostRuntime, case: &mut Case) {
+        self.sockets.truncate(3);
+        let descriptor = u16::try_from(self.inherited.as_raw_fd()).ok();
+        let ways = ways_in(case, descriptor);
+        let opened = self.add(rt, &ways);
+        case.done(opened, "opened");
     }
 
-    /// Opens the box with ways of its own, in place of the one before; `descriptor` is what is inherited.
-    pub(crate) fn open_other(&mut self, rt: &HostRuntime, given: &mut Given<'_>) -> Result<()> {
-        self.sockets.truncate(3);
-        let descriptor = u16::try_from(self.inherited.as_raw_fd())?;
-        let ways = ways_in(given, Some(descriptor))?;
+    fn add(&mut self, rt: &HostRuntime, ways: &Ways) -> Result<()> {
         ways.inherit()?;
-        self.sockets.push(opened(rt, "other", "other", &ways)?)?;
+        self.sockets.push(opened(rt, 3, "other", ways)?)?;
         Ok(())
     }
 }
 
 /// The ways that the next three words write, where `descriptor` is this one, if there is one.
-pub(crate) fn ways_in(given: &mut Given<'_>, descriptor: Option<u16>) -> Result<Ways> {
-    let inside = way(given.word()?, descriptor)?;
-    let outside = way(given.word()?, descriptor)?;
-    let link = way(given.word()?, descriptor)?;
-    Ok(Ways {
-        inside,
-        outside,
-        link,
-    })
+pub(crate) fn ways_in(case: &mut Case, descriptor: Option<u16>) -> Ways {
+    Ways {
+        inside: way(case, descriptor),
+        outside: way(case, descriptor),
+        link: way(case, descriptor),
+    }
 }
 
-fn way(text: &str, descriptor: Option<u16>) -> Result<Way> {
+fn way(case: &mut Case, descriptor: Option<u16>) -> Way {
+    let read = way_or(case.word(), descriptor);
+    case.or(read, Way::Loopback)
+}
+
+fn way_or(text: &str, descriptor: Option<u16>) -> Option<Way> {
     match descriptor {
-        Some(number) if text == "descriptor" => Ok(Way::Descriptor(number)),
-        _ => way_in(text).context("no way"),
+        Some(number) if text == "descriptor" => Some(Way::Descriptor(number)),
+        _ => way_in(text),
     }
 }
 
@@ -77,19 +104,24 @@ pub(crate) fn way_in(text: &str) -> Option<Way> {
 fn all_on_loopback(rt: &HostRuntime) -> Result<Vec<Sockets>> {
     let mut sockets = Vec::new(rt.alloc());
     for name in ["zero", "one", "hub"] {
-        sockets.push(on_loopback(rt, name, name)?)?;
+        add_on_loopback(rt, name, &mut sockets)?;
     }
     Ok(sockets)
 }
 
+fn add_on_loopback(rt: &HostRuntime, name: &str, sockets: &mut Vec<Sockets>) -> Result<()> {
+    sockets.push(on_loopback(rt, number_of(name), name)?)?;
+    Ok(())
+}
+
 /// Where a box stands in their list.
-fn number_of(name: &str) -> Result<usize> {
+pub(crate) fn number_of(name: &str) -> usize {
     match name {
-        "zero" => Ok(0),
-        "one" => Ok(1),
-        "hub" => Ok(2),
-        "other" => Ok(3),
-        _ => bail!("no box of that name"),
+        "zero" => 0,
+        "one" => 1,
+        "hub" => 2,
+        "other" => 3,
+        _ => usize::MAX,
     }
 }
 
@@ -100,55 +132,33 @@ fn inherited(rt: &HostRuntime) -> Result<UdpSocket> {
 }
 
 /// A box on the loopback address, by a control socket of this name.
-pub(crate) fn on_loopback(rt: &HostRuntime, name: &str, control: &str) -> Result<Sockets> {
-    opened(rt, name, control, &ON_LOOPBACK)
+pub(crate) fn on_loopback(rt: &HostRuntime, number: usize, control: &str) -> Result<Sockets> {
+    opened(rt, number, control, &ON_LOOPBACK)
 }
 
-fn opened(rt: &HostRuntime, name: &str, control: &str, ways: &Ways) -> Result<Sockets> {
-    let ports = ports_named(name)?;
+fn opened(rt: &HostRuntime, number: usize, control: &str, ways: &Ways) -> Result<Sockets> {
+    let ports = *PORTS.get(number).context("no box of that name")?;
     let control = controlled(rt, control)?;
     Ok(Sockets::open(rt, rt.alloc(), ways, ports, control)?)
 }
 
-fn controlled(rt: &HostRuntime, name: &str) -> Result<Control> {
+pub(crate) fn controlled(rt: &HostRuntime, name: &str) -> Result<Control> {
     let path = ControlPath::beside(rt.alloc(), name)?;
     Ok(Control::open(rt, &path)?)
 }
 
-/// The ports of a box. The hub's link leads nowhere.
-fn ports_named(name: &str) -> Result<Ports> {
-    match name {
-        "zero" => Ok(Ports {
-            link: (27_001, 27_002),
-            inside: (27_011, 27_101),
-            outside: (27_021, 27_102),
-        }),
-        "one" => Ok(Ports {
-            link: (27_002, 27_001),
-            inside: (27_012, 27_101),
-            outside: (27_022, 27_102),
-        }),
-        "hub" => Ok(Ports {
-            link: (27_003, 27_004),
-            inside: (27_101, 27_011),
-            outside: (27_102, 27_021),
-        }),
-        "other" => Ok(Ports {
-            link: (27_005, 27_006),
-            inside: (27_015, 27_016),
-            outside: (27_025, 27_026),
-        }),
-        _ => bail!("no box of that name"),
-    }
+/// The place that the next word names.
+pub(crate) fn place(case: &mut Case) -> Place {
+    let read = place_of(case.word());
+    case.or(read, Place::Link)
 }
 
-/// The place that the next word names.
-pub(crate) fn place(given: &mut Given<'_>) -> Result<Place> {
-    match given.word()? {
-        "link" => Ok(Place::Link),
-        "inside" => Ok(Place::Side(Side::Inside)),
-        "outside" => Ok(Place::Side(Side::Outside)),
-        "operator" => Ok(Place::Operator),
-        _ => bail!("no place of that name"),
+fn place_of(word: &str) -> Option<Place> {
+    match word {
+        "link" => Some(Place::Link),
+        "inside" => Some(Place::Side(Side::Inside)),
+        "outside" => Some(Place::Side(Side::Outside)),
+        "operator" => Some(Place::Operator),
+        _ => None,
     }
 }

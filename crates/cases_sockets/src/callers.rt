@@ -1,7 +1,7 @@
 //! Who calls at a control socket.
 
-use crate::telling::tell;
 use anyhow::{Context, Result};
+use cases_words::Case;
 use std::io::{ErrorKind, Read, Write};
 use std::os::unix::net::UnixStream;
 
@@ -34,13 +34,10 @@ impl Callers {
     }
 
     /// What a caller has heard.
-    pub(crate) fn hear(&mut self, number: usize, output: &mut String) -> Result<()> {
-        let stream = self.streams.get_mut(number).context("no caller")?;
-        let mut room = [0; 16];
-        match stream.read(&mut room) {
-            Ok(count) => tell_heard(&room[..count], output),
-            Err(error) if error.kind() == ErrorKind::WouldBlock => tell(output, "nothing"),
-            Err(_) => tell(output, "closed"),
+    pub(crate) fn hear(&mut self, number: usize, case: &mut Case) {
+        match self.streams.get_mut(number) {
+            Some(stream) => hear_from(stream, case),
+            None => case.fault(),
         }
     }
 
@@ -50,16 +47,24 @@ impl Callers {
     }
 }
 
-fn tell_heard(bytes: &[u8], output: &mut String) -> Result<()> {
-    if bytes == b"heard".as_slice() {
-        return tell(output, "heard");
+fn hear_from(stream: &mut UnixStream, case: &mut Case) {
+    let mut room = [0; 16];
+    match stream.read(&mut room) {
+        Ok(count) => tell_heard(&room[..count], case),
+        Err(error) if error.kind() == ErrorKind::WouldBlock => case.tell("nothing"),
+        Err(_) => case.tell("closed"),
     }
-    if bytes.is_empty() {
-        return tell(output, "closed");
+}
+
+fn tell_heard(bytes: &[u8], case: &mut Case) {
+    match bytes {
+        b"heard" => case.tell("heard"),
+        [] => case.tell("closed"),
+        bytes => {
+            case.say("  ", bytes.len());
+            case.put(" other bytes\n");
+        }
     }
-    let count = bytes.len();
-    writeln!(output, "  {count} other bytes")?;
-    Ok(())
 }
 
 /// One that calls, and doesn't wait for what it hears.

@@ -1,19 +1,27 @@
 //! Rounds over a wire of which one call fails.
 
-use anyhow::{Context, Result};
+use cases_words::Case;
 use sockets::{Failing, LONGEST, Place, Sockets, Wire};
 use std::time::Duration;
 
 /// In each of 20 rounds both boxes send a datagram on the link, and gateway 0 looks for one. Its wire fails at a call:
 /// at an odd number a datagram is lost, at an even one the datagram stays where it is.
-pub(crate) fn rounds(sockets: &mut [Sockets], number: u64, output: &mut String) -> Result<()> {
-    let (zero, others) = sockets.split_first_mut().context("no box")?;
-    let one = others.first_mut().context("no other box")?;
-    let came = came(&mut Failing::new(zero, number), one);
-    let left = emptied(zero);
-    let sent = emptied(one);
-    writeln!(output, "  sent {sent}, came {came}, left {left}")?;
-    Ok(())
+pub(crate) fn rounds(sockets: &mut [Sockets], case: &mut Case) {
+    let number = case.number();
+    match sockets {
+        [zero, one, ..] => {
+            let came = came(&mut Failing::new(zero, number), one);
+            tell(case, came, emptied(zero), emptied(one));
+        }
+        _ => case.fault(),
+    }
+}
+
+fn tell(case: &mut Case, came: usize, left: usize, sent: usize) {
+    case.say("  sent ", sent);
+    case.say(", came ", came);
+    case.say(", left ", left);
+    case.end();
 }
 
 /// How many datagrams come in the rounds.

@@ -1,12 +1,11 @@
 //! A place over a conduit in memory.
 
-use crate::Actor;
 use crate::memory::{Letter, Memory};
-use crate::telling::{tell, tell_losses};
-use anyhow::{Context, Result, bail, ensure};
-use cases_words::Given;
+use crate::telling::tell_losses;
+use cases_words::{Actor, Case};
 use sockets::{Attachment, End, FarEnd, LONGEST, Network, Sender};
 use std::alloc::Global;
+use std::mem;
 
 #[derive(Drop)]
 pub(crate) struct Ear {
@@ -14,8 +13,29 @@ pub(crate) struct Ear {
 }
 
 impl Actor for Ear {
-    fn act(&mut self, given: &mut Given<'_>, output: &mut String) -> Result<()> {
-        self.answer(given, output)
+    /// - `far udp END`, `far vxlan ADDRESS NUMBER`, `far interface`: a new place that speaks with this far end; the
+    ///   words behind it are what is to come to it, from whom and which bytes, each with `from`
+    /// - `refuse N END ..`: a place that speaks by udp, of which the conduit's call N is refused
+    /// - `stuck`: a new place, all calls of whose conduit are refused
+    /// - `takes N`: a new place whose conduit takes at most N bytes at once
+    /// - `wake`, `take`, `send HEX`, `send-long N`: as the place has them
+    /// - `strangers`, `failing`, `losses`: what the place says
+    fn act(&mut self, case: &mut Case) {
+        case.title("", "\n");
+        match case.word() {
+            "far" => self.begin(case),
+            "refuse" => self.refuse(case),
+            "stuck" => self.stick(case.alloc),
+            "takes" => self.narrow(case),
+            "wake" => self.place.wake(),
+            "take" => self.take(case),
+            "send" => self.send(case),
+            "send-long" => self.send_long(case),
+            "strangers" => case.tell(self.place.strangers()),
+            "failing" => case.tell(self.place.is_failing()),
+            "losses" => tell_losses(case, self.place.losses()),
+            _ => case.fault(),
+        }
     }
 }
 
@@ -26,94 +46,73 @@ impl Ear {
         }
     }
 
-    /// - `far udp END`, `far vxlan ADDRESS NUMBER`, `far interface`: a new place that speaks with this far end; the
-    ///   words behind it are what is to come to it, from whom and which bytes, each with `from`
-    /// - `refuse N END ..`: a place that speaks by udp, of which the conduit's call N is refused
-    /// - `stuck`: a new place, all calls of whose conduit are refused
-    /// - `takes N`: a new place whose conduit takes at most N bytes at once
-    /// - `wake`, `take`, `send HEX`, `send-long N`: as the place has them
-    /// - `strangers`, `failing`, `losses`: what the place says
-    fn answer(&mut self, given: &mut Given<'_>, output: &mut String) -> Result<()> {
-        match given.word()? {
-            "far" => self.begin(far_end(given)?, 0, given),
-            "refuse" => self.refuse(given, output),
-            "stuck" => self.stick(given.alloc),
-            "takes" => self.narrow(given),
-            "wake" => self.wake(),
-            "take" => self.take(given.alloc, output),
-            "send" => self.send(given, output),
-            "send-long" => self.send_long(given, output),
-            "strangers" => tell(output, self.place.strangers()),
-            "failing" => tell(output, self.place.is_failing()),
-            "losses" => tell_losses(output, self.place.losses()),
-            _ => bail!("no line of the cases"),
-        }
-    }
-
     /// A new place, and what is to come to it.
-    fn begin(&mut self, far: FarEnd, left: u64, given: &mut Given<'_>) -> Result<()> {
-        let mut memory = Memory::new(given.alloc, letters(given)?);
-        memory.left = left;
-        self.renew(memory, far);
-        Ok(())
+    fn begin(&mut self, case: &mut Case) {
+        let far = far_end(case);
+        self.renew(Memory::new(case.alloc, letters(case)), far);
     }
 
     /// A new place over a conduit.
     fn renew(&mut self, memory: Memory, far: FarEnd) {
-        self.place = Attachment::new(memory, far);
+        drop(mem::replace(&mut self.place, Attachment::new(memory, far)));
     }
 
-    fn refuse(&mut self, given: &mut Given<'_>, output: &mut String) -> Result<()> {
-        let call = given.number()?;
-        self.begin(udp(given)?, call, given)?;
+    fn refuse(&mut self, case: &mut Case) {
+        let call = case.number();
+        let far = udp(case);
+        let mut memory = Memory::new(case.alloc, letters(case));
+        memory.left = call;
+        self.renew(memory, far);
         let [sent, heard, failed] = self.counts();
-        writeln!(output, "  sent {sent}, heard {heard}, failed {failed}")?;
-        Ok(())
+        case.say("  sent ", sent);
+        case.say(", heard ", heard);
+        case.say(", failed ", failed);
+        case.end();
     }
 
-    fn stick(&mut self, alloc: Global) -> Result<()> {
+    fn stick(&mut self, alloc: Global) {
         let mut memory = Memory::new(alloc, Vec::new(alloc));
         memory.stuck = true;
         self.renew(memory, FarEnd::Interface);
-        Ok(())
     }
 
-    fn narrow(&mut self, given: &mut Given<'_>) -> Result<()> {
-        let memory = Memory::narrow(given.alloc, given.count()?);
+    fn narrow(&mut self, case: &mut Case) {
+        let memory = Memory::narrow(case.alloc, case.count());
         self.renew(memory, FarEnd::Interface);
-        Ok(())
     }
 
-    fn wake(&mut self) -> Result<()> {
-        self.place.wake();
-        Ok(())
-    }
-
-    fn take(&mut self, alloc: Global, output: &mut String) -> Result<()> {
+    fn take(&mut self, case: &mut Case) {
         let mut room = [0; LONGEST];
         match self.place.take(&mut room) {
-            Ok(Some(count)) => tell_bytes(alloc, "heard", &room[..count], output),
-            Ok(None) => tell(output, "nothing"),
-            Err(_) => tell(output, "failed"),
+            Ok(Some(count)) => tell_bytes(case, "  heard ", &room[..count]),
+            Ok(None) => case.tell("nothing"),
+            Err(_) => case.tell("failed"),
         }
     }
 
-    fn send(&mut self, given: &mut Given<'_>, output: &mut String) -> Result<()> {
-        let bytes = given.bytes()?;
-        self.send_bytes(given.alloc, bytes.as_slice(), output)
+    fn send(&mut self, case: &mut Case) {
+        let bytes = case.bytes();
+        self.send_bytes(bytes.as_slice(), case);
     }
 
-    fn send_long(&mut self, given: &mut Given<'_>, output: &mut String) -> Result<()> {
-        let bytes = vec![in given.alloc; 7; given.count()?]?;
-        self.send_bytes(given.alloc, bytes.as_slice(), output)
+    fn send_long(&mut self, case: &mut Case) {
+        let count = case.count();
+        let bytes = case.many(7, count);
+        self.send_bytes(bytes.as_slice(), case);
     }
 
-    fn send_bytes(&mut self, alloc: Global, bytes: &[u8], output: &mut String) -> Result<()> {
-        if self.place.send(bytes).is_err() {
-            return tell(output, "lost");
+    fn send_bytes(&mut self, bytes: &[u8], case: &mut Case) {
+        match self.place.send(bytes) {
+            Ok(()) => self.tell_sent(case),
+            Err(_) => case.tell("lost"),
         }
-        let sent = self.place.conduit().sent.last().context("nothing sent")?;
-        tell_bytes(alloc, "sent", sent.as_slice(), output)
+    }
+
+    fn tell_sent(&self, case: &mut Case) {
+        match self.place.conduit().sent.last() {
+            Some(sent) => tell_bytes(case, "  sent ", sent.as_slice()),
+            None => case.fault(),
+        }
     }
 
     /// Four times a datagram is sent and one is looked for: how many were sent, how many came, and how often either
@@ -138,28 +137,37 @@ impl Ear {
 }
 
 /// Bytes, `-` for none; of very many only how many they are.
-fn tell_bytes(alloc: Global, verb: &str, bytes: &[u8], output: &mut String) -> Result<()> {
-    if bytes.is_empty() {
-        writeln!(output, "  {verb} -")?;
-    } else if bytes.len() > 100 {
-        writeln!(output, "  {verb} {} bytes", bytes.len())?;
-    } else {
-        writeln!(output, "  {verb} {}", hex::encode(alloc, bytes)?)?;
+fn tell_bytes(case: &mut Case, text: &str, bytes: &[u8]) {
+    match bytes.len() {
+        0 => case.say(text, "-"),
+        1..=100 => case.hex(text, bytes),
+        count => {
+            case.say(text, count);
+            case.put(" bytes");
+        }
     }
-    Ok(())
+    case.end();
 }
 
-fn far_end(given: &mut Given<'_>) -> Result<FarEnd> {
-    match given.word()? {
-        "udp" => udp(given),
-        "vxlan" => vxlan(given),
-        "interface" => Ok(FarEnd::Interface),
-        _ => bail!("no far end"),
+fn far_end(case: &mut Case) -> FarEnd {
+    match case.word() {
+        "udp" => udp(case),
+        "vxlan" => vxlan(case),
+        "interface" => FarEnd::Interface,
+        _ => {
+            case.fault();
+            FarEnd::Interface
+        }
     }
 }
 
-fn udp(given: &mut Given<'_>) -> Result<FarEnd> {
-    Ok(FarEnd::Udp(end_in(given.word()?).context("no end")?))
+fn udp(case: &mut Case) -> FarEnd {
+    let read = udp_of(case.word());
+    case.or(read, FarEnd::Interface)
+}
+
+fn udp_of(text: &str) -> Option<FarEnd> {
+    Some(FarEnd::Udp(end_in(text)?))
 }
 
 /// The end that a text writes. What a caller has to show stays small where this says nothing of it.
@@ -167,32 +175,41 @@ fn end_in(text: &str) -> Option<End> {
     End::read(text)
 }
 
-fn vxlan(given: &mut Given<'_>) -> Result<FarEnd> {
-    let address = given.ip()?;
-    let number = u32::try_from(given.number()?)?;
-    let network = Network::new(number).context("no network")?;
-    Ok(FarEnd::Vxlan(address, network))
+fn vxlan(case: &mut Case) -> FarEnd {
+    let address = case.ip();
+    let number = case.number().min(0xffff_ffff) as u32;
+    match Network::new(number) {
+        Some(network) => FarEnd::Vxlan(address, network),
+        None => {
+            case.fault();
+            FarEnd::Interface
+        }
+    }
 }
 
 /// What all words that are left say is to come: `from`, who sends it and the bytes, again and again.
-fn letters(given: &mut Given<'_>) -> Result<Vec<Letter>> {
-    let mut coming = Vec::new(given.alloc);
-    for _ in 0..given.left().len() / 3 {
-        coming.push(letter(given)?)?;
+fn letters(case: &mut Case) -> Vec<Letter> {
+    let mut coming = Vec::new(case.alloc);
+    for _ in 0..case.left() / 3 {
+        let letter = letter(case);
+        case.keep(coming.push(letter));
     }
-    Ok(coming)
+    coming
 }
 
-fn letter(given: &mut Given<'_>) -> Result<Letter> {
-    ensure!(given.word()? == "from", "no sender");
-    let sender = sender_of(given.word()?)?;
-    let bytes = given.bytes()?;
-    Ok(Letter { sender, bytes })
+fn letter(case: &mut Case) -> Letter {
+    if case.word() != "from" {
+        case.fault();
+    }
+    let read = sender_of(case.word());
+    let sender = case.or(read, Sender::Interface);
+    let bytes = case.bytes();
+    Letter { sender, bytes }
 }
 
-fn sender_of(text: &str) -> Result<Sender> {
-    if text == "interface" {
-        return Ok(Sender::Interface);
+fn sender_of(text: &str) -> Option<Sender> {
+    match text {
+        "interface" => Some(Sender::Interface),
+        text => Some(Sender::End(end_in(text)?)),
     }
-    Ok(Sender::End(end_in(text).context("no end")?))
 }

@@ -1,5 +1,5 @@
-//! Ways and their texts, what a place hears over a conduit in memory, and boxes on loopback sockets: does what the
-//! lines of its cases say, and prints what comes of each.
+//! Does what the lines of its cases say with texts of ways and words, with a place over a conduit in memory, and with boxes
+//! on the loopback address, and prints what comes of each.
 #![tactic(auto)]
 
 mod boxes;
@@ -12,71 +12,39 @@ mod telling;
 mod texts;
 
 use anyhow::Result;
-use cases_words::{Given, is_silent, words_of};
+use cases_words::{Actor, Case, play};
 use hearing::Ear;
 use speaking::Speakers;
-use std::alloc::Global;
 use std::fs;
+use std::io::{self, Write};
 use texts::Texts;
 
-/// A byte, in decimal.
-fn byte(given: &mut Given<'_>) -> Result<u8> {
-    Ok(u8::try_from(given.number()?)?)
+fn try_file<A: Actor>(
+    rt: &HostRuntime,
+    name: &str,
+    actor: &mut A,
+    case: &mut Case,
+) -> Result<()> {
+    let cases = fs::read_to_string(rt, name)?;
+    play(case, cases.as_str(), actor)
 }
 
-/// Who does what the lines of a file say.
-trait Actor {
-    fn act(&mut self, given: &mut Given<'_>, output: &mut String) -> Result<()>;
-}
-
-fn act<A: Actor>(alloc: Global, actor: &mut A, case: &str, output: &mut String) -> Result<()> {
-    let words = words_of(alloc, case)?;
-    actor.act(&mut Given::new(alloc, words.as_slice()), output)
-}
-
-/// Does what each line says, and prints it and what comes of it.
-fn tell<A: Actor>(alloc: Global, actor: &mut A, cases: &str, output: &mut String) -> Result<()> {
-    for case in cases.lines() {
-        if !is_silent(case) {
-            writeln!(output, "{case}")?;
-            act(alloc, actor, case, output)?;
-        }
-    }
-    Ok(())
-}
-
-fn try_texts(rt: &HostRuntime, output: &mut String) -> Result<()> {
-    let cases = fs::read_to_string(rt, "texts.cases")?;
-    tell(rt.alloc(), &mut Texts, cases.as_str(), output)
-}
-
-fn try_hearing(rt: &HostRuntime, output: &mut String) -> Result<()> {
-    let cases = fs::read_to_string(rt, "hearing.cases")?;
-    tell(
-        rt.alloc(),
-        &mut Ear::new(rt.alloc()),
-        cases.as_str(),
-        output,
-    )
-}
-
-fn try_sockets(rt: &HostRuntime, output: &mut String) -> Result<()> {
-    let cases = fs::read_to_string(rt, "sockets.cases")?;
-    let mut speakers = Speakers::open(rt)?;
-    let told = tell(rt.alloc(), &mut speakers, cases.as_str(), output);
+fn try_sockets(rt: &HostRuntime, case: &mut Case) -> Result<()> {
+    let mut speakers = Speakers::open(*rt)?;
+    let tried = try_file(rt, "sockets.cases", &mut speakers, case);
     drop(speakers);
-    told
+    tried
 }
 
-fn try_all(rt: &HostRuntime, output: &mut String) -> Result<()> {
-    try_texts(rt, output)?;
-    try_hearing(rt, output)?;
-    try_sockets(rt, output)
+fn try_all(rt: &HostRuntime, case: &mut Case) -> Result<()> {
+    try_file(rt, "texts.cases", &mut Texts, case)?;
+    try_file(rt, "hearing.cases", &mut Ear::new(rt.alloc()), case)?;
+    try_sockets(rt, case)
 }
 
 fn main(rt: HostRuntime) -> Result<()> {
-    let mut output = String::new(rt.alloc());
-    let tried = try_all(&rt, &mut output);
-    print!(rt; "{output}")?;
+    let mut case = Case::new(rt.alloc());
+    let tried = try_all(&rt, &mut case);
+    io::writer(&rt).write_all(case.out.as_slice())?;
     tried
 }

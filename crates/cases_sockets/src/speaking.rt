@@ -1,15 +1,17 @@
 //! What boxes, callers and strangers do.
 
-use crate::boxes::{Boxes, on_loopback, place};
+use crate::boxes::{Boxes, controlled, number_of, on_loopback, place};
 use crate::callers::Callers;
-use crate::telling::{tell, tell_done, tell_losses};
-use crate::{Actor, byte, failures};
-use anyhow::{Result, bail};
-use cases_words::Given;
-use control::{Control, ControlPath, spelled_status};
+use crate::failures;
+use crate::telling::tell_losses;
+use anyhow::Result;
+use cases_words::{Actor, Case};
+use control::{ControlPath, spelled_status};
 use sockets::{LONGEST, Sockets, Wire, WireFault};
+use std::alloc::Global;
 use std::fs;
-use std::net::UdpSocket;
+use std::io::Write;
+use std::net::{SocketAddr, UdpSocket};
 use std::os::unix::fs::PermissionsExt;
 use std::time::Duration;
 
@@ -18,21 +20,22 @@ const PATIENCE: u64 = 5;
 
 /// The boxes, and what their callers and strangers speak by.
 #[derive(Drop)]
-pub(crate) struct Speakers<'a> {
-    rt: &'a HostRuntime,
+pub(crate) struct Speakers {
+    rt: HostRuntime,
     boxes: Boxes,
 }
 
-impl<'a> Speakers<'a> {
-    pub(crate) fn open(rt: &'a HostRuntime) -> Result<Speakers<'a>> {
-        let boxes = Boxes::open(rt)?;
+impl Speakers {
+    pub(crate) fn open(rt: HostRuntime) -> Result<Speakers> {
+        let boxes = Boxes::open(&rt)?;
         Ok(Speakers { rt, boxes })
     }
 }
 
-impl Actor for Speakers<'_> {
-    fn act(&mut self, given: &mut Given<'_>, output: &mut String) -> Result<()> {
-        answer(self.rt, &mut self.boxes, given, output)
+impl Actor for Speakers {
+    fn act(&mut self, case: &mut Case) {
+        case.title("", "\n");
+        answer(&self.rt, &mut self.boxes, case);
     }
 }
 
@@ -43,178 +46,208 @@ impl Actor for Speakers<'_> {
 /// - `control NAME`, `say NAME`, `ask NAME`, `mode NAME`: makes a control socket and lets it go; says a word; asks how the
 ///   box stands; the folder's mode
 /// - `NAME ..`: what a box does (`speak`)
-fn answer(
-    rt: &HostRuntime,
-    boxes: &mut Boxes,
-    given: &mut Given<'_>,
-    output: &mut String,
-) -> Result<()> {
-    match given.word()? {
-        "fail" => failures::rounds(boxes.sockets.as_mut_slice(), given.number()?, output),
-        "stranger" => stranger(rt, given),
-        "call" => call(rt, &mut boxes.callers, given),
-        "caller" => caller(&mut boxes.callers, given, output),
-        "callers" => go(&mut boxes.callers),
-        "control" => tell_done(output, open_control(rt, given.word()?), "opened"),
-        "say" => tell_done(output, say(rt, given.word()?), "heard"),
-        "ask" => ask(rt, given.word()?, output),
-        "mode" => mode(rt, given.word()?, output),
-        name => speak(rt, boxes, name, given, output),
+fn answer(rt: &HostRuntime, boxes: &mut Boxes, case: &mut Case) {
+    match case.word() {
+        "fail" => failures::rounds(boxes.sockets.as_mut_slice(), case),
+        "stranger" => stranger(rt, case),
+        "call" => call(rt, &mut boxes.callers, case),
+        "caller" => caller(&mut boxes.callers, case),
+        "callers" => boxes.callers.go(),
+        "control" => open_control(rt, case),
+        "say" => say(rt, case),
+        "ask" => ask(rt, case),
+        "mode" => mode(rt, case),
+        _ => speak(rt, boxes, case),
     }
 }
 
 /// - `other open INSIDE OUTSIDE LINK`: opens the box with these ways
 /// - `NAME bind`: opens the box's ports once more
 /// - all else is for the box's sockets (`handle`)
-fn speak(
-    rt: &HostRuntime,
-    boxes: &mut Boxes,
-    name: &str,
-    given: &mut Given<'_>,
-    output: &mut String,
-) -> Result<()> {
-    match given.word()? {
-        "open" => tell_done(output, boxes.open_other(rt, given), "opened"),
-        "bind" => tell_done(output, bind(rt, name), "bound"),
-        verb => handle(boxes.named(name)?, verb, given, output),
+fn speak(rt: &HostRuntime, boxes: &mut Boxes, case: &mut Case) {
+    case.back();
+    let number = number_of(case.word());
+    match case.word() {
+        "open" => boxes.open_other(rt, case),
+        "bind" => bind(rt, number, case),
+        _ => match boxes.sockets.get_mut(number) {
+            Some(sockets) => handle(sockets, case),
+            None => case.fault(),
+        },
     }
 }
 
-fn bind(rt: &HostRuntime, name: &str) -> Result<()> {
-    drop(on_loopback(rt, name, "again")?);
-    Ok(())
+fn bind(rt: &HostRuntime, number: usize, case: &mut Case) {
+    let bound = on_loopback(rt, number, "again");
+    case.done(bound, "bound");
 }
 
 /// - `send PLACE COUNT BYTE`: the box sends so many of a byte
 /// - `receive`, `look`: the next datagram at the box, waited for or not
 /// - `answers HEX`, `answers N bytes BYTE`: answers who said the last word
 /// - `strangers PLACE`, `failing PLACE`, `losses PLACE`, `unanswered`: what the box says
-fn handle(
-    sockets: &mut Sockets,
-    verb: &str,
-    given: &mut Given<'_>,
-    output: &mut String,
-) -> Result<()> {
-    match verb {
-        "send" => send(sockets, given, output),
-        "receive" => receive(sockets, Duration::from_secs(PATIENCE), output),
-        "look" => receive(sockets, Duration::ZERO, output),
-        "answers" => answer_word(sockets, given),
-        "unanswered" => tell(output, sockets.unanswered()),
-        "losses" => tell_losses(output, sockets.losses(place(given)?)),
-        "strangers" => tell(output, sockets.strangers(place(given)?)),
-        "failing" => tell(output, sockets.is_failing(place(given)?)),
-        _ => bail!("no line of the cases"),
+fn handle(sockets: &mut Sockets, case: &mut Case) {
+    case.back();
+    match case.word() {
+        "send" => send(sockets, case),
+        "receive" => receive(sockets, Duration::from_secs(PATIENCE), case),
+        "look" => receive(sockets, Duration::ZERO, case),
+        "answers" => answer_word(sockets, case),
+        "unanswered" => case.tell(sockets.unanswered()),
+        "losses" => {
+            let losses = sockets.losses(place(case));
+            tell_losses(case, losses);
+        }
+        "strangers" => {
+            let strangers = sockets.strangers(place(case));
+            case.tell(strangers);
+        }
+        "failing" => {
+            let is_failing = sockets.is_failing(place(case));
+            case.tell(is_failing);
+        }
+        _ => case.fault(),
     }
 }
 
-fn send(sockets: &mut Sockets, given: &mut Given<'_>, output: &mut String) -> Result<()> {
-    let place = place(given)?;
-    let count = given.count()?;
-    let bytes = repeated(given, count)?;
+fn send(sockets: &mut Sockets, case: &mut Case) {
+    let place = place(case);
+    let count = case.count();
+    let bytes = repeated(case, count);
     match sockets.send(place, bytes.as_slice()) {
-        Ok(()) => tell(output, "sent"),
-        Err(WireFault) => tell(output, "failed"),
+        Ok(()) => case.tell("sent"),
+        Err(WireFault) => case.tell("failed"),
     }
 }
 
-fn answer_word(sockets: &mut Sockets, given: &mut Given<'_>) -> Result<()> {
-    let (_, bytes) = many(given)?;
+fn answer_word(sockets: &mut Sockets, case: &mut Case) {
+    let (_, bytes) = many(case);
     sockets.answer(bytes.as_slice());
-    Ok(())
 }
 
 /// The byte that the next word says, so many times.
-fn repeated(given: &mut Given<'_>, count: usize) -> Result<Vec<u8>> {
-    let byte = byte(given)?;
-    Ok(vec![in given.alloc; byte; count]?)
+fn repeated(case: &mut Case, count: usize) -> Vec<u8> {
+    let byte = case.byte();
+    case.many(byte, count)
 }
 
 /// What a call to receive answers.
-fn receive(sockets: &mut Sockets, limit: Duration, output: &mut String) -> Result<()> {
+fn receive(sockets: &mut Sockets, limit: Duration, case: &mut Case) {
     let mut room = [0; LONGEST];
     match sockets.receive(limit, &mut room) {
         Ok(Some((place, count))) => {
-            let byte = room[0];
-            writeln!(output, "  {place:?}: {count} bytes of {byte}")?;
-            Ok(())
+            case.show("  ", place);
+            case.say(": ", count);
+            case.say(" bytes of ", room[0]);
+            case.end();
         }
-        Ok(None) => tell(output, "nothing"),
-        Err(WireFault) => tell(output, "failed"),
+        Ok(None) => case.tell("nothing"),
+        Err(WireFault) => case.tell("failed"),
     }
 }
 
 /// Somebody sends, from an address and port that is free.
-fn stranger(rt: &HostRuntime, given: &mut Given<'_>) -> Result<()> {
-    let (from, to) = (given.word()?, given.word()?);
-    let (count, bytes) = many(given)?;
-    let socket = UdpSocket::bind(rt, from)?;
-    for _ in 0..count {
-        socket.send_to(bytes.as_slice(), to)?;
+fn stranger(rt: &HostRuntime, case: &mut Case) {
+    let socket = UdpSocket::bind(rt, case.word());
+    let to = case.word().parse::<SocketAddr>();
+    let (count, bytes) = many(case);
+    match (socket, to) {
+        (Ok(socket), Ok(to)) => {
+            for _ in 0..count {
+                case.keep(socket.send_to(bytes.as_slice(), to));
+            }
+        }
+        _ => case.fault(),
     }
-    Ok(())
 }
 
 /// How many times something is sent, and its bytes.
-fn many(given: &mut Given<'_>) -> Result<(usize, Vec<u8>)> {
-    if given.left().len() == 1 {
-        return Ok((1, given.bytes()?));
+fn many(case: &mut Case) -> (usize, Vec<u8>) {
+    if case.left() == 1 {
+        return (1, case.bytes());
     }
-    let count = given.count()?;
-    match given.word()? {
-        "times" => Ok((count, given.bytes()?)),
-        "bytes" => Ok((1, repeated(given, count)?)),
-        _ => bail!("no line of the cases"),
-    }
-}
-
-fn call(rt: &HostRuntime, callers: &mut Callers, given: &mut Given<'_>) -> Result<()> {
-    let (name, count) = (given.word()?, given.count()?);
-    let path = format!(in given.alloc; "{name}.control/socket")?;
-    callers.call(rt, path.as_str(), count)
-}
-
-fn caller(callers: &mut Callers, given: &mut Given<'_>, output: &mut String) -> Result<()> {
-    let number = given.count()?;
-    match given.word()? {
-        "says" => callers.say(number, given.bytes()?.as_slice()),
-        "hears" => callers.hear(number, output),
-        _ => bail!("no line of the cases"),
+    let count = case.count();
+    match case.word() {
+        "times" => (count, case.bytes()),
+        _ => (1, repeated(case, count)),
     }
 }
 
-fn go(callers: &mut Callers) -> Result<()> {
-    callers.go();
-    Ok(())
+fn call(rt: &HostRuntime, callers: &mut Callers, case: &mut Case) {
+    let path = socket_of(case.alloc, case.word());
+    let count = case.count();
+    case.keep(call_at(rt, callers, path, count));
 }
 
-fn open_control(rt: &HostRuntime, name: &str) -> Result<()> {
-    let path = ControlPath::beside(rt.alloc(), name)?;
-    drop(Control::open(rt, &path)?);
-    Ok(())
+fn call_at(
+    rt: &HostRuntime,
+    callers: &mut Callers,
+    path: Result<String>,
+    count: usize,
+) -> Result<()> {
+    callers.call(rt, path?.as_str(), count)
 }
 
-fn say(rt: &HostRuntime, name: &str) -> Result<()> {
+/// Where the control socket of a box lies.
+fn socket_of(alloc: Global, name: &str) -> Result<String> {
+    Ok(format!(in alloc; "{name}.control/socket")?)
+}
+
+fn caller(callers: &mut Callers, case: &mut Case) {
+    let number = case.count();
+    match case.word() {
+        "says" => {
+            let bytes = case.bytes();
+            case.keep(callers.say(number, bytes.as_slice()));
+        }
+        "hears" => callers.hear(number, case),
+        _ => case.fault(),
+    }
+}
+
+fn open_control(rt: &HostRuntime, case: &mut Case) {
+    let opened = controlled(rt, case.word());
+    case.done(opened, "opened");
+}
+
+fn say(rt: &HostRuntime, case: &mut Case) {
+    let said = said(rt, case.word());
+    case.done(said, "heard");
+}
+
+fn said(rt: &HostRuntime, name: &str) -> Result<()> {
     let path = ControlPath::beside(rt.alloc(), name)?;
     control::say(rt, &path, b"NO\0\0\0\0\0\0\0\x07")?;
     Ok(())
 }
 
-fn ask(rt: &HostRuntime, name: &str, output: &mut String) -> Result<()> {
-    let path = ControlPath::beside(rt.alloc(), name)?;
-    let mut room = [0; LONGEST];
-    match control::ask(rt, &path, &spelled_status(), &mut room) {
+fn ask(rt: &HostRuntime, case: &mut Case) {
+    match asked(rt, case.word()) {
         Ok(count) => {
-            writeln!(output, "  {count} bytes")?;
-            Ok(())
+            case.say("  ", count);
+            case.put(" bytes\n");
         }
-        Err(fault) => tell(output, fault),
+        Err(fault) => case.tell(fault),
     }
 }
 
-fn mode(rt: &HostRuntime, name: &str, output: &mut String) -> Result<()> {
+fn asked(rt: &HostRuntime, name: &str) -> Result<usize> {
+    let path = ControlPath::beside(rt.alloc(), name)?;
+    let mut room = [0; LONGEST];
+    Ok(control::ask(rt, &path, &spelled_status(), &mut room)?)
+}
+
+fn mode(rt: &HostRuntime, case: &mut Case) {
+    match mode_of(rt, case.word()) {
+        Ok(mode) => {
+            let written = writeln!(case.out, "  {mode:o}");
+            case.keep(written);
+        }
+        Err(_) => case.fault(),
+    }
+}
+
+fn mode_of(rt: &HostRuntime, name: &str) -> Result<u32> {
     let folder = format!(in rt.alloc(); "{name}.control")?;
-    let mode = fs::metadata(rt, folder.as_str())?.permissions().mode() % 512;
-    writeln!(output, "  {mode:o}")?;
-    Ok(())
+    Ok(fs::metadata(rt, folder.as_str())?.permissions().mode() % 512)
 }

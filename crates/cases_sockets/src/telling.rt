@@ -1,26 +1,11 @@
-//! What is printed of a case.
+//! What is printed of more than one kind of case.
 
-use anyhow::Result;
+use cases_words::Case;
 use sockets::Losses;
-use std::fmt::Display;
-
-/// A line that says one thing.
-pub(crate) fn tell<T: Display + Copy>(output: &mut String, thing: T) -> Result<()> {
-    writeln!(output, "  {thing}")?;
-    Ok(())
-}
-
-/// A word where something was done, and else why it wasn't.
-pub(crate) fn tell_done(output: &mut String, done: Result<()>, word: &str) -> Result<()> {
-    match done {
-        Ok(()) => tell(output, word),
-        Err(fault) => tell(output, &fault),
-    }
-}
 
 /// How many datagrams weren't sent.
-pub(crate) fn tell_losses(output: &mut String, losses: Losses) -> Result<()> {
-    let (too_long, failed) = (losses.too_long, losses.failed);
-    writeln!(output, "  too long {too_long}, failed {failed}")?;
-    Ok(())
+pub(crate) fn tell_losses(case: &mut Case, losses: Losses) {
+    case.say("  too long ", losses.too_long);
+    case.say(", failed ", losses.failed);
+    case.end();
 }

@@ -1,12 +1,10 @@
 //! Texts: of ways, of control paths, of words and answers.
 
 use crate::boxes::{way_in, ways_in};
-use crate::telling::tell;
-use crate::{Actor, byte};
-use anyhow::{Context, Result, bail};
-use cases_words::Given;
+use anyhow::Result;
+use cases_words::{Actor, Case};
 use control::{
-    Answer, ControlPath, PeerOffRefusal, spelled_known_off, spelled_off, spelled_pairs,
+    Answer, ControlPath, PathFault, PeerOffRefusal, spelled_known_off, spelled_off, spelled_pairs,
     spelled_pairs_after, spelled_refusal, spelled_side, spelled_status, word_of,
 };
 use sockets::{End, Ends, Way};
@@ -17,75 +15,59 @@ use std::alloc::Global;
 pub(crate) struct Texts;
 
 impl Actor for Texts {
-    fn act(&mut self, given: &mut Given<'_>, output: &mut String) -> Result<()> {
-        answer(given, output)
-    }
-}
-
-/// - `way TEXT`: the way that a text writes
-/// - `inherit INSIDE OUTSIDE LINK`: takes the descriptors of three ways
-/// - `path TEXT`, `path N`: the control path beside a boot file with this name, or with one of so many bytes
-/// - `word HEX`: the word that bytes spell
-/// - `off N`, `off N forced`, `off known`, `side SIDE UP CARRIER`, `status`, `pairs`, `pairs PROTOCOL PORT`: the bytes of
-///   a word
-/// - `answer HEX`: the answer that bytes spell
-/// - `refusal N`: the bytes of a refusal, and its text
-fn answer(given: &mut Given<'_>, output: &mut String) -> Result<()> {
-    match given.word()? {
-        "way" => way(given.word()?, output),
-        "inherit" => inherit(given, output),
-        "path" => path(given, output),
-        "word" => word(given, output),
-        "off" => off(given, output),
-        "side" => side(given, output),
-        "status" => tell_hex(given.alloc, &spelled_status(), output),
-        "pairs" => pairs(given, output),
-        "answer" => read_answer(given, output),
-        "refusal" => refusal(given, output),
-        _ => bail!("no line of the cases"),
-    }
-}
-
-fn way(text: &str, output: &mut String) -> Result<()> {
-    match way_in(text) {
-        Some(Way::Loopback) => tell(output, "loopback"),
-        Some(Way::Udp(ends)) => {
-            write!(output, "  udp")?;
-            tell_ends(&ends, output)?;
-            writeln!(output, "")?;
-            Ok(())
+    /// - `way TEXT`: the way that a text writes
+    /// - `inherit INSIDE OUTSIDE LINK`: takes the descriptors of three ways
+    /// - `path TEXT`, `path N`: the control path beside a boot file with this name, or with one of so many bytes
+    /// - `word HEX`: the word that bytes spell
+    /// - `off N`, `off N forced`, `off known`, `side SIDE UP CARRIER`, `status`, `pairs`, `pairs PROTOCOL PORT`: the bytes of
+    ///   a word
+    /// - `answer HEX`: the answer that bytes spell
+    /// - `refusal N`: the bytes of a refusal, and its text
+    fn act(&mut self, case: &mut Case) {
+        case.title("", "\n");
+        match case.word() {
+            "way" => way(case),
+            "inherit" => inherit(case),
+            "path" => path(case),
+            "word" => word(case),
+            "off" => off(case),
+            "side" => side(case),
+            "status" => tell_hex(case, &spelled_status()),
+            "pairs" => pairs(case),
+            "answer" => read_answer(case),
+            "refusal" => refusal(case),
+            _ => case.fault(),
         }
+    }
+}
+
+fn way(case: &mut Case) {
+    match way_in(case.word()) {
+        Some(Way::Loopback) => case.put("  loopback"),
+        Some(Way::Udp(ends)) => tell_ends(case, "  udp ", ends),
         Some(Way::Vxlan(ends, network)) => {
-            write!(output, "  vxlan")?;
-            tell_ends(&ends, output)?;
-            writeln!(output, " {}", network.number)?;
-            Ok(())
+            tell_ends(case, "  vxlan ", ends);
+            case.say(" ", network.number);
         }
-        Some(Way::Descriptor(number)) => {
-            writeln!(output, "  descriptor {number}")?;
-            Ok(())
-        }
-        None => tell(output, "none"),
+        Some(Way::Descriptor(number)) => case.say("  descriptor ", number),
+        None => case.put("  none"),
     }
+    case.end();
 }
 
-fn tell_ends(ends: &Ends, output: &mut String) -> Result<()> {
-    tell_end(ends.own, output)?;
-    tell_end(ends.other, output)
+fn tell_ends(case: &mut Case, text: &str, ends: Ends) {
+    tell_end(case, text, ends.own);
+    tell_end(case, " ", ends.other);
 }
 
-fn tell_end(end: End, output: &mut String) -> Result<()> {
-    let (address, port) = (end.address, end.port);
-    write!(output, " {address}:{port}")?;
-    Ok(())
+fn tell_end(case: &mut Case, text: &str, end: End) {
+    case.say(text, end.address);
+    case.say(":", end.port);
 }
 
-fn inherit(given: &mut Given<'_>, output: &mut String) -> Result<()> {
-    let ways = ways_in(given, None)?;
-    match ways.inherit() {
-        Ok(()) => tell(output, "inherited"),
-        Err(fault) => tell(output, fault),
-    }
+fn inherit(case: &mut Case) {
+    let inherited = ways_in(case, None).inherit();
+    case.done(inherited, "inherited");
 }
 
 /// A name of so many bytes, or the text itself.
@@ -100,74 +82,86 @@ fn name_of(alloc: Global, text: &str) -> Result<String> {
     Ok(name)
 }
 
-fn path(given: &mut Given<'_>, output: &mut String) -> Result<()> {
-    let name = name_of(given.alloc, given.word()?)?;
-    match ControlPath::beside(given.alloc, name.as_str()) {
-        Ok(path) if name.len() < 20 => {
-            writeln!(output, "  {path:?}")?;
-            Ok(())
+fn path(case: &mut Case) {
+    let alloc = case.alloc;
+    match name_of(alloc, case.word()) {
+        Ok(name) => {
+            let is_short = name.len() < 20;
+            tell_path(case, ControlPath::beside(alloc, name.as_str()), is_short);
         }
-        Ok(_) => tell(output, "a path"),
-        Err(fault) => tell(output, fault),
+        Err(_) => case.fault(),
     }
 }
 
-fn word(given: &mut Given<'_>, output: &mut String) -> Result<()> {
-    let bytes = given.bytes()?;
+fn tell_path(case: &mut Case, path: Result<ControlPath, PathFault>, is_short: bool) {
+    match path {
+        Ok(path) => {
+            if is_short {
+                case.show("  ", &path);
+            } else {
+                case.put("  a path");
+            }
+            case.end();
+        }
+        Err(fault) => case.tell(fault),
+    }
+}
+
+fn word(case: &mut Case) {
+    let bytes = case.bytes();
     match word_of(bytes.as_slice()) {
-        Some(word) => {
-            writeln!(output, "  {word:?}")?;
-            Ok(())
-        }
-        None => tell(output, "none"),
+        Some(word) => case.show("  ", word),
+        None => case.put("  none"),
     }
+    case.end();
 }
 
-fn off(given: &mut Given<'_>, output: &mut String) -> Result<()> {
-    let alloc = given.alloc;
-    match given.word()? {
-        "known" => tell_hex(alloc, &spelled_known_off(), output),
-        number => {
-            let forced = given.left().len() == 1;
-            let bytes = spelled_off(cases_words::number(number)?, forced);
-            tell_hex(alloc, &bytes, output)
-        }
+fn off(case: &mut Case) {
+    if case.word() == "known" {
+        return tell_hex(case, &spelled_known_off());
     }
+    case.back();
+    let boot = case.number();
+    let forced = case.left() == 1;
+    tell_hex(case, &spelled_off(boot, forced));
 }
 
-fn pairs(given: &mut Given<'_>, output: &mut String) -> Result<()> {
-    let alloc = given.alloc;
-    if given.left().is_empty() {
-        return tell_hex(alloc, &spelled_pairs(), output);
+fn pairs(case: &mut Case) {
+    if case.left() == 0 {
+        return tell_hex(case, &spelled_pairs());
     }
-    tell_hex(alloc, &spelled_pairs_after(given.key()?), output)
+    let last = case.key();
+    tell_hex(case, &spelled_pairs_after(last));
 }
 
-fn read_answer(given: &mut Given<'_>, output: &mut String) -> Result<()> {
-    let bytes = given.bytes()?;
+fn read_answer(case: &mut Case) {
+    let bytes = case.bytes();
     match Answer::read(bytes.as_slice()) {
-        Some(answer) => {
-            writeln!(output, "  {answer:?}")?;
-            Ok(())
+        Some(answer) => case.show("  ", answer),
+        None => case.put("  none"),
+    }
+    case.end();
+}
+
+fn refusal(case: &mut Case) {
+    match PeerOffRefusal::numbered(case.byte()) {
+        Some(refusal) => {
+            case.hex("  ", &spelled_refusal(refusal));
+            case.say(" ", refusal);
+            case.end();
         }
-        None => tell(output, "none"),
+        None => case.fault(),
     }
 }
 
-fn refusal(given: &mut Given<'_>, output: &mut String) -> Result<()> {
-    let refusal = PeerOffRefusal::numbered(byte(given)?).context("no refusal")?;
-    let text = hex::encode(given.alloc, spelled_refusal(refusal).as_slice())?;
-    writeln!(output, "  {text} {refusal}")?;
-    Ok(())
+fn tell_hex(case: &mut Case, bytes: &[u8]) {
+    case.hex("  ", bytes);
+    case.end();
 }
 
-fn tell_hex(alloc: Global, bytes: &[u8], output: &mut String) -> Result<()> {
-    tell(output, hex::encode(alloc, bytes)?.as_str())
-}
-
-fn side(given: &mut Given<'_>, output: &mut String) -> Result<()> {
-    let side = given.side()?;
-    let up = given.word()? == "up";
-    let carrier = given.word()? == "carrier";
-    tell_hex(given.alloc, &spelled_side(side, up, carrier), output)
+fn side(case: &mut Case) {
+    let side = case.side();
+    let up = case.word() == "up";
+    let carrier = case.word() == "carrier";
+    tell_hex(case, &spelled_side(side, up, carrier));
 }

@@ -1,10 +1,12 @@
 //! Captures to a file, and to a stream that nobody reads for a while.
 
-use anyhow::{Result, bail};
+use crate::words::bytes_of;
 use captures::{Direction, Interface, Packet};
+use cases_words::Case;
 use nat_types::{GatewayId, Side};
+use std::alloc::Global;
 use std::fs::{self, Permissions};
-use std::io::{ErrorKind, Read};
+use std::io::{self, ErrorKind, Read};
 use std::os::unix::fs::PermissionsExt;
 use std::os::unix::net::UnixStream;
 use tap::{CaptureFile, Reel, begin, open};
@@ -23,77 +25,117 @@ const BLOCK: usize = 104;
 const HEAD: usize = 324;
 
 /// Writes a file that has these bytes, of mode 640.
-pub(crate) fn write_file(rt: &HostRuntime, path: &str, bytes: &[u8]) -> Result<()> {
+pub(crate) fn write_file(rt: &HostRuntime, case: &mut Case) {
+    let path = case.name();
+    let bytes = bytes_of(case);
+    case.keep(written(rt, path.as_str(), bytes.as_slice()));
+}
+
+fn written(rt: &HostRuntime, path: &str, bytes: &[u8]) -> io::Result<()> {
     fs::write(rt, path, bytes)?;
-    fs::set_permissions(rt, path, Permissions::from_mode(0o640))?;
-    Ok(())
+    fs::set_permissions(rt, path, Permissions::from_mode(0o640))
 }
 
 /// Opens the file of a capture and lets it go, and prints what it has then.
-pub(crate) fn look_at_file(rt: &HostRuntime, path: &str) -> Result<()> {
-    match open(rt, path) {
-        Ok(_) => {}
-        Err(error) => println!(rt; "  refused: {error}")?,
+pub(crate) fn look_at_file(rt: &HostRuntime, case: &mut Case) {
+    let path = case.name();
+    if let Err(error) = open(rt, path.as_str()) {
+        case.say("  refused: ", error);
+        case.end();
     }
-    show_file(rt, path)
+    show_file(rt, path.as_str(), case);
 }
 
 /// Captures the frame to a file, and prints whether it was kept, and the file.
-pub(crate) fn capture_to_file(rt: &HostRuntime, path: &str) -> Result<()> {
-    match open(rt, path) {
-        Ok(file) => {
-            let mut reel = begin(rt.alloc(), file)?;
-            println!(rt; "  kept {}", reel.keep(&FRAME))?;
-        }
-        Err(error) => println!(rt; "  refused: {error}")?,
+pub(crate) fn capture_to_file(rt: &HostRuntime, case: &mut Case) {
+    let path = case.name();
+    match captured(rt, path.as_str()) {
+        Ok(kept) => case.say("  kept ", kept),
+        Err(error) => case.say("  refused: ", error),
     }
-    show_file(rt, path)
+    case.end();
+    show_file(rt, path.as_str(), case);
+}
+
+fn captured(rt: &HostRuntime, path: &str) -> io::Result<bool> {
+    let mut reel = begin(rt.alloc(), open(rt, path)?)?;
+    Ok(reel.keep(&FRAME))
 }
 
 /// Prints a file's mode and bytes.
-fn show_file(rt: &HostRuntime, path: &str) -> Result<()> {
-    let mode = fs::metadata(rt, path)?.permissions().mode() % 0o1000;
-    let bytes = hex::encode(rt.alloc(), &fs::read(rt, path)?)?;
-    println!(rt; "  mode {mode:o}, file {bytes}")?;
-    Ok(())
+fn show_file(rt: &HostRuntime, path: &str, case: &mut Case) {
+    match fs::metadata(rt, path) {
+        Ok(metadata) => case.octal("  mode ", metadata.permissions().mode() % 0o1000),
+        Err(_) => case.fault(),
+    }
+    case.hex_made(", file ", fs::read(rt, path));
+    case.end();
 }
 
 /// Captures so many frames to a stream that nobody reads, and prints whether some were left out; then reads all of it,
 /// and prints whether these were the head and whole blocks, those of all that were kept.
-pub(crate) fn fill_stream(rt: &HostRuntime, packets: u64) -> Result<()> {
+pub(crate) fn fill_stream(rt: &HostRuntime, case: &mut Case) {
+    match pair(rt) {
+        Ok((own, other)) => fill(rt.alloc(), own, &other, case),
+        Err(_) => case.fault(),
+    }
+}
+
+fn pair(rt: &HostRuntime) -> io::Result<(UnixStream, UnixStream)> {
     let (own, other) = UnixStream::pair(rt)?;
     other.set_nonblocking(true)?;
-    let mut reel = Reel::begin(rt.alloc(), CaptureFile::new(own))?;
+    Ok((own, other))
+}
+
+fn fill(alloc: Global, own: UnixStream, other: &UnixStream, case: &mut Case) {
+    match Reel::begin(alloc, CaptureFile::new(own)) {
+        Ok(mut reel) => {
+            flood(&mut reel, other, case);
+            drop(reel);
+        }
+        Err(_) => case.fault(),
+    }
+}
+
+fn flood(reel: &mut Reel<CaptureFile<UnixStream>>, other: &UnixStream, case: &mut Case) {
+    let kept = kept_of(reel, case.number());
+    case.say("  left out some: ", 0 < reel.left_out());
+    case.end();
+    let before = all_of(other, case);
+    if !reel.settle() {
+        case.fault();
+    }
+    let come = before.saturating_add(all_of(other, case));
+    let wanted = kept.saturating_mul(BLOCK).saturating_add(HEAD);
+    case.say("  whole: ", come == wanted);
+    case.say("\n  goes on: ", reel.keep(&FRAME));
+    case.end();
+}
+
+/// How many of so many frames are kept.
+fn kept_of(reel: &mut Reel<CaptureFile<UnixStream>>, packets: u64) -> usize {
     let mut kept: usize = 0;
     for _ in 0..packets {
         if reel.keep(&FRAME) {
             kept = kept.saturating_add(1);
         }
     }
-    println!(rt; "  left out some: {}", 0 < reel.left_out())?;
-    let wanted = kept.saturating_mul(BLOCK).saturating_add(HEAD);
-    let mut come = all_of(&other)?;
-    if !reel.settle() {
-        bail!("the last block is owed");
-    }
-    come = come.saturating_add(all_of(&other)?);
-    println!(rt; "  whole: {}", come == wanted)?;
-    println!(rt; "  goes on: {}", reel.keep(&FRAME))?;
-    Ok(())
+    kept
 }
 
 /// How many bytes wait in a stream.
-fn all_of(stream: &UnixStream) -> Result<usize> {
+fn all_of(stream: &UnixStream, case: &mut Case) -> usize {
     let mut reader = stream;
     let mut room = [0; 4096];
     let mut total: usize = 0;
     for _ in 0..100_000u32 {
         match reader.read(&mut room) {
-            Ok(0) => return Ok(total),
+            Ok(0) => return total,
             Ok(count) => total = total.saturating_add(count),
-            Err(error) if error.kind() == ErrorKind::WouldBlock => return Ok(total),
-            Err(error) => bail!("{error}"),
+            Err(error) if error.kind() == ErrorKind::WouldBlock => return total,
+            Err(_) => break,
         }
     }
-    bail!("it has no end")
+    case.fault();
+    total
 }

@@ -1,8 +1,7 @@
 //! A service manager at the other end of a stream.
 
-use anyhow::{Result, bail};
-use cases_words::Given;
-use std::io::Read;
+use cases_words::Case;
+use std::io::{self, ErrorKind, Read};
 use std::net::Shutdown;
 use std::os::fd::AsRawFd;
 use std::os::unix::net::UnixStream;
@@ -14,16 +13,16 @@ fn manager_in(text: &str) -> Option<Manager> {
 }
 
 /// Prints the descriptor that a text writes.
-pub(crate) fn read_manager(rt: &HostRuntime, text: &str) -> Result<()> {
-    match manager_in(text) {
-        Some(manager) => println!(rt; "  descriptor {}", manager.descriptor)?,
-        None => println!(rt; "  none")?,
+pub(crate) fn read_manager(case: &mut Case) {
+    match manager_in(case.word()) {
+        Some(manager) => case.say("  descriptor ", manager.descriptor),
+        None => case.put("  none"),
     }
-    Ok(())
+    case.end();
 }
 
 /// What a supervisor may be told.
-#[derive(Clone, Copy, Debug)]
+#[derive(Clone, Copy)]
 enum News {
     Ready(u64),
     Alive,
@@ -31,12 +30,15 @@ enum News {
 }
 
 /// `ready BOOT`, `alive` or `ending`.
-fn news_in(word: &str, given: &mut Given<'_>) -> Result<News> {
-    match word {
-        "ready" => Ok(News::Ready(given.number()?)),
-        "alive" => Ok(News::Alive),
-        "ending" => Ok(News::Ending),
-        _ => bail!("nothing to tell"),
+fn news_in(case: &mut Case) -> News {
+    match case.word() {
+        "ready" => News::Ready(case.number()),
+        "alive" => News::Alive,
+        "ending" => News::Ending,
+        _ => {
+            case.fault();
+            News::Ending
+        }
     }
 }
 
@@ -49,53 +51,66 @@ fn tell<S: Supervisor>(supervisor: &S, news: News) {
 }
 
 /// Tells a manager something, and prints what it hears; `nobody` before it tells nobody, and `gone` one that has gone.
-pub(crate) fn tell_manager(rt: &HostRuntime, given: &mut Given<'_>) -> Result<()> {
-    match given.word()? {
-        "nobody" => {
-            let news = news_in(given.word()?, given)?;
-            tell(&Unsupervised, news);
-            tell(&None::<Manager>, news);
-            println!(rt; "  done")?;
-            Ok(())
-        }
-        "gone" => {
-            let news = news_in(given.word()?, given)?;
-            tell_over(rt, news, true)
-        }
-        word => {
-            let news = news_in(word, given)?;
-            tell_over(rt, news, false)
+pub(crate) fn tell_manager(rt: &HostRuntime, case: &mut Case) {
+    match case.word() {
+        "nobody" => tell_nobody(case),
+        "gone" => tell_over(rt, true, case),
+        _ => {
+            case.back();
+            tell_over(rt, false, case);
         }
     }
 }
 
+fn tell_nobody(case: &mut Case) {
+    let news = news_in(case);
+    tell(&Unsupervised, news);
+    tell(&None::<Manager>, news);
+    case.tell("done");
+}
+
 /// Tells a manager something by a stream, and prints what came at its other end, which may have been closed before.
-fn tell_over(rt: &HostRuntime, news: News, is_gone: bool) -> Result<()> {
+fn tell_over(rt: &HostRuntime, is_gone: bool, case: &mut Case) {
+    let news = news_in(case);
+    match told_over(rt, is_gone, news) {
+        Ok(other) => hear(&other, case),
+        Err(_) => case.fault(),
+    }
+}
+
+/// The other end of a stream by which a manager was told something.
+fn told_over(rt: &HostRuntime, is_gone: bool, news: News) -> io::Result<UnixStream> {
     let (own, other) = UnixStream::pair(rt)?;
     if is_gone {
         other.shutdown(Shutdown::Both)?;
     }
-    let manager = Manager {
-        descriptor: u16::try_from(own.as_raw_fd())?,
-    };
+    other.set_nonblocking(true)?;
+    tell_by(&own, news)?;
+    Ok(other)
+}
+
+fn tell_by(own: &UnixStream, news: News) -> io::Result<()> {
+    match u16::try_from(own.as_raw_fd()) {
+        Ok(descriptor) => tell_at(Manager { descriptor }, news),
+        Err(_) => Err(ErrorKind::InvalidInput.into()),
+    }
+}
+
+fn tell_at(manager: Manager, news: News) -> io::Result<()> {
     if manager.inherit().is_err() {
-        bail!("no descriptor");
+        return Err(ErrorKind::NotFound.into());
     }
     tell(&Some(manager), news);
-    hear(rt, &other)
+    Ok(())
 }
 
 /// Prints what came by a stream.
-fn hear(rt: &HostRuntime, stream: &UnixStream) -> Result<()> {
-    stream.set_nonblocking(true)?;
+fn hear(stream: &UnixStream, case: &mut Case) {
     let mut room = [0; 128];
     let mut reader = stream;
     match reader.read(&mut room) {
-        Ok(count) => {
-            let text = hex::encode(rt.alloc(), &room[..count])?;
-            println!(rt; "  hears {text}")?;
-        }
-        Err(_) => println!(rt; "  hears nothing")?,
+        Ok(count) => case.hex("  hears ", &room[..count]),
+        Err(_) => case.put("  hears nothing"),
     }
-    Ok(())
+    case.end();
 }

@@ -1,8 +1,7 @@
 //! What the words of the cases stand for.
 
 use crate::pages::Paper;
-use anyhow::{Result as Checked, bail};
-use cases_words::Given;
+use cases_words::Case;
 use nat_types::Side;
 use sockets::Place;
 use std::alloc::{AllocError, Global};
@@ -10,13 +9,19 @@ use std::alloc::{AllocError, Global};
 /// How many bytes are shown at most.
 const MOST_SHOWN: usize = 400;
 
-pub(crate) fn place_of(word: &str) -> Checked<Place> {
+/// The place that the next word names.
+pub(crate) fn place_of(case: &mut Case) -> Place {
+    let read = place_named(case.word());
+    case.or(read, Place::Link)
+}
+
+fn place_named(word: &str) -> Option<Place> {
     match word {
-        "link" => Ok(Place::Link),
-        "inside" => Ok(Place::Side(Side::Inside)),
-        "outside" => Ok(Place::Side(Side::Outside)),
-        "operator" => Ok(Place::Operator),
-        _ => bail!("no place"),
+        "link" => Some(Place::Link),
+        "inside" => Some(Place::Side(Side::Inside)),
+        "outside" => Some(Place::Side(Side::Outside)),
+        "operator" => Some(Place::Operator),
+        _ => None,
     }
 }
 
@@ -30,17 +35,18 @@ pub(crate) fn name_of(place: Place) -> &'static str {
 }
 
 /// The bytes of pairs of hexadecimal digits; or so many zeros, as `zeros:4096`.
-pub(crate) fn bytes_of(alloc: Global, word: &str) -> Checked<Vec<u8>> {
-    match word.strip_prefix("zeros:") {
-        None => Ok(hex::decode(alloc, word)?),
-        Some(count) => {
-            let mut bytes = Vec::new(alloc);
-            for _ in 0..count.parse::<u16>()? {
-                bytes.push(0)?;
-            }
-            Ok(bytes)
+pub(crate) fn bytes_of(case: &mut Case) -> Vec<u8> {
+    match zeros_of(case.word()) {
+        Some(count) => case.many(0, usize::from(count)),
+        None => {
+            case.back();
+            case.bytes()
         }
     }
+}
+
+fn zeros_of(word: &str) -> Option<u16> {
+    word.strip_prefix("zeros:")?.parse::<u16>().ok()
 }
 
 /// Bytes in hexadecimal, or how many they are where they are many.
@@ -52,12 +58,15 @@ pub(crate) fn shown(alloc: Global, bytes: &[u8]) -> Result<String, AllocError> {
 }
 
 /// Whether there is room for what is written, as the next words say.
-pub(crate) fn paper_in(given: &mut Given<'_>) -> Checked<Paper> {
-    match given.word()? {
-        "room" => Ok(Paper::Room),
-        "none" => Ok(Paper::None),
-        "fails" => Ok(Paper::Fails),
-        "takes" => Ok(Paper::Takes(given.count()?)),
-        _ => bail!("no page"),
+pub(crate) fn paper_in(case: &mut Case) -> Paper {
+    match case.word() {
+        "room" => Paper::Room,
+        "none" => Paper::None,
+        "fails" => Paper::Fails,
+        "takes" => Paper::Takes(case.count()),
+        _ => {
+            case.fault();
+            Paper::None
+        }
     }
 }

@@ -1,78 +1,111 @@
 //! Which call a case names.
 use crate::{datagrams, errors, neighbours, own, packets, queries};
-use anyhow::{Result, bail};
-use cases_words::Given;
-use std::alloc::Global;
+use cases_words::{Actor, Case};
+use rewrite::RewriteFault;
+
+/// Which way a packet is rewritten.
+#[derive(Clone, Copy)]
+pub(crate) enum Way {
+    Outward,
+    Inward,
+    Hairpin,
+}
+
+/// The bytes of a packet that was rewritten, behind the refusal where there is one.
+pub(crate) fn tell_rewritten(case: &mut Case, done: Result<(), RewriteFault>, bytes: &[u8]) {
+    if let Err(fault) = done {
+        case.refused(fault);
+        case.put(": ");
+    }
+    case.hex("", bytes);
+}
+
+/// It answers a name and the call behind it.
+#[derive(Drop)]
+pub(crate) struct Calls;
+
+impl Actor for Calls {
+    fn act(&mut self, case: &mut Case) {
+        case.echo(": ");
+        answer(case);
+        case.end();
+    }
+}
 
 /// What the call that the next word names answers.
-pub fn answer(given: &mut Given) -> Result<String> {
-    match given.word()? {
-        "add" => add(given),
-        "update" => update(given),
-        call @ ("sum" | "is-right" | "frame" | "ipv4" | "carried" | "error" | "arp" | "advert") => {
-            read(given, call)
-        }
-        "write-frame" => packets::write_frame(given),
-        "write-body" => packets::write_body(given),
-        "write-ipv4" => packets::write_ipv4(given),
-        "write-udp" => packets::write_udp(given),
-        "write-tcp" => packets::write_tcp(given),
-        call @ ("outward" | "inward" | "hairpin") => packets::rewritten(given, call),
-        "write-error" => errors::write_error(given),
-        call @ ("error-outward" | "error-inward" | "error-hairpin") => errors::passed_on(
-            given, call,
-        ),
-        "query" => queries::query(given),
-        "write-query" => queries::write_query(given),
-        "ask" => own::ask(given),
-        "reply" => own::reply(given),
-        call @ ("exceeded" | "too-long") => own::own_error(given, call),
-        call @ ("arp-request" | "arp-reply" | "gratuitous") => neighbours::arp_written(given, call),
-        "is-learnable" => is_learnt(given),
-        "cache" => neighbours::found(given.alloc, given.left()),
-        "write-advert" => neighbours::write_advert(given),
-        "wrong-sums" => wrong_sums(given),
-        "parse" => datagrams::parsed(given),
-        "take" => datagrams::taken(given),
-        call => bail!("no call {call}"),
+fn answer(case: &mut Case) {
+    match case.word() {
+        "add" => add(case),
+        "update" => update(case),
+        "sum" => sum(case),
+        "is-right" => is_right(case),
+        "frame" => packets::frame(case),
+        "write-frame" => packets::write_frame(case),
+        "write-body" => packets::write_body(case),
+        "ipv4" => packets::ipv4(case),
+        "write-ipv4" => packets::write_ipv4(case),
+        "carried" => packets::carried(case),
+        "write-udp" => packets::write_udp(case),
+        "write-tcp" => packets::write_tcp(case),
+        "outward" => packets::rewritten(case, Way::Outward),
+        "inward" => packets::rewritten(case, Way::Inward),
+        "hairpin" => packets::rewritten(case, Way::Hairpin),
+        _ => answer_icmp(case),
     }
 }
 
-fn add(given: &mut Given) -> Result<String> {
-    let sum = sums::add(given.short()?, given.short()?);
-    Ok(format!(in given.alloc; "{sum:04x}")?)
-}
-
-fn update(given: &mut Given) -> Result<String> {
-    let sum = sums::update(given.short()?, given.short()?, given.short()?);
-    Ok(format!(in given.alloc; "{sum:04x}")?)
-}
-
-fn is_learnt(given: &mut Given) -> Result<String> {
-    let learnt = neighbours::is_learnt(given)?;
-    Ok(format!(in given.alloc; "{learnt}")?)
-}
-
-fn wrong_sums(given: &mut Given) -> Result<String> {
-    let wrong = neighbours::wrong_sums(given)?;
-    Ok(format!(in given.alloc; "{wrong}")?)
-}
-
-/// What a call answers that is given nothing but bytes.
-fn read(given: &mut Given, call: &str) -> Result<String> {
-    let bytes = given.bytes()?;
-    read_bytes(given.alloc, call, bytes.as_slice())
-}
-
-fn read_bytes(alloc: Global, call: &str, bytes: &[u8]) -> Result<String> {
-    match call {
-        "sum" => Ok(format!(in alloc; "{:04x}", sums::sum(bytes))?),
-        "is-right" => Ok(format!(in alloc; "{}", sums::is_right(bytes))?),
-        "frame" => packets::frame(alloc, bytes),
-        "ipv4" => packets::ipv4(alloc, bytes),
-        "carried" => packets::carried(alloc, bytes),
-        "error" => errors::error(alloc, bytes),
-        "arp" => neighbours::arp(alloc, bytes),
-        _ => neighbours::advert(alloc, bytes),
+fn answer_icmp(case: &mut Case) {
+    case.back();
+    match case.word() {
+        "error" => errors::error(case),
+        "write-error" => errors::write_error(case),
+        "error-outward" => errors::passed_on(case, Way::Outward),
+        "error-inward" => errors::passed_on(case, Way::Inward),
+        "error-hairpin" => errors::passed_on(case, Way::Hairpin),
+        "query" => queries::query(case),
+        "write-query" => queries::write_query(case),
+        "ask" => own::ask(case),
+        "reply" => own::reply(case),
+        "exceeded" => own::exceeded(case),
+        "too-long" => own::too_long(case),
+        _ => answer_others(case),
     }
+}
+
+fn answer_others(case: &mut Case) {
+    case.back();
+    match case.word() {
+        "arp" => neighbours::arp(case),
+        "arp-request" => neighbours::request(case),
+        "arp-reply" => neighbours::reply(case),
+        "gratuitous" => neighbours::gratuitous(case),
+        "is-learnable" => neighbours::is_learnt(case),
+        "cache" => neighbours::found(case),
+        "advert" => neighbours::advert(case),
+        "write-advert" => neighbours::write_advert(case),
+        "wrong-sums" => neighbours::wrong_sums(case),
+        "parse" => datagrams::parsed(case),
+        "take" => datagrams::taken(case),
+        _ => case.fault(),
+    }
+}
+
+fn add(case: &mut Case) {
+    let sum = sums::add(case.short(), case.short());
+    case.hex_short("", sum);
+}
+
+fn update(case: &mut Case) {
+    let sum = sums::update(case.short(), case.short(), case.short());
+    case.hex_short("", sum);
+}
+
+fn sum(case: &mut Case) {
+    let bytes = case.bytes();
+    case.hex_short("", sums::sum(bytes.as_slice()));
+}
+
+fn is_right(case: &mut Case) {
+    let bytes = case.bytes();
+    case.put(sums::is_right(bytes.as_slice()));
 }

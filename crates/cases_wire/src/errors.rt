@@ -3,63 +3,74 @@ ghost use Rattle.std.specs.Prelude.{IsTrue};
 ghost use Rattle.ipv4.specs.Header.{IsIpv4};
 ghost use Rattle.icmp.specs.Packet.{IsErrorPacket};
 
-use anyhow::{Result, ensure};
-use cases_words::Given;
+use crate::calls::{Way, tell_rewritten};
+use anyhow::Result;
+use cases_words::Case;
 use icmp::{ErrorPacket, ErrorView, ErrorViewMut};
 use ipv4::{Flow, Ipv4View};
-use std::alloc::Global;
 
-pub fn error(alloc: Global, bytes: &[u8]) -> Result<String> {
+fn parsed(bytes: &[u8]) -> Result<(ErrorPacket, ErrorView<'_>)> {
     let packet = Ipv4View::parse(bytes)?;
-    let ErrorPacket { flow, length } = ErrorPacket::parse(&packet)?;
-    let error = ErrorView::parse(packet.payload())?;
-    let mut out = String::new(alloc);
-    write_message(&error, &mut out)?;
-    let (from, to) = (flow.source, flow.destination);
-    write!(out, " from {from} to {to} length {length}")?;
-    write_way(flow.inside, &mut out)?;
-    write_inside(alloc, &error, &mut out)?;
-    Ok(out)
+    let found = ErrorPacket::parse(&packet)?;
+    Ok((found, ErrorView::parse(packet.payload())?))
 }
 
-fn write_message(error: &ErrorView<'_>, out: &mut String) -> Result<()> {
-    let (kind, code) = (error.kind(), error.code());
-    let (sum, parameter) = (error.checksum(), error.parameter());
-    write!(
-        out,
-        "type {kind} code {code} sum {sum:04x} parameter {parameter:08x}"
-    )?;
-    Ok(())
+pub(crate) fn error(case: &mut Case) {
+    let bytes = case.bytes();
+    match parsed(bytes.as_slice()) {
+        Ok((packet, error)) => {
+            tell_message(case, error.kind(), error.code(), error.checksum());
+            tell_parameter(case, error.parameter());
+            tell_packet(case, packet);
+            tell_inside(case, &error);
+        }
+        Err(fault) => case.refused(fault),
+    }
 }
 
-fn write_way(flow: Flow, out: &mut String) -> Result<()> {
-    let (protocol, source, source_port) = (flow.protocol, flow.source, flow.source_port);
-    write!(out, " about {protocol} from {source} {source_port}")?;
-    let (destination, destination_port) = (flow.destination, flow.destination_port);
-    write!(out, " to {destination} {destination_port}")?;
-    Ok(())
+fn tell_message(case: &mut Case, kind: u8, code: u8, sum: u16) {
+    case.say("type ", kind);
+    case.say(" code ", code);
+    case.hex_short(" sum ", sum);
 }
 
-fn write_inside(alloc: Global, error: &ErrorView<'_>, out: &mut String) -> Result<()> {
+fn tell_parameter(case: &mut Case, parameter: u32) {
+    case.hex(" parameter ", &parameter.to_be_bytes());
+}
+
+fn tell_packet(case: &mut Case, packet: ErrorPacket) {
+    case.say(" from ", packet.flow.source);
+    case.say(" to ", packet.flow.destination);
+    case.say(" length ", packet.length);
+    tell_way(case, packet.flow.inside);
+}
+
+fn tell_way(case: &mut Case, flow: Flow) {
+    case.say(" about ", flow.protocol);
+    case.say(" from ", flow.source);
+    case.say(" ", flow.source_port);
+    case.say(" to ", flow.destination);
+    case.say(" ", flow.destination_port);
+}
+
+fn tell_inside(case: &mut Case, error: &ErrorView<'_>) {
     let inside = error.inside();
-    let header = inside.header_length();
-    let behind = hex::encode(alloc, inside.behind())?;
-    write!(out, " header {header} behind [{behind}]")?;
-    Ok(())
+    case.say(" header ", inside.header_length());
+    case.hex(" behind [", inside.behind());
+    case.put("]");
 }
 
 /// What the message says that isn't written, and the message afterwards.
-pub fn write_error(given: &mut Given) -> Result<String> {
-    let mut bytes = given.bytes()?;
-    ErrorView::parse(bytes.as_slice())?;
+pub(crate) fn write_error(case: &mut Case) {
+    let mut bytes = case.bytes();
+    if let Err(fault) = ErrorView::parse(bytes.as_slice()) {
+        return case.refused(fault);
+    }
     let mut error = ErrorViewMut::new(bytes.as_mut_slice());
-    let (kind, code) = (error.kind(), error.code());
-    let (sum, parameter) = (error.checksum(), error.parameter());
-    error.set_checksum(given.short()?);
-    let bytes = hex::encode(given.alloc, bytes.as_slice())?;
-    Ok(format!(in given.alloc;
-        "type {kind} code {code} sum {sum:04x} parameter {parameter:08x}: {bytes}"
-    )?)
+    tell_message(case, error.kind(), error.code(), error.checksum());
+    tell_parameter(case, error.parameter());
+    error.set_checksum(case.short());
+    case.hex(": ", bytes.as_slice());
 }
 
 fn is_error(bytes: &[u8]) -> bool
@@ -73,23 +84,19 @@ fn is_error(bytes: &[u8]) -> bool
 }
 
 /// The packet afterwards, behind the refusal where there is one.
-pub fn passed_on(given: &mut Given, call: &str) -> Result<String> {
-    let mut bytes = given.bytes()?;
-    let (address, port) = (given.hex_ip()?, given.hex_port()?);
-    let (from, from_port) = if call == "error-hairpin" {
-        (given.hex_ip()?, given.hex_port()?)
-    } else {
-        (address, port)
-    };
-    ensure!(is_error(bytes.as_slice()), "no error that is passed on");
-    let done = match call {
-        "error-outward" => rewrite::error_outward(bytes.as_mut_slice(), address, port),
-        "error-inward" => rewrite::error_inward(bytes.as_mut_slice(), address, port),
-        _ => rewrite::error_hairpin(bytes.as_mut_slice(), address, port, from, from_port),
-    };
-    let bytes = hex::encode(given.alloc, bytes.as_slice())?;
-    match done {
-        Ok(()) => Ok(bytes),
-        Err(fault) => Ok(format!(in given.alloc; "refused, {fault}: {bytes}")?),
+pub(crate) fn passed_on(case: &mut Case, way: Way) {
+    let mut bytes = case.bytes();
+    if !is_error(bytes.as_slice()) {
+        return case.refused("no error that is passed on");
     }
+    let (address, port) = (case.hex_ip(), case.hex_port());
+    let packet = bytes.as_mut_slice();
+    let done = match way {
+        Way::Outward => rewrite::error_outward(packet, address, port),
+        Way::Inward => rewrite::error_inward(packet, address, port),
+        Way::Hairpin => {
+            rewrite::error_hairpin(packet, address, port, case.hex_ip(), case.hex_port())
+        }
+    };
+    tell_rewritten(case, done, bytes.as_slice());
 }

@@ -12,42 +12,28 @@ mod packets;
 mod queries;
 
 use anyhow::Result;
-use cases_words::{Given, is_silent};
-use std::alloc::Global;
+use calls::Calls;
+use cases_words::{Case, play};
+use std::io::{self, Write};
 use std::{env, fs};
 
-fn write_answer(out: &mut String, name: &str, answer: Result<String>) -> Result<()> {
-    match answer {
-        Ok(answer) => writeln!(out, "{name}: {answer}")?,
-        Err(refusal) => writeln!(out, "{name}: refused, {refusal}")?,
+fn try_file(rt: &HostRuntime, file: &str, case: &mut Case) -> Result<()> {
+    let text = fs::read_to_string(rt, file)?;
+    case.say("== ", file);
+    case.end();
+    play(case, text.as_str(), &mut Calls)
+}
+
+fn try_all(rt: &HostRuntime, case: &mut Case) -> Result<()> {
+    for file in env::args(rt)?.skip(1).collect::<Vec<String>>(rt.alloc())? {
+        try_file(rt, file.as_str(), case)?;
     }
     Ok(())
-}
-
-/// Writes the line for a case.
-fn write_case(alloc: Global, line: &str, out: &mut String) -> Result<()> {
-    let words = line.split_whitespace().collect::<Vec<&str>>(alloc)?;
-    let mut given = Given::new(alloc, words.as_slice());
-    let name = given.word()?;
-    write_answer(out, name, calls::answer(&mut given))
-}
-
-/// The lines for the cases of a file.
-fn answers(alloc: Global, text: &str) -> Result<String> {
-    let mut out = String::new(alloc);
-    for line in text.lines() {
-        if !is_silent(line) {
-            write_case(alloc, line, &mut out)?;
-        }
-    }
-    Ok(out)
 }
 
 fn main(rt: HostRuntime) -> Result<()> {
-    for file in env::args(&rt)?.skip(1).collect::<Vec<String>>(rt.alloc())? {
-        let text = fs::read_to_string(&rt, file.as_str())?;
-        let answers = answers(rt.alloc(), text.as_str())?;
-        print!(rt; "== {file}\n{answers}")?;
-    }
-    Ok(())
+    let mut case = Case::new(rt.alloc());
+    let tried = try_all(&rt, &mut case);
+    io::writer(&rt).write_all(case.out.as_slice())?;
+    tried
 }

@@ -1,140 +1,182 @@
 //! ARP packets, the cache of neighbours, and VRRP advertisements.
 use addresses::{Ip, Mac, Prefix};
-use anyhow::{Result, bail, ensure};
-use arp::{Cache, Interface, Neighbour, is_learnable};
-use cases_words::Given;
+use anyhow::Result;
+use arp::{ArpPacket, Cache, Interface, Neighbour, is_learnable};
+use cases_words::Case;
 use ipv4::Ipv4View;
-use std::alloc::Global;
 use vrrp_packet::{Advert, AdvertFault};
 
-pub fn arp(alloc: Global, bytes: &[u8]) -> Result<String> {
-    let packet = arp::parse(bytes)?;
-    let operation = packet.operation;
-    let (from, from_ip, to, to_ip) = (
-        packet.sender_mac,
-        packet.sender_ip,
-        packet.target_mac,
-        packet.target_ip,
-    );
-    Ok(format!(in alloc; "{operation:?} from {from} {from_ip} to {to} {to_ip}")?)
+pub(crate) fn arp(case: &mut Case) {
+    let bytes = case.bytes();
+    match arp::parse(bytes.as_slice()) {
+        Ok(packet) => tell_arp(case, packet),
+        Err(fault) => case.refused(fault),
+    }
 }
 
-pub fn arp_written(given: &mut Given, call: &str) -> Result<String> {
+fn tell_arp(case: &mut Case, packet: ArpPacket) {
+    case.show("", packet.operation);
+    case.say(" from ", packet.sender_mac);
+    case.say(" ", packet.sender_ip);
+    case.say(" to ", packet.target_mac);
+    case.say(" ", packet.target_ip);
+}
+
+pub(crate) fn request(case: &mut Case) {
     let mut out = [0xaa; 42];
-    let mac = given.mac()?;
-    match call {
-        "arp-request" => arp::request(&mut out, mac, given.hex_ip()?, given.hex_ip()?),
-        "arp-reply" => {
-            let answer = given.mac()?;
-            let asked = arp::parse(given.bytes()?.as_slice())?;
+    arp::request(&mut out, case.mac(), case.hex_ip(), case.hex_ip());
+    case.hex("", &out);
+}
+
+pub(crate) fn gratuitous(case: &mut Case) {
+    let mut out = [0xaa; 42];
+    arp::gratuitous(&mut out, case.mac(), case.hex_ip());
+    case.hex("", &out);
+}
+
+pub(crate) fn reply(case: &mut Case) {
+    let mut out = [0xaa; 42];
+    let (mac, answer) = (case.mac(), case.mac());
+    let bytes = case.bytes();
+    match arp::parse(bytes.as_slice()) {
+        Ok(asked) => {
             arp::reply(&mut out, mac, answer, &asked);
+            case.hex("", &out);
         }
-        _ => arp::gratuitous(&mut out, mac, given.hex_ip()?),
+        Err(fault) => case.refused(fault),
     }
-    Ok(hex::encode(given.alloc, out.as_slice())?)
 }
 
 /// The primary, the virtual and the sender's address, in the network of the virtual address's first
 /// 24 bits.
-pub fn is_learnt(given: &mut Given) -> Result<bool> {
-    let (primary_ip, virtual_ip) = (given.hex_ip()?, given.hex_ip()?);
-    let (address, mac) = (given.hex_ip()?, given.mac()?);
+pub(crate) fn is_learnt(case: &mut Case) {
+    let (primary_ip, virtual_ip) = (case.hex_ip(), case.hex_ip());
+    let (address, mac) = (case.hex_ip(), case.mac());
     let interface = Interface {
         network: Prefix::new(virtual_ip, 24),
         primary_ip,
         virtual_ip,
     };
-    Ok(is_learnable(&interface, &Neighbour { address, mac }))
+    case.put(is_learnable(&interface, &Neighbour { address, mac }));
 }
 
-/// What a cache finds in steps: `learn:IP:MAC:NOW`, `fill:COUNT:MAC:NOW` for so many addresses from
-/// 0.0.0.0 on, `find:IP:NOW`, and `ask:IP:NOW`: whether a packet just sent there asks. It has the fixed neighbour 192.0.2.254, twice.
-pub fn found(alloc: Global, steps: &[&str]) -> Result<String> {
+/// What a cache finds in steps: `learn IP MAC NOW`, `fill COUNT MAC NOW` for so many addresses from 0.0.0.0 on,
+/// `find IP NOW`, and `ask IP NOW`: whether a packet just sent there asks. It has the fixed neighbour 192.0.2.254, twice.
+pub(crate) fn found(case: &mut Case) {
     let router = Ip::new([192, 0, 2, 254]);
     let fixed = [0xfe, 0xfd].map(|last| Neighbour {
         address: router,
         mac: Mac([2, 0, 0, 0, 0, last]),
     });
-    let mut cache = Cache::new(alloc, &fixed)?;
-    let mut found = String::new(alloc);
-    let done = take_steps(alloc, &mut cache, steps, &mut found);
-    drop(cache);
-    done?;
-    Ok(found)
-}
-
-fn take_steps(alloc: Global, cache: &mut Cache, steps: &[&str], found: &mut String) -> Result<()> {
-    for step in steps {
-        let words = step.split(':').collect::<Vec<&str>>(alloc)?;
-        take_step(cache, &mut Given::new(alloc, words.as_slice()), found)?;
-    }
-    Ok(())
-}
-
-fn take_step(cache: &mut Cache, given: &mut Given, found: &mut String) -> Result<()> {
-    match given.word()? {
-        "learn" => cache.learn(given.hex_ip()?, given.mac()?, given.number()?),
-        "fill" => {
-            let (count, mac, now) = (given.number()?, given.mac()?, given.number()?);
-            for number in 0..count.min(65_536) as u32 {
-                cache.learn(Ip(number), mac, now);
-            }
+    match Cache::new(case.alloc, &fixed) {
+        Ok(mut cache) => {
+            take_steps(&mut cache, case);
+            drop(cache);
         }
-        "find" => match cache.mac_of(given.hex_ip()?, given.number()?) {
-            Some(mac) => write!(found, "{mac} ")?,
-            None => found.push_str("none ")?,
-        },
-        "ask" => {
-            let asks = cache.ask(given.hex_ip()?, given.number()?);
-            found.push_str(if asks { "asks " } else { "no " })?;
-        }
-        word => bail!("no step {word}"),
+        Err(fault) => case.refused(fault),
     }
-    Ok(())
 }
 
-pub fn advert(alloc: Global, bytes: &[u8]) -> Result<String> {
-    let Advert {
+fn take_steps(cache: &mut Cache, case: &mut Case) {
+    for _ in 0..case.left() {
+        if case.left() > 0 {
+            take_step(cache, case);
+        }
+    }
+}
+
+fn take_step(cache: &mut Cache, case: &mut Case) {
+    match case.word() {
+        "learn" => cache.learn(case.hex_ip(), case.mac(), case.number()),
+        "fill" => fill(cache, case),
+        "find" => find(cache, case),
+        "ask" => ask(cache, case),
+        _ => case.fault(),
+    }
+}
+
+fn fill(cache: &mut Cache, case: &mut Case) {
+    let (count, mac, now) = (case.number(), case.mac(), case.number());
+    for number in 0..count.min(65_536) as u32 {
+        cache.learn(Ip(number), mac, now);
+    }
+}
+
+fn find(cache: &Cache, case: &mut Case) {
+    match cache.mac_of(case.hex_ip(), case.number()) {
+        Some(mac) => case.put(mac),
+        None => case.put("none"),
+    }
+    case.put(" ");
+}
+
+fn ask(cache: &mut Cache, case: &mut Case) {
+    let asks = cache.ask(case.hex_ip(), case.number());
+    case.put(if asks { "asks " } else { "no " });
+}
+
+fn advertised(bytes: &[u8]) -> Result<Advert> {
+    Ok(vrrp_packet::parse(&Ipv4View::parse(bytes)?)?)
+}
+
+pub(crate) fn advert(case: &mut Case) {
+    let bytes = case.bytes();
+    match advertised(bytes.as_slice()) {
+        Ok(advert) => {
+            case.say("router ", advert.router);
+            case.say(" priority ", advert.priority);
+            case.say(" interval ", advert.interval);
+            case.say(" address ", advert.address);
+        }
+        Err(fault) => case.refused(fault),
+    }
+}
+
+pub(crate) fn write_advert(case: &mut Case) {
+    let [router, priority] = case.octets::<2>();
+    let (interval, address) = (case.short(), case.hex_ip());
+    if interval == 0 || interval >= 4096 {
+        return case.fault();
+    }
+    let mut out = [0xaa; 12];
+    let advert = Advert {
         router,
         priority,
         interval,
         address,
-    } = vrrp_packet::parse(&Ipv4View::parse(bytes)?)?;
-    Ok(format!(in alloc;
-        "router {router} priority {priority} interval {interval} address {address}"
-    )?)
-}
-
-pub fn write_advert(given: &mut Given) -> Result<String> {
-    let [router, priority] = given.octets::<2>()?;
-    let (interval, address) = (given.short()?, given.hex_ip()?);
-    ensure!(interval != 0 && interval < 4096, "no interval");
-    let mut out = [0xaa; 12];
-    vrrp_packet::write(
-        &Advert {
-            router,
-            priority,
-            interval,
-            address,
-        },
-        &mut out,
-    );
-    Ok(hex::encode(given.alloc, out.as_slice())?)
+    };
+    vrrp_packet::write(&advert, &mut out);
+    case.hex("", &out);
 }
 
 /// How many of the other bytes at a place give a wrong checksum.
-pub fn wrong_sums(given: &mut Given) -> Result<u32> {
-    let (mut bytes, [place]) = (given.bytes()?, given.octets::<1>()?);
+pub(crate) fn wrong_sums(case: &mut Case) {
+    let (mut bytes, [place]) = (case.bytes(), case.octets::<1>());
     let place = usize::from(place);
+    if place >= bytes.len() {
+        return case.fault();
+    }
+    case.put(count_wrong_sums(bytes.as_mut_slice(), place));
+}
+
+fn count_wrong_sums(bytes: &mut [u8], place: usize) -> u32 {
     let mut wrong = 0u32;
     for change in 1..=255u8 {
-        ensure!(place < bytes.len(), "no such place");
+        if place >= bytes.len() {
+            return wrong;
+        }
         bytes[place] ^= change;
-        let read = Ipv4View::parse(bytes.as_slice()).map(|packet| vrrp_packet::parse(&packet));
-        if read == Ok(Err(AdvertFault::BadSum)) {
+        if has_wrong_sum(bytes) {
             wrong = wrong.saturating_add(1);
         }
         bytes[place] ^= change;
     }
-    Ok(wrong)
+    wrong
+}
+
+fn has_wrong_sum(bytes: &[u8]) -> bool {
+    match Ipv4View::parse(bytes) {
+        Ok(packet) => vrrp_packet::parse(&packet) == Err(AdvertFault::BadSum),
+        Err(_) => false,
+    }
 }

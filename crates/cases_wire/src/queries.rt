@@ -1,44 +1,65 @@
 //! ICMP queries, read and written.
-use anyhow::{Result, bail};
-use cases_words::Given;
+use anyhow::Result;
+use cases_words::Case;
 use icmp::{Kind, QueryView, QueryViewMut};
 use ipv4::{Ipv4View, Packet};
 
-fn kind(given: &mut Given) -> Result<Kind> {
-    match given.word()? {
-        "echo" => Ok(Kind::Echo),
-        "reply" => Ok(Kind::Reply),
-        kind => bail!("no kind {kind}"),
+fn kind(case: &mut Case) -> Kind {
+    if case.is_first("echo", "reply") {
+        Kind::Echo
+    } else {
+        Kind::Reply
     }
 }
 
+fn parsed(kind: Kind, bytes: &[u8]) -> Result<(Packet, QueryView<'_>)> {
+    let view = Ipv4View::parse(bytes)?;
+    let packet = icmp::query_packet(kind, &view)?;
+    Ok((packet, QueryView::parse(kind, view.payload())?))
+}
+
 /// What a packet says that carries a query of this kind.
-pub fn query(given: &mut Given) -> Result<String> {
-    let kind = kind(given)?;
-    let bytes = given.bytes()?;
-    let view = Ipv4View::parse(bytes.as_slice())?;
-    let Packet { flow, length, .. } = icmp::query_packet(kind, &view)?;
-    let (protocol, from, to) = (flow.protocol, flow.source, flow.destination);
-    let (from_port, to_port) = (flow.source_port, flow.destination_port);
-    let query = QueryView::parse(kind, view.payload())?;
-    let (sum, identifier) = (query.checksum(), query.identifier());
-    let number = query.sequence_number();
-    let data = hex::encode(given.alloc, query.data())?;
-    Ok(format!(in given.alloc;
-        "{protocol} from {from} {from_port} to {to} {to_port} length {length} sum {sum:04x} identifier {identifier} number {number} data [{data}]"
-    )?)
+pub(crate) fn query(case: &mut Case) {
+    let kind = kind(case);
+    let bytes = case.bytes();
+    match parsed(kind, bytes.as_slice()) {
+        Ok((packet, query)) => {
+            tell_packet(case, packet);
+            tell_query(case, query.checksum(), query.identifier().0, query.sequence_number());
+            case.hex(" data [", query.data());
+            case.put("]");
+        }
+        Err(fault) => case.refused(fault),
+    }
+}
+
+fn tell_packet(case: &mut Case, packet: Packet) {
+    let flow = packet.flow;
+    case.put(flow.protocol);
+    case.say(" from ", flow.source);
+    case.say(" ", flow.source_port);
+    case.say(" to ", flow.destination);
+    case.say(" ", flow.destination_port);
+    case.say(" length ", packet.length);
+    case.put(" ");
+}
+
+fn tell_query(case: &mut Case, sum: u16, identifier: u16, number: u16) {
+    case.hex_short("sum ", sum);
+    case.say(" identifier ", identifier);
+    case.say(" number ", number);
 }
 
 /// What the query says that isn't written, and the message afterwards.
-pub fn write_query(given: &mut Given) -> Result<String> {
-    let kind = kind(given)?;
-    let mut bytes = given.bytes()?;
-    QueryView::parse(kind, bytes.as_slice())?;
+pub(crate) fn write_query(case: &mut Case) {
+    let kind = kind(case);
+    let mut bytes = case.bytes();
+    if let Err(fault) = QueryView::parse(kind, bytes.as_slice()) {
+        return case.refused(fault);
+    }
     let mut query = QueryViewMut::new(bytes.as_mut_slice());
-    let (sum, identifier) = (query.checksum(), query.identifier());
-    let number = query.sequence_number();
-    query.set_identifier(given.hex_port()?);
-    query.set_checksum(given.short()?);
-    let bytes = hex::encode(given.alloc, bytes.as_slice())?;
-    Ok(format!(in given.alloc; "sum {sum:04x} identifier {identifier} number {number}: {bytes}")?)
+    tell_query(case, query.checksum(), query.identifier().0, query.sequence_number());
+    query.set_identifier(case.hex_port());
+    query.set_checksum(case.short());
+    case.hex(": ", bytes.as_slice());
 }

@@ -2,10 +2,17 @@
 #![tactic(auto)]
 
 mod bytes;
+mod case;
 mod given;
+mod items;
 mod lines;
 mod pairs;
+mod playing;
+mod printing;
+mod reading;
 mod records;
 
+pub use case::Case;
 pub use given::Given;
 pub use lines::{is_silent, number, octets, words_of};
+pub use playing::{Actor, beside, play};

@@ -138,30 +138,48 @@ module _ {T : Type 0} where
       by None h = absurd (cc)
       by (Some t) h = refl
 
+  -- a row that is found passes the test
+  pub passes : (test : Row T → Bool) (rows : List (Row T)) (r : Row T) → find test rows ≡ Some r → test r ≡ true
+  passes test [] r h = absurd (cc)
+  passes test (x ∷ rows) r h = by (test x) refl (passes test rows r)
+    where
+      by : (b : Bool) → test x ≡ b → (find test rows ≡ Some r → test r ≡ true) → test r ≡ true
+      by true e ih = (let first = cond-true (test x) (Some x) (find test rows) e in let same : x ≡ r = cc in ap test (sym same) ∙ e)
+      by false e ih = ih (sym (cond-false (test x) (Some x) (find test rows) e) ∙ h)
+
   -- a row that is found stands in a cell, with what its slot has
-  pub record StandsIn (at : SlotNumber → Option T) (ns : List (Option SlotNumber)) (r : Row T) : Type 0 where
+  pub record StandsIn (at : SlotNumber → Option T) (k : ℕ) (ns : List (Option SlotNumber)) (r : Row T) : Type 0 where
     pub cell : ℕ
     pub has : get_or ns cell None ≡ Some r.number
     pub item : at r.number ≡ Some r.item
+    pub key : r.key ≡ key_at (k + cell)
 
-  pub stands-in : (at : SlotNumber → Option T) (test : Row T → Bool) (k : ℕ) (ns : List (Option SlotNumber)) (r : Row T) → find test (rows_from at k ns) ≡ Some r → StandsIn at ns r
+  pub stands-in : (at : SlotNumber → Option T) (test : Row T → Bool) (k : ℕ) (ns : List (Option SlotNumber)) (r : Row T) → find test (rows_from at k ns) ≡ Some r → StandsIn at k ns r
   stands-in at test k [] r h = absurd (cc)
   stands-in at test k (n ∷ ns) r h = first (stands-in at test (suc k) ns r) n refl
     where
-      behind : StandsIn at ns r → StandsIn at (n ∷ ns) r
-      behind s = record { cell = suc s.cell; has = s.has; item = s.item }
+      behind : StandsIn at (suc k) ns r → StandsIn at k (n ∷ ns) r
+      behind s =
+          let shift : suc k + s.cell ≡ k + suc s.cell = omega arith in
+          record { cell = suc s.cell; has = s.has; item = s.item; key = s.key ∙ ap key_at shift }
 
-      choose : (m : SlotNumber) (t : T) (b : Bool) → (find test (rows_from at (suc k) ns) ≡ Some r → StandsIn at ns r) → n ≡ Some m → at m ≡ Some t → cond b (Some (record { key = key_at k; number = m; item = t })) (find test (rows_from at (suc k) ns)) ≡ Some r → StandsIn at (n ∷ ns) r
+      choose : (m : SlotNumber) (t : T) (b : Bool) → (find test (rows_from at (suc k) ns) ≡ Some r → StandsIn at (suc k) ns r) → n ≡ Some m → at m ≡ Some t → cond b (Some (record { key = key_at k; number = m; item = t })) (find test (rows_from at (suc k) ns)) ≡ Some r → StandsIn at k (n ∷ ns) r
       choose m t true ih e f h =
           let x : Row T = record { key = key_at k; number = m; item = t } in
           let same : x ≡ r = cc in
-          record { cell = 0; has = e ∙ ap (λ (y : Row T). Some y.number) same; item = ap (λ (y : Row T). at y.number) (sym same) ∙ f ∙ ap (λ (y : Row T). Some y.item) same }
+          let here : k ≡ k + 0 = omega arith in
+          record {
+            cell = 0;
+            has = e ∙ ap (λ (y : Row T). Some y.number) same;
+            item = ap (λ (y : Row T). at y.number) (sym same) ∙ f ∙ ap (λ (y : Row T). Some y.item) same;
+            key = ap (λ (y : Row T). y.key) (sym same) ∙ ap key_at here;
+          }
       choose m t false ih e f h = behind (ih h)
 
-      slot : (m : SlotNumber) (o : Option T) → (find test (rows_from at (suc k) ns) ≡ Some r → StandsIn at ns r) → n ≡ Some m → at m ≡ o → find test (cons_option (option_map (λ t. record { key = key_at k; number = m; item = t }) o) (rows_from at (suc k) ns)) ≡ Some r → StandsIn at (n ∷ ns) r
+      slot : (m : SlotNumber) (o : Option T) → (find test (rows_from at (suc k) ns) ≡ Some r → StandsIn at (suc k) ns r) → n ≡ Some m → at m ≡ o → find test (cons_option (option_map (λ t. record { key = key_at k; number = m; item = t }) o) (rows_from at (suc k) ns)) ≡ Some r → StandsIn at k (n ∷ ns) r
       slot m None ih e f h = behind (ih h)
       slot m (Some t) ih e f h = choose m t (test (record { key = key_at k; number = m; item = t })) ih e f h
 
-      first : (find test (rows_from at (suc k) ns) ≡ Some r → StandsIn at ns r) → (o : Option SlotNumber) → n ≡ o → StandsIn at (n ∷ ns) r
+      first : (find test (rows_from at (suc k) ns) ≡ Some r → StandsIn at (suc k) ns r) → (o : Option SlotNumber) → n ≡ o → StandsIn at k (n ∷ ns) r
       first ih None e = behind (ih (sym (ap (λ x. find test (cons_option (row_in at k x) (rows_from at (suc k) ns))) e) ∙ h))
       first ih (Some m) e = slot m (at m) ih e refl (sym (ap (λ x. find test (cons_option (row_in at k x) (rows_from at (suc k) ns))) e) ∙ h)

@@ -1,20 +1,27 @@
 -- What the slots and their cells keep, and what single calls make of them.
-use Rattle.std.proofs.Common.{◌≡◌, ◌⊎◌, inl, inr, ℕ, suc, ◌+◌, ◌<◌, ◌≤◌, true, false, cond, nat_lt, count_by, Option, Some, None, List, [], length, get_or, set, refl, ap, sym, ◌∙◌, arith}
+use Rattle.std.proofs.Common.{◌≡◌, ◌⊎◌, inl, inr, ℕ, suc, ◌+◌, ◌<◌, ◌≤◌, true, false, cond, nat_lt, count_by, Bor, Option, Some, None, List, [], length, get_or, set, refl, ap, sym, ◌∙◌, arith}
 use Rattle.std.specs.List.{find}
-use Rattle.std.specs.Option.{option_map, is_some, IfSome}
+use Rattle.std.specs.Option.{option_map, option_copied, is_some, IfSome, OnSome}
 use Rattle.std.proofs.lemmas.Bool.{cases_eq, lt-ltb, le-ltb}
 use Rattle.std.proofs.lemmas.List.{length-map, get_or-set_same, get_or-set_other, length-set}
 use Rattle.nat_types.specs.declared.pairs.Key.{Key}
+use Rattle.nat_types.proofs.Offered.{key-eq}
 use Rattle.slab.specs.Slab.{Slab, Updates, slab_len, with_value}
 use Rattle.slab.proofs.SlabLemmas.{ContainsKey-within, Updates-with_value}
 use Rattle.std.proofs.lemmas.List.Sums.{sum_by-set}
 use Rattle.slab.specs.Slab.{get as slab_get}
 use Rattle.slots.specs.declared.numbers.SlotNumber.{SlotNumber}
-use Rattle.slots.specs.Rows.{Row, key_place, has_key, row_of, item_of, number_of, put_in, without, with_item, stands_behind}
+use Rattle.slots.specs.Rows.{Row, key_place, has_key, row_of, item_of, number_of, put_in, without, with_item, stands_behind, HasDistinctNumbers, AreBelow}
 use Rattle.slots.specs.Cells.{key_at, cell_of, cell_behind, item_at, row_in, rows_from, IsStored}
 use Rattle.slots.proofs.Places.{place_order}
-use Rattle.slots.proofs.Rows.{row-at, rows-same, rows-none, item-in, number-in, stands-in, first-from, none-from}
+use Rattle.slots.proofs.Rows.{row-at, rows-same, rows-none, item-in, number-in, stands-in, passes, first-from, none-from}
 use Rattle.slots.proofs.Edits.{rows-put, length-put, rows-without, length-without, rows-with}
+
+-- the cell of a key that has a slot
+record HasCell (cells : List (Option SlotNumber)) (key : Key) (n : SlotNumber) : Type 0 where
+  cell : ℕ
+  has : get_or cells cell None ≡ Some n
+  own : key_at cell ≡ key
 
 module _ {T : Type 0} where
   -- the rows of some slots and cells
@@ -62,6 +69,41 @@ module _ {T : Type 0} where
           let same : r.number ≡ n = cc in
           let none : None ≡ Some r.item = sym free ∙ ap (λ (m : SlotNumber). slab_get slots m.0) (sym same) ∙ s.item in
           cc
+
+  cell-by : (slots : Slab T) (cells : List (Option SlotNumber)) (key : Key) (n : SlotNumber) → number_of (rows_in slots cells) key ≡ Some n → HasCell cells key n
+  cell-by slots cells key n h = by (row_of (rows_in slots cells) key) refl
+    where
+      by : (o : Option (Row T)) → row_of (rows_in slots cells) key ≡ o → HasCell cells key n
+      by None e = (let no = ap (option_map (λ (r : Row T). r.number)) e in absurd (cc))
+      by (Some r) e =
+          let s = stands-in (item_at slots) (has_key key) 0 cells r e in
+          let one : Some r.number ≡ Some n = sym (ap (option_map (λ (x : Row T). x.number)) e) ∙ h in
+          let zero : 0 + s.cell ≡ s.cell = omega arith in
+          record {
+            cell = s.cell;
+            has = s.has ∙ one;
+            own = sym (ap key_at zero) ∙ sym s.key ∙ key-eq r.key key (passes (has_key key) (rows_in slots cells) r e);
+          }
+
+  -- no two keys have one slot, and each slot's number is below the capacity
+  pub distinct-numbers : (slots : Slab T) (cells : List (Option SlotNumber)) (room : ℕ) → IsStored slots cells room → HasDistinctNumbers (rows_in slots cells)
+  distinct-numbers slots cells room s k q n e f =
+      let a = cell-by slots cells k n e in
+      let b = cell-by slots cells q n f in
+      sym a.own ∙ ap key_at (s.distinct a.cell b.cell n a.has b.has) ∙ b.own
+
+  pub numbers-below : (slots : Slab T) (cells : List (Option SlotNumber)) (room : ℕ) → IsStored slots cells room → AreBelow slots.capacity (rows_in slots cells)
+  numbers-below slots cells room s key n e = (let a = cell-by slots cells key n e in s.below a.cell n a.has)
+
+  -- a slot in use is some key's
+  pub held-by : (slots : Slab T) (cells : List (Option SlotNumber)) (room : ℕ) (n : SlotNumber) → IsStored slots cells room → is_some (slab_get slots n.0) ≡ true → (key : Key) × (number_of (rows_in slots cells) key ≡ Some n)
+  held-by slots cells room n s used =
+      let there = s.held n used in
+      (key_at there.0, sym (number-at slots cells room there.0 s) ∙ there.1)
+
+  pub used-by : (slots : Slab T) (cells : List (Option SlotNumber)) (room : ℕ) (n : SlotNumber) (o : Option (Bor T)) → IsStored slots cells room → option_copied o ≡ slab_get slots n.0 → OnSome o ((key : Key) × (number_of (rows_in slots cells) key ≡ Some n))
+  used-by slots cells room n None s h = tt
+  used-by slots cells room n (Some b) s h = held-by slots cells room n s (ap is_some (sym h))
 
   -- the first row behind a key stands in the first cell behind its cell that has a number
   behind-low : (last : Option Key) (x : Row T) (c : ℕ) → ((key : Key) → last ≡ Some key → key_at (cell_of key) ≡ key) → x.key ≡ key_at c → c < cell_behind last → stands_behind last x ≡ false
@@ -114,14 +156,16 @@ module _ {T : Type 0} where
           distinct = λ i j n e f. (let no = none i in absurd (cc));
           count = ap length rows ∙ sym (ap (λ xs. count_by is_some xs) empty);
           room = fits;
+          below = λ i n e. (let no = none i in absurd (cc));
+          held = λ n used. absurd (let no = ap (λ (xs : List (Option T)). is_some (get_or xs n.0 None)) empty in cc);
           small = small;
         };
       }
 
   pub insert-stored : (slots slots2 : Slab T) (cells : List (Option SlotNumber)) (room c : ℕ) (n : SlotNumber) (t : T) → IsStored slots cells room → c < 196608 → row_of (rows_in slots cells) (key_at c) ≡ None
-      → slab_get slots n.0 ≡ None → Updates slots slots2 n.0 (Some t) → slab_len slots2 ≡ slab_len slots + 1 → slots2.capacity ≡ slots.capacity
+      → slab_get slots n.0 ≡ None → n.0 < slots2.capacity → Updates slots slots2 n.0 (Some t) → slab_len slots2 ≡ slab_len slots + 1 → slots2.capacity ≡ slots.capacity
       → Changed slots2 (set cells c (Some n)) room (put_in (record { key = key_at c; number = n; item = t }) (rows_in slots cells))
-  insert-stored slots slots2 cells room c n t s within vacant free updates len capacity =
+  insert-stored slots slots2 cells room c n t s within vacant free low updates len capacity =
       let empty : get_or cells c None ≡ None = number-at slots cells room c s ∙ ap (option_map (λ (r : Row T). r.number)) vacant in
       let kept : (i : ℕ) (m : SlotNumber) → get_or cells i None ≡ Some m → item_at slots2 m ≡ item_at slots m =
       λ i m e. updates.others m.0 (λ same. (let used = s.used i m e in let no = ap (slab_get slots) same ∙ free in absurd (cc))) in
@@ -148,6 +192,17 @@ module _ {T : Type 0} where
           ];
           count = ap length put ∙ length-put _ (rows_in slots cells) ∙ (let k = s.count in omega (arith, k, len));
           room = (let r = s.room in omega (arith, r, capacity));
+          below = λ i m e. elim (at-other i m e) [
+            | inl w ↦ (let z = ap (λ (x : SlotNumber). x.0) w.1 in omega (arith, z, low))
+            | inr w ↦ (let k = s.below i m w.1 in omega (arith, k, capacity))
+          ];
+          held = λ m used. elim (cases_eq m.0 n.0) [
+            | inl z ↦ (c, get_or-set_same cells c (Some n) None (omega (arith, within, s.all)) ∙ ap (λ (k : ℕ). let x : SlotNumber = record { 0 = k } in Some x) (sym z))
+            | inr z ↦ (
+                let there = s.held m (ap is_some (sym (updates.others m.0 z)) ∙ used) in
+                let other : there.0 ≡ c → ⊥ = λ w. (let no = ap (λ j. get_or cells j None) w ∙ empty in let has = there.1 in cc) in
+                (there.0, get_or-set_other cells c there.0 (Some n) None other ∙ there.1))
+          ];
           small = (let r = s.small in omega (arith, r, capacity));
         };
       }
@@ -173,6 +228,14 @@ module _ {T : Type 0} where
           distinct = λ i j m e f. (let w = at-other i m e in let v = at-other j m f in s.distinct i j m w.1 v.1);
           count = (let fewer = gone (item_at slots n) refl in let k = s.count in let now = ap length same in omega (arith, fewer, k, len, now));
           room = (let r = s.room in omega (arith, r, capacity));
+          below = λ i m e. (let w = at-other i m e in let k = s.below i m w.1 in omega (arith, k, capacity));
+          held = λ m used. elim (cases_eq m.0 n.0) [
+            | inl z ↦ absurd (let none = ap (λ k. is_some (slab_get slots2 k)) z ∙ ap is_some updates.changed in cc)
+            | inr z ↦ (
+                let there = s.held m (ap is_some (sym (updates.others m.0 z)) ∙ used) in
+                let other : there.0 ≡ c → ⊥ = λ w. (let one = sym (ap (λ j. get_or cells j None) w ∙ has) ∙ there.1 in let same : n ≡ m = cc in z (ap (λ (x : SlotNumber). x.0) (sym same))) in
+                (there.0, get_or-set_other cells c there.0 None None other ∙ there.1))
+          ];
           small = (let r = s.small in omega (arith, r, capacity));
         };
       }
@@ -198,6 +261,11 @@ module _ {T : Type 0} where
           distinct = s.distinct;
           count = ap length made ∙ length-map _ _ ∙ s.count ∙ sym len;
           room = (let r = s.room in omega (arith, r, capacity));
+          below = λ i m e. (let k = s.below i m e in omega (arith, k, capacity));
+          held = λ m used. elim (cases_eq m.0 n.0) [
+            | inl z ↦ (c, has ∙ ap (λ (k : ℕ). let x : SlotNumber = record { 0 = k } in Some x) (sym z))
+            | inr z ↦ s.held m (ap is_some (sym (updates.others m.0 z)) ∙ used)
+          ];
           small = (let r = s.small in omega (arith, r, capacity));
         };
       }

@@ -1,5 +1,5 @@
 -- What the code keeps: a cell for each protocol and port, with the number of a slot.
-use Rattle.std.specs.Prelude.{◌≡◌, ℕ, suc, ◌+◌, ◌-◌, ◌*◌, ◌/◌, ◌≤◌, Bool, false, nat_lt, List, [], ◌∷◌, length, Option, None, Some, IsSome, if◌then◌else◌}
+use Rattle.std.specs.Prelude.{◌≡◌, ℕ, suc, ◌+◌, ◌-◌, ◌*◌, ◌/◌, ◌<◌, ◌≤◌, Bool, false, nat_lt, List, [], ◌∷◌, length, Option, None, Some, IsSome, if◌then◌else◌}
 use Rattle.std.proofs.Common.{get_or}
 use Rattle.std.specs.List.{cons_option}
 use Rattle.std.specs.Option.{option_map}
@@ -63,5 +63,7 @@ module _ {T : Type 0} where
     pub distinct : (i j : ℕ) (n : SlotNumber) → get_or cells i None ≡ Some n → get_or cells j None ≡ Some n → i ≡ j
     pub count : length (rows_from (item_at slots) 0 cells) ≡ slab_len slots
     pub room : places ≤ slots.capacity
+    pub below : (i : ℕ) (n : SlotNumber) → get_or cells i None ≡ Some n → n.0 < slots.capacity
+    pub held : (n : SlotNumber) → IsSome (item_at slots n) → (i : ℕ) × (get_or cells i None ≡ Some n)
     -- each slot's number fits into 32 bits
     pub small : slots.capacity ≤ 4294967295

@@ -1,19 +1,22 @@
--- A due moment for each protocol and port that is set, in timers with a slot for each cell.
-use Rattle.std.specs.Prelude.{◌≡◌, ℕ, ◌≤◌, List, Option, None, length, map}
+-- A due moment for each slot that is set, and the slots that came due.
+use Rattle.std.specs.Prelude.{◌≡◌, ℕ, ◌==◌, List, Option, None, count_by, if◌then◌else◌}
 use Rattle.std.proofs.Common.{get_or}
-use Rattle.nat_types.specs.declared.pairs.Key.{Key}
-use Rattle.timers.specs.Due.{due_slots}
-use Rattle.slots.specs.Cells.{cell_of, key_at}
+use Rattle.timers.specs.Due.{is_due}
+use Rattle.slots.specs.declared.numbers.SlotNumber.{SlotNumber}
 
--- the moment of a key: callers see a list by cell
-abbrev pub moment_of : List (Option ℕ) → Key → Option ℕ
-moment_of dues key = get_or dues (cell_of key) None
+-- what callers see: a moment or none for each slot, and the numbers of the slots that came due and weren't handed out
+pub record Dues : Type 0 where
+  pub moments : List (Option ℕ)
+  pub found : List ℕ
 
--- the keys whose moment is at most this one, by protocol (icmp first) and port
-abbrev pub due_keys : ℕ → List (Option ℕ) → List Key
-due_keys now dues = map key_at (due_slots now dues)
+-- the moment of a slot
+abbrev pub moment_of : List (Option ℕ) → SlotNumber → Option ℕ
+moment_of moments number = get_or moments number.0 None
 
--- there is a moment or none for each cell, and room for all cells that may be due at once
-pub record HasAllCells (dues : List (Option ℕ)) (places : ℕ) : Type 0 where
-  pub all : length dues ≡ 196608
-  pub room : 196608 ≤ places
+-- how often a number is listed
+abbrev pub times : ℕ → List ℕ → ℕ
+times n found = count_by (λ m. m == n) found
+
+-- each slot whose moment is at most this one is listed once, and no other
+abbrev pub AreDue : ℕ → List (Option ℕ) → List ℕ → Type 0
+AreDue now moments found = (n : ℕ) → times n found ≡ (if is_due now (get_or moments n None) then 1 else 0)

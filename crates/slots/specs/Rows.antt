@@ -1,5 +1,5 @@
 -- What callers see of slots: items under keys, by protocol (icmp first) and port, each with the number of its slot.
-use Rattle.std.specs.Prelude.{ℕ, suc, ◌+◌, ◌*◌, ◌≤◌, Bool, true, not, nat_lt, List, [], ◌∷◌, map, Option, None, Some, cond, if◌then◌else◌}
+use Rattle.std.specs.Prelude.{◌≡◌, ℕ, suc, ◌+◌, ◌*◌, ◌<◌, ◌≤◌, Bool, true, not, nat_lt, List, [], ◌∷◌, map, Option, None, Some, cond, if◌then◌else◌}
 use Rattle.std.specs.List.{find, filter}
 use Rattle.std.specs.Option.{option_map}
 use Rattle.addresses.specs.Transport.{protocol_number}
@@ -13,10 +13,11 @@ pub record Row (T : Type 0) : Type 0 where
   pub number : SlotNumber
   pub item : T
 
--- the rows by protocol (icmp first) and port, and how many there is room for
+-- the rows by protocol (icmp first) and port, how many there is room for, and above all numbers of slots
 pub record PortSlots (T : Type 0) : Type 0 where
   pub rows : List (Row T)
   pub room : ℕ
+  pub limit : ℕ
 
 -- a key's place in the order by protocol (icmp first) and port
 abbrev pub key_place : Key → ℕ
@@ -58,3 +59,12 @@ module _ {T : Type 0} where
   abbrev pub Rises : ℕ → List (Row T) → Type 0
   Rises low [] = Unit {0}
   Rises low (r ∷ rows) = (low ≤ key_place r.key) × Rises (suc (key_place r.key)) rows
+
+  -- no two keys have one slot
+  abbrev pub HasDistinctNumbers : List (Row T) → Type 0
+  HasDistinctNumbers rows =
+      (k q : Key) (n : SlotNumber) → number_of rows k ≡ Some n → number_of rows q ≡ Some n → k ≡ q
+
+  -- the number of each key's slot is below this one
+  abbrev pub AreBelow : ℕ → List (Row T) → Type 0
+  AreBelow limit rows = (key : Key) (n : SlotNumber) → number_of rows key ≡ Some n → n.0 < limit

@@ -1,107 +1,98 @@
-//! Due moments by protocol and port.
-ghost use Rattle.std.specs.Prelude.{◌≡◌, ◌+◌, ◌<◌, ◌≤◌, ◌++◌, [], None, Some, All, length, map, slice_set, vec_len, vec_capacity, IfOk};
-ghost use Rattle.timers.specs.Due.{cleared, due_slots};
-ghost use Rattle.slots.specs.Cells.{cell_of, key_at};
-ghost use Rattle.slots.specs.Dues.{due_keys, moment_of};
-ghost use Rattle.nat_types.specs.declared.pairs.Key.{Key as OutsidePort};
+//! Due moments by slot.
+ghost use Rattle.std.specs.Prelude.{◌≡◌, ◌<◌, ◌≤◌, ◌++◌, [], ◌∷◌, None, Some, length, map, slice_set, vec_capacity, IfOk, IfNone, IfSome};
+ghost use Rattle.timers.specs.Due.{cleared};
+ghost use Rattle.slots.specs.declared.numbers.SlotNumber.{SlotNumber as Number};
+ghost use Rattle.slots.specs.Dues.{moment_of, AreDue};
 
-use crate::port_slots::{CELLS, cell_of_key, key_of_cell};
-use nat_types::Key;
+use crate::SlotNumber;
 use std::alloc::{AllocError, Global};
 use std::marker::Model;
 use timers::Timers;
 
-/// A moment in centiseconds for each protocol and port that is set.
+/// A moment in centiseconds for each slot that is set.
 #[derive(Drop)]
 pub struct Dues {
-    // A slot for each cell.
     timers: Timers,
-    // The cells that are due now.
+    // The numbers of the slots that came due, with room for all.
     found: Vec<usize>,
 }
 
 impl Model for Dues {
-    ghost use Rattle.std.specs.Prelude.{ℕ, List, Option, vec_capacity};
-    ghost use Rattle.slots.specs.Dues.{HasAllCells};
+    ghost use Rattle.std.specs.Prelude.{◌≤◌, length, vec_capacity};
+    ghost use Rattle.slots.specs.Dues.{Dues as Seen};
 
-    ghost Value = { List (Option ℕ) };
+    ghost Value = { Seen };
 
-    ghost view = { λ d. d.timers };
+    ghost view = { λ d. record { moments = d.timers; found = d.found.items } };
 
-    ghost invariant = { λ d. HasAllCells d.timers (vec_capacity d.found) };
+    ghost invariant = { λ d. length d.timers ≤ vec_capacity d.found };
 }
 
-/// Takes the due slots out of the timers, and lists them, lowest first.
+/// Takes the due slots out of the timers, and lists them.
 fn list_due(timers: &mut Timers, now: u64, found: &mut Vec<usize>)
-    requires all { length timers.old ≡ 196608 }
     requires empty { found.old.items ≡ [] }
-    requires room { 196608 ≤ vec_capacity found.old }
+    requires room { length timers.old ≤ vec_capacity found.old }
     ensures cleared { timers.new ≡ map (cleared now) timers.old }
-    ensures found { found.new.items ≡ due_slots now timers.old }
-    ensures room { 196608 ≤ vec_capacity found.new }
+    ensures found { AreDue now timers.old found.new.items }
+    ensures few { length found.new.items ≤ length timers.old }
+    ensures capacity { vec_capacity found.old ≤ vec_capacity found.new }
 {
     match timers.due(now, found) {
         Ok(()) => {}
         Err(_) => unreachable!(),
     }
-    found.sort_unstable();
-}
-
-/// Lists the keys of these cells.
-fn list_keys(cells: &[usize], out: &mut Vec<Key>)
-    requires within { All (λ cell. cell < 196608) cells.now }
-    requires room { vec_len out.old + length cells.now ≤ vec_capacity out.old }
-    ensures keys { out.new.items ≡ out.old.items ++ map key_at cells.now }
-    ensures capacity { vec_capacity out.new ≡ vec_capacity out.old }
-{
-    for cell in cells.iter() {
-        out.push_reserved(key_of_cell(*cell));
-    }
 }
 
 impl Dues {
-    /// No moments.
-    pub fn new(alloc: Global) -> Result<Dues, AllocError>
-        ensures { IfOk result (λ d. (key : OutsidePort) → moment_of d key ≡ None) }
+    /// So many slots, none of them set.
+    pub fn new(alloc: Global, count: usize) -> Result<Dues, AllocError>
+        ensures count { IfOk result (λ d. length d.moments ≡ count) }
+        ensures none { IfOk result (λ d. (number : Number) → moment_of d.moments number ≡ None) }
+        ensures found { IfOk result (λ d. d.found ≡ []) }
     {
-        let found = Vec::with_capacity(alloc, CELLS)?;
-        let timers = Timers::with_capacity(alloc, CELLS)?;
+        let found = Vec::with_capacity(alloc, count)?;
+        let timers = Timers::with_capacity(alloc, count)?;
         Ok(Dues { timers, found })
     }
 
-    /// Reminds the prover of how many moments there may be; it does nothing when it runs.
-    pub fn recall(&self)
-        ensures count { length self.now ≡ 196608 }
+    /// The moment at which a slot is due.
+    pub fn get(&self, number: SlotNumber) -> Option<u64>
+        requires { number.0 < length self.now.moments }
+        ensures { result ≡ moment_of self.now.moments number }
     {
-        let _ = &self.found;
+        self.timers.get(number.0)
     }
 
-    /// The moment at which a key is due.
-    pub fn get(&self, key: Key) -> Option<u64>
-        ensures { result ≡ moment_of self.now key }
+    /// Makes a slot due at that moment, and at no other.
+    pub fn set(&mut self, number: SlotNumber, due: u64)
+        requires { number.0 < length self.old.moments }
+        ensures { self.new ≡ record self.old {
+          moments = slice_set self.old.moments number.0 (Some due);
+        } }
     {
-        self.timers.get(cell_of_key(key))
+        self.timers.set(number.0, due);
     }
 
-    /// Makes a key due at that moment, and at no other.
-    pub fn set(&mut self, key: Key, due: u64)
-        ensures moments { self.new ≡ slice_set self.old (cell_of key) (Some due) }
-        ensures own { key_at (cell_of key) ≡ key }
-        ensures within { cell_of key < length self.old }
-    {
-        self.timers.set(cell_of_key(key), due);
-    }
-
-    /// Appends the keys whose moment is at most `now`, by protocol (icmp first) and port, and clears
-    /// them.
-    pub fn take(&mut self, now: u64, out: &mut Vec<Key>)
-        requires room { vec_len out.old + 196608 ≤ vec_capacity out.old }
-        ensures keys { out.new.items ≡ out.old.items ++ due_keys now self.old }
-        ensures cleared { self.new ≡ map (cleared now) self.old }
-        ensures capacity { vec_capacity out.new ≡ vec_capacity out.old }
+    /// Finds the slots whose moment is at most `now`, in place of those that were found before, and
+    /// clears them.
+    pub fn find(&mut self, now: u64)
+        ensures found { AreDue now self.old.moments self.new.found }
+        ensures few { length self.new.found ≤ length self.old.moments }
+        ensures cleared { self.new.moments ≡ map (cleared now) self.old.moments }
     {
         self.found.clear();
         list_due(&mut self.timers, now, &mut self.found);
-        list_keys(&self.found, out);
+    }
+
+    /// Hands out a slot that was found.
+    pub fn pop(&mut self) -> Option<SlotNumber>
+        ensures some { IfSome result (λ number. self.old.found ≡ self.new.found ++ number.0 ∷ []) }
+        ensures none { IfNone result (self.old.found ≡ []) }
+        ensures moments { self.new.moments ≡ self.old.moments }
+    {
+        match self.found.pop() {
+            Some(number) => Some(SlotNumber(number)),
+            None => None,
+        }
     }
 }

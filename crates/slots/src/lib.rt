@@ -16,4 +16,4 @@ pub use endpoints::EndpointIndex;
 pub use hashers::Hashers;
 pub use keyed_hasher::{KeyedHasher, Keys, collisions_are_rare};
 pub use numbers::SlotNumber;
-pub use port_slots::{CELLS, PortSlots, recall_cell};
+pub use port_slots::PortSlots;

@@ -1,11 +1,11 @@
 //! Items in slots, with a cell for each protocol and port.
-ghost use Rattle.std.specs.Prelude.{◌≡◌, ◌+◌, ◌<◌, ◌≤◌, [], None, Some, length, IfOk, IfSome, option_copied};
+ghost use Rattle.std.specs.Prelude.{◌≡◌, ◌+◌, ◌<◌, ◌≤◌, [], None, Some, length, IfOk, IfSome, OnSome, option_copied};
 ghost use Rattle.std.specs.List.{find};
 ghost use Rattle.std.specs.Borrow.{sem};
 ghost use Rattle.std.specs.Option.{option_map, option_copied_mut};
 ghost use Rattle.nat_types.specs.declared.pairs.Key.{Key as OutsidePort};
 ghost use Rattle.slots.specs.Cells.{cell_of, cell_behind, first_cell, key_at, protocol_at};
-ghost use Rattle.slots.specs.Rows.{row_of, item_of, number_of, put_in, without, stands_behind, Rises};
+ghost use Rattle.slots.specs.Rows.{row_of, item_of, number_of, put_in, without, stands_behind, Rises, HasDistinctNumbers, AreBelow};
 
 use crate::SlotNumber;
 use crate::cells::Cells;
@@ -16,7 +16,7 @@ use std::alloc::{AllocError, Global};
 use std::marker::Model;
 
 /// How many cells there are: one for each port of each protocol.
-pub const CELLS: usize = 196_608;
+const CELLS: usize = 196_608;
 
 /// How many blocks of 256 cells these are.
 const BLOCKS: usize = 768;
@@ -39,7 +39,11 @@ impl<T> Model for PortSlots<T> {
 
     ghost use Rattle.slots.specs.Cells.{rows_from, item_at, IsStored};
 
-    ghost view = { λ s. record { rows = rows_from (item_at s.slots) 0 s.cells; room = s.room } };
+    ghost view = { λ s. record {
+      rows = rows_from (item_at s.slots) 0 s.cells;
+      room = s.room;
+      limit = s.slots.capacity;
+    } };
 
     ghost invariant = { λ s. IsStored s.slots s.cells s.room };
 }
@@ -71,7 +75,7 @@ fn protocol_of_cell(cell: usize) -> Protocol
     }
 }
 
-pub(crate) fn cell_of_key(key: Key) -> usize
+fn cell_of_key(key: Key) -> usize
     ensures cell { result ≡ cell_of key }
     ensures within { result < 196608 }
     ensures key { key_at result ≡ key }
@@ -79,15 +83,7 @@ pub(crate) fn cell_of_key(key: Key) -> usize
     first_cell_of(key.protocol) + usize::from(key.port.0)
 }
 
-/// Reminds the prover of the cell of a key; it does nothing when it runs.
-pub fn recall_cell(key: Key)
-    ensures own { key_at (cell_of key) ≡ key }
-    ensures within { cell_of key < 196608 }
-{
-    let _ = cell_of_key(key);
-}
-
-pub(crate) fn key_of_cell(cell: usize) -> Key
+fn key_of_cell(cell: usize) -> Key
     requires { cell < 196608 }
     ensures { result ≡ key_at cell }
 {
@@ -133,11 +129,20 @@ impl<T: Drop> PortSlots<T> {
 impl<T> PortSlots<T> {
     ghost use Rattle.slots.specs.Lends.{lends_item};
 
-    /// Reminds the prover of the order of the items; it does nothing when it runs.
+    /// Reminds the prover of the order of the items and of their slots; it does nothing when it runs.
     pub fn recall(&self)
         ensures order { Rises 0 self.now.rows }
+        ensures numbers { HasDistinctNumbers self.now.rows }
+        ensures below { AreBelow self.now.limit self.now.rows }
     {
         let _ = &self.room;
+    }
+
+    /// Above the numbers of all slots that there are or may be. It stays what it is.
+    pub fn limit(&self) -> usize
+        ensures { result ≡ self.now.limit }
+    {
+        self.slots.capacity()
     }
 
     /// How many items there are.
@@ -165,10 +170,13 @@ impl<T> PortSlots<T> {
         }
     }
 
-    /// The item in a slot that is in use.
+    /// The item in a slot, where a key has the slot.
+    #[inline(always)]
     pub fn at(&self, number: SlotNumber) -> Option<&T>
-        ensures { (key : OutsidePort) → number_of self.now.rows key ≡ Some number
+        ensures item { (key : OutsidePort) → number_of self.now.rows key ≡ Some number
             → option_copied result ≡ item_of self.now.rows key }
+        ensures used { OnSome result ((key : OutsidePort)
+            × (number_of self.now.rows key ≡ Some number)) }
     {
         self.slots.get(number.0)
     }

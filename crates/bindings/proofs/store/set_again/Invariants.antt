@@ -1,7 +1,10 @@
-use Rattle.std.proofs.Common.{drop}
+use Rattle.std.proofs.Common.{◌≡◌, drop, length}
 use Rattle.bindings.specs.Dues.{AreTimedBut}
 use Rattle.bindings.proofs.store.set_again.Given as goal
 
--- the keys so far are due in time
+-- the keys so far are looked at in time
 abbrev pub invariant-loop-key : goal.invariant-loop-key
-invariant-loop-key l = AreTimedBut l.alone (drop l.key-index l.keys) l.dues l.slots.rows
+invariant-loop-key l = record {
+  timed : AreTimedBut l.alone (drop l.key-index l.keys) l.dues.moments l.slots.rows;
+  count : length l.dues.moments ≡ length l.fn.dues.moments;
+}

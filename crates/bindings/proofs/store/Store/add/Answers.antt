@@ -1,5 +1,5 @@
-use Rattle.std.proofs.Common.{refl, ◌∙◌}
-use Rattle.slots.specs.Rows.{Row}
+use Rattle.std.proofs.Common.{refl, sym, ap, ◌∙◌}
+use Rattle.slots.specs.Rows.{PortSlots, Row}
 use Rattle.bindings.specs.declared.store.Item.{Item}
 use Rattle.bindings.specs.Entries.{entry_in}
 use Rattle.bindings.proofs.Kept.{entries-put, lives-put}
@@ -24,15 +24,19 @@ invariant_of-self c =
     let r : Row Item = record { key = c.args.pair.key; number = c.insert-number.result; item = record { entry = entry_in c.args.state c.args.pair; life = c.args.life } } in
     let free = rw (← c.self.view_is) at c.requires.free in
     let rows = put-rows i.slots c.insert-number.new.self c.key_of-key.result c.args.pair.key c.insert-number.result c.item_with.result r.item c.insert-number.ensures.rows c.key_of-key.ensures c.item_with.ensures in
-    let none = row-absent i.slots.rows c.args.pair.key c.self.invariant.0.keyed (rw (← c.self.view_is) at c.requires.vacant) in
-    let own = rw (c.key_of-key.ensures) at c.recall_cell.ensures.own in
-    let within = rw (c.key_of-key.ensures) at c.recall_cell.ensures.within in
-    let keeps = rw (c.key_of-key.ensures) at c.set_in_time.ensures.others in
-    let set = rw (rows, c.key_of-key.ensures) at c.set_in_time.ensures.timed in
-    rw rows (
-      added i.slots i.index c.list_pair.new.index r c.self.invariant.0 refl free c.list_pair.ensures.slots c.list_pair.ensures.counts,
-      added-timed i.alone i.dues c.set_in_time.new.dues r i.slots.rows none own within keeps set c.self.invariant.1,
+    let limit = ap (λ (s : PortSlots Item). s.limit) c.insert-number.ensures.rows in
+    let keeps = rw (rows, c.key_of-key.ensures) at c.set_in_time.ensures.others in
+    let set = rw (rows, c.key_of-key.ensures) at c.set_in_time.ensures.timed in (
+      rw rows (added i.slots i.index c.list_pair.new.index r c.self.invariant.0 refl free c.list_pair.ensures.slots c.list_pair.ensures.counts),
+      record {
+        timed = rw rows (added-timed i.alone i.dues.moments c.set_in_time.new.dues.moments r i.slots.rows keeps set c.self.invariant.1.timed);
+        count = c.set_in_time.ensures.count ∙ c.self.invariant.1.count ∙ sym limit;
+        room = rw limit c.self.invariant.1.room;
+      },
     )
+
+pub set_in_time-requires : goal.set_in_time-requires
+set_in_time-requires c = record { count = c.self.invariant.1.count ∙ sym (ap (λ (s : PortSlots Item). s.limit) c.insert-number.ensures.rows) }
 
 pub returns-clause-entries : goal.returns-clause-entries
 returns-clause-entries c =

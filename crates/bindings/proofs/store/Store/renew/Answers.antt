@@ -1,4 +1,4 @@
-use Rattle.std.proofs.Common.{ap, sym, subst}
+use Rattle.std.proofs.Common.{ap, sym, subst, ◌∙◌}
 use Rattle.activity.specs.Lives.{Activity, Agrees, renewed, life_renewed}
 use Rattle.slots.specs.Rows.{PortSlots}
 use Rattle.bindings.specs.declared.store.Item.{Item}
@@ -9,14 +9,18 @@ use Rattle.bindings.proofs.store.Store.renew.Goals as goal
 pub invariant_of-self : goal.invariant_of-self
 invariant_of-self c =
     let rows = λ (s : PortSlots Item). s.rows in (
-      (changed-life c.self.inside.slots c.put_renewal.new.slots c.self.inside.index c.args.key (life_renewed c.args.now) c.self.invariant.0 c.recall.ensures.order c.put_renewal.ensures.some c.put_renewal.ensures.none).0,
-      changed-timed c.self.inside.alone c.args.key (λ i. record i { life = life_renewed c.args.now i.life }) c.self.inside.dues c.set_in_time.new.dues c.self.inside.slots.rows c.put_renewal.new.slots.rows c.recall.ensures.order
-          (λ i h. ap rows (c.put_renewal.ensures.some i h)) (λ h. ap rows (c.put_renewal.ensures.none h)) c.set_in_time.ensures.others c.set_in_time.ensures.timed c.self.invariant.1,
+      (changed-life c.self.inside.slots c.put_renewal.new.slots c.self.inside.index c.self.inside.found.items c.args.key (life_renewed c.args.now) c.self.invariant.0 c.recall.ensures.order c.put_renewal.ensures.some c.put_renewal.ensures.none).0,
+      record {
+        timed = changed-timed c.self.inside.alone c.args.key (λ i. record i { life = life_renewed c.args.now i.life }) c.self.inside.dues.moments c.set_in_time.new.dues.moments c.self.inside.slots.rows c.put_renewal.new.slots.rows
+            (λ i h. ap rows (c.put_renewal.ensures.some i h)) (λ h. ap rows (c.put_renewal.ensures.none h)) c.set_in_time.ensures.others c.set_in_time.ensures.timed c.self.invariant.1.timed;
+        count = c.set_in_time.ensures.count ∙ c.self.invariant.1.count ∙ sym c.put_renewal.ensures.limit;
+        room = rw c.put_renewal.ensures.limit c.self.invariant.1.room;
+      },
     )
 
 pub returns-clause-lives : goal.returns-clause-lives
 returns-clause-lives c =
-    rw (← c.self.view_is) (changed-life c.self.inside.slots c.put_renewal.new.slots c.self.inside.index c.args.key (life_renewed c.args.now) c.self.invariant.0 c.recall.ensures.order c.put_renewal.ensures.some c.put_renewal.ensures.none).1
+    rw (← c.self.view_is) (changed-life c.self.inside.slots c.put_renewal.new.slots c.self.inside.index c.self.inside.found.items c.args.key (life_renewed c.args.now) c.self.invariant.0 c.recall.ensures.order c.put_renewal.ensures.some c.put_renewal.ensures.none).1
 
 pub returns-clause-agrees : goal.returns-clause-agrees
 returns-clause-agrees c =
@@ -24,3 +28,6 @@ returns-clause-agrees c =
     let item = item-of_life c.self.inside.slots.rows c.args.key life c.self.invariant.0.keyed h in
     subst (λ (l : Activity). Agrees c.args.key.protocol (renewed c.args.now past) (life_renewed c.args.now l)) item.2
     (c.put_renewal.ensures.agrees item.0 past item.1 (subst (Agrees c.args.key.protocol past) (sym item.2) a)))
+
+pub set_in_time-requires : goal.set_in_time-requires
+set_in_time-requires c = record { count = c.self.invariant.1.count ∙ sym c.put_renewal.ensures.limit }

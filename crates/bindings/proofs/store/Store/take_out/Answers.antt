@@ -1,7 +1,8 @@
-use Rattle.std.proofs.Common.{sym, ap, ◌∙◌}
+use Rattle.std.proofs.Common.{sym, ap, ◌∙◌, vec_capacity}
 use Rattle.std.specs.Option.{is_some}
 use Rattle.slots.specs.Rows.{PortSlots}
 use Rattle.bindings.specs.declared.store.Item.{Item}
+use Rattle.bindings.specs.Dues.{AreWatched}
 use Rattle.bindings.proofs.Kept.{entries-without, lives-without}
 use Rattle.bindings.proofs.Stored.{removed, none-removed, held-by}
 use Rattle.bindings.proofs.Counts.{numbered}
@@ -24,14 +25,17 @@ invariant_of-self c =
     let endpoints = rw (← c.self.view_is) at c.requires in
     let listed = rw c.entry_of_item-pair.ensures at c.unlist.ensures.slots in
     let counts = rw c.entry_of_item-pair.ensures at c.unlist.ensures.counts in
-    rw rows (removed i.slots.rows i.index c.unlist.new.index c.args.key c.in-Some.item c.self.invariant.0 c.recall.ensures.order item (endpoints c.in-Some.item.entry held) listed counts, without-timed i.alone c.args.key i.dues i.slots.rows c.self.invariant.1)
+    let limit = ap (λ (s : PortSlots Item). s.limit) c.remove.ensures.rows in
+    let watched : AreWatched i.alone i.dues.moments c.remove.new.self (vec_capacity i.found) = record { timed = rw rows (without-timed i.alone c.args.key i.dues.moments i.slots.rows c.self.invariant.1.timed); count = c.self.invariant.1.count ∙ sym limit; room = rw limit c.self.invariant.1.room } in
+    (rw rows (removed i.slots.rows i.index c.unlist.new.index c.args.key c.in-Some.item c.self.invariant.0 c.recall.ensures.order item (endpoints c.in-Some.item.entry held) listed counts), watched)
 
 pub invariant_of-self-in_default : goal.invariant_of-self-in_default
 invariant_of-self-in_default c =
     let i = c.self.inside in
-    let rows = ap (λ (s : PortSlots Item). s.rows) c.remove.ensures.rows in
     let none = sym c.remove.ensures.item ∙ c.in_default.is in
-    rw (rows, none-removed i.slots.rows c.args.key none) c.self.invariant
+    let rows = ap (λ (s : PortSlots Item). s.rows) c.remove.ensures.rows ∙ none-removed i.slots.rows c.args.key none in
+    let limit = ap (λ (s : PortSlots Item). s.limit) c.remove.ensures.rows in
+    (rw rows c.self.invariant.0, record { timed = rw rows c.self.invariant.1.timed; count = c.self.invariant.1.count ∙ sym limit; room = rw limit c.self.invariant.1.room })
 
 pub returns-in-Some-clause-entries : goal.returns-in-Some-clause-entries
 returns-in-Some-clause-entries c =

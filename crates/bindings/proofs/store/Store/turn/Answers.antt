@@ -23,8 +23,12 @@ invariant_of-self c =
     let endpoints = rw (← c.self.view_is) at c.requires.endpoints in
     let rows = λ (s : PortSlots Item). s.rows in (
       (turned i.slots c.put_state.new.slots i.index c.unlist_turned.new.index c.args.key c.args.state c.in-Some.entry c.self.invariant.0 c.recall.ensures.order held (pair c.in-Some.entry held) (endpoints c.in-Some.entry held) c.put_state.ensures.some c.unlist_turned.ensures.slots c.unlist_turned.ensures.counts).0,
-      changed-timed i.alone c.args.key (λ i. record i { entry = entry_in c.args.state c.in-Some.entry.pair }) i.dues c.set_in_time.new.dues i.slots.rows c.put_state.new.slots.rows c.recall.ensures.order
-          (λ i h. ap rows (c.put_state.ensures.some i h)) (λ h. ap rows (c.put_state.ensures.none h)) c.set_in_time.ensures.others c.set_in_time.ensures.timed c.self.invariant.1,
+      record {
+        timed = changed-timed i.alone c.args.key (λ i. record i { entry = entry_in c.args.state c.in-Some.entry.pair }) i.dues.moments c.set_in_time.new.dues.moments i.slots.rows c.put_state.new.slots.rows
+            (λ i h. ap rows (c.put_state.ensures.some i h)) (λ h. ap rows (c.put_state.ensures.none h)) c.set_in_time.ensures.others c.set_in_time.ensures.timed c.self.invariant.1.timed;
+        count = c.set_in_time.ensures.count ∙ c.self.invariant.1.count ∙ sym c.put_state.ensures.limit;
+        room = rw c.put_state.ensures.limit c.self.invariant.1.room;
+      },
     )
 
 pub returns-in-Some-clause-entries : goal.returns-in-Some-clause-entries
@@ -55,3 +59,6 @@ pub returns-in_default-clause-entries : goal.returns-in_default-clause-entries
 returns-in_default-clause-entries c =
     let none : slot_of c.args.self.now.entries c.args.key ≡ None = sym c.entry.ensures ∙ c.in_default.is in
     sym (turn-none c.args.key c.args.state c.args.self.now.entries none)
+
+pub set_in_time-requires : goal.set_in_time-requires
+set_in_time-requires c = record { count = c.self.invariant.1.count ∙ sym c.put_state.ensures.limit }

@@ -32,7 +32,6 @@ invariant_of-self c =
           (stored-put i.store.entries i.store.lives i.ports _ i.zero i.one i.capacity _ (entry_in c.args.state c.args.pair) c.begin.result c.self.invariant.0 fits
           taken c.take.ensures.bounds c.take.ensures.owned),
       (let a = c.self.invariant.1 in let b = c.add.ensures.spare in omega (arith, a, b)),
-      c.self.invariant.2,
     )
 
 pub returns-clause-entries : goal.returns-clause-entries

@@ -10,7 +10,7 @@ invariant_of-self g c =
 
 pub returns : goal.returns
 returns g c =
-    rw (← c.self.view_is) (ap (λ rows. record { rows = rows; room = c.self.inside.room })
+    rw (← c.self.view_is, c.clear.ensures.capacity) (ap (λ rows. record { rows = rows; room = c.self.inside.room; limit = c.self.inside.slots.capacity })
     (empty-stored c.clear.new.self c.clear-2.new.self c.self.inside.room c.clear.ensures.empty (c.clear-2.ensures.length ∙ c.self.invariant.all) c.clear-2.ensures.none
     (let r = c.self.invariant.room in let k = c.clear.ensures.capacity in omega (arith, r, k))
     (let r = c.self.invariant.small in let k = c.clear.ensures.capacity in omega (arith, r, k))).made)

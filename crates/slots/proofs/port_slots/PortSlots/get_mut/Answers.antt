@@ -15,7 +15,7 @@ returns-in-Some g c =
     let i = c.self.inside in
     let made = λ (w : g.row.T.Denot). (lent-stored i.slots i.cells i.room c.cell_of_key.result c.in-Some.number w c.self.invariant c.in-Some.ensures).made in
     rw (← c.self.view_is, ← c.cell_of_key.ensures.key) (
-      λ t. read_of (ghost_name_of c.get_mut.result) (λ (w : g.row.T.Denot). (let s : PortSlots g.row.T.Denot = record { rows = made w t; room = i.room } in s)) (let s : PortSlots g.row.T.Denot = record { rows = rows_in i.slots i.cells; room = i.room } in s),
+      λ t. read_of (ghost_name_of c.get_mut.result) (λ (w : g.row.T.Denot). (let s : PortSlots g.row.T.Denot = record { rows = made w t; room = i.room; limit = i.slots.capacity } in s)) (let s : PortSlots g.row.T.Denot = record { rows = rows_in i.slots i.cells; room = i.room; limit = i.slots.capacity } in s),
       record { writes_back = tt; value = c.get_mut.ensures.value ∙ sym (item-some i.slots i.cells c.cell_of_key.result c.in-Some.number (sym c.in-Some.ensures)) },
     )
 

@@ -21,7 +21,7 @@ pub returns-in-Some-clause-rows : goal.returns-in-Some-clause-rows
 returns-in-Some-clause-rows g c =
     let i = c.self.inside in
     let e = c.remove.ensures in
-    rw (← c.self.view_is, c.empty.ensures, ← c.cell_of_key-cell.ensures.key) (ap (λ rows. record { rows = rows; room = i.room })
+    rw (← c.self.view_is, c.empty.ensures, e.capacity, ← c.cell_of_key-cell.ensures.key) (ap (λ rows. record { rows = rows; room = i.room; limit = i.slots.capacity })
     (remove-stored i.slots c.remove.new.self i.cells i.room c.cell_of_key-cell.result c.in-Some.number c.self.invariant c.cell_of_key-cell.ensures.within (sym c.in-Some.ensures) e.updates e.len e.capacity).made)
 
 pub returns-in-None-clause-item : goal.returns-in-None-clause-item
@@ -32,5 +32,5 @@ returns-in-None-clause-item g c =
 pub returns-in-None-clause-rows : goal.returns-in-None-clause-rows
 returns-in-None-clause-rows g c =
     let i = c.self.inside in
-    rw (← c.self.view_is, ← c.cell_of_key-cell.ensures.key) (ap (λ rows. record { rows = rows; room = i.room })
+    rw (← c.self.view_is, ← c.cell_of_key-cell.ensures.key) (ap (λ rows. record { rows = rows; room = i.room; limit = i.slots.capacity })
     (sym (without-absent _ _ (vacant-row i.slots i.cells c.cell_of_key-cell.result (sym c.in-None.ensures)))))

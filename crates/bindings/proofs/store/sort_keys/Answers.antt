@@ -1,0 +1,7 @@
+use Rattle.std.proofs.Common.{rules}
+use Rattle.std.proofs.lemmas.List.Sorted.{IsNonDecreasingBy-from_sort_by_key}
+use Rattle.bindings.specs.Lists.{key_place}
+use Rattle.bindings.proofs.store.sort_keys.Goals as goal
+
+pub returns-clause-order : goal.returns-clause-order
+returns-clause-order c = IsNonDecreasingBy-from_sort_by_key key_place _ c.sort_unstable_by_key.ensures.sorted (λ a r q k. search rules)

@@ -1,0 +1,202 @@
+//! What the words of a case spell.
+ghost use Rattle.std.specs.Prelude.{◌≤◌};
+
+use crate::Case;
+use addresses::{Ip, Mac, Port, Protocol};
+use hex::{FromHex, FromHexError};
+use nat_types::{EntryState, GatewayId, Key, Pair, Side};
+use std::alloc::Global;
+use std::net::Ipv4Addr;
+
+impl Case {
+    /// A decimal number, as a moment in centiseconds or a boot.
+    pub fn number(&mut self) -> u64 {
+        let read = self.word().parse::<u64>().ok();
+        self.or(read, 0)
+    }
+
+    /// A decimal number from one to another; the first of them where it is none, and then the line is wrong.
+    pub fn within(&mut self, least: u64, most: u64) -> u64
+        requires { least ≤ most }
+        ensures least { least ≤ result }
+        ensures most { result ≤ most }
+    {
+        let number = self.number();
+        if number < least || most < number {
+            self.fault();
+            return least;
+        }
+        number
+    }
+
+    /// A decimal number of things.
+    pub fn count(&mut self) -> usize {
+        let read = self.word().parse::<usize>().ok();
+        self.or(read, 0)
+    }
+
+    /// How often something is done, in decimal.
+    pub fn times(&mut self) -> u32 {
+        let read = self.word().parse::<u32>().ok();
+        self.or(read, 0)
+    }
+
+    /// A byte, in decimal.
+    pub fn byte(&mut self) -> u8 {
+        let read = self.word().parse::<u8>().ok();
+        self.or(read, 0)
+    }
+
+    /// `0` or `1`.
+    pub fn gateway(&mut self) -> GatewayId {
+        let read = gateway_of(self.word());
+        self.or(read, GatewayId::Zero)
+    }
+
+    /// `inside` or `outside`.
+    pub fn side(&mut self) -> Side {
+        let read = side_of(self.word());
+        self.or(read, Side::Inside)
+    }
+
+    /// `icmp`, `tcp` or `udp`.
+    pub fn protocol(&mut self) -> Protocol {
+        let read = protocol_of(self.word());
+        self.or(read, Protocol::Udp)
+    }
+
+    /// A port, in decimal.
+    pub fn port(&mut self) -> Port {
+        let read = self.word().parse::<u16>().ok();
+        Port(self.or(read, 0))
+    }
+
+    /// As `192.168.1.10`.
+    pub fn ip(&mut self) -> Ip {
+        let read = self.word().parse::<Ipv4Addr>().ok();
+        Ip(self.or(read, Ipv4Addr::UNSPECIFIED).to_bits())
+    }
+
+    /// As `udp 20000`: protocol and outside port.
+    pub fn key(&mut self) -> Key {
+        let protocol = self.protocol();
+        let port = self.port();
+        Key { protocol, port }
+    }
+
+    /// As `udp 20000 192.168.1.10 5000`: protocol, outside port, inside address and inside port.
+    pub fn pair(&mut self) -> Pair {
+        let key = self.key();
+        let address = self.ip();
+        Pair::new(key, address, self.port())
+    }
+
+    /// The state of an entry, by its name.
+    pub fn state(&mut self) -> EntryState {
+        let read = state_of(self.word());
+        self.or(read, EntryState::Pending)
+    }
+
+    /// The first of two words, or the second.
+    pub fn is_first(&mut self, first: &str, second: &str) -> bool {
+        let read = first_of(self.word(), first, second);
+        self.or(read, false)
+    }
+
+    /// The bytes that pairs of hexadecimal digits spell, or none for `-`.
+    pub fn bytes(&mut self) -> Vec<u8> {
+        let read = bytes_of(self.alloc, self.word());
+        self.or_none(read)
+    }
+
+    /// The next word, on its own.
+    pub fn name(&mut self) -> String {
+        let made = String::from_str(self.alloc, self.word());
+        self.or_empty(made)
+    }
+
+    /// So many of a byte.
+    pub fn many(&mut self, byte: u8, count: usize) -> Vec<u8> {
+        let made = vec![in self.alloc; byte; count];
+        self.or_none(made)
+    }
+
+    /// So many bytes as the caller takes, in hexadecimal.
+    pub fn octets<const N: usize>(&mut self) -> [u8; N] {
+        let read = <[u8; N]>::from_hex(self.word()).ok();
+        self.or(read, [0; N])
+    }
+
+    /// A number of two bytes, in hexadecimal.
+    pub fn short(&mut self) -> u16 {
+        u16::from_be_bytes(self.octets::<2>())
+    }
+
+    /// A port, in hexadecimal.
+    pub fn hex_port(&mut self) -> Port {
+        Port(self.short())
+    }
+
+    /// An address, in hexadecimal.
+    pub fn hex_ip(&mut self) -> Ip {
+        Ip::new(self.octets::<4>())
+    }
+
+    /// A link address, in hexadecimal.
+    pub fn mac(&mut self) -> Mac {
+        Mac(self.octets::<6>())
+    }
+}
+
+fn gateway_of(word: &str) -> Option<GatewayId> {
+    match word {
+        "0" => Some(GatewayId::Zero),
+        "1" => Some(GatewayId::One),
+        _ => None,
+    }
+}
+
+fn side_of(word: &str) -> Option<Side> {
+    match word {
+        "inside" => Some(Side::Inside),
+        "outside" => Some(Side::Outside),
+        _ => None,
+    }
+}
+
+fn protocol_of(word: &str) -> Option<Protocol> {
+    match word {
+        "icmp" => Some(Protocol::Icmp),
+        "tcp" => Some(Protocol::Tcp),
+        "udp" => Some(Protocol::Udp),
+        _ => None,
+    }
+}
+
+fn state_of(word: &str) -> Option<EntryState> {
+    match word {
+        "Pending" => Some(EntryState::Pending),
+        "Doomed" => Some(EntryState::Doomed),
+        "Live" => Some(EntryState::Live),
+        "Closing" => Some(EntryState::Closing),
+        "Held" => Some(EntryState::Held),
+        _ => None,
+    }
+}
+
+fn first_of(word: &str, first: &str, second: &str) -> Option<bool> {
+    if word == first {
+        return Some(true);
+    }
+    if word == second {
+        return Some(false);
+    }
+    None
+}
+
+fn bytes_of(alloc: Global, word: &str) -> Result<Vec<u8>, FromHexError> {
+    match word {
+        "-" => Ok(Vec::new(alloc)),
+        digits => hex::decode(alloc, digits),
+    }
+}
