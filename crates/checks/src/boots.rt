@@ -115,12 +115,7 @@ fn is_open_to_others(mode: u32) -> bool
 }
 
 /// Says who else may use a file of this mode.
-fn say_mode<O: Write>(
-    mode: u32,
-    key: Key,
-    output: &mut O,
-    tally: &mut Tally,
-) -> Result<(), Fault>
+fn say_mode<O: Write>(mode: u32, key: Key, output: &mut O, tally: &mut Tally) -> Result<(), Fault>
     ensures warned { is_open_to_others mode ≡ true
         → OnOk result (tally.new.warnings ≡ capped (tally.old.warnings + 1)) }
     ensures none { is_open_to_others mode ≡ false → tally.new.warnings ≡ tally.old.warnings }

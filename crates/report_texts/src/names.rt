@@ -74,7 +74,10 @@ pub(crate) fn dropped(counters: &Counters, origin: Origin, reason: Reason) -> u6
 pub(crate) fn left_out(counters: &Counters) -> u64
     ensures { result ≡ left_out_in counters.now }
 {
-    let sides = lost_at(counters, Origin::Inside).saturating_add(lost_at(counters, Origin::Outside));
+    let sides = lost_at(counters, Origin::Inside).saturating_add(lost_at(
+        counters,
+        Origin::Outside,
+    ));
     let others = lost_at(counters, Origin::Link).saturating_add(lost_at(counters, Origin::Own));
     sides.saturating_add(others)
 }
