@@ -195,11 +195,7 @@ fn orders_in(case: &mut Case) -> Orders {
     let rounds = rounds_in(case);
     let pace = case.number();
     let told = told_in(case);
-    Orders {
-        rounds,
-        pace,
-        told,
-    }
+    Orders { rounds, pace, told }
 }
 
 /// A number of rounds, or any for `-`.

@@ -2,29 +2,12 @@
 ghost use Rattle.std.specs.Prelude.{◌≤◌};
 
 use crate::Case;
+use crate::tables::{GATEWAYS, PROTOCOLS, SIDES, STATES};
 use addresses::{Ip, Mac, Port, Protocol};
 use hex::{FromHex, FromHexError};
 use nat_types::{EntryState, GatewayId, Key, Pair, Side};
 use std::alloc::Global;
 use std::net::Ipv4Addr;
-
-const GATEWAYS: [(&str, GatewayId); 2] = [("0", GatewayId::Zero), ("1", GatewayId::One)];
-
-const SIDES: [(&str, Side); 2] = [("inside", Side::Inside), ("outside", Side::Outside)];
-
-const PROTOCOLS: [(&str, Protocol); 3] = [
-    ("icmp", Protocol::Icmp),
-    ("tcp", Protocol::Tcp),
-    ("udp", Protocol::Udp),
-];
-
-const STATES: [(&str, EntryState); 5] = [
-    ("Pending", EntryState::Pending),
-    ("Doomed", EntryState::Doomed),
-    ("Live", EntryState::Live),
-    ("Closing", EntryState::Closing),
-    ("Held", EntryState::Held),
-];
 
 impl Case {
     /// What stands beside the next word in a table.
