@@ -11,15 +11,14 @@ mod telling;
 use anyhow::Result;
 use cases_words::{Case, play};
 use desks::Desk;
-use std::{env, fs};
+use std::env;
 
 /// Each line of a file, and what comes of it.
 fn try_file(rt: &HostRuntime, file: &str, case: &mut Case) -> Result<()> {
-    let text = fs::read_to_string(rt, file)?;
     case.say("== ", file);
     case.end();
     let mut desk = Desk::new(*rt);
-    let tried = play(case, text.as_str(), &mut desk);
+    let tried = play(rt, file, &mut desk, case);
     desk.end();
     tried
 }

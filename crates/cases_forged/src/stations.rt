@@ -205,7 +205,11 @@ impl Station {
 
 fn tell_pair(case: &mut Case, pair: Pair, translates: bool) {
     case.say("  ", pair);
-    case.put(if translates { " translates\n" } else { " waits\n" });
+    case.put(if translates {
+        " translates\n"
+    } else {
+        " waits\n"
+    });
 }
 
 /// A gateway as it begins. It says nothing of the gateway, so that what a caller has to show stays small.

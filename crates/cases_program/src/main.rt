@@ -9,24 +9,13 @@ mod memory;
 mod words;
 
 use anyhow::Result;
-use cases_words::{Actor, Case, play};
+use cases_words::{Case, play};
 use lines::Lines;
-use std::fs;
 use words::Words;
 
-fn try_file<A: Actor>(
-    rt: &HostRuntime,
-    name: &str,
-    actor: &mut A,
-    case: &mut Case,
-) -> Result<()> {
-    let cases = fs::read_to_string(rt, name)?;
-    play(case, cases.as_str(), actor)
-}
-
 fn try_all(rt: &HostRuntime, case: &mut Case) -> Result<()> {
-    try_file(rt, "acts.cases", &mut Words::new(*rt), case)?;
-    try_file(rt, "loops.list", &mut Lines::new(*rt), case)
+    play(rt, "acts.cases", Words::new(*rt), case)?;
+    play(rt, "loops.list", Lines::new(*rt), case)
 }
 
 fn main(rt: HostRuntime) -> Result<()> {

@@ -7,30 +7,19 @@ mod values;
 mod words;
 
 use anyhow::Result;
-use cases_words::{Actor, Case, play};
+use cases_words::{Case, play};
 use stations::Station;
-use std::fs;
 use values::Reports;
-
-fn try_file<A: Actor>(
-    rt: &HostRuntime,
-    name: &str,
-    actor: &mut A,
-    case: &mut Case,
-) -> Result<()> {
-    let cases = fs::read_to_string(rt, name)?;
-    play(case, cases.as_str(), actor)
-}
 
 fn try_gateway(rt: &HostRuntime, case: &mut Case) -> Result<()> {
     let mut station = Station::new(rt.alloc())?;
-    let tried = try_file(rt, "gateway.cases", &mut station, case);
+    let tried = play(rt, "gateway.cases", &mut station, case);
     station.end();
     tried
 }
 
 fn try_all(rt: &HostRuntime, case: &mut Case) -> Result<()> {
-    try_file(rt, "reports.cases", &mut Reports::new(), case)?;
+    play(rt, "reports.cases", Reports::new(), case)?;
     try_gateway(rt, case)
 }
 

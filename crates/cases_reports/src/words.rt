@@ -31,33 +31,38 @@ const REASONS: [Reason; 20] = [
     Reason::TooMany,
 ];
 
-pub(crate) fn role(case: &mut Case) -> State {
-    let read = role_named(case.word());
-    case.or(read, State::Initialize)
-}
+const ROLES: [(&str, State); 3] = [
+    ("Initialize", State::Initialize),
+    ("Backup", State::Backup),
+    ("Active", State::Active),
+];
 
-fn role_named(word: &str) -> Option<State> {
-    match word {
-        "Initialize" => Some(State::Initialize),
-        "Backup" => Some(State::Backup),
-        "Active" => Some(State::Active),
-        _ => None,
-    }
+const ORIGINS: [(&str, Origin); 4] = [
+    ("inside", Origin::Inside),
+    ("outside", Origin::Outside),
+    ("link", Origin::Link),
+    ("own", Origin::Own),
+];
+
+const STATES: [(&str, EntryState); 5] = [
+    ("pending", EntryState::Pending),
+    ("doomed", EntryState::Doomed),
+    ("live", EntryState::Live),
+    ("closing", EntryState::Closing),
+    ("held", EntryState::Held),
+];
+
+pub(crate) fn role(case: &mut Case) -> State {
+    case.pick(&ROLES, State::Initialize)
 }
 
 pub(crate) fn origin(case: &mut Case) -> Origin {
-    let read = origin_named(case.word());
-    case.or(read, Origin::Own)
+    case.pick(&ORIGINS, Origin::Own)
 }
 
-fn origin_named(word: &str) -> Option<Origin> {
-    match word {
-        "inside" => Some(Origin::Inside),
-        "outside" => Some(Origin::Outside),
-        "link" => Some(Origin::Link),
-        "own" => Some(Origin::Own),
-        _ => None,
-    }
+/// A state by its name.
+pub(crate) fn state_of(case: &mut Case) -> EntryState {
+    case.pick(&STATES, EntryState::Pending)
 }
 
 /// What is counted: by its name, or of what was dropped by the reason's number.
@@ -84,21 +89,4 @@ fn reason_numbered(number: u8) -> Option<Count> {
         }
     }
     None
-}
-
-/// A state by its name.
-pub(crate) fn state_of(case: &mut Case) -> EntryState {
-    let read = state_named(case.word());
-    case.or(read, EntryState::Pending)
-}
-
-fn state_named(word: &str) -> Option<EntryState> {
-    match word {
-        "pending" => Some(EntryState::Pending),
-        "doomed" => Some(EntryState::Doomed),
-        "live" => Some(EntryState::Live),
-        "closing" => Some(EntryState::Closing),
-        "held" => Some(EntryState::Held),
-        _ => None,
-    }
 }

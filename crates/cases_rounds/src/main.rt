@@ -23,9 +23,8 @@ fn read_settings(rt: &HostRuntime) -> Result<Settings> {
 }
 
 fn try_all(rt: &HostRuntime, case: &mut Case) -> Result<()> {
-    let cases = fs::read_to_string(rt, "rounds.cases")?;
     let mut boxes = Boxes::new(read_settings(rt)?);
-    let tried = play(case, cases.as_str(), &mut boxes);
+    let tried = play(rt, "rounds.cases", &mut boxes, case);
     boxes.end();
     tried
 }

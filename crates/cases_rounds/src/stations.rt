@@ -195,11 +195,7 @@ fn orders_in(case: &mut Case) -> Orders {
     let rounds = rounds_in(case);
     let pace = case.number();
     let told = told_in(case);
-    Orders {
-        rounds,
-        pace,
-        told,
-    }
+    Orders { rounds, pace, told }
 }
 
 /// A number of rounds, or any for `-`.
@@ -221,20 +217,17 @@ fn told_in(case: &mut Case) -> Option<u32> {
     Some(case.times())
 }
 
+/// What a place is called.
+const PLACES: [(&str, Place); 4] = [
+    ("link", Place::Link),
+    ("inside", Place::Side(Side::Inside)),
+    ("outside", Place::Side(Side::Outside)),
+    ("operator", Place::Operator),
+];
+
 /// The place that the next word names.
 fn place_in(case: &mut Case) -> Place {
-    let read = place_named(case.word());
-    case.or(read, Place::Link)
-}
-
-fn place_named(word: &str) -> Option<Place> {
-    match word {
-        "link" => Some(Place::Link),
-        "inside" => Some(Place::Side(Side::Inside)),
-        "outside" => Some(Place::Side(Side::Outside)),
-        "operator" => Some(Place::Operator),
-        _ => None,
-    }
+    case.pick(&PLACES, Place::Link)
 }
 
 /// So many rounds of a box.

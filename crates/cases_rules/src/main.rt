@@ -12,36 +12,17 @@ mod routers;
 
 use anyhow::Result;
 use calls::Calls;
-use cases_words::{Actor, Case, play};
+use cases_words::{Case, play};
 use routers::Routers;
-use std::fs;
-use std::io::{self, Write};
-
-fn try_file<A: Actor>(
-    rt: &HostRuntime,
-    name: &str,
-    actor: &mut A,
-    case: &mut Case,
-) -> Result<()> {
-    let cases = fs::read_to_string(rt, name)?;
-    play(case, cases.as_str(), actor)
-}
-
-fn try_frames(rt: &HostRuntime, case: &mut Case) -> Result<()> {
-    let mut calls = Calls::new(rt.alloc())?;
-    let tried = try_file(rt, "rules.cases", &mut calls, case);
-    drop(calls);
-    tried
-}
 
 fn try_all(rt: &HostRuntime, case: &mut Case) -> Result<()> {
-    try_frames(rt, case)?;
-    try_file(rt, "routers.cases", &mut Routers::new(), case)
+    play(rt, "rules.cases", Calls::new(rt.alloc())?, case)?;
+    play(rt, "routers.cases", Routers::new(), case)
 }
 
 fn main(rt: HostRuntime) -> Result<()> {
     let mut case = Case::new(rt.alloc());
     let tried = try_all(&rt, &mut case);
-    io::writer(&rt).write_all(case.out.as_slice())?;
+    case.flush(&rt);
     tried
 }

@@ -91,7 +91,14 @@ pub fn complain(interfaces: &Interfaces, case: &mut Case) {
         Ok(Reading::Packet(packet)) => {
             let flow = packet.flow;
             let way = direction_taken(networks, side, flow.protocol, flow.source, flow.destination);
-            complained(case, networks, (side, exit_for(side, way)), long, frame, mac);
+            complained(
+                case,
+                networks,
+                (side, exit_for(side, way)),
+                long,
+                frame,
+                mac,
+            );
         }
         Ok(Reading::Error(packet)) => {
             let exit = exit_for(side, error_direction(networks, side, packet.flow));

@@ -63,12 +63,7 @@ pub fn tell_reading(case: &mut Case, reading: Result<Reading, Reason>) {
 }
 
 /// What a frame is read as. What a caller has to show stays small where this says nothing of it.
-fn read_at(
-    interfaces: &Interfaces,
-    side: Side,
-    up: bool,
-    bytes: &[u8],
-) -> Result<Reading, Reason> {
+fn read_at(interfaces: &Interfaces, side: Side, up: bool, bytes: &[u8]) -> Result<Reading, Reason> {
     interfaces.at(side).read_frame(side, up, bytes)
 }
 
@@ -193,7 +188,14 @@ pub fn send(interfaces: &Interfaces, case: &mut Case) {
     case.say(" at ", translation.direction().exit());
     match Vec::with_capacity(case.alloc, bytes.len()) {
         Ok(mut out) => {
-            append_sent(&mut out, networks, &translation, mac, bytes.as_slice(), &packet);
+            append_sent(
+                &mut out,
+                networks,
+                &translation,
+                mac,
+                bytes.as_slice(),
+                &packet,
+            );
             case.hex(" [", out.as_slice());
             case.put("]");
         }

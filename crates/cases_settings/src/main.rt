@@ -13,7 +13,7 @@ mod reading;
 mod sample;
 
 use anyhow::Result;
-use cases_words::{Actor, Case, play};
+use cases_words::{Case, play};
 use checking::Checks;
 use checks::digest;
 use clashes::Clashes;
@@ -59,20 +59,10 @@ fn say_built(case: &mut Case) -> Result<()> {
     Ok(())
 }
 
-fn try_file<A: Actor>(
-    rt: &HostRuntime,
-    name: &str,
-    actor: &mut A,
-    case: &mut Case,
-) -> Result<()> {
-    let cases = fs::read_to_string(rt, name)?;
-    play(case, cases.as_str(), actor)
-}
-
 fn try_checks(rt: &HostRuntime, sample: &str, case: &mut Case) -> Result<()> {
     boots::make(rt)?;
     let locked = boot_file::open(rt, "locked")?;
-    let tried = try_file(rt, "checks.cases", &mut Checks::new(*rt, sample), case);
+    let tried = play(rt, "checks.cases", Checks::new(*rt, sample), case);
     drop(locked);
     tried
 }
@@ -80,9 +70,9 @@ fn try_checks(rt: &HostRuntime, sample: &str, case: &mut Case) -> Result<()> {
 /// All that is said of texts, and the digest of the settings that the sample says.
 fn try_texts(rt: &HostRuntime, sample: &str, read: &Settings, case: &mut Case) -> Result<()> {
     say_sample(read, case)?;
-    try_file(rt, "settings.cases", &mut Edits { sample }, case)?;
-    try_file(rt, "lists.cases", &mut Lists { sample }, case)?;
-    try_file(rt, "clashes.cases", &mut Clashes { sample }, case)?;
+    play(rt, "settings.cases", Edits { sample }, case)?;
+    play(rt, "lists.cases", Lists { sample }, case)?;
+    play(rt, "clashes.cases", Clashes { sample }, case)?;
     say_digest(read, case)
 }
 
@@ -100,7 +90,7 @@ fn try_all(rt: &HostRuntime, case: &mut Case) -> Result<()> {
     try_checks(rt, sample.as_str(), case)?;
     say_built(case)?;
     case.part_by(' ');
-    try_file(rt, "lines.cases", &mut Lines, case)
+    play(rt, "lines.cases", Lines, case)
 }
 
 fn main(rt: HostRuntime) -> Result<()> {

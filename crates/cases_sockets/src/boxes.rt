@@ -49,6 +49,14 @@ const PORTS: [Ports; 4] = [
     },
 ];
 
+/// What a place is called.
+const PLACES: [(&str, Place); 4] = [
+    ("link", Place::Link),
+    ("inside", Place::Side(Side::Inside)),
+    ("outside", Place::Side(Side::Outside)),
+    ("operator", Place::Operator),
+];
+
 impl Boxes {
     pub(crate) fn open(rt: &HostRuntime) -> Result<Boxes> {
         let inherited = inherited(rt)?;
@@ -149,16 +157,5 @@ pub(crate) fn controlled(rt: &HostRuntime, name: &str) -> Result<Control> {
 
 /// The place that the next word names.
 pub(crate) fn place(case: &mut Case) -> Place {
-    let read = place_of(case.word());
-    case.or(read, Place::Link)
-}
-
-fn place_of(word: &str) -> Option<Place> {
-    match word {
-        "link" => Some(Place::Link),
-        "inside" => Some(Place::Side(Side::Inside)),
-        "outside" => Some(Place::Side(Side::Outside)),
-        "operator" => Some(Place::Operator),
-        _ => None,
-    }
+    case.pick(&PLACES, Place::Link)
 }

@@ -12,39 +12,20 @@ mod telling;
 mod texts;
 
 use anyhow::Result;
-use cases_words::{Actor, Case, play};
+use cases_words::{Case, play};
 use hearing::Ear;
 use speaking::Speakers;
-use std::fs;
-use std::io::{self, Write};
 use texts::Texts;
 
-fn try_file<A: Actor>(
-    rt: &HostRuntime,
-    name: &str,
-    actor: &mut A,
-    case: &mut Case,
-) -> Result<()> {
-    let cases = fs::read_to_string(rt, name)?;
-    play(case, cases.as_str(), actor)
-}
-
-fn try_sockets(rt: &HostRuntime, case: &mut Case) -> Result<()> {
-    let mut speakers = Speakers::open(*rt)?;
-    let tried = try_file(rt, "sockets.cases", &mut speakers, case);
-    drop(speakers);
-    tried
-}
-
 fn try_all(rt: &HostRuntime, case: &mut Case) -> Result<()> {
-    try_file(rt, "texts.cases", &mut Texts, case)?;
-    try_file(rt, "hearing.cases", &mut Ear::new(rt.alloc()), case)?;
-    try_sockets(rt, case)
+    play(rt, "texts.cases", Texts, case)?;
+    play(rt, "hearing.cases", Ear::new(rt.alloc()), case)?;
+    play(rt, "sockets.cases", Speakers::open(*rt)?, case)
 }
 
 fn main(rt: HostRuntime) -> Result<()> {
     let mut case = Case::new(rt.alloc());
     let tried = try_all(&rt, &mut case);
-    io::writer(&rt).write_all(case.out.as_slice())?;
+    case.flush(&rt);
     tried
 }

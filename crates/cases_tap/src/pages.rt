@@ -7,7 +7,7 @@ use std::io::{self, ErrorKind};
 use tap::{Moments, Outlet};
 
 /// Whether there is room for what is written.
-#[derive(Clone, Copy, Debug, PartialEq, Eq)]
+#[derive(Clone, Copy)]
 pub(crate) enum Paper {
     Room,
     None,
@@ -36,7 +36,7 @@ impl Outlet for Page<'_> {
     ghost IsRoomy = { λ _. ⊤ };
 
     fn has_room(&mut self) -> bool {
-        self.paper.get() != Paper::None
+        !matches!(self.paper.get(), Paper::None)
     }
 
     fn write(&mut self, bytes: &[u8]) -> io::Result<usize> {

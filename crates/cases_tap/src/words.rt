@@ -9,20 +9,17 @@ use std::alloc::{AllocError, Global};
 /// How many bytes are shown at most.
 const MOST_SHOWN: usize = 400;
 
+/// What a place is called.
+const PLACES: [(&str, Place); 4] = [
+    ("link", Place::Link),
+    ("inside", Place::Side(Side::Inside)),
+    ("outside", Place::Side(Side::Outside)),
+    ("operator", Place::Operator),
+];
+
 /// The place that the next word names.
 pub(crate) fn place_of(case: &mut Case) -> Place {
-    let read = place_named(case.word());
-    case.or(read, Place::Link)
-}
-
-fn place_named(word: &str) -> Option<Place> {
-    match word {
-        "link" => Some(Place::Link),
-        "inside" => Some(Place::Side(Side::Inside)),
-        "outside" => Some(Place::Side(Side::Outside)),
-        "operator" => Some(Place::Operator),
-        _ => None,
-    }
+    case.pick(&PLACES, Place::Link)
 }
 
 pub(crate) fn name_of(place: Place) -> &'static str {

@@ -14,14 +14,12 @@ mod queries;
 use anyhow::Result;
 use calls::Calls;
 use cases_words::{Case, play};
-use std::io::{self, Write};
-use std::{env, fs};
+use std::env;
 
 fn try_file(rt: &HostRuntime, file: &str, case: &mut Case) -> Result<()> {
-    let text = fs::read_to_string(rt, file)?;
     case.say("== ", file);
     case.end();
-    play(case, text.as_str(), &mut Calls)
+    play(rt, file, Calls, case)
 }
 
 fn try_all(rt: &HostRuntime, case: &mut Case) -> Result<()> {
@@ -34,6 +32,6 @@ fn try_all(rt: &HostRuntime, case: &mut Case) -> Result<()> {
 fn main(rt: HostRuntime) -> Result<()> {
     let mut case = Case::new(rt.alloc());
     let tried = try_all(&rt, &mut case);
-    io::writer(&rt).write_all(case.out.as_slice())?;
+    case.flush(&rt);
     tried
 }

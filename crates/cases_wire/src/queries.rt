@@ -25,7 +25,12 @@ pub(crate) fn query(case: &mut Case) {
     match parsed(kind, bytes.as_slice()) {
         Ok((packet, query)) => {
             tell_packet(case, packet);
-            tell_query(case, query.checksum(), query.identifier().0, query.sequence_number());
+            tell_query(
+                case,
+                query.checksum(),
+                query.identifier().0,
+                query.sequence_number(),
+            );
             case.hex(" data [", query.data());
             case.put("]");
         }
@@ -58,7 +63,12 @@ pub(crate) fn write_query(case: &mut Case) {
         return case.refused(fault);
     }
     let mut query = QueryViewMut::new(bytes.as_mut_slice());
-    tell_query(case, query.checksum(), query.identifier().0, query.sequence_number());
+    tell_query(
+        case,
+        query.checksum(),
+        query.identifier().0,
+        query.sequence_number(),
+    );
     query.set_identifier(case.hex_port());
     query.set_checksum(case.short());
     case.hex(": ", bytes.as_slice());

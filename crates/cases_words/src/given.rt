@@ -1,7 +1,8 @@
 //! What is given to a case's call, word by word.
 
+use crate::tables::GATEWAYS;
 use anyhow::{Context, Result, bail};
-use nat_types::{GatewayId, Side};
+use nat_types::GatewayId;
 use std::alloc::Global;
 
 /// The words of a line, and how many of them are read. Each call that reads some answers an `Err` where they are missing,
@@ -48,19 +49,17 @@ impl<'a> Given<'a> {
 
     /// `0` or `1`.
     pub fn gateway(&mut self) -> Result<GatewayId> {
-        match self.word()? {
-            "0" => Ok(GatewayId::Zero),
-            "1" => Ok(GatewayId::One),
-            word => bail!("no gateway {word}"),
-        }
+        self.pick(&GATEWAYS, "gateway")
     }
 
-    /// `inside` or `outside`.
-    pub fn side(&mut self) -> Result<Side> {
-        match self.word()? {
-            "inside" => Ok(Side::Inside),
-            "outside" => Ok(Side::Outside),
-            word => bail!("no side {word}"),
+    /// What stands beside the next word in a table of things of a kind.
+    pub(crate) fn pick<T: Copy>(&mut self, rows: &[(&str, T)], kind: &str) -> Result<T> {
+        let word = self.word()?;
+        for row in rows {
+            if row.0 == word {
+                return Ok(row.1);
+            }
         }
+        bail!("no {kind} {word}")
     }
 }

@@ -1,7 +1,6 @@
-//! The words of a line of a case file, as what they spell.
+//! The words of a line of a case file, as what they spell, and what is printed of them.
 #![tactic(auto)]
 
-mod bytes;
 mod case;
 mod given;
 mod items;
@@ -11,6 +10,7 @@ mod playing;
 mod printing;
 mod reading;
 mod records;
+mod tables;
 
 pub use case::Case;
 pub use given::Given;

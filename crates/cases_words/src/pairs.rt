@@ -2,6 +2,7 @@
 ghost use Rattle.std.specs.Prelude.{◌≤◌, IfOk};
 
 use crate::Given;
+use crate::tables::{PROTOCOLS, STATES, WAYS};
 use activity::{Remote, Way};
 use addresses::{Ip, Port, Protocol, TcpFlags};
 use anyhow::{Context, Result, bail};
@@ -10,12 +11,7 @@ use nat_types::{Endpoint, EntryState, Key, Pair};
 impl Given<'_> {
     /// `icmp`, `tcp` or `udp`.
     pub fn protocol(&mut self) -> Result<Protocol> {
-        match self.word()? {
-            "icmp" => Ok(Protocol::Icmp),
-            "tcp" => Ok(Protocol::Tcp),
-            "udp" => Ok(Protocol::Udp),
-            word => bail!("no protocol {word}"),
-        }
+        self.pick(&PROTOCOLS, "protocol")
     }
 
     /// A port, in decimal.
@@ -62,14 +58,7 @@ impl Given<'_> {
 
     /// The state of an entry, by its name.
     pub fn state(&mut self) -> Result<EntryState> {
-        match self.word()? {
-            "Pending" => Ok(EntryState::Pending),
-            "Doomed" => Ok(EntryState::Doomed),
-            "Live" => Ok(EntryState::Live),
-            "Closing" => Ok(EntryState::Closing),
-            "Held" => Ok(EntryState::Held),
-            word => bail!("no state {word}"),
-        }
+        self.pick(&STATES, "state")
     }
 
     /// As `198.51.100.7 443`: an outside host's address and port.
@@ -81,11 +70,7 @@ impl Given<'_> {
 
     /// `out` or `in`.
     pub fn way(&mut self) -> Result<Way> {
-        match self.word()? {
-            "out" => Ok(Way::Outward),
-            "in" => Ok(Way::Inward),
-            word => bail!("no way {word}"),
-        }
+        self.pick(&WAYS, "way")
     }
 
     /// The letters of the flags that a segment has, of `F`, `S`, `R` and `A`, or `-`.

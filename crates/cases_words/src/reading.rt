@@ -2,6 +2,7 @@
 ghost use Rattle.std.specs.Prelude.{◌≤◌};
 
 use crate::Case;
+use crate::tables::{GATEWAYS, PROTOCOLS, SIDES, STATES};
 use addresses::{Ip, Mac, Port, Protocol};
 use hex::{FromHex, FromHexError};
 use nat_types::{EntryState, GatewayId, Key, Pair, Side};
@@ -9,6 +10,18 @@ use std::alloc::Global;
 use std::net::Ipv4Addr;
 
 impl Case {
+    /// What stands beside the next word in a table.
+    pub fn pick<T: Copy>(&mut self, rows: &[(&str, T)], other: T) -> T {
+        let word = self.word();
+        let mut found = None;
+        for row in rows {
+            if row.0 == word {
+                found = Some(row.1);
+            }
+        }
+        self.or(found, other)
+    }
+
     /// A decimal number, as a moment in centiseconds or a boot.
     pub fn number(&mut self) -> u64 {
         let read = self.word().parse::<u64>().ok();
@@ -49,20 +62,17 @@ impl Case {
 
     /// `0` or `1`.
     pub fn gateway(&mut self) -> GatewayId {
-        let read = gateway_of(self.word());
-        self.or(read, GatewayId::Zero)
+        self.pick(&GATEWAYS, GatewayId::Zero)
     }
 
     /// `inside` or `outside`.
     pub fn side(&mut self) -> Side {
-        let read = side_of(self.word());
-        self.or(read, Side::Inside)
+        self.pick(&SIDES, Side::Inside)
     }
 
     /// `icmp`, `tcp` or `udp`.
     pub fn protocol(&mut self) -> Protocol {
-        let read = protocol_of(self.word());
-        self.or(read, Protocol::Udp)
+        self.pick(&PROTOCOLS, Protocol::Udp)
     }
 
     /// A port, in decimal.
@@ -93,14 +103,12 @@ impl Case {
 
     /// The state of an entry, by its name.
     pub fn state(&mut self) -> EntryState {
-        let read = state_of(self.word());
-        self.or(read, EntryState::Pending)
+        self.pick(&STATES, EntryState::Pending)
     }
 
     /// The first of two words, or the second.
     pub fn is_first(&mut self, first: &str, second: &str) -> bool {
-        let read = first_of(self.word(), first, second);
-        self.or(read, false)
+        self.pick(&[(first, true), (second, false)], false)
     }
 
     /// The bytes that pairs of hexadecimal digits spell, or none for `-`.
@@ -146,52 +154,6 @@ impl Case {
     pub fn mac(&mut self) -> Mac {
         Mac(self.octets::<6>())
     }
-}
-
-fn gateway_of(word: &str) -> Option<GatewayId> {
-    match word {
-        "0" => Some(GatewayId::Zero),
-        "1" => Some(GatewayId::One),
-        _ => None,
-    }
-}
-
-fn side_of(word: &str) -> Option<Side> {
-    match word {
-        "inside" => Some(Side::Inside),
-        "outside" => Some(Side::Outside),
-        _ => None,
-    }
-}
-
-fn protocol_of(word: &str) -> Option<Protocol> {
-    match word {
-        "icmp" => Some(Protocol::Icmp),
-        "tcp" => Some(Protocol::Tcp),
-        "udp" => Some(Protocol::Udp),
-        _ => None,
-    }
-}
-
-fn state_of(word: &str) -> Option<EntryState> {
-    match word {
-        "Pending" => Some(EntryState::Pending),
-        "Doomed" => Some(EntryState::Doomed),
-        "Live" => Some(EntryState::Live),
-        "Closing" => Some(EntryState::Closing),
-        "Held" => Some(EntryState::Held),
-        _ => None,
-    }
-}
-
-fn first_of(word: &str, first: &str, second: &str) -> Option<bool> {
-    if word == first {
-        return Some(true);
-    }
-    if word == second {
-        return Some(false);
-    }
-    None
 }
 
 fn bytes_of(alloc: Global, word: &str) -> Result<Vec<u8>, FromHexError> {
