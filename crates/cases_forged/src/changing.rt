@@ -1,10 +1,10 @@
 //! A frame cut at every length, and with every byte changed to every other value: how many of these are
 //! sent on, and how many steps note something.
 
-use crate::stations::Station;
-use cases_words::Case;
-use gateway::{Event, Outcome};
+use anyhow::Result;
+use gateway::{Event, Gateway, Out, Outcome};
 use nat_types::Side;
+use std::io::{self, Write};
 
 /// How the clock goes on between frames.
 #[derive(Clone, Copy)]
@@ -17,11 +17,12 @@ pub(crate) enum Pace {
 
 impl Pace {
     /// The next frame's moment comes.
-    fn go_on(&mut self, station: &mut Station, case: &mut Case) {
+    fn go_on(&mut self, gateway: &mut Gateway, out: &mut Out) -> Result<()> {
         if let Pace::Apart(moment) = *self {
-            case.keep(station.step(Event::Tick(moment)));
+            let _outcome = gateway.step(Event::Tick(moment), out)?;
             *self = Pace::Apart(moment.saturating_add(100));
         }
+        Ok(())
     }
 }
 
@@ -43,12 +44,12 @@ impl Count {
     }
 
     /// One frame more, and the clock before it.
-    fn add(&mut self, outcome: Outcome, has_noted: bool) {
+    fn add(&mut self, outcome: Outcome, out: &Out) {
         self.all = self.all.saturating_add(1);
         if outcome == Outcome::Sent {
             self.sent = self.sent.saturating_add(1);
         }
-        if has_noted {
+        if !out.notes().is_empty() {
             self.noted = self.noted.saturating_add(1);
         }
     }
@@ -61,69 +62,69 @@ impl Count {
         }
     }
 
-    fn tell(self, case: &mut Case) {
-        case.say("  ", self.all);
-        case.say(" frames: sent ", self.sent);
-        case.say(", noted ", self.noted);
-        case.end();
+    fn tell<O: Write>(self, output: &mut O) -> io::Result<()> {
+        let Count { all, sent, noted } = self;
+        writeln!(output, "  {all} frames: sent {sent}, noted {noted}")
     }
 }
 
 /// The frame at every length below its own, from no byte on.
-pub(crate) fn cut(
-    station: &mut Station,
+pub(crate) fn cut<O: Write>(
+    gateway: &mut Gateway,
     side: Side,
     frame: &[u8],
     mut pace: Pace,
-    case: &mut Case,
-) {
+    out: &mut Out,
+    output: &mut O,
+) -> Result<()> {
     let mut count = Count::none();
     for length in 0..frame.len() {
-        hand_in(station, side, &frame[..length], &mut pace, &mut count, case);
+        hand_in(gateway, side, &frame[..length], &mut pace, out, &mut count)?;
     }
-    count.tell(case);
+    count.tell(output)?;
+    Ok(())
 }
 
 /// The frame with one byte changed, each to each other value; and at which bytes a changed frame is sent.
-pub(crate) fn change(
-    station: &mut Station,
+pub(crate) fn change<O: Write>(
+    gateway: &mut Gateway,
     side: Side,
     frame: &mut [u8],
     mut pace: Pace,
-    case: &mut Case,
-) {
+    out: &mut Out,
+    output: &mut O,
+) -> Result<()> {
     let mut all = Count::none();
     for at in 0..frame.len() {
-        let count = change_at(station, side, frame, at, &mut pace, case);
+        let count = change_at(gateway, side, frame, at, &mut pace, out)?;
         if 0 < count.sent {
-            case.say("  byte ", at);
-            case.say(": sent ", count.sent);
-            case.end();
+            writeln!(output, "  byte {at}: sent {}", count.sent)?;
         }
         all = all.with(count);
     }
-    all.tell(case);
+    all.tell(output)?;
+    Ok(())
 }
 
 /// The frame with this byte changed to each other value. Afterwards it is as it was.
 fn change_at(
-    station: &mut Station,
+    gateway: &mut Gateway,
     side: Side,
     frame: &mut [u8],
     at: usize,
     pace: &mut Pace,
-    case: &mut Case,
-) -> Count {
+    out: &mut Out,
+) -> Result<Count> {
     let mut count = Count::none();
     let Some(was) = frame.get(at).copied() else {
-        return count;
+        return Ok(count);
     };
     for step in 1..=255u8 {
         set(frame, at, was.wrapping_add(step));
-        hand_in(station, side, frame, pace, &mut count, case);
+        hand_in(gateway, side, frame, pace, out, &mut count)?;
     }
     set(frame, at, was);
-    count
+    Ok(count)
 }
 
 fn set(frame: &mut [u8], at: usize, value: u8) {
@@ -134,17 +135,16 @@ fn set(frame: &mut [u8], at: usize, value: u8) {
 
 /// The clock goes on, and the frame comes.
 fn hand_in(
-    station: &mut Station,
+    gateway: &mut Gateway,
     side: Side,
     frame: &[u8],
     pace: &mut Pace,
+    out: &mut Out,
     count: &mut Count,
-    case: &mut Case,
-) {
-    station.clear();
-    pace.go_on(station, case);
-    match station.step(Event::Frame(side, frame)) {
-        Ok(outcome) => count.add(outcome, station.has_noted()),
-        Err(_) => case.fault(),
-    }
+) -> Result<()> {
+    out.clear();
+    pace.go_on(gateway, out)?;
+    let outcome = gateway.step(Event::Frame(side, frame), out)?;
+    count.add(outcome, out);
+    Ok(())
 }

@@ -1,96 +1,139 @@
 //! Datagrams in words.
 
+use crate::words::{address, key, number, port};
 use addresses::Port;
+use anyhow::{Context, Result, bail};
 use arrayvec::ArrayVec;
-use cases_words::Case;
 use link::{Datagram, write};
-use nat_types::{GatewayId, Key, Pair, Record};
+use nat_types::{GatewayId, Granted, Key, Pair, Record};
+use std::alloc::Global;
 
 type Records = ArrayVec<Record, 64>;
 
 /// The bytes of a datagram of this sender, as `boot 1 to 1 took 3 first 4: ask udp 20000, want`:
 /// the sender's boot, the receiver's boot as it knows it, how many records it took, and the number
 /// of the first of its own records, which stand behind the colon.
-pub(crate) fn spelled(case: &mut Case, sender: GatewayId) -> Vec<u8> {
-    let text = case.rest();
-    let (head, list) = text.split_once(": ").unwrap_or((text.as_str(), ""));
-    let records = records(case, list);
-    case.begin(head);
+pub(crate) fn spelled(alloc: Global, sender: GatewayId, text: &str) -> Result<Vec<u8>> {
+    let (head, list) = text.split_once(": ").unwrap_or((text, ""));
+    let words = head.split(' ').collect::<Vec<&str>>(alloc)?;
+    let ["boot", boot, "to", to, "took", took, "first", first] = words.as_slice() else {
+        bail!("no datagram {head}");
+    };
     let datagram = Datagram {
         sender,
-        boot: behind(case, "boot"),
-        receiver_boot: behind(case, "to"),
+        boot: number(boot)?,
+        receiver_boot: number(to)?,
         serves: true,
-        delivered: behind(case, "took"),
-        first: behind(case, "first"),
-        records,
+        delivered: number(took)?,
+        first: number(first)?,
+        records: records(alloc, list)?,
     };
-    let mut bytes = Vec::new(case.alloc);
-    case.keep(write(&datagram, &mut bytes));
-    bytes
-}
-
-/// The number behind a word.
-fn behind(case: &mut Case, word: &str) -> u64 {
-    if case.word() != word {
-        case.fault();
-    }
-    case.number()
+    let mut bytes = Vec::new(alloc);
+    write(&datagram, &mut bytes)?;
+    Ok(bytes)
 }
 
 /// Records with commas between them; `rising 3 ask udp 20000` stands for three, with each port of a
 /// record one above that of the one before.
-fn records(case: &mut Case, list: &str) -> Records {
+fn records(alloc: Global, list: &str) -> Result<Records> {
     let mut records = ArrayVec::new();
-    for text in list.split(", ") {
-        if !text.is_empty() {
-            case.begin(text);
-            add_item(case, &mut records);
+    for text in list.split(", ").filter(|text| !text.is_empty()) {
+        let words = text.split(' ').collect::<Vec<&str>>(alloc)?;
+        match words.as_slice() {
+            ["rising", count, words @ ..] => add_rising(&mut records, count, item(words)?)?,
+            words => add(&mut records, item(words)?)?,
         }
     }
-    records
+    Ok(records)
 }
 
-fn add_item(case: &mut Case, records: &mut Records) {
-    if case.word() == "rising" {
-        let count = case.within(0, 64) as u16;
-        let first = case.record();
-        for more in 0..count {
-            add(case, records, risen(first, more));
-        }
-    } else {
-        case.back();
-        let item = case.record();
-        add(case, records, Some(item));
+fn add(records: &mut Records, item: Record) -> Result<()> {
+    if records.is_full() {
+        bail!("a datagram has at most 64 records");
     }
+    records.push(item);
+    Ok(())
 }
 
-fn add(case: &mut Case, records: &mut Records, item: Option<Record>) {
-    match item {
-        Some(item) if !records.is_full() => records.push(item),
-        _ => case.fault(),
+fn add_rising(records: &mut Records, count: &str, first: Record) -> Result<()> {
+    for more in 0..count.parse::<u16>()? {
+        add(records, risen(first, more)?)?;
     }
+    Ok(())
 }
 
-/// The record with each port so many above: only asks and puts rise.
-fn risen(item: Record, more: u16) -> Option<Record> {
+/// The record with each port so many above.
+fn risen(item: Record, more: u16) -> Result<Record> {
     match item {
-        Record::Ask(key) => Some(Record::Ask(risen_key(key, more)?)),
+        Record::Ask(key) => Ok(Record::Ask(risen_key(key, more)?)),
         Record::Put(pair) => {
             let inside = risen_port(pair.endpoint.port, more)?;
             let key = risen_key(pair.key, more)?;
-            Some(Record::Put(Pair::new(key, pair.endpoint.address, inside)))
+            Ok(Record::Put(Pair::new(key, pair.endpoint.address, inside)))
         }
-        _ => None,
+        _ => bail!("only asks and puts rise"),
     }
 }
 
-fn risen_key(key: Key, more: u16) -> Option<Key> {
+fn risen_key(key: Key, more: u16) -> Result<Key> {
     let protocol = key.protocol;
     let port = risen_port(key.port, more)?;
-    Some(Key { protocol, port })
+    Ok(Key { protocol, port })
 }
 
-fn risen_port(port: Port, more: u16) -> Option<Port> {
-    Some(Port(port.0.checked_add(more)?))
+fn risen_port(port: Port, more: u16) -> Result<Port> {
+    Ok(Port(port.0.checked_add(more).context("no port is above")?))
+}
+
+/// As `put udp 20000 192.168.1.10 5000`, `accept udp 20000`, `owner 20000 20001`, `begin`,
+/// `grant 20003 20001`.
+fn item(words: &[&str]) -> Result<Record> {
+    match words {
+        ["begin"] => Ok(Record::Begin),
+        ["done"] => Ok(Record::Done),
+        ["want"] => Ok(Record::Want),
+        ["grant", ports @ ..] => grant(ports),
+        ["owner", first, last] => owner(first, last),
+        ["put", pair @ ..] => Ok(Record::Put(pair_of(pair)?)),
+        ["install", pair @ ..] => Ok(Record::Install(pair_of(pair)?)),
+        [word, protocol, port] => of_key(word, key(protocol, port)?),
+        _ => bail!("no record"),
+    }
+}
+
+fn owner(first: &str, last: &str) -> Result<Record> {
+    let first = port(first)?;
+    let last = port(last)?;
+    Ok(Record::Owner { first, last })
+}
+
+fn pair_of(words: &[&str]) -> Result<Pair> {
+    let [protocol, outside, inside, port_there] = words else {
+        bail!("no pair");
+    };
+    let key = key(protocol, outside)?;
+    Ok(Pair::new(key, address(inside)?, port(port_there)?))
+}
+
+fn grant(words: &[&str]) -> Result<Record> {
+    let mut granted = Granted::new();
+    for word in words {
+        let port = port(word)?;
+        if port.0 == 0 || granted.ports().len() >= 16 {
+            bail!("no grant");
+        }
+        granted.push(port);
+    }
+    Ok(Record::Grant(granted))
+}
+
+fn of_key(word: &str, key: Key) -> Result<Record> {
+    match word {
+        "accept" => Ok(Record::Accept(key)),
+        "refuse" => Ok(Record::Refuse(key)),
+        "ask" => Ok(Record::Ask(key)),
+        "yes" => Ok(Record::Yes(key)),
+        "no" => Ok(Record::No(key)),
+        _ => bail!("no record {word}"),
+    }
 }

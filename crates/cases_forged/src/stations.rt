@@ -3,15 +3,17 @@
 use crate::changing::{Pace, change, cut};
 use crate::letters::spelled;
 use crate::telling::{tell, tell_owned};
-use cases_words::Case;
-use gateway::{Event, Gateway, Hashers, NoMemory, Out, Outcome, Reason};
-use nat_types::{GatewayId, Pair};
+use crate::words;
+use anyhow::{Result, bail};
+use gateway::{Event, Gateway, Hashers, Out, Outcome, Reason};
+use nat_types::GatewayId;
 use settings::Settings;
 use std::alloc::Global;
-use std::mem;
+use std::io::Write;
 
 /// A gateway, and the datagram that came to it last. It goes by `end`.
 pub(crate) struct Station {
+    alloc: Global,
     id: GatewayId,
     gateway: Gateway,
     last: Vec<u8>,
@@ -19,32 +21,33 @@ pub(crate) struct Station {
 }
 
 impl Station {
-    /// A gateway, as `0 boot 1 founded`: of that number in that boot.
-    pub(crate) fn new(settings: &Settings, case: &mut Case) -> Option<Station> {
-        let id = case.gateway();
-        let is_boot = case.word() == "boot";
-        let boot = case.number();
-        let found = case.left() == 1;
-        if !is_boot {
-            case.fault();
+    /// A gateway of that number in that boot.
+    pub(crate) fn new(
+        alloc: Global,
+        settings: &Settings,
+        id: &str,
+        boot: &str,
+        found: bool,
+    ) -> Result<Station> {
+        let id = words::gateway(id)?;
+        let boot = words::number(boot)?;
+        if boot == 0 || (found && id == GatewayId::One) {
+            bail!("no such gateway");
         }
-        match begun(case.alloc, settings, id, boot, found) {
-            Some(gateway) => Some(Station {
-                id,
-                gateway,
-                last: Vec::new(case.alloc),
-                out: Out::new(case.alloc),
-            }),
-            None => {
-                case.fault();
-                None
-            }
-        }
+        let gateway = Gateway::new(alloc, settings, id, boot, found, Hashers::fixed())?;
+        Ok(Station {
+            alloc,
+            id,
+            gateway,
+            last: Vec::new(alloc),
+            out: Out::new(alloc),
+        })
     }
 
     /// Ends its gateway, and gives its memory back.
     pub(crate) fn end(self) {
         let Station {
+            alloc: _,
             id: _,
             gateway,
             last,
@@ -55,191 +58,135 @@ impl Station {
         drop(out);
     }
 
-    /// Does what a line says.
-    ///
-    /// - `tick MOMENT`, `frame SIDE HEX`: the clock goes on; a frame comes
-    /// - `letter ..`: a datagram comes, in words (`letters::spelled`)
-    /// - `bytes HEX`, `again`: a datagram of these bytes comes; the last datagram comes once more
-    /// - `cuts HEX`: a datagram comes cut at every length
-    /// - `frame-cuts SIDE HEX`, `frame-changes SIDE HEX`: a frame comes cut at every length; with every byte changed to
-    ///   every other value
-    /// - `frame-cuts SIDE HEX from MOMENT`, `frame-changes SIDE HEX from MOMENT`: the same, each frame in a second of its
-    ///   own, the first one at that moment
-    /// - `table`: how the gateway stands
-    pub(crate) fn answer(&mut self, case: &mut Case) {
-        case.back();
-        match case.word() {
-            "tick" => self.happen(Event::Tick(case.number()), case),
-            "frame" => self.frame(case),
-            "letter" => self.letter(case),
-            "bytes" => self.bytes(case),
-            "again" => self.again(case),
-            "cuts" => self.cuts(case),
-            "frame-cuts" => self.frame_cuts(case),
-            "frame-changes" => self.frame_changes(case),
-            "table" => self.table(case),
-            _ => case.fault(),
-        }
-    }
-
-    /// One step, of which nothing is said; what it gives out stands behind what is there.
-    pub(crate) fn step(&mut self, event: Event<'_>) -> Result<Outcome, NoMemory> {
-        self.gateway.step(event, &mut self.out)
-    }
-
-    pub(crate) fn clear(&mut self) {
-        self.out.clear();
-    }
-
-    pub(crate) fn has_noted(&self) -> bool {
-        !self.out.notes().is_empty()
-    }
-
-    /// One step; prints what comes of it, and what is told.
-    fn happen(&mut self, event: Event<'_>, case: &mut Case) {
-        self.clear();
-        match self.step(event) {
-            Ok(outcome) => tell(case, outcome, &self.out),
-            Err(_) => case.fault(),
-        }
+    /// The clock goes on.
+    pub(crate) fn tick<O: Write>(&mut self, moment: &str, output: &mut O) -> Result<()> {
+        let event = Event::Tick(words::number(moment)?);
+        step(&mut self.gateway, event, &mut self.out, output)
     }
 
     /// A frame comes in on a side.
-    fn frame(&mut self, case: &mut Case) {
-        let side = case.side();
-        let bytes = case.bytes();
-        self.happen(Event::Frame(side, bytes.as_slice()), case);
+    pub(crate) fn frame<O: Write>(&mut self, side: &str, text: &str, output: &mut O) -> Result<()> {
+        let side = words::side(side)?;
+        let bytes = hex::decode(self.alloc, text)?;
+        let event = Event::Frame(side, bytes.as_slice());
+        step(&mut self.gateway, event, &mut self.out, output)
     }
 
     /// A datagram in words comes, as the other gateway's.
-    fn letter(&mut self, case: &mut Case) {
-        let last = spelled(case, self.id.other());
-        self.keep(last);
-        self.again(case);
+    pub(crate) fn letter<O: Write>(&mut self, text: &str, output: &mut O) -> Result<()> {
+        self.last = spelled(self.alloc, self.id.other(), text)?;
+        self.again(output)
     }
 
     /// A datagram of any bytes comes.
-    fn bytes(&mut self, case: &mut Case) {
-        self.keep(case.bytes());
-        self.again(case);
-    }
-
-    fn keep(&mut self, datagram: Vec<u8>) {
-        drop(mem::replace(&mut self.last, datagram));
+    pub(crate) fn bytes<O: Write>(&mut self, text: &str, output: &mut O) -> Result<()> {
+        self.last = hex::decode(self.alloc, text)?;
+        self.again(output)
     }
 
     /// The last datagram comes once more.
-    fn again(&mut self, case: &mut Case) {
-        self.out.clear();
-        match step(&mut self.gateway, self.last.as_slice(), &mut self.out) {
-            Ok(outcome) => tell(case, outcome, &self.out),
-            Err(_) => case.fault(),
-        }
+    pub(crate) fn again<O: Write>(&mut self, output: &mut O) -> Result<()> {
+        let event = Event::Datagram(self.last.as_slice());
+        step(&mut self.gateway, event, &mut self.out, output)
     }
 
     /// A datagram is cut at every length below its own; prints how many of these are dropped with
     /// reason 16, with nothing told.
-    fn cuts(&mut self, case: &mut Case) {
-        let bytes = case.bytes();
+    pub(crate) fn cuts<O: Write>(&mut self, text: &str, output: &mut O) -> Result<()> {
+        let bytes = hex::decode(self.alloc, text)?;
         let mut dropped = 0usize;
         for length in 0..bytes.len() {
-            if self.drops(&bytes[..length]) {
+            if is_dropped(&mut self.gateway, &bytes[..length], &mut self.out)? {
                 dropped = dropped.saturating_add(1);
             }
         }
-        case.say("  dropped 16: ", dropped);
-        case.say(" of ", bytes.len());
-        case.end();
-    }
-
-    /// Whether a datagram is dropped as a wrong one, with nothing told.
-    fn drops(&mut self, bytes: &[u8]) -> bool {
-        self.clear();
-        let done = self.step(Event::Datagram(bytes));
-        done == Ok(Outcome::Dropped(Reason::BadDatagram)) && has_told_nothing(&self.out)
+        let all = bytes.len();
+        writeln!(output, "  dropped 16: {dropped} of {all}")?;
+        Ok(())
     }
 
     /// A frame comes in cut at every length.
-    fn frame_cuts(&mut self, case: &mut Case) {
-        let side = case.side();
-        let frame = case.bytes();
-        let pace = pace_in(case);
-        cut(self, side, frame.as_slice(), pace, case);
+    pub(crate) fn frame_cuts<O: Write>(
+        &mut self,
+        side: &str,
+        text: &str,
+        pace: Pace,
+        output: &mut O,
+    ) -> Result<()> {
+        let side = words::side(side)?;
+        let frame = hex::decode(self.alloc, text)?;
+        cut(
+            &mut self.gateway,
+            side,
+            frame.as_slice(),
+            pace,
+            &mut self.out,
+            output,
+        )
     }
 
     /// A frame comes in with every byte changed to every other value.
-    fn frame_changes(&mut self, case: &mut Case) {
-        let side = case.side();
-        let mut frame = case.bytes();
-        let pace = pace_in(case);
-        change(self, side, frame.as_mut_slice(), pace, case);
+    pub(crate) fn frame_changes<O: Write>(
+        &mut self,
+        side: &str,
+        text: &str,
+        pace: Pace,
+        output: &mut O,
+    ) -> Result<()> {
+        let side = words::side(side)?;
+        let mut frame = hex::decode(self.alloc, text)?;
+        change(
+            &mut self.gateway,
+            side,
+            frame.as_mut_slice(),
+            pace,
+            &mut self.out,
+            output,
+        )
     }
 
     /// How far it is, what it knows of the other, its pairs, and the runs of ports that it owns.
-    fn table(&self, case: &mut Case) {
-        let is_synced = self.gateway.synced();
-        case.put(if is_synced { "  synced" } else { "  unsynced" });
-        case.say(", knows boot ", self.gateway.known_peer());
-        case.end();
-        match self.gateway.translating() {
-            Ok(translating) => self.tell_pairs(translating.as_slice(), case),
-            Err(_) => case.fault(),
+    pub(crate) fn table<O: Write>(&self, output: &mut O) -> Result<()> {
+        let stage = if self.gateway.synced() {
+            "synced"
+        } else {
+            "unsynced"
+        };
+        let known = self.gateway.known_peer();
+        writeln!(output, "  {stage}, knows boot {known}")?;
+        let translating = self.gateway.translating()?;
+        for pair in self.gateway.pairs()? {
+            let state = if translating.contains(&pair) {
+                "translates"
+            } else {
+                "waits"
+            };
+            writeln!(output, "  {pair} {state}")?;
         }
-        match self.gateway.owned() {
-            Ok(owned) => tell_owned(case, owned.as_slice()),
-            Err(_) => case.fault(),
-        }
-    }
-
-    fn tell_pairs(&self, translating: &[Pair], case: &mut Case) {
-        match self.gateway.pairs() {
-            Ok(pairs) => {
-                for pair in pairs.iter() {
-                    tell_pair(case, *pair, translating.contains(pair));
-                }
-            }
-            Err(_) => case.fault(),
-        }
+        tell_owned(output, self.gateway.owned()?.as_slice())?;
+        Ok(())
     }
 }
 
-fn tell_pair(case: &mut Case, pair: Pair, translates: bool) {
-    case.say("  ", pair);
-    case.put(if translates {
-        " translates\n"
-    } else {
-        " waits\n"
-    });
+/// One step; prints what comes of it, and what is told.
+fn step<O: Write>(
+    gateway: &mut Gateway,
+    event: Event<'_>,
+    out: &mut Out,
+    output: &mut O,
+) -> Result<()> {
+    out.clear();
+    let outcome = gateway.step(event, out)?;
+    tell(output, outcome, out)?;
+    Ok(())
 }
 
-/// A gateway as it begins. It says nothing of the gateway, so that what a caller has to show stays small.
-fn begun(
-    alloc: Global,
-    settings: &Settings,
-    id: GatewayId,
-    boot: u64,
-    found: bool,
-) -> Option<Gateway> {
-    if boot == 0 || (found && id == GatewayId::One) {
-        return None;
-    }
-    Gateway::new(alloc, settings, id, boot, found, Hashers::fixed()).ok()
-}
-
-/// A datagram comes; nothing is said of it.
-fn step(gateway: &mut Gateway, datagram: &[u8], out: &mut Out) -> Result<Outcome, NoMemory> {
-    gateway.step(Event::Datagram(datagram), out)
-}
-
-/// Frames come at once, or apart from a moment on, as `from MOMENT`.
-fn pace_in(case: &mut Case) -> Pace {
-    if case.left() == 0 {
-        return Pace::AtOnce;
-    }
-    if case.word() != "from" {
-        case.fault();
-    }
-    Pace::Apart(case.number())
+/// Whether a datagram is dropped as a wrong one, with nothing told.
+fn is_dropped(gateway: &mut Gateway, bytes: &[u8], out: &mut Out) -> Result<bool> {
+    out.clear();
+    let outcome = gateway.step(Event::Datagram(bytes), out)?;
+    let is_wrong = outcome == Outcome::Dropped(Reason::BadDatagram);
+    Ok(is_wrong && has_told_nothing(out))
 }
 
 fn has_told_nothing(out: &Out) -> bool {

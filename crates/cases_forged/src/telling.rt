@@ -1,25 +1,23 @@
 //! What is printed of a step, and of a table.
 
 use addresses::Port;
-use cases_words::Case;
 use gateway::{Out, Outcome};
+use std::io::{self, Write};
 
 /// What came of a step and how many frames were sent; then the notes; then the datagram.
-pub(crate) fn tell(case: &mut Case, outcome: Outcome, out: &Out) {
-    tell_outcome(case, outcome);
-    let frames = frame_count(out);
-    if 0 < frames {
-        case.say(", frames ", frames);
+pub(crate) fn tell<O: Write>(output: &mut O, outcome: Outcome, out: &Out) -> io::Result<()> {
+    tell_outcome(output, outcome)?;
+    match frame_count(out) {
+        0 => writeln!(output)?,
+        count => writeln!(output, ", frames {count}")?,
     }
-    case.end();
     for note in out.notes() {
-        case.say("  note ", note);
-        case.end();
+        writeln!(output, "  note {note}")?;
     }
     for datagram in out.datagrams() {
-        case.hex("  link ", datagram);
-        case.end();
+        tell_datagram(output, datagram)?;
     }
+    Ok(())
 }
 
 fn frame_count(out: &Out) -> usize {
@@ -30,33 +28,38 @@ fn frame_count(out: &Out) -> usize {
     count
 }
 
-fn tell_outcome(case: &mut Case, outcome: Outcome) {
+fn tell_outcome<O: Write>(output: &mut O, outcome: Outcome) -> io::Result<()> {
     match outcome {
-        Outcome::Sent => case.put("  sent"),
-        Outcome::Waiting => case.put("  waiting"),
-        Outcome::Done => case.put("  done"),
-        Outcome::Dropped(reason) => case.say("  dropped ", reason.number()),
+        Outcome::Sent => write!(output, "  sent"),
+        Outcome::Waiting => write!(output, "  waiting"),
+        Outcome::Done => write!(output, "  done"),
+        Outcome::Dropped(reason) => {
+            let reason = reason.number();
+            write!(output, "  dropped {reason}")
+        }
     }
 }
 
+fn tell_datagram<O: Write>(output: &mut O, datagram: &[u8]) -> io::Result<()> {
+    write!(output, "  link ")?;
+    for byte in datagram {
+        write!(output, "{byte:02x}")?;
+    }
+    writeln!(output)
+}
+
 /// The unbroken runs of rising ports, a line each.
-pub(crate) fn tell_owned(case: &mut Case, ports: &[Port]) {
+pub(crate) fn tell_owned<O: Write>(output: &mut O, ports: &[Port]) -> io::Result<()> {
     let Some((first, others)) = ports.split_first() else {
-        return;
+        return Ok(());
     };
     let (mut first, mut last) = (*first, *first);
     for port in others {
         if last.0.checked_add(1) != Some(port.0) {
-            tell_run(case, first, last);
+            writeln!(output, "  owns {first} to {last}")?;
             first = *port;
         }
         last = *port;
     }
-    tell_run(case, first, last);
-}
-
-fn tell_run(case: &mut Case, first: Port, last: Port) {
-    case.say("  owns ", first);
-    case.say(" to ", last);
-    case.end();
+    writeln!(output, "  owns {first} to {last}")
 }
