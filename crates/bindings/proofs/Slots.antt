@@ -1,5 +1,5 @@
 -- The slots of a table: by key, and by endpoint.
-use Rattle.std.proofs.Common.{◌≡◌, ℕ, ◌<◌, Bool, true, false, cond, Some, None, inl, inr, ◌&&◌, List, [], ◌∷◌, length, map, nat_lt, refl, ap, ◌∙◌, sym, nat_le}
+use Rattle.std.proofs.Common.{◌≡◌, ℕ, ◌<◌, Bool, true, false, cond, Some, None, inl, inr, ◌&&◌, List, [], ◌∷◌, length, map, nat_lt, refl, ap, ◌∙◌, sym, nat_le, Option}
 use Rattle.std.specs.List.{find, filter}
 use Rattle.std.specs.Option.{is_some}
 use Rattle.std.proofs.lemmas.Bool.{cond-true, cond-false, both_ways, and_parts, and_from, and_cases, false_from_ne_true, lt-leb, leb-false}
@@ -8,7 +8,8 @@ use Rattle.nat_types.specs.declared.pairs.Key.{Key}
 use Rattle.nat_types.specs.Same.{same_key, same_endpoint}
 use Rattle.nat_types.proofs.Offered.{key-eq, key-true, key-false, endpoint-eq, endpoint-true, endpoint-self}
 use Rattle.bindings.specs.declared.entries.Entry.{Entry}
-use Rattle.bindings.specs.declared.entries.TableFault.TheVariants.{Full, PortTaken, EndpointTaken}
+use Rattle.bindings.specs.declared.entries.TableFault.{TableFault}
+use Rattle.bindings.specs.declared.entries.TableFault.TheVariants.{Outside, Full, PortTaken, EndpointTaken}
 use Rattle.bindings.specs.Entries.{is_pair, has_key, serves, slot_of, entry_of, set_at, HasDistinctKeys, HasDistinctEndpoints, refusal_of, place_of}
 use Rattle.bindings.specs.Lists.{put_in, IsOneToOne}
 use Rattle.bindings.proofs.Found.{cond_none, none_from_is_some, find-none, find-some, find-passes}
@@ -131,6 +132,11 @@ welcome capacity es e h =
       key = none_from_is_some (slot_of es e.pair.key) two.0;
       endpoint = λ live. none_from_is_some (entry_of es e.pair.endpoint) (elim (and_cases (is_pair e.state) (is_some (entry_of es e.pair.endpoint)) three.0) [ inl fails ↦ absurd (both_ways (is_pair e.state) fails live) | inr fails ↦ fails ]);
     }
+
+-- where no reason stands against an entry, its port lies in a range
+pub inside-none : (b : Bool) (o : Option TableFault) → cond b o (Some Outside) ≡ None → (b ≡ true) × (o ≡ None)
+inside-none true o h = (refl, h)
+inside-none false o h = absurd (cc)
 
 -- no reason stands against an entry with room, a free key and an endpoint without a pair
 pub refusal-none : (capacity : ℕ) (es : List Entry) (e : Entry) → length es < capacity → slot_of es e.pair.key ≡ None → (is_pair e.state ≡ true → entry_of es e.pair.endpoint ≡ None) → refusal_of capacity es e ≡ None

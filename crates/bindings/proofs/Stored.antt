@@ -18,16 +18,20 @@ use Rattle.bindings.specs.declared.store.Item.{Item}
 use Rattle.bindings.specs.Entries.{is_pair, pairs_of, serves, slot_of, entry_of, entry_in, HasDistinctEndpoints}
 use Rattle.bindings.specs.Lists.{without, with_state, after_key}
 use Rattle.bindings.specs.Lives.{life_in, lives_with}
-use Rattle.bindings.specs.Stores.{Store, entries_of, lives_of, one_of, AreKeyed, IsIndexed}
+use Rattle.bindings.specs.Stores.{Room, Store, entries_of, lives_of, one_of, AreKeyed, IsIndexed}
 use Rattle.bindings.proofs.Kept.{slot-is, life-is, entry-is, after-is, own-row, rises-up, keyed-put, entries-put, number-put, keyed-without, entries-without, rows-without_none}
 use Rattle.bindings.proofs.Changes.{keyed-with, entries-turned, entries-same, lives-same, lives-changed, lives-nowhere, number-with, number-same, number-without}
 use Rattle.bindings.proofs.Counts.{lost_by, count-put, count-without, count-turned}
 use Rattle.bindings.proofs.Slots.{slot-key}
 use Rattle.bindings.proofs.Walks.{rises-distinct}
 
+-- what slots have room for
+abbrev pub room_of : PortSlots Item → Room
+room_of s = record { places = s.room; lowest = s.lowest; ports = s.ports }
+
 -- what callers see of slots and an index
 abbrev pub seen : PortSlots Item → EndpointIndex Hashers → List Key → Store
-seen slots index found = record { entries = entries_of slots.rows; lives = lives_of slots.rows; room = slots.room; spare = index.spare; hashers = index.hasher; found = found }
+seen slots index found = record { entries = entries_of slots.rows; lives = lives_of slots.rows; room = room_of slots; spare = index.spare; hashers = index.hasher; found = found }
 
 -- the entry of a key's item is the key's
 pub held-by : (rows : List (Row Item)) (key : Key) (i : Item) → AreKeyed rows → slots.item_of rows key ≡ Some i → slot_of (entries_of rows) key ≡ Some i.entry
@@ -50,12 +54,12 @@ changed-life old new index found key g k r some none = by (slots.item_of old.row
     by None e =
         let same = none e in (
           rw same k,
-          rw same (ap (λ ls. (let s : Store = record { entries = entries_of old.rows; lives = ls; room = old.room; spare = index.spare; hashers = index.hasher; found = found } in s)) (lives-nowhere key g old.rows k.keyed e)),
+          rw same (ap (λ ls. (let s : Store = record { entries = entries_of old.rows; lives = ls; room = room_of old; spare = index.spare; hashers = index.hasher; found = found } in s)) (lives-nowhere key g old.rows k.keyed e)),
         )
     by (Some i) e =
         let t : Item = record i { life = g i.life } in
         let rows = ap (λ (s : PortSlots Item). s.rows) (some i e) in
-        let room = ap (λ (s : PortSlots Item). s.room) (some i e) in (
+        let room = ap room_of (some i e) in (
           rw rows (record {
             keyed = keyed-with 0 key t i old.rows k.keyed r e refl;
             indexed = λ x. k.indexed x ∙ sym (number-same 0 key t i old.rows x r e refl);
@@ -126,13 +130,13 @@ pub turned : (old new : PortSlots Item) (index index2 : EndpointIndex Hashers) (
     → ((i : Item) → slots.item_of old.rows key ≡ Some i → new ≡ record old { rows = slots.with_item key (record i { entry = entry_in s e.pair }) old.rows })
     → ((x : Endpoint) → number_of_endpoint index2 x ≡ cond (serves x e && not (is_pair s)) None (number_of_endpoint index x))
     → ((a : Ip) → count_in index a ≡ count_in index2 a + lost_by a e s)
-    → IsIndexed new.rows index2 × (entries_of new.rows ≡ with_state key s (entries_of old.rows)) × (lives_of new.rows ≡ lives_of old.rows) × (new.room ≡ old.room)
+    → IsIndexed new.rows index2 × (entries_of new.rows ≡ with_state key s (entries_of old.rows)) × (lives_of new.rows ≡ lives_of old.rows) × (room_of new ≡ room_of old)
 turned old new index index2 key s e k r h back d some unlisted counts =
     let found = item-found old.rows key e k.keyed h in
     let i = found.0 in
     let t : Item = record i { entry = entry_in s e.pair } in
     let rows = ap (λ (p : PortSlots Item). p.rows) (some i found.1) in
-    let room = ap (λ (p : PortSlots Item). p.room) (some i found.1) in
+    let room = ap room_of (some i found.1) in
     let turns : t.entry ≡ entry_in s i.entry.pair = ap (λ (z : Entry). entry_in s z.pair) (sym found.2) in
     let one : t.entry.pair.key ≡ i.entry.pair.key = ap (λ (z : Entry). z.pair.key) (sym found.2) in
     let two : t.entry.pair.endpoint ≡ i.entry.pair.endpoint = ap (λ (z : Entry). z.pair.endpoint) (sym found.2) in

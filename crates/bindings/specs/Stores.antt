@@ -15,12 +15,18 @@ use Rattle.bindings.specs.declared.entries.Entry.{Entry}
 use Rattle.bindings.specs.declared.store.Item.{Item}
 use Rattle.bindings.specs.Entries.{serves, is_pair_of, pairs_of}
 
--- entries and their lives, how many there is room for, for how many more pairs the index has room, by what it hashes, and
+-- how many entries there is room for, and under which ports
+pub record Room : Type 0 where
+  pub places : ℕ
+  pub lowest : ℕ
+  pub ports : ℕ
+
+-- entries and their lives, what there is room for, for how many more pairs the index has room, by what it hashes, and
 -- the keys that were to be looked at last
 pub record Store : Type 0 where
   pub entries : List Entry
   pub lives : List Activity
-  pub room : ℕ
+  pub room : Room
   pub spare : ℕ
   pub hashers : Hashers
   pub found : List Key

@@ -1,5 +1,5 @@
 -- What callers see of a table.
-use Rattle.std.specs.Prelude.{◌≡◌, ℕ, ◌≤◌, Bool, true, Some, List, [], length}
+use Rattle.std.specs.Prelude.{◌≡◌, ℕ, ◌+◌, ◌≤◌, Bool, true, Option, Some, List, [], length, if◌then◌else◌}
 use Rattle.std.specs.List.{insert}
 use Rattle.nat_types.specs.declared.pairs.EntryState.{EntryState}
 use Rattle.nat_types.specs.declared.pairs.Key.{Key}
@@ -9,8 +9,11 @@ use Rattle.port_range.specs.Ports.{is_listed, AreRising}
 use Rattle.slots.specs.declared.hashers.Hashers.{Hashers}
 use Rattle.bindings.specs.declared.entries.Entry.{Entry}
 use Rattle.bindings.specs.declared.entries.PortBounds.{PortBounds}
+use Rattle.bindings.specs.declared.entries.TableFault.{TableFault}
+use Rattle.bindings.specs.declared.entries.TableFault.TheVariants.{Outside}
 use Rattle.bindings.specs.declared.ports.Ports.{Ports}
-use Rattle.bindings.specs.Entries.{slot_of, HasDistinctKeys, HasDistinctEndpoints}
+use Rattle.bindings.specs.Entries.{slot_of, refusal_of, HasDistinctKeys, HasDistinctEndpoints}
+use Rattle.bindings.specs.Stores.{Room}
 use Rattle.bindings.specs.Lists.{AreInOrder, IsOneToOne, place_in, put_in, without, with_state}
 use Rattle.bindings.specs.Ports.{AreAlike, AreFree, in_either, lowest_of, highest_of, key_count}
 use Rattle.bindings.specs.Lives.{HasPast, lives_without, idle_keys_in}
@@ -60,6 +63,11 @@ pub record IsTable (t : Table) : Type 0 where
 abbrev pub AreInRanges : Table → Type 0
 AreInRanges t = (key : Key) (entry : Entry) → slot_of t.entries key ≡ Some entry → in_either t.zero t.one key.port.0 ≡ true
 
+-- why an entry can't come into a table: its port lies in no range, or the first reason that `refusal_of` has
+abbrev pub refusal_in : Table → Entry → Option TableFault
+refusal_in t e =
+    (if in_either t.zero t.one e.pair.key.port.0 then refusal_of t.capacity t.entries e else Some Outside)
+
 -- a table for these ranges without entries and owned ports, that is ready for no add and hashes by these hashers
 abbrev pub empty_table : PortBounds → PortBounds → Hashers → Table
 empty_table zero one hashers = record {
@@ -87,6 +95,11 @@ with_entry_state t key state = record t { entries = with_state key state t.entri
 -- the table without a key's entry
 abbrev pub without_entry : Table → Key → Table
 without_entry t key = record t { entries = without key t.entries; lives = lives_without key t.entries t.lives }
+
+-- there is room under all ports of both ranges
+pub record IsRoomFor (room : Room) (zero one : PortBounds) : Type 0 where
+  pub low : room.lowest ≡ lowest_of zero one
+  pub high : room.lowest + room.ports ≡ highest_of zero one + 1
 
 -- The fields keep the same, with room for all that may come.
 pub record IsStored (entries : List Entry) (lives : List Activity) (ports : Ports) (zero one : PortBounds) (capacity places : ℕ) : Type 0 where

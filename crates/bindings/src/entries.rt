@@ -35,6 +35,8 @@ impl PortBounds {
 /// Why an entry can't come into the table.
 #[derive(Clone, Copy, Debug, PartialEq, Eq, Error)]
 pub enum TableFault {
+    #[error("the port lies in no range")]
+    Outside,
     #[error("the table is full")]
     Full,
     #[error("the port has an entry")]

@@ -1,18 +1,19 @@
 //! Passes over the entries of a store, and questions about them.
-ghost use Rattle.std.specs.Prelude.{◌≡◌, ◌+◌, ◌≤◌, ◌++◌, [], ◌∷◌, if◌then◌else◌, count_by, vec_len, vec_capacity, IfOk, OnOk};
+ghost use Rattle.std.specs.Prelude.{◌≡◌, ◌+◌, ◌≤◌, ◌++◌, Some, [], ◌∷◌, if◌then◌else◌, count_by, vec_len, vec_capacity, IfOk, OnOk};
 ghost use Rattle.bindings.specs.Entries.{is_pair, translates, entry_in, refusal_of, pairs_in};
 ghost use Rattle.bindings.specs.Dues.{idle_among, is_idle_key};
-ghost use Rattle.bindings.specs.Ports.{is_free_in, is_vacant};
+ghost use Rattle.bindings.specs.Ports.{in_either, is_free_in, is_vacant};
+ghost use Rattle.bindings.specs.declared.entries.TableFault.TheVariants.{Outside};
 
 use crate::entries::{endpoint_of, is_pair_state, is_translating, key_of, may_go_state};
 use crate::store::Store;
-use crate::{Entry, TableFault};
+use crate::{Entry, PortBounds, TableFault};
 use addresses::{Port, Protocol};
 use nat_types::{EntryState, Key, Pair};
 use std::alloc::{AllocError, Global};
 
 /// Why an entry can't come in: the first reason that holds.
-pub(crate) fn refusal(
+fn refusal_within(
     store: &Store,
     capacity: usize,
     pair: Pair,
@@ -30,6 +31,25 @@ pub(crate) fn refusal(
         return Some(TableFault::EndpointTaken);
     }
     None
+}
+
+/// Why an entry can't come into the table of two ranges: the first reason that holds.
+pub(crate) fn refusal(
+    store: &Store,
+    zero: PortBounds,
+    one: PortBounds,
+    capacity: usize,
+    entry: Entry,
+) -> Option<TableFault>
+    ensures { result ≡ (if in_either zero one entry.pair.key.port.0
+        then refusal_of capacity store.now.entries entry else Some Outside) }
+{
+    let Entry { pair, state } = entry;
+    let port = key_of(pair).port;
+    if !zero.holds(port) && !one.holds(port) {
+        return Some(TableFault::Outside);
+    }
+    refusal_within(store, capacity, pair, state)
 }
 
 /// Whether no entry of a protocol has the port.

@@ -1,5 +1,5 @@
 //! The entries of a table in slots, each with its life. A slot is found by key and by endpoint.
-ghost use Rattle.std.specs.Prelude.{◌≡◌, ◌+◌, ◌<◌, ◌≤◌, [], Some, None, true, false, not, ◌&&◌, if◌then◌else◌, length, IfOk, IsOk, OnOk};
+ghost use Rattle.std.specs.Prelude.{◌≡◌, ◌+◌, ◌-◌, ◌<◌, ◌≤◌, [], Some, None, true, false, not, ◌&&◌, if◌then◌else◌, length, IfOk, IsOk, OnOk};
 ghost use Rattle.nat_types.specs.declared.pairs.Endpoint.{Endpoint as InsidePort};
 ghost use Rattle.addresses.specs.declared.internet.Ip.{Ip as Address};
 ghost use Rattle.slots.specs.Endpoints.{slot_of as number_of_endpoint, count_in};
@@ -26,7 +26,7 @@ ghost use Rattle.bindings.specs.Dues.{AreListed, AreTimed, AreTimedBut, IsTimedA
 use crate::Entry;
 use crate::entries::{endpoint_of, is_pair_state, key_of, may_go_state};
 use activity::{Activity, Packet};
-use addresses::Ip;
+use addresses::{Ip, Port};
 use nat_types::{Endpoint, EntryState, Key, Pair};
 use slots::{Dues, EndpointIndex, Hashers, PortSlots, SlotNumber};
 use std::alloc::{AllocError, Global};
@@ -66,7 +66,11 @@ impl Model for Store {
     ghost view = { λ s. record {
       entries = entries_of s.slots.rows;
       lives = lives_of s.slots.rows;
-      room = s.slots.room;
+      room = record {
+        places = s.slots.room;
+        lowest = s.slots.lowest;
+        ports = s.slots.ports;
+      };
       spare = s.index.spare;
       hashers = s.index.hasher;
       found = s.found.items;
@@ -155,7 +159,7 @@ fn put_state(slots: &mut PortSlots<Item>, key: Key, pair: Pair, state: EntryStat
           rows = with_item key (record item { entry = entry_in state pair }) slots.old.rows;
         } }
     ensures none { item_of slots.old.rows key ≡ None → slots.new ≡ slots.old }
-    ensures limit { slots.new.limit ≡ slots.old.limit }
+    ensures same { slots.new ≡ record slots.old { rows = slots.new.rows } }
 {
     if let Some(item) = slots.get_mut(key) {
         item.entry = Entry { pair, state };
@@ -172,7 +176,7 @@ fn put_packet(slots: &mut PortSlots<Item>, key: Key, packet: Packet)
           }) slots.old.rows;
         } }
     ensures none { item_of slots.old.rows key ≡ None → slots.new ≡ slots.old }
-    ensures limit { slots.new.limit ≡ slots.old.limit }
+    ensures same { slots.new ≡ record slots.old { rows = slots.new.rows } }
     ensures agrees { (item : Kept) → (past : History)
         → item_of slots.old.rows key ≡ Some item → Agrees
         key.protocol past item.life → Agrees key.protocol (with_packet packet past)
@@ -190,7 +194,7 @@ fn put_renewal(slots: &mut PortSlots<Item>, key: Key, now: u64)
           rows = with_item key (record item { life = life_renewed now item.life }) slots.old.rows;
         } }
     ensures none { item_of slots.old.rows key ≡ None → slots.new ≡ slots.old }
-    ensures limit { slots.new.limit ≡ slots.old.limit }
+    ensures same { slots.new ≡ record slots.old { rows = slots.new.rows } }
     ensures agrees { (item : Kept) → (past : History)
         → item_of slots.old.rows key ≡ Some item → Agrees
         key.protocol past item.life → Agrees key.protocol (renewed now past)
@@ -318,14 +322,23 @@ fn sort_keys(keys: &mut Vec<Key>)
 }
 
 impl Store {
-    /// No entries, and room for so many.
-    pub(crate) fn new(alloc: Global, room: usize, hashers: Hashers) -> Result<Store, AllocError>
+    /// No entries, and room for so many, under the ports from the lowest to the highest.
+    pub(crate) fn new(
+        alloc: Global,
+        room: usize,
+        lowest: Port,
+        highest: Port,
+        hashers: Hashers,
+    ) -> Result<Store, AllocError>
+        requires { lowest.0 ≤ highest.0 }
         ensures entries { IfOk result (λ s. s.entries ≡ []) }
         ensures lives { IfOk result (λ s. s.lives ≡ []) }
-        ensures room { IfOk result (λ s. s.room ≡ room) }
+        ensures room { IfOk result (λ s. s.room.places ≡ room) }
+        ensures lowest { IfOk result (λ s. s.room.lowest ≡ lowest.0) }
+        ensures ports { IfOk result (λ s. s.room.ports ≡ highest.0 + 1 - lowest.0) }
         ensures hashers { IfOk result (λ s. s.hashers ≡ hashers) }
     {
-        let slots = PortSlots::new(alloc, room)?;
+        let slots = PortSlots::new(alloc, room, lowest, highest)?;
         let index = EndpointIndex::new(alloc, hashers);
         let dues = Dues::new(alloc, slots.limit())?;
         let found = Vec::with_capacity(alloc, slots.limit())?;
@@ -408,7 +421,9 @@ impl Store {
         requires vacant { slot_of self.old.entries pair.key ≡ None }
         requires free { is_pair state ≡ true
             → entry_of self.old.entries pair.endpoint ≡ None }
-        requires room { length self.old.entries < self.old.room }
+        requires room { length self.old.entries < self.old.room.places }
+        requires low { self.old.room.lowest ≤ pair.key.port.0 }
+        requires high { pair.key.port.0 < self.old.room.lowest + self.old.room.ports }
         requires spare { 0 < self.old.spare }
         ensures entries { self.new.entries ≡ put_in (entry_in state pair) self.old.entries }
         ensures lives { self.new.lives ≡ insert self.old.lives (place_in pair

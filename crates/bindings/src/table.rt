@@ -4,14 +4,14 @@ ghost use Rattle.nat_types.specs.declared.pairs.Key.{Key as OutsidePort};
 ghost use Rattle.activity.specs.Lives.{History, came, with_packet, renewed, is_idle, is_unused};
 ghost use Rattle.bindings.specs.declared.entries.Entry.{Entry as Row};
 ghost use Rattle.activity.specs.declared.packets.Packet.{Packet as Carried};
-ghost use Rattle.bindings.specs.Entries.{is_pair, translates, slot_of, entry_of, set_at, refusal_of, entry_in, pairs_in, pairs_of};
+ghost use Rattle.bindings.specs.Entries.{is_pair, translates, slot_of, entry_of, set_at, entry_in, pairs_in, pairs_of};
 ghost use Rattle.bindings.specs.Lists.{put_in, after_key};
 ghost use Rattle.bindings.specs.Revivals.{revived_entries, revived_slot, lives_of_pairs};
 ghost use Rattle.bindings.specs.Table.{empty_table};
 ghost use Rattle.bindings.specs.Runs.{own_in, without_port, all_ports, first_run, port_at};
 ghost use Rattle.bindings.specs.Lives.{KeepsOthers, is_among, may_go, rests_at, is_unused_at};
 ghost use Rattle.bindings.specs.Ports.{AreBounds, in_either, key_count, is_open_in, is_vacant, is_spare, chosen_port, ports_in};
-ghost use Rattle.bindings.specs.Table.{IsTable, IsPast, owns, idle_keys_of, with_entry_state, without_entry};
+ghost use Rattle.bindings.specs.Table.{IsTable, IsPast, refusal_in, owns, idle_keys_of, with_entry_state, without_entry};
 ghost use Rattle.bindings.specs.Lives.{lives_with};
 ghost use Rattle.bindings.specs.Lists.{place_in};
 ghost use Rattle.std.specs.List.{insert};
@@ -61,9 +61,10 @@ impl Model for Table {
     } };
 
     ghost use Rattle.std.specs.Prelude.{◌≤◌};
+    ghost use Rattle.bindings.specs.Table.{IsRoomFor};
 
     ghost invariant = { λ t. IsStored t.store.entries t.store.lives t.ports t.zero t.one t.capacity
-        t.store.room × (t.ready ≤ t.store.spare) };
+        t.store.room.places × (t.ready ≤ t.store.spare) × IsRoomFor t.store.room t.zero t.one };
 }
 
 fn port_count(bounds: PortBounds) -> usize
@@ -93,8 +94,10 @@ impl Table {
         ensures empty { IfOk result (λ t. t ≡ empty_table zero one hashers) }
     {
         let capacity = 3 * (port_count(zero) + port_count(one));
-        let ports = Ports::new(alloc, lowest_port(zero, one), highest_port(zero, one))?;
-        let store = Store::new(alloc, capacity, hashers)?;
+        let lowest = lowest_port(zero, one);
+        let highest = highest_port(zero, one);
+        let ports = Ports::new(alloc, lowest, highest)?;
+        let store = Store::new(alloc, capacity, lowest, highest, hashers)?;
         Ok(Table {
             alloc,
             store,
@@ -174,10 +177,9 @@ impl Table {
         now: u64,
     ) -> Result<(), TableFault>
         requires { 0 < self.old.ready }
-        ensures ok { OnOk result (refusal_of self.old.capacity self.old.entries (entry_in state
-            pair) ≡ None) }
-        ensures refused { IfErr result (λ fault. refusal_of self.old.capacity self.old.entries
-            (entry_in state pair) ≡ Some fault) }
+        ensures ok { OnOk result (refusal_in self.old (entry_in state pair) ≡ None) }
+        ensures refused { IfErr result (λ fault. refusal_in self.old (entry_in state pair)
+            ≡ Some fault) }
         ensures entries { OnOk result (self.new.entries
             ≡ put_in (entry_in state pair) self.old.entries) }
         ensures slots { OnOk result ((q : OutsidePort) → slot_of self.new.entries q
@@ -195,7 +197,8 @@ impl Table {
         }) }
         ensures err { OnErr result (self.new ≡ self.old) }
     {
-        if let Some(fault) = refusal(&self.store, self.capacity, pair, state) {
+        let entry = Entry { pair, state };
+        if let Some(fault) = refusal(&self.store, self.zero, self.one, self.capacity, entry) {
             return Err(fault);
         }
         self.store

@@ -6,5 +6,6 @@ mod Stored
 mod LookUps
 mod Counted
 mod Held
+mod Spread
 mod Due
 pub mod Offered

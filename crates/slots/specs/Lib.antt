@@ -1,5 +1,6 @@
 pub mod Rows
 pub mod Cells
+pub mod Windows
 pub mod Counts
 pub mod Endpoints
 pub mod Lends

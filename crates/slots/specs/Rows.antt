@@ -13,10 +13,12 @@ pub record Row (T : Type 0) : Type 0 where
   pub number : SlotNumber
   pub item : T
 
--- the rows by protocol (icmp first) and port, how many there is room for, and above all numbers of slots
+-- the rows by protocol (icmp first) and port, how many there is room for, under which ports, and above all numbers of slots
 pub record PortSlots (T : Type 0) : Type 0 where
   pub rows : List (Row T)
   pub room : ℕ
+  pub lowest : ℕ
+  pub ports : ℕ
   pub limit : ℕ
 
 -- a key's place in the order by protocol (icmp first) and port

@@ -8,8 +8,10 @@ mod endpoints;
 mod hashers;
 mod keyed_hasher;
 mod numbers;
+mod port_cells;
 mod port_slots;
 mod small_numbers;
+mod windows;
 
 pub use dues::Dues;
 pub use endpoints::EndpointIndex;

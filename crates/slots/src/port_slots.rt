@@ -1,5 +1,5 @@
 //! Items in slots, with a cell for each protocol and port.
-ghost use Rattle.std.specs.Prelude.{◌≡◌, ◌+◌, ◌<◌, ◌≤◌, [], None, Some, length, IfOk, IfSome, OnSome, option_copied};
+ghost use Rattle.std.specs.Prelude.{◌≡◌, ◌+◌, ◌-◌, ◌<◌, ◌≤◌, [], None, Some, length, IfOk, IfSome, OnSome, option_copied};
 ghost use Rattle.std.specs.List.{find};
 ghost use Rattle.std.specs.Borrow.{sem};
 ghost use Rattle.std.specs.Option.{option_map, option_copied_mut};
@@ -8,18 +8,13 @@ ghost use Rattle.slots.specs.Cells.{cell_of, cell_behind, first_cell, key_at, pr
 ghost use Rattle.slots.specs.Rows.{row_of, item_of, number_of, put_in, without, stands_behind, Rises, HasDistinctNumbers, AreBelow};
 
 use crate::SlotNumber;
-use crate::cells::Cells;
+use crate::port_cells::PortCells;
+use crate::windows::Window;
 use addresses::{Port, Protocol};
 use nat_types::Key;
 use slab::Slab;
 use std::alloc::{AllocError, Global};
 use std::marker::Model;
-
-/// How many cells there are: one for each port of each protocol.
-const CELLS: usize = 196_608;
-
-/// How many blocks of 256 cells these are.
-const BLOCKS: usize = 768;
 
 /// More slots than there are numbers for in 32 bits aren't made.
 const MOST_SLOTS: usize = 4_294_967_295;
@@ -28,7 +23,7 @@ const MOST_SLOTS: usize = 4_294_967_295;
 #[derive(Drop)]
 pub struct PortSlots<T> {
     slots: Slab<T>,
-    cells: Cells,
+    cells: PortCells,
     room: usize,
 }
 
@@ -40,12 +35,14 @@ impl<T> Model for PortSlots<T> {
     ghost use Rattle.slots.specs.Cells.{rows_from, item_at, IsStored};
 
     ghost view = { λ s. record {
-      rows = rows_from (item_at s.slots) 0 s.cells;
+      rows = rows_from (item_at s.slots) 0 s.cells.numbers;
       room = s.room;
+      lowest = s.cells.window.lowest;
+      ports = s.cells.window.ports;
       limit = s.slots.capacity;
     } };
 
-    ghost invariant = { λ s. IsStored s.slots s.cells s.room };
+    ghost invariant = { λ s. IsStored s.slots s.cells.numbers s.room };
 }
 
 /// Where a protocol's cells begin.
@@ -104,16 +101,28 @@ fn first_cell_behind(last: Option<Key>) -> usize
 }
 
 impl<T: Drop> PortSlots<T> {
-    /// No items, and room for so many.
-    pub fn new(alloc: Global, room: usize) -> Result<PortSlots<T>, AllocError>
+    /// No items, and room for so many, under the ports from the lowest to the highest.
+    pub fn new(
+        alloc: Global,
+        room: usize,
+        lowest: Port,
+        highest: Port,
+    ) -> Result<PortSlots<T>, AllocError>
+        requires { lowest.0 ≤ highest.0 }
         ensures rows { IfOk result (λ s. s.rows ≡ []) }
         ensures room { IfOk result (λ s. s.room ≡ room) }
+        ensures lowest { IfOk result (λ s. s.lowest ≡ lowest.0) }
+        ensures ports { IfOk result (λ s. s.ports ≡ highest.0 + 1 - lowest.0) }
     {
         let slots = Slab::with_capacity(alloc, room)?;
         if slots.capacity() > MOST_SLOTS {
             return Err(AllocError);
         }
-        let cells = Cells::new(alloc, CELLS, BLOCKS)?;
+        let window = Window {
+            lowest: usize::from(lowest.0),
+            ports: usize::from(highest.0 - lowest.0) + 1,
+        };
+        let cells = PortCells::new(alloc, window)?;
         Ok(PortSlots { slots, cells, room })
     }
 
@@ -193,6 +202,8 @@ impl<T> PortSlots<T> {
 
     /// Puts an item under a key that has none, into a slot that no other key has.
     pub fn insert(&mut self, key: Key, item: T) -> SlotNumber
+        requires low { self.old.lowest ≤ key.port.0 }
+        requires high { key.port.0 < self.old.lowest + self.old.ports }
         requires vacant { row_of self.old.rows key ≡ None }
         requires room { length self.old.rows < self.old.room }
         ensures rows { self.new ≡ record self.old {

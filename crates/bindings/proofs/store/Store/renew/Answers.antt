@@ -13,8 +13,8 @@ invariant_of-self c =
       record {
         timed = changed-timed c.self.inside.alone c.args.key (λ i. record i { life = life_renewed c.args.now i.life }) c.self.inside.dues.moments c.set_in_time.new.dues.moments c.self.inside.slots.rows c.put_renewal.new.slots.rows
             (λ i h. ap rows (c.put_renewal.ensures.some i h)) (λ h. ap rows (c.put_renewal.ensures.none h)) c.set_in_time.ensures.others c.set_in_time.ensures.timed c.self.invariant.1.timed;
-        count = c.set_in_time.ensures.count ∙ c.self.invariant.1.count ∙ sym c.put_renewal.ensures.limit;
-        room = rw c.put_renewal.ensures.limit c.self.invariant.1.room;
+        count = c.set_in_time.ensures.count ∙ c.self.invariant.1.count ∙ sym (ap (λ (s : PortSlots Item). s.limit) c.put_renewal.ensures.same);
+        room = rw (ap (λ (s : PortSlots Item). s.limit) c.put_renewal.ensures.same) c.self.invariant.1.room;
       },
     )
 
@@ -30,4 +30,4 @@ returns-clause-agrees c =
     (c.put_renewal.ensures.agrees item.0 past item.1 (subst (Agrees c.args.key.protocol past) (sym item.2) a)))
 
 pub set_in_time-requires : goal.set_in_time-requires
-set_in_time-requires c = record { count = c.self.invariant.1.count ∙ sym c.put_renewal.ensures.limit }
+set_in_time-requires c = record { count = c.self.invariant.1.count ∙ sym (ap (λ (s : PortSlots Item). s.limit) c.put_renewal.ensures.same) }

@@ -26,8 +26,8 @@ invariant_of-self c =
       record {
         timed = changed-timed i.alone c.args.key (λ i. record i { entry = entry_in c.args.state c.in-Some.entry.pair }) i.dues.moments c.set_in_time.new.dues.moments i.slots.rows c.put_state.new.slots.rows
             (λ i h. ap rows (c.put_state.ensures.some i h)) (λ h. ap rows (c.put_state.ensures.none h)) c.set_in_time.ensures.others c.set_in_time.ensures.timed c.self.invariant.1.timed;
-        count = c.set_in_time.ensures.count ∙ c.self.invariant.1.count ∙ sym c.put_state.ensures.limit;
-        room = rw c.put_state.ensures.limit c.self.invariant.1.room;
+        count = c.set_in_time.ensures.count ∙ c.self.invariant.1.count ∙ sym (ap (λ (s : PortSlots Item). s.limit) c.put_state.ensures.same);
+        room = rw (ap (λ (s : PortSlots Item). s.limit) c.put_state.ensures.same) c.self.invariant.1.room;
       },
     )
 
@@ -61,4 +61,4 @@ returns-in_default-clause-entries c =
     sym (turn-none c.args.key c.args.state c.args.self.now.entries none)
 
 pub set_in_time-requires : goal.set_in_time-requires
-set_in_time-requires c = record { count = c.self.invariant.1.count ∙ sym c.put_state.ensures.limit }
+set_in_time-requires c = record { count = c.self.invariant.1.count ∙ sym (ap (λ (s : PortSlots Item). s.limit) c.put_state.ensures.same) }

@@ -12,6 +12,7 @@ invariant_of-self c =
     rw c.carry.ensures.lives (
       stored-lives i.store.entries i.store.lives _ i.ports i.zero i.one i.capacity _ c.self.invariant.0 (length-changed g c.args.key i.store.entries i.store.lives),
       c.self.invariant.1,
+      c.self.invariant.2,
     )
 
 pub returns-clause-longer : goal.returns-clause-longer

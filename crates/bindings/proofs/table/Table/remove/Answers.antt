@@ -14,6 +14,7 @@ invariant_of-self c =
           (stored-drop i.store.entries i.store.lives i.ports _ i.zero i.one i.capacity _ c.args.key c.self.invariant.0
           c.put_back.ensures.free c.put_back.ensures.bounds c.put_back.ensures.owned),
       (let a = c.self.invariant.1 in let b = c.take_out.ensures.spare in omega (arith, a, b)),
+      rw (c.take_out.ensures.room) c.self.invariant.2,
     )
 
 pub returns-clause-slots : goal.returns-clause-slots

@@ -10,6 +10,7 @@ invariant_of-self c =
     rw c.renew.ensures.lives (
       stored-lives i.store.entries i.store.lives _ i.ports i.zero i.one i.capacity _ c.self.invariant.0 (length-changed g c.args.key i.store.entries i.store.lives),
       c.self.invariant.1,
+      c.self.invariant.2,
     )
 
 pub returns-clause-renewed : goal.returns-clause-renewed

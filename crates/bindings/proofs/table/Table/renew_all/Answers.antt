@@ -10,6 +10,7 @@ invariant_of-self c =
     rw c.renew_all.ensures (
       stored-lives i.store.entries i.store.lives _ i.ports i.zero i.one i.capacity _ c.self.invariant.0 (length-map i.store.lives (life_renewed c.args.now)),
       c.self.invariant.1,
+      c.self.invariant.2,
     )
 
 pub returns-clause-pasts : goal.returns-clause-pasts

@@ -22,6 +22,7 @@ invariant_of-self c =
           (stored-revived i.store.entries i.store.lives i.ports c.drop_doomed.new.ports i.zero i.one i.capacity _ c.self.invariant.0
           freed d.bounds d.owned),
       (let a = c.self.invariant.1 in let b = d.spare in let e = w.spare in omega (arith, a, b, e)),
+      rw (w.room ∙ d.room) c.self.invariant.2,
     )
 
 pub returns-clause-entries : goal.returns-clause-entries

@@ -21,6 +21,7 @@ invariant_of-self c =
       rw (c.turn.ensures.entries, c.turn.ensures.lives, c.turn.ensures.room)
           (stored-turn i.store.entries i.store.lives i.ports i.zero i.one i.capacity _ c.args.key c.args.state c.self.invariant.0 pair),
       (let a = c.self.invariant.1 in let b = c.turn.ensures.spare in omega (arith, a, b)),
+      rw (c.turn.ensures.room) c.self.invariant.2,
     )
 
 pub returns-clause-slots : goal.returns-clause-slots

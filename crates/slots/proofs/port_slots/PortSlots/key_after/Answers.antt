@@ -8,11 +8,11 @@ returns-in-Some g c =
     let from = c.first_cell_behind.ensures.cell in
     rw (← c.self.view_is)
     (ap Some c.key_of_cell.ensures
-    ∙ sym (behind-some i.slots i.cells i.room c.args.last c.in-Some.cell c.self.invariant (key-of c.args.last c.first_cell_behind.ensures.key)
+    ∙ sym (behind-some i.slots i.cells.numbers i.room c.args.last c.in-Some.cell c.self.invariant (key-of c.args.last c.first_cell_behind.ensures.key)
     (rw from at c.in-Some.ensures.within.0) c.in-Some.ensures.used (rw from at c.in-Some.ensures.before)))
 
 pub returns-in-None : goal.returns-in-None
 returns-in-None g c =
     let i = c.self.inside in
     rw (← c.self.view_is)
-    (sym (behind-none i.slots i.cells c.args.last (key-of c.args.last c.first_cell_behind.ensures.key) (rw c.first_cell_behind.ensures.cell at c.in-None.ensures.none)))
+    (sym (behind-none i.slots i.cells.numbers c.args.last (key-of c.args.last c.first_cell_behind.ensures.key) (rw c.first_cell_behind.ensures.cell at c.in-None.ensures.none)))

@@ -8,7 +8,7 @@ pub returns : goal.returns
 returns g c =
     let i = c.self.inside in
     rw (← c.self.view_is) (record {
-      order = rises-lower 0 _ _ (omega arith) (rows-rise (item_at i.slots) 0 i.cells);
-      numbers = distinct-numbers i.slots i.cells i.room c.self.invariant;
-      below = numbers-below i.slots i.cells i.room c.self.invariant;
+      order = rises-lower 0 _ _ (omega arith) (rows-rise (item_at i.slots) 0 i.cells.numbers);
+      numbers = distinct-numbers i.slots i.cells.numbers i.room c.self.invariant;
+      below = numbers-below i.slots i.cells.numbers i.room c.self.invariant;
     })
