@@ -44,7 +44,7 @@ fn play_lines<O: Write>(station: &mut Station, text: &str, output: &mut O) -> Re
 fn main(rt: HostRuntime) -> Result<()> {
     let mut output = io::writer(&rt);
     let hashers = Hashers::drawn(&rt)?;
-    for name in ["word.cases", "accepts.cases"] {
+    for name in ["word.cases", "accepts.cases", "pairs.cases"] {
         let text = text_of(&rt, name)?;
         writeln!(output, "== {name}")?;
         play(rt.alloc(), hashers, text.as_str(), &mut output)?;

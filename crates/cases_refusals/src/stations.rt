@@ -8,6 +8,16 @@ use settings::Settings;
 use std::alloc::Global;
 use std::io::Write;
 
+/// "hi" by UDP from 192.168.1.10 to 198.51.100.7:53, without a checksum, so that it is whole whatever its source port is.
+const PACKET: &str =
+    "00005e00010b02000000000a08004500001e0001000040118ee1c0a8010ac633640727100035000a00006869";
+
+/// Where its source port stands in the frame.
+const SOURCE_PORT: usize = 34;
+
+/// The first source port of `pairs`.
+const FIRST_PORT: u16 = 10_000;
+
 /// A gateway, and what it told. It goes by `end`.
 pub(crate) struct Station {
     alloc: Global,
@@ -48,6 +58,8 @@ impl Station {
     /// Does what a line says, and prints what comes of a step.
     ///
     /// - `tick MOMENT`, `frame SIDE HEX`, `datagram HEX`, `peer-off BOOT`: a step
+    /// - `plain SIDE HEX`: a frame, asked for once, with nothing kept before it
+    /// - `pairs COUNT`: a packet from each of so many ports of one host; prints how many pairs there are
     /// - `page`: what was told is forgotten, with all room for more
     /// - `frames`: prints the frames that were told
     pub(crate) fn act<O: Write>(&mut self, line: &str, output: &mut O) -> Result<()> {
@@ -57,6 +69,8 @@ impl Station {
             "frame" => self.frame(rest, output),
             "datagram" => self.datagram(rest, output),
             "peer-off" => self.peer_off(rest, output),
+            "plain" => self.plain(rest, output),
+            "pairs" => self.pairs(rest, output),
             "page" => self.page(),
             "frames" => tell_frames(output, &self.out),
             _ => bail!("no line of the cases: {line}"),
@@ -87,9 +101,47 @@ impl Station {
         step(self.alloc, &mut self.gateway, event, &mut self.out, output)
     }
 
+    fn plain<O: Write>(&mut self, rest: &str, output: &mut O) -> Result<()> {
+        let (side, digits) = rest.split_once(' ').context("no side")?;
+        let side = side_named(side)?;
+        let bytes = bytes_of(self.alloc, digits)?;
+        match once(
+            &mut self.gateway,
+            Event::Frame(side, bytes.as_slice()),
+            &mut self.out,
+        ) {
+            Ok(outcome) => tell_outcome(output, outcome)?,
+            Err(NoMemory) => writeln!(output, "  refused")?,
+        }
+        Ok(())
+    }
+
+    fn pairs<O: Write>(&mut self, count: &str, output: &mut O) -> Result<()> {
+        let mut frame = bytes_of(self.alloc, PACKET)?;
+        for number in 0..count.parse::<u16>()? {
+            set_source_port(&mut frame, FIRST_PORT.wrapping_add(number));
+            self.out = Out::new(self.alloc);
+            once(
+                &mut self.gateway,
+                Event::Frame(Side::Inside, frame.as_slice()),
+                &mut self.out,
+            )?;
+        }
+        let found = self.gateway.pairs()?.len();
+        writeln!(output, "  {found} pairs")?;
+        Ok(())
+    }
+
     fn page(&mut self) -> Result<()> {
         self.out = Out::new(self.alloc);
         Ok(())
+    }
+}
+
+fn set_source_port(frame: &mut [u8], port: u16) {
+    let place = SOURCE_PORT..SOURCE_PORT + 2;
+    if let Some(bytes) = frame.get_mut(place) {
+        bytes.copy_from_slice(&port.to_be_bytes());
     }
 }
 
