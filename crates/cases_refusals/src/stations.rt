@@ -58,7 +58,7 @@ impl Station {
     /// Does what a line says, and prints what comes of a step.
     ///
     /// - `tick MOMENT`, `frame SIDE HEX`, `datagram HEX`, `peer-off BOOT`: a step
-    /// - `plain SIDE HEX`: a frame, asked for once, with nothing kept before it
+    /// - `plain SIDE HEX`: a frame, with nothing kept before it
     /// - `pairs COUNT`: a packet from each of so many ports of one host; prints how many pairs there are
     /// - `page`: what was told is forgotten, with all room for more
     /// - `frames`: prints the frames that were told
@@ -105,15 +105,9 @@ impl Station {
         let (side, digits) = rest.split_once(' ').context("no side")?;
         let side = side_named(side)?;
         let bytes = bytes_of(self.alloc, digits)?;
-        match once(
-            &mut self.gateway,
-            Event::Frame(side, bytes.as_slice()),
-            &mut self.out,
-        ) {
-            Ok(outcome) => tell_outcome(output, outcome)?,
-            Err(NoMemory) => writeln!(output, "  refused")?,
-        }
-        Ok(())
+        let event = Event::Frame(side, bytes.as_slice());
+        let outcome = again(&mut self.gateway, event, &mut self.out)?;
+        tell_outcome(output, outcome)
     }
 
     fn pairs<O: Write>(&mut self, count: &str, output: &mut O) -> Result<()> {
@@ -121,13 +115,13 @@ impl Station {
         for number in 0..count.parse::<u16>()? {
             set_source_port(&mut frame, FIRST_PORT.wrapping_add(number));
             self.out = Out::new(self.alloc);
-            once(
-                &mut self.gateway,
-                Event::Frame(Side::Inside, frame.as_slice()),
-                &mut self.out,
-            )?;
+            let event = Event::Frame(Side::Inside, frame.as_slice());
+            again(&mut self.gateway, event, &mut self.out)?;
         }
-        let found = self.gateway.pairs()?.len();
+        let found = match self.gateway.pairs() {
+            Ok(pairs) => pairs.len(),
+            Err(_refused) => self.gateway.pairs()?.len(),
+        };
         writeln!(output, "  {found} pairs")?;
         Ok(())
     }
@@ -179,6 +173,14 @@ fn started(
 /// One step, of which nothing is said either.
 fn once(gateway: &mut Gateway, event: Event<'_>, out: &mut Out) -> Result<Outcome, NoMemory> {
     gateway.step(event, out)
+}
+
+/// One step, asked for once more where memory is refused.
+fn again(gateway: &mut Gateway, event: Event<'_>, out: &mut Out) -> Result<Outcome, NoMemory> {
+    match once(gateway, event, out) {
+        Ok(outcome) => Ok(outcome),
+        Err(NoMemory) => once(gateway, event, out),
+    }
 }
 
 /// Takes an event; where a growth is refused nothing has changed, and it takes the event then.
