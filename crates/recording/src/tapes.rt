@@ -1,5 +1,5 @@
 //! What takes a run down.
-ghost use Rattle.std.specs.Prelude.{OnOk, IfOk};
+ghost use Rattle.std.specs.Prelude.{◌≡◌, true, false, OnOk, IfOk, IsErr, IsOk};
 ghost use Rattle.std.specs.Io.KnownBytes.{Keeps};
 ghost use Rattle.frame_sim.specs.World.{World as Scenery};
 ghost use Rattle.frame_sim.specs.declared.events.Step.{Step as Given};
@@ -34,7 +34,9 @@ pub struct Untaped;
 impl Tape for Untaped {
     ghost takes = { λ _ _ _ _ _. Unit {0} };
 
-    fn take(&mut self, _world: &World<'_>, _event: &WorldEvent, _step: &Step) -> io::Result<()> {
+    fn take(&mut self, _world: &World<'_>, _event: &WorldEvent, _step: &Step) -> io::Result<()>
+        ensures taken { IsOk result }
+    {
         Ok(())
     }
 }
@@ -48,7 +50,7 @@ pub struct Capture<W> {
     /// The gateways' clocks.
     pub clocks: Clocks,
     /// Something couldn't be written.
-    is_refused: bool,
+    pub is_refused: bool,
 }
 
 impl<W: Write + Drop> Capture<W> {
@@ -58,7 +60,8 @@ impl<W: Write + Drop> Capture<W> {
     ///
     /// Where output is refused; part of the head may be written.
     pub fn begin(mut output: W) -> io::Result<Capture<W>>
-        ensures { IfOk result (λ c. Begins (W.contents output) (W.contents c.output) c.clocks) }
+        ensures begins { IfOk result (λ c. Begins (W.contents output) (W.contents c.output) c.clocks) }
+        ensures fresh { IfOk result (λ c. c.is_refused ≡ false) }
     {
         write_head(&mut output)?;
         Ok(Capture {
@@ -74,7 +77,8 @@ impl<W: Write + Drop> Capture<W> {
     ///
     /// Where that is refused, or something was refused before.
     pub fn end(&mut self) -> io::Result<()>
-        ensures { Keeps (W.contents self.old.output) (W.contents self.new.output) }
+        ensures kept { Keeps (W.contents self.old.output) (W.contents self.new.output) }
+        ensures refused { self.old.is_refused ≡ true → IsErr result }
     {
         let handed_on = self.output.flush();
         if self.is_refused {
@@ -87,7 +91,12 @@ impl<W: Write + Drop> Capture<W> {
 impl<W: Write> Tape for Capture<W> {
     ghost takes = { λ c w e s c2. Records (W.contents c.output) c.clocks w e s (W.contents c2.output) c2.clocks };
 
-    fn take(&mut self, world: &World<'_>, event: &WorldEvent, step: &Step) -> io::Result<()> {
+    fn take(&mut self, world: &World<'_>, event: &WorldEvent, step: &Step) -> io::Result<()>
+        ensures takes { OnOk result (Records (W.contents self.old.output) self.old.clocks world.now
+            event.now step.now (W.contents self.new.output) self.new.clocks) }
+        ensures marked { IsErr result → self.new.is_refused ≡ true }
+        ensures still { self.old.is_refused ≡ true → self.new.is_refused ≡ true }
+    {
         self.clocks.follow(event, step.answer.is_ok());
         let written = write_event(&mut self.output, &self.clocks, world, event, step);
         self.is_refused = self.is_refused || written.is_err();

@@ -40,6 +40,7 @@ pub fn simulate<O: Write, E: Write>(
         (O.contents output.old) (O.contents output.new) result }
     ensures begun { result ≡ 1 → BeginsScript settings.now script.now (O.contents output.old)
         (O.contents output.new) }
+    ensures quiet { (result ≡ 0) ⊎ (result ≡ 3) → errors.new ≡ errors.old }
 {
     match simulate_watched(alloc, settings, script, &mut Unwatched, output) {
         Ok(status) => status,
