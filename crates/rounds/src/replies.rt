@@ -1,5 +1,5 @@
 //! What who says a word to a box is answered.
-ghost use Rattle.std.specs.Prelude.{◌≡◌, ◌≤◌, ◌++◌, ℕ, List, take};
+ghost use Rattle.std.specs.Prelude.{◌≡◌, ◌≤◌, ◌++◌, ℕ, List, take, IfOk};
 ghost use Rattle.sockets.specs.Letters.{answered};
 ghost use Rattle.spec_step.specs.Shown.{Shown};
 ghost use Rattle.rounds.specs.Rounds.{AnswersOwed, IsAnswerTo, Replies, box};
@@ -91,7 +91,14 @@ fn report_of<W: Wire, L: Journal>(
     wire: &W,
     desk: &Desk,
     log: &L,
-) -> Result<Report, NoMemory> {
+) -> Result<Report, NoMemory>
+    ensures id { IfOk result (λ r. r.id ≡ desk.now.identity.id) }
+    ensures boot { IfOk result (λ r. r.boot ≡ desk.now.identity.boot) }
+    ensures digest { IfOk result (λ r. r.digest ≡ desk.now.identity.digest) }
+    ensures sides { IfOk result (λ r. r.sides ≡ desk.now.sides) }
+    ensures moment { IfOk result (λ r. r.gateway.moment ≡ gateway.now.moment) }
+    ensures away { IfOk result (λ r. r.gateway.away ≡ gateway.now.away) }
+{
     Ok(Report {
         id: desk.identity.id,
         boot: desk.identity.boot,
