@@ -60,7 +60,8 @@ impl<W: Write + Drop> Capture<W> {
     ///
     /// Where output is refused; part of the head may be written.
     pub fn begin(mut output: W) -> io::Result<Capture<W>>
-        ensures begins { IfOk result (λ c. Begins (W.contents output) (W.contents c.output) c.clocks) }
+        ensures begins { IfOk result (λ c. Begins (W.contents output) (W.contents c.output)
+            c.clocks) }
         ensures fresh { IfOk result (λ c. c.is_refused ≡ false) }
     {
         write_head(&mut output)?;
