@@ -1,5 +1,3 @@
 mod Statuses
 mod Asked
 mod Refusing
-mod Passing
-mod Taping

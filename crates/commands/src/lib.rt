@@ -2,10 +2,7 @@
 #![tactic(auto)]
 
 mod asking;
-mod capture_files;
 mod commands;
-mod meters;
-mod runs;
 mod versions;
 
 pub use commands::act;

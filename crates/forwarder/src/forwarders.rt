@@ -3,7 +3,8 @@ ghost use Rattle.std.specs.Prelude.{◌≡◌, ◌≢◌, IfErr, IfOk};
 ghost use Rattle.packet_rules.specs.Asked.{IsWhole};
 ghost use Rattle.packet_rules.specs.declared.reasons.Reason.TheVariants.{TooLong, TtlOver};
 ghost use Rattle.packet_rules.specs.Steps.{Carries};
-ghost use Rattle.spec_step.specs.Shown.{is_running, is_up, station_on};
+ghost use Rattle.spec_step.specs.GivingWay.{turn_of};
+ghost use Rattle.spec_step.specs.Shown.{has_side_out, is_running, is_up, is_whole, serves, station_on};
 ghost use Rattle.spec_step.specs.Verdict.{reading_on};
 ghost use Rattle.forwarder.specs.Forwarder.{shown_of};
 
@@ -12,6 +13,7 @@ use interfaces::Interface;
 use link::Link;
 use nat_types::Side;
 use packet_rules::{Networks, Reading, Reason};
+use spec_step::Turn;
 use waiting::WaitingPackets;
 
 /// A gateway: its two networks, clock and interfaces, its side of the binding protocol, its end of
@@ -55,6 +57,45 @@ impl Forwarder {
         ensures { result ≡ is_running (shown_of self.now) }
     {
         self.is_up() && !self.away
+    }
+
+    /// Whether both sides are whole.
+    fn is_whole(&self) -> bool
+        ensures { result ≡ is_whole (shown_of self.now) }
+    {
+        self.inside.is_whole(self.moment) && self.outside.is_whole(self.moment)
+    }
+
+    /// Whether it could serve on both sides; its datagrams say so.
+    pub fn serves(&self) -> bool
+        ensures { result ≡ serves (shown_of self.now) }
+    {
+        self.core.is_synced() && self.is_whole()
+    }
+
+    /// Whether the cable of one side or of both is out.
+    fn has_side_out(&self) -> bool
+        ensures { result ≡ has_side_out (shown_of self.now) }
+    {
+        !(self.inside.is_in() && self.outside.is_in())
+    }
+
+    /// The turn that a tick takes as it begins.
+    pub fn turn(&self) -> Turn
+        ensures { result ≡ turn_of (shown_of self.now) }
+    {
+        let served = self.link.peer_serves(self.moment);
+        if self.away {
+            if self.is_whole() || !served {
+                Turn::Returns
+            } else {
+                Turn::Stays
+            }
+        } else if self.has_side_out() && served {
+            Turn::Leaves
+        } else {
+            Turn::Stays
+        }
     }
 
     /// Reads a frame that came in on a side; or gives the reason of the first step that refuses it.

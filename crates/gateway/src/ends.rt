@@ -7,7 +7,6 @@ ghost use Rattle.output.specs.Output.{with_datagram};
 ghost use Rattle.spec_step.specs.Parts.{datagram_in, link_answered, link_ticked};
 ghost use Rattle.forwarder.specs.Forwarder.{scene_on, shown_of};
 
-use crate::turns::serves;
 use forwarder::Forwarder;
 use link::Link;
 use output::{OutputBuffer, WriteBytes};
@@ -39,7 +38,7 @@ fn send(forwarder: &Forwarder, page: &mut OutputBuffer)
         ≡ with_datagram page.old.told (datagram_in (shown_of forwarder.now)) }
 {
     let link = &forwarder.link;
-    let serves = serves(forwarder);
+    let serves = forwarder.serves();
     page.make_datagram(&NextDatagram { link, serves });
 }
 

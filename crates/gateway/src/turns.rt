@@ -1,10 +1,10 @@
-//! Giving way: the turn with which a tick begins, what a gateway says of itself, and its cables.
+//! Giving way: the turn with which a tick begins, and a gateway's cables.
 ghost use Rattle.std.specs.Prelude.{◌≡◌};
 ghost use Rattle.vrrp_states.specs.Table.{IsMoment};
 ghost use Rattle.interfaces.specs.Stations.{with_plug};
-ghost use Rattle.spec_step.specs.GivingWay.{GivingWay, TakesTurn, returned, turn_of};
+ghost use Rattle.spec_step.specs.GivingWay.{GivingWay, TakesTurn, returned};
 ghost use Rattle.spec_step.specs.declared.turns.Turn.TheVariants.{Leaves};
-ghost use Rattle.spec_step.specs.Shown.{has_side_out, is_whole, serves, station_on, with_station};
+ghost use Rattle.spec_step.specs.Shown.{station_on, with_station};
 ghost use Rattle.forwarder.specs.Forwarder.{scene_on, shown_of};
 ghost use Rattle.forwarder.specs.Room.{HasRoomFor, Spends};
 ghost use Rattle.gateway.specs.Rooms.{both_routers};
@@ -14,46 +14,6 @@ use forwarder::Forwarder;
 use nat_types::Side;
 use output::OutputBuffer;
 use spec_step::Turn;
-
-/// Whether both sides are whole.
-fn is_whole(forwarder: &Forwarder) -> bool
-    ensures { result ≡ is_whole (shown_of forwarder.now) }
-{
-    let now = forwarder.moment;
-    forwarder.inside.is_whole(now) && forwarder.outside.is_whole(now)
-}
-
-/// Whether it could serve on both sides; its datagrams say so.
-pub(crate) fn serves(forwarder: &Forwarder) -> bool
-    ensures { result ≡ serves (shown_of forwarder.now) }
-{
-    forwarder.core.is_synced() && is_whole(forwarder)
-}
-
-/// Whether the cable of one side or of both is out.
-fn has_side_out(forwarder: &Forwarder) -> bool
-    ensures { result ≡ has_side_out (shown_of forwarder.now) }
-{
-    !(forwarder.inside.is_in() && forwarder.outside.is_in())
-}
-
-/// The turn that a tick takes as it begins.
-fn turn_of(forwarder: &Forwarder) -> Turn
-    ensures { result ≡ turn_of (shown_of forwarder.now) }
-{
-    let served = forwarder.link.peer_serves(forwarder.moment);
-    if forwarder.away {
-        if is_whole(forwarder) || !served {
-            Turn::Returns
-        } else {
-            Turn::Stays
-        }
-    } else if has_side_out(forwarder) && served {
-        Turn::Leaves
-    } else {
-        Turn::Stays
-    }
-}
 
 /// Gives way: both routers are stopped.
 fn leave(forwarder: &mut Forwarder, page: &mut OutputBuffer)
@@ -100,7 +60,7 @@ pub(crate) fn take_turn(forwarder: &mut Forwarder, page: &mut OutputBuffer)
     } }
     ensures spends { Spends both_routers forwarder.old page.old forwarder.new page.new }
 {
-    match turn_of(forwarder) {
+    match forwarder.turn() {
         Turn::Leaves => leave(forwarder, page),
         Turn::Returns => come_back(forwarder),
         Turn::Stays => {}

@@ -1,0 +1,90 @@
+-- The faults of a box, as those of its parts are told.
+use Rattle.std.specs.Prelude.{◌≡◌}
+use Rattle.boot_store.specs.declared.faults.BootFault.{BootFault}
+use Rattle.boot_store.specs.declared.faults.BootFault.TheVariants as boot
+use Rattle.boot_file.specs.declared.faults.FileFault.{FileFault}
+use Rattle.boot_file.specs.declared.faults.FileFault.TheVariants as file
+use Rattle.control.specs.declared.paths.PathFault.{PathFault}
+use Rattle.control.specs.declared.paths.PathFault.TheVariants as path
+use Rattle.faults.specs.Faults.{IsOfFile}
+use Rattle.faults.specs.declared.faults.Fault.TheVariants.{NoMemory, Setting}
+use Rattle.settings_file.specs.declared.faults.SettingFault.TheVariants.{CantWork}
+use Rattle.settings_file.specs.declared.keys.Key.{Key}
+use Rattle.box_words.specs.declared.refusals.BoxFault.{BoxFault}
+use Rattle.box_words.specs.declared.refusals.BoxFault.TheVariants as fault
+
+-- of a control socket's path
+abbrev pub of_path : PathFault → BoxFault
+of_path path.LongPath = fault.LongPath
+of_path path.NoMemory = fault.Run NoMemory
+
+-- of a boot number that can't be had
+abbrev pub of_boot : BootFault → BoxFault
+of_boot boot.Device = fault.Device
+of_boot boot.Damaged = fault.Damaged
+of_boot boot.BootsUsedUp = fault.BootsUsedUp
+of_boot boot.FoundTwice = fault.FoundTwice
+
+-- it is of a file, or of memory
+abbrev pub IsOfPath : BoxFault → Type 0
+IsOfPath (fault.Run why) = IsOfFile why
+IsOfPath other = ⊥
+
+-- of a boot file that can't be had: another process has it, it can't be locked, or there is no memory; else of that file
+abbrev pub TellsBootFile : FileFault → BoxFault → Type 0
+TellsBootFile file.InUse why = why ≡ fault.InUse
+TellsBootFile file.NotLocked why = why ≡ fault.Device
+TellsBootFile file.NoMemory why = why ≡ fault.Run NoMemory
+TellsBootFile (file.NoFile cause) why = IsOfPath why
+TellsBootFile file.Exists why = IsOfPath why
+TellsBootFile file.NotWritten why = IsOfPath why
+
+-- it is of the file of a capture, in which none was begun yet
+abbrev pub IsOfCapture : BoxFault → Type 0
+IsOfCapture (fault.NoCapture why) = IsOfFile why
+IsOfCapture other = ⊥
+
+-- it is of a control socket, or of memory
+abbrev pub IsOfSocket : BoxFault → Type 0
+IsOfSocket (fault.NoControl path) = Unit {0}
+IsOfSocket (fault.Run why) = Unit {0}
+IsOfSocket other = ⊥
+
+-- it is of settings, of a file, of output or of memory
+abbrev pub IsOfRun : BoxFault → Type 0
+IsOfRun (fault.Run why) = Unit {0}
+IsOfRun other = ⊥
+
+-- it is of a filter, or of memory
+abbrev pub IsOfFilter : BoxFault → Type 0
+IsOfFilter (fault.NoFilter part) = Unit {0}
+IsOfFilter (fault.Run why) = why ≡ NoMemory
+IsOfFilter other = ⊥
+
+-- the fault of loopback ports that can't be had together: that of this key is the first that stands twice
+abbrev pub of_clash : Key → BoxFault
+of_clash key = fault.Run (Setting (CantWork key))
+
+-- it is of what is opened and read before the boot file's number is: a socket, the filter, the file of a capture
+abbrev pub IsBeforeBoot : BoxFault → Type 0
+IsBeforeBoot (fault.NoControl path) = Unit {0}
+IsBeforeBoot (fault.NoSocket why) = Unit {0}
+IsBeforeBoot (fault.NoFilter part) = Unit {0}
+IsBeforeBoot (fault.NoCapture why) = Unit {0}
+IsBeforeBoot other = ⊥
+
+-- it is of a gateway's start, or of its run: of its boot number, a file, output or memory
+abbrev pub IsOfStart : BoxFault → Type 0
+IsOfStart (fault.Run why) = Unit {0}
+IsOfStart fault.Device = Unit {0}
+IsOfStart fault.Damaged = Unit {0}
+IsOfStart fault.BootsUsedUp = Unit {0}
+IsOfStart fault.FoundTwice = Unit {0}
+IsOfStart other = ⊥
+
+-- it is of no way, nor of a way's descriptor
+abbrev pub IsOfNoWay : BoxFault → Type 0
+IsOfNoWay (fault.NoWay side) = ⊥
+IsOfNoWay fault.NoWayOfLink = ⊥
+IsOfNoWay (fault.NoDescriptor why) = ⊥
+IsOfNoWay other = Unit {0}

@@ -1,0 +1,291 @@
+//! Why a box ends without its work done.
+ghost use Rattle.std.specs.Prelude.{◌≡◌};
+ghost use Rattle.faults.specs.Faults.{IsOfFile};
+ghost use Rattle.box_words.specs.Faults.{IsOfCapture, IsOfFilter, IsOfNoWay, IsOfSocket, TellsBootFile};
+
+use crate::ends::Refused;
+use boot_file::FileFault;
+use boot_store::BootFault;
+use control::{PathFault, PeerOffRefusal};
+use faults::{Fault, Refusal};
+use journal::FilterFault;
+use nat_types::{NoMemory, Side};
+use reports::ReadFault;
+use settings_file::SettingFault;
+use sockets::NoDescriptor;
+use std::alloc::{AllocError, Global};
+use std::fmt;
+use std::io::{self, ErrorKind, Write};
+use supervision::NotOpen;
+use thiserror::Error;
+
+/// Why a box doesn't run, or couldn't say that it has ended.
+#[derive(Debug, Drop, Error)]
+pub enum BoxFault {
+    /// The settings can't be had, output isn't written, or memory is refused.
+    #[error("{0}")]
+    Run(Fault),
+    /// What stands for a side's way writes none.
+    #[error("way 1 NoWay {0}")]
+    NoWay(Side),
+    /// What stands for the link's way writes none.
+    #[error("way 1 NoWay link")]
+    NoWayOfLink,
+    /// A descriptor isn't open.
+    #[error("{0}")]
+    NoDescriptor(NoDescriptor),
+    /// What stands for the service manager's descriptor writes none.
+    #[error("notify 1 NoWay")]
+    NoManager,
+    /// The service manager's descriptor isn't open.
+    #[error("{0}")]
+    NotOpen(NotOpen),
+    /// A socket can't be had: this one.
+    #[error("socket 1 NoSocket{0}")]
+    NoSocket(Refused),
+    /// The control socket at this path can't be had, or nobody hears there.
+    #[error("socket 1 NoSocket {0}")]
+    NoControl(String),
+    /// The path of the control socket is too long for one.
+    #[error("socket 2 LongPath")]
+    LongPath,
+    /// A call to the boot file's device failed, or it can't be locked.
+    #[error("boot 1 Device")]
+    Device,
+    /// The boot file has no valid slot.
+    #[error("boot 2 Damaged")]
+    Damaged,
+    /// The boot file has the greatest number.
+    #[error("boot 3 BootsUsedUp")]
+    BootsUsedUp,
+    /// The pair is to be founded on a boot file that was used.
+    #[error("boot 4 FoundTwice")]
+    FoundTwice,
+    /// Another process runs on the boot file.
+    #[error("boot 5 InUse")]
+    InUse,
+    /// This part of what is to choose the lines is no directive.
+    #[error("log 1 NoFilter {0}")]
+    NoFilter(String),
+    /// The file of a capture can't be opened, or has something that is none.
+    #[error("{0}")]
+    NoCapture(Fault),
+    /// The box doesn't take the word that a boot of the other is off.
+    #[error("{0}")]
+    PeerOff(Explained),
+    /// What the box answers is no report, or no page.
+    #[error("status 1 NoReport: {0}")]
+    NoReport(ReadFault),
+    /// The box isn't synced.
+    #[error("status 2 NotSynced")]
+    NotSynced,
+}
+
+/// Why a box doesn't take the word that a boot of the other is off: by its number and name, and in words.
+#[derive(Clone, Copy, Debug, PartialEq, Eq)]
+pub struct Explained(pub PeerOffRefusal);
+
+impl fmt::Display for Explained {
+    fn fmt<W: fmt::Write>(&self, f: &mut fmt::Formatter<W>) -> fmt::Result {
+        let words = match self.0 {
+            PeerOffRefusal::NotSynced => "the box isn't synced",
+            PeerOffRefusal::NoPeer => "it knows no boot of the other box",
+            PeerOffRefusal::PastBoot => "the other box has started anew since that boot",
+            PeerOffRefusal::UnknownBoot => "it knows no such boot; --force takes it all the same",
+            PeerOffRefusal::PeerHeard => "the other box was heard within the last 3 seconds",
+        };
+        write!(f, "{}: {words}", self.0)
+    }
+}
+
+impl BoxFault {
+    /// Of what is no filter, or for which memory is refused.
+    pub fn of_filter(alloc: Global, fault: FilterFault<'_>) -> BoxFault
+        ensures { IsOfFilter result }
+    {
+        match fault {
+            FilterFault::NoFilter(part) => match String::from_str(alloc, part) {
+                Ok(part) => BoxFault::NoFilter(part),
+                Err(_) => BoxFault::Run(Fault::NoMemory),
+            },
+            FilterFault::NoMemory => BoxFault::Run(Fault::NoMemory),
+        }
+    }
+
+    /// Nobody hears at the control socket beside this boot file, or it can't be had.
+    pub fn no_control(alloc: Global, boot_file: &str) -> BoxFault
+        ensures kind { IsOfSocket result }
+        ensures no_way { IsOfNoWay result }
+    {
+        match format!(in alloc; "{boot_file}.control/socket") {
+            Ok(path) => BoxFault::NoControl(path),
+            Err(_) => BoxFault::Run(Fault::NoMemory),
+        }
+    }
+
+    /// Of a boot file that can't be had.
+    pub fn of_boot_file(alloc: Global, path: &str, fault: FileFault) -> BoxFault
+        ensures told { TellsBootFile fault result }
+        ensures no_way { IsOfNoWay result }
+    {
+        let (refusal, cause) = match fault {
+            FileFault::NoFile(cause) => (Refusal::NoFile, Some(cause)),
+            FileFault::Exists => (Refusal::Exists, None),
+            FileFault::NotWritten => (Refusal::NotWritten, None),
+            FileFault::InUse => return BoxFault::InUse,
+            FileFault::NotLocked => return BoxFault::Device,
+            FileFault::NoMemory => return BoxFault::Run(Fault::NoMemory),
+        };
+        BoxFault::Run(Fault::of_file(alloc, refusal, path, cause))
+    }
+
+    /// Of the file of a capture that can't be opened, or has something that is none.
+    pub fn no_capture(alloc: Global, path: &str, error: &io::Error) -> BoxFault
+        ensures kind { IsOfCapture result }
+        ensures no_way { IsOfNoWay result }
+    {
+        BoxFault::NoCapture(of_capture(alloc, path, error))
+    }
+
+    /// Tells of the fault on a line behind `natpair: `, and gives its exit status. Where even that
+    /// can't be written, the status alone tells.
+    pub fn tell<E: Write>(self, errors: &mut E) -> u8
+        ensures { result ≡ 1 }
+    {
+        let _ = writeln!(errors, "natpair: {self}");
+        1
+    }
+}
+
+/// Why a capture can't be begun in the file at a path.
+pub fn of_capture(alloc: Global, path: &str, error: &io::Error) -> Fault
+    ensures { IsOfFile result }
+{
+    match error.kind() {
+        ErrorKind::OutOfMemory => Fault::NoMemory,
+        ErrorKind::AlreadyExists => Fault::of_file(alloc, Refusal::Exists, path, None),
+        cause => Fault::of_file(alloc, Refusal::NotWritten, path, Some(cause)),
+    }
+}
+
+impl From<Fault> for BoxFault {
+    ghost use Rattle.std.specs.Prelude.{◌≡◌};
+    ghost use Rattle.box_words.specs.declared.refusals.BoxFault.TheVariants as faults;
+
+    ghost from_gives = { λ fault gives. gives ≡ faults.Run fault };
+
+    fn from(fault: Fault) -> BoxFault {
+        BoxFault::Run(fault)
+    }
+}
+
+impl From<SettingFault> for BoxFault {
+    ghost use Rattle.std.specs.Prelude.{◌≡◌};
+    ghost use Rattle.faults.specs.Faults.{of_setting};
+    ghost use Rattle.box_words.specs.declared.refusals.BoxFault.TheVariants as faults;
+
+    ghost from_gives = { λ fault gives. gives ≡ faults.Run (of_setting fault) };
+
+    fn from(fault: SettingFault) -> BoxFault {
+        BoxFault::Run(Fault::from(fault))
+    }
+}
+
+impl From<NoDescriptor> for BoxFault {
+    ghost use Rattle.std.specs.Prelude.{◌≡◌};
+    ghost use Rattle.box_words.specs.declared.refusals.BoxFault.TheVariants as faults;
+
+    ghost from_gives = { λ fault gives. gives ≡ faults.NoDescriptor fault };
+
+    fn from(fault: NoDescriptor) -> BoxFault {
+        BoxFault::NoDescriptor(fault)
+    }
+}
+
+impl From<PathFault> for BoxFault {
+    ghost use Rattle.std.specs.Prelude.{◌≡◌};
+    ghost use Rattle.box_words.specs.Faults.{of_path};
+
+    ghost from_gives = { λ fault gives. gives ≡ of_path fault };
+
+    fn from(fault: PathFault) -> BoxFault {
+        match fault {
+            PathFault::LongPath => BoxFault::LongPath,
+            PathFault::NoMemory => BoxFault::Run(Fault::NoMemory),
+        }
+    }
+}
+
+impl From<BootFault> for BoxFault {
+    ghost use Rattle.std.specs.Prelude.{◌≡◌};
+    ghost use Rattle.box_words.specs.Faults.{of_boot};
+
+    ghost from_gives = { λ fault gives. gives ≡ of_boot fault };
+
+    fn from(fault: BootFault) -> BoxFault {
+        match fault {
+            BootFault::Device => BoxFault::Device,
+            BootFault::Damaged => BoxFault::Damaged,
+            BootFault::BootsUsedUp => BoxFault::BootsUsedUp,
+            BootFault::FoundTwice => BoxFault::FoundTwice,
+        }
+    }
+}
+
+impl From<NotOpen> for BoxFault {
+    ghost use Rattle.std.specs.Prelude.{◌≡◌};
+    ghost use Rattle.box_words.specs.declared.refusals.BoxFault.TheVariants as faults;
+
+    ghost from_gives = { λ fault gives. gives ≡ faults.NotOpen fault };
+
+    fn from(fault: NotOpen) -> BoxFault {
+        BoxFault::NotOpen(fault)
+    }
+}
+
+impl From<ReadFault> for BoxFault {
+    ghost use Rattle.std.specs.Prelude.{◌≡◌};
+    ghost use Rattle.box_words.specs.declared.refusals.BoxFault.TheVariants as faults;
+
+    ghost from_gives = { λ fault gives. gives ≡ faults.NoReport fault };
+
+    fn from(fault: ReadFault) -> BoxFault {
+        BoxFault::NoReport(fault)
+    }
+}
+
+impl From<AllocError> for BoxFault {
+    ghost use Rattle.std.specs.Prelude.{◌≡◌};
+    ghost use Rattle.faults.specs.declared.faults.Fault.TheVariants as reasons;
+    ghost use Rattle.box_words.specs.declared.refusals.BoxFault.TheVariants as faults;
+
+    ghost from_gives = { λ _ gives. gives ≡ faults.Run reasons.NoMemory };
+
+    fn from(_: AllocError) -> BoxFault {
+        BoxFault::Run(Fault::NoMemory)
+    }
+}
+
+impl From<NoMemory> for BoxFault {
+    ghost use Rattle.std.specs.Prelude.{◌≡◌};
+    ghost use Rattle.faults.specs.declared.faults.Fault.TheVariants as reasons;
+    ghost use Rattle.box_words.specs.declared.refusals.BoxFault.TheVariants as faults;
+
+    ghost from_gives = { λ _ gives. gives ≡ faults.Run reasons.NoMemory };
+
+    fn from(_: NoMemory) -> BoxFault {
+        BoxFault::Run(Fault::NoMemory)
+    }
+}
+
+impl From<io::Error> for BoxFault {
+    ghost use Rattle.std.specs.Prelude.{◌≡◌};
+    ghost use Rattle.faults.specs.declared.faults.Fault.TheVariants as reasons;
+    ghost use Rattle.box_words.specs.declared.refusals.BoxFault.TheVariants as faults;
+
+    ghost from_gives = { λ _ gives. gives ≡ faults.Run reasons.NotWritten };
+
+    fn from(_: io::Error) -> BoxFault {
+        BoxFault::Run(Fault::NotWritten)
+    }
+}

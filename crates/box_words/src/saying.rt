@@ -1,0 +1,201 @@
+//! The words that an operator says to a running box.
+ghost use Rattle.std.specs.Prelude.{◌≡◌, ◌⊎◌, IfOk, OnOk, Some, option_map, string_bytes};
+ghost use Rattle.control.specs.Answers.{content_of, heard};
+ghost use Rattle.control.specs.Paths.{IsBeside};
+ghost use Rattle.control.specs.Words.{word_of};
+ghost use Rattle.box_words.specs.Faults.{IsOfRun};
+ghost use Rattle.box_words.specs.Held.{AreHeld};
+ghost use Rattle.box_words.specs.Said.{IsLineTo, off_bytes, said_off as meaning_off, said_side};
+ghost use Rattle.settings.specs.Parts.{gateway_of};
+
+use crate::asking::asked;
+use crate::refusals::{BoxFault, Explained};
+use control::{
+    Answer, ControlPath, PathFault, say, spelled_known_off, spelled_off, spelled_side, spelled_stop,
+};
+use faults::text_of;
+use nat_types::{GatewayId, Side};
+use settings::Settings;
+use std::alloc::Global;
+use std::fs::Files;
+use std::io::Write;
+use std::net::Net;
+
+/// Tells a running box that a boot of the other is off: this one, or where there is none that which the box knows. Where it
+/// is forced the boot may be above the known one. The answer is the exit status: 0 once the box has taken it, or 1 where it
+/// refuses it or for a fault, which is told on `errors`.
+pub fn peer_off<R: Files + Net + AllocGlobal, E: Write>(
+    rt: &R,
+    settings: &str,
+    id: GatewayId,
+    boot: Option<u64>,
+    forced: bool,
+    errors: &mut E,
+) -> u8
+    ensures status { (result ≡ 0) ⊎ (result ≡ 1) }
+{
+    let word = OffWord::of(boot, forced);
+    match said_off(rt, settings, id, word.bytes()) {
+        Ok(()) => 0,
+        Err(fault) => fault.tell(errors),
+    }
+}
+
+/// The word that a boot of the other box is off, as it is said.
+#[derive(Clone, Copy)]
+enum OffWord {
+    /// The one that the box knows.
+    Known([u8; 2]),
+    /// This one.
+    Boot([u8; 10]),
+}
+
+impl OffWord {
+    /// The word of this boot, or of the known one. Only a boot that is named is forced.
+    fn of(boot: Option<u64>, forced: bool) -> OffWord
+        ensures { word_of (off_bytes result) ≡ Some (meaning_off boot forced) }
+    {
+        match boot {
+            Some(boot) => OffWord::Boot(spelled_off(boot, forced)),
+            None => OffWord::Known(spelled_known_off()),
+        }
+    }
+
+    fn bytes(&self) -> &[u8]
+        ensures { result.now ≡ off_bytes self.now }
+    {
+        match self {
+            OffWord::Known(bytes) => bytes,
+            OffWord::Boot(bytes) => bytes,
+        }
+    }
+}
+
+/// Says a word that the box may refuse.
+fn said_off<R: Files + Net + AllocGlobal>(
+    rt: &R,
+    settings: &str,
+    id: GatewayId,
+    word: &[u8],
+) -> Result<(), BoxFault> {
+    let line = line_to(rt, settings, id)?;
+    let mut room = [0; 4_096];
+    let count = asked(rt, &line, word, &mut room)?;
+    taken_by(rt.alloc(), &line, Answer::read(&room[..count]))
+}
+
+/// Whether a box has taken a word, by its answer; or why it doesn't.
+fn taken_by(alloc: Global, line: &Line, answer: Option<Answer<'_>>) -> Result<(), BoxFault>
+    ensures { OnOk result (option_map content_of answer.entry ≡ Some heard) }
+{
+    match answer {
+        Some(Answer::Heard) => Ok(()),
+        Some(Answer::Refused(refusal)) => Err(BoxFault::PeerOff(Explained(refusal))),
+        _ => Err(line.unheard(alloc)),
+    }
+}
+
+/// Tells a running box to end. The answer is the exit status: 0 once the box has heard it, or 1 for a fault, which is told
+/// on `errors`. The box ends with its next tick.
+pub fn stop<R: Files + Net + AllocGlobal, E: Write>(
+    rt: &R,
+    settings: &str,
+    id: GatewayId,
+    errors: &mut E,
+) -> u8
+    ensures status { (result ≡ 0) ⊎ (result ≡ 1) }
+{
+    match said(rt, settings, id, &spelled_stop()) {
+        Ok(()) => 0,
+        Err(fault) => fault.tell(errors),
+    }
+}
+
+/// Tells a running gateway that a side can be used (`up`), or can't. It counts whether or not the gateway tracks
+/// carriers. The answer is the exit status: 0 once the gateway has heard it, or 1 for a fault, which is told on `errors`.
+pub fn side<R: Files + Net + AllocGlobal, E: Write>(
+    rt: &R,
+    settings: &str,
+    id: GatewayId,
+    side: Side,
+    up: bool,
+    errors: &mut E,
+) -> u8
+    ensures status { (result ≡ 0) ⊎ (result ≡ 1) }
+{
+    match said(rt, settings, id, &side_word(side, up)) {
+        Ok(()) => 0,
+        Err(fault) => fault.tell(errors),
+    }
+}
+
+/// The word of a side, as an operator says it.
+fn side_word(side: Side, up: bool) -> [u8; 5]
+    ensures { word_of result ≡ Some (said_side side up) }
+{
+    spelled_side(side, up, false)
+}
+
+/// Says a word at the gateway's control socket, and waits until it is heard.
+fn said<R: Files + Net + AllocGlobal>(
+    rt: &R,
+    settings: &str,
+    id: GatewayId,
+    word: &[u8],
+) -> Result<(), BoxFault> {
+    let line = line_to(rt, settings, id)?;
+    match say(rt, &line.path, word) {
+        Ok(()) => Ok(()),
+        Err(_) => Err(line.unheard(rt.alloc())),
+    }
+}
+
+/// Where a box is spoken to: its control socket, beside its boot file.
+#[derive(Drop)]
+pub(crate) struct Line {
+    pub(crate) path: ControlPath,
+    boot_file: String,
+}
+
+impl Line {
+    /// Nobody hears there.
+    pub(crate) fn unheard(&self, alloc: Global) -> BoxFault {
+        BoxFault::no_control(alloc, self.boot_file.as_str())
+    }
+}
+
+/// Where the gateway of the settings at a path is spoken to.
+pub(crate) fn line_to<R: Files + AllocGlobal>(
+    rt: &R,
+    settings: &str,
+    id: GatewayId,
+) -> Result<Line, BoxFault>
+    ensures { IfOk result (IsLineTo id) }
+{
+    let settings = settings_at(rt, settings)?;
+    let path = control_path(rt.alloc(), &settings, id)?;
+    let boot_file = String::from_str(rt.alloc(), settings.gateway(id).boot_file.as_str())?;
+    Ok(Line { path, boot_file })
+}
+
+/// Where the gateway's control socket lies: beside its boot file.
+pub fn control_path(
+    alloc: Global,
+    settings: &Settings,
+    id: GatewayId,
+) -> Result<ControlPath, PathFault>
+    ensures beside { IfOk result
+        (IsBeside (string_bytes (gateway_of settings.now id).boot_file)) }
+{
+    ControlPath::beside(alloc, settings.gateway(id).boot_file.as_str())
+}
+
+/// The settings in the file at a path.
+pub fn settings_at<R: Files + AllocGlobal>(rt: &R, path: &str) -> Result<Settings, BoxFault>
+    ensures held { IfOk result AreHeld }
+    ensures err { IfErr result IsOfRun }
+{
+    let text = text_of(rt, path)?;
+    let settings = settings_file::read(rt.alloc(), text.as_str())?;
+    Ok(settings)
+}

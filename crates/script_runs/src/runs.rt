@@ -1,0 +1,253 @@
+//! Scripts that are run, and captured where that is asked for.
+ghost use Rattle.std.specs.Prelude.{◌≡◌, ◌⊎◌, IfErr, IfOk, Ok};
+ghost use Rattle.faults.specs.Faults.{status_of};
+ghost use Rattle.faults.specs.Jobs.{IsJobOf};
+ghost use Rattle.loopback_run.specs.Loops.{IsLoop};
+ghost use Rattle.simulation.specs.Status.{RunsScript};
+ghost use Rattle.simulation.specs.Tapes.{IsTapedRun};
+ghost use Rattle.script_runs.specs.Runs.{HasLoop, HasRun};
+
+use crate::capture_files::{capture_at, ended, unmade};
+use crate::meters::Meter;
+use command_line::RunWords;
+use faults::{Fault, Job, job_of, text_of};
+use loopback::{Channel, Loopback, PortFault};
+use loopback_run::run_loop;
+use recording::Tape;
+use settings_file::{SettingFault, port_clash_of_both};
+use simulation::{Unwatched, simulate, simulate_watched};
+use std::alloc::Global;
+use std::fs::Files;
+use std::io::Write;
+use std::net::Net;
+use std::rt::Clock;
+
+/// Runs the script of one file with the settings of another.
+pub fn sim<R: Files + Clock + AllocGlobal, O: Write, E: Write>(
+    rt: &R,
+    files: &RunWords,
+    is_watched: bool,
+    output: &mut O,
+    errors: &mut E,
+) -> u8
+    ensures status { (result ≡ 0) ⊎ ((result ≡ 1) ⊎ (result ≡ 3)) }
+    ensures run { (result ≡ 0) ⊎ (result ≡ 3) → HasRun (O.contents output.old)
+        (O.contents output.new) result }
+{
+    match texts(rt, files) {
+        Ok((settings, script)) => {
+            let (settings, script) = (settings.as_str(), script.as_str());
+            match &files.capture {
+                Some(path) => {
+                    let path = path.as_str();
+                    sim_captured(rt, settings, script, path, is_watched, output, errors)
+                }
+                None => simulated(rt, settings, script, is_watched, output, errors),
+            }
+        }
+        Err(fault) => fault.tell(errors),
+    }
+}
+
+/// Runs a script.
+fn simulated<R: Clock + AllocGlobal, O: Write, E: Write>(
+    rt: &R,
+    settings: &str,
+    script: &str,
+    is_watched: bool,
+    output: &mut O,
+    errors: &mut E,
+) -> u8
+    ensures status { (result ≡ 0) ⊎ ((result ≡ 1) ⊎ (result ≡ 3)) }
+    ensures run { (result ≡ 0) ⊎ (result ≡ 3) → RunsScript settings.now script.now
+        (O.contents output.old) (O.contents output.new) result }
+{
+    if is_watched {
+        watched(rt, settings, script, output, errors)
+    } else {
+        simulate(rt.alloc(), settings, script, output, errors)
+    }
+}
+
+/// Runs a script, and says how far it is while somebody waits.
+fn watched<R: Clock + AllocGlobal, O: Write, E: Write>(
+    rt: &R,
+    settings: &str,
+    script: &str,
+    output: &mut O,
+    errors: &mut E,
+) -> u8
+    ensures status { (result ≡ 0) ⊎ ((result ≡ 1) ⊎ (result ≡ 3)) }
+    ensures run { (result ≡ 0) ⊎ (result ≡ 3) → RunsScript settings.now script.now
+        (O.contents output.old) (O.contents output.new) result }
+{
+    let mut meter = Meter::start(rt, errors);
+    match simulate_watched(rt.alloc(), settings, script, &mut meter, output) {
+        Ok(status) => status,
+        Err(fault) => fault.tell(errors),
+    }
+}
+
+/// Runs a script, with its capture in a file, which is begun once both texts are read.
+fn sim_captured<R: Files + Clock + AllocGlobal, O: Write, E: Write>(
+    rt: &R,
+    settings: &str,
+    script: &str,
+    path: &str,
+    is_watched: bool,
+    output: &mut O,
+    errors: &mut E,
+) -> u8
+    ensures status { (result ≡ 0) ⊎ ((result ≡ 1) ⊎ (result ≡ 3)) }
+    ensures run { (result ≡ 0) ⊎ (result ≡ 3) → RunsScript settings.now script.now
+        (O.contents output.old) (O.contents output.new) result }
+{
+    match job_of(rt.alloc(), settings, script) {
+        Ok(job) => match capture_at(rt, path, &job) {
+            Ok(mut capture) => {
+                let run = taped(rt, &job, is_watched, &mut capture, output, errors);
+                ended(rt.alloc(), run, capture.end(), path, errors)
+            }
+            Err(error) => unmade(rt.alloc(), &error, path, errors),
+        },
+        Err(fault) => fault.tell(errors),
+    }
+}
+
+/// Runs a job, has a tape take it down, and says how far it is where somebody watches.
+fn taped<R: Clock + AllocGlobal, T: Tape, O: Write, E: Write>(
+    rt: &R,
+    job: &Job,
+    is_watched: bool,
+    tape: &mut T,
+    output: &mut O,
+    errors: &mut E,
+) -> Result<u8, Fault>
+    ensures run { IfOk result (IsTapedRun T.takes job.now.settings job.now.events.items
+        tape.old tape.new (O.contents output.old) (O.contents output.new)) }
+    ensures status { IfOk result (λ status. (status ≡ 0) ⊎ (status ≡ 3)) }
+    ensures known { IfErr result (λ fault. status_of fault ≡ 1) }
+{
+    let (settings, events) = (&job.settings, job.events.as_slice());
+    if is_watched {
+        let mut meter = Meter::start(rt, errors);
+        simulation::play(rt.alloc(), settings, events, &mut meter, tape, output)
+    } else {
+        simulation::play(rt.alloc(), settings, events, &mut Unwatched, tape, output)
+    }
+}
+
+/// Runs the script of one file with the settings of another, over the own loopback ports of both gateways.
+pub fn repeat<R: Files + Net + Clock + AllocGlobal, O: Write, E: Write>(
+    rt: &R,
+    files: &RunWords,
+    output: &mut O,
+    errors: &mut E,
+) -> u8
+    ensures status { (result ≡ 0) ⊎ ((result ≡ 1) ⊎ (result ≡ 3)) }
+    ensures run { (result ≡ 0) ⊎ (result ≡ 3) → HasLoop (O.contents output.old)
+        (O.contents output.new) result }
+{
+    match texts(rt, files) {
+        Ok((settings, script)) => {
+            let (settings, script) = (settings.as_str(), script.as_str());
+            match &files.capture {
+                Some(path) => {
+                    repeat_captured(rt, settings, script, path.as_str(), output, errors)
+                }
+                None => repeated(rt, settings, script, output, errors),
+            }
+        }
+        Err(fault) => fault.tell(errors),
+    }
+}
+
+/// Runs a script over sockets.
+fn repeated<R: Net + Clock + AllocGlobal, O: Write, E: Write>(
+    rt: &R,
+    settings: &str,
+    script: &str,
+    output: &mut O,
+    errors: &mut E,
+) -> u8
+    ensures status { (result ≡ 0) ⊎ ((result ≡ 1) ⊎ (result ≡ 3)) }
+    ensures run { (result ≡ 0) ⊎ (result ≡ 3) → HasLoop (O.contents output.old)
+        (O.contents output.new) result }
+{
+    let mut passage = Loopback::new(rt);
+    run_loop(rt.alloc(), settings, script, &mut passage, output, errors)
+}
+
+/// Runs a script over sockets, with its capture in a file, which is begun once both texts are read and the sockets are had.
+fn repeat_captured<R: Files + Net + Clock + AllocGlobal, O: Write, E: Write>(
+    rt: &R,
+    settings: &str,
+    script: &str,
+    path: &str,
+    output: &mut O,
+    errors: &mut E,
+) -> u8
+    ensures status { (result ≡ 0) ⊎ ((result ≡ 1) ⊎ (result ≡ 3)) }
+    ensures run { (result ≡ 0) ⊎ (result ≡ 3) → HasLoop (O.contents output.old)
+        (O.contents output.new) result }
+{
+    let mut passage = Loopback::new(rt);
+    match opened(rt.alloc(), settings, script, &mut passage) {
+        Ok(job) => match capture_at(rt, path, &job) {
+            Ok(mut capture) => {
+                let run = looped(rt.alloc(), &job, &mut passage, &mut capture, output);
+                ended(rt.alloc(), run, capture.end(), path, errors)
+            }
+            Err(error) => unmade(rt.alloc(), &error, path, errors),
+        },
+        Err(fault) => fault.tell(errors),
+    }
+}
+
+/// The job of two texts, once a passage has the ports of its settings.
+fn opened<P: Channel>(
+    alloc: Global,
+    settings: &str,
+    script: &str,
+    passage: &mut P,
+) -> Result<Job, Fault>
+    ensures job { IfOk result (IsJobOf settings.now script.now) }
+    ensures opened { IfOk result (λ job. P.opens passage.old job.settings passage.new) }
+    ensures known { IfErr result (λ fault. status_of fault ≡ 1) }
+{
+    let job = job_of(alloc, settings, script)?;
+    if let Some(key) = port_clash_of_both(&job.settings) {
+        return Err(Fault::Setting(SettingFault::CantWork(key)));
+    }
+    match passage.open(&job.settings) {
+        Ok(()) => Ok(job),
+        Err(PortFault::NoPort(number)) => Err(Fault::NoSocket(number)),
+        Err(PortFault::NoMemory) => Err(Fault::NoMemory),
+    }
+}
+
+/// Runs a job over a passage that has its ports, and has a tape take it down.
+fn looped<P: Channel, T: Tape, O: Write>(
+    alloc: Global,
+    job: &Job,
+    passage: &mut P,
+    tape: &mut T,
+    output: &mut O,
+) -> Result<u8, Fault>
+    ensures run { IfOk result (IsLoop P.passes job.now.settings job.now.events.items
+        passage.old passage.new (O.contents output.old) (O.contents output.new)) }
+    ensures status { IfOk result (λ status. (status ≡ 0) ⊎ (status ≡ 3)) }
+    ensures known { IfErr result (λ fault. status_of fault ≡ 1) }
+{
+    let events = job.events.as_slice();
+    loopback_run::play(alloc, &job.settings, events, passage, tape, output)
+}
+
+/// The texts of two files. The settings' fault comes first.
+fn texts<R: Files + AllocGlobal>(rt: &R, files: &RunWords) -> Result<(String, String), Fault>
+    ensures status { IfErr result (λ fault. status_of fault ≡ 1) }
+{
+    let settings = text_of(rt, files.settings.as_str())?;
+    let script = text_of(rt, files.script.as_str())?;
+    Ok((settings, script))
+}
