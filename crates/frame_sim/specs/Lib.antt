@@ -4,4 +4,5 @@ pub mod Halves
 pub mod Scene
 pub mod Runs
 pub mod Status
+pub mod Tapes
 pub mod Texts

@@ -5,9 +5,11 @@ mod beginnings;
 mod events;
 mod halves;
 mod standings;
+mod tapes;
 mod worlds;
 
 pub use events::{Step, WorldFault};
 pub use nat_types::WorldEvent;
 pub use spec_trace::{AuditFault, audit};
+pub use tapes::{Tape, Untaped};
 pub use worlds::World;

@@ -13,12 +13,11 @@ ghost use Rattle.loopback_run.specs.Loops.{IsLoop, LoopsScript, TellsLoop};
 ghost use Rattle.loopback_run.specs.Stops.{FailsScript, HaveBegun, HoldJob, Leaves, Stops, StopsLoop, Untouched};
 
 use faults::{Fault, job_of};
-use frame_sim::{Step, World};
+use frame_sim::{Step, Tape, Untaped, World};
 use gateway::Out;
 use loopback::{Channel, Passed, PortFault};
 use nat_types::WorldEvent;
 use printing::Printer;
-use recording::{Tape, Untaped};
 use settings::Settings;
 use settings_file::{SettingFault, port_clash_of_both};
 use sockets::Place;

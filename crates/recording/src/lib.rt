@@ -6,4 +6,4 @@ mod tapes;
 mod writing;
 
 pub use clocks::Clocks;
-pub use tapes::{Capture, Tape, Untaped};
+pub use tapes::Capture;

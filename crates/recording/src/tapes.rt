@@ -1,4 +1,4 @@
-//! What takes a run down.
+//! A run taken down as a capture.
 ghost use Rattle.std.specs.Prelude.{◌≡◌, true, false, OnOk, IfOk, IsErr, IsOk};
 ghost use Rattle.std.specs.Io.KnownBytes.{Keeps};
 ghost use Rattle.frame_sim.specs.World.{World as Scenery};
@@ -9,37 +9,9 @@ ghost use Rattle.recording.specs.Tapes.{Begins, Records};
 use crate::Clocks;
 use crate::writing::write_event;
 use captures::write_head;
-use frame_sim::{Step, World};
+use frame_sim::{Step, Tape, World};
 use nat_types::WorldEvent;
 use std::io::{self, ErrorKind, Write};
-
-/// What takes a run down, event by event.
-pub trait Tape {
-    /// What it is after it took an event down, with the step that the event gave, in a world that has had that step.
-    ghost takes: { Self → Scenery → Happening → Given → Self → Type 0 };
-
-    /// Takes an event down.
-    ///
-    /// # Errors
-    ///
-    /// Where it can't be written; part of it may be.
-    fn take(&mut self, world: &World<'_>, event: &WorldEvent, step: &Step) -> io::Result<()>
-        ensures { OnOk result (takes self.old world.now event.now step.now self.new) };
-}
-
-/// A run isn't taken down.
-#[derive(Clone, Copy, Debug)]
-pub struct Untaped;
-
-impl Tape for Untaped {
-    ghost takes = { λ _ _ _ _ _. Unit {0} };
-
-    fn take(&mut self, _world: &World<'_>, _event: &WorldEvent, _step: &Step) -> io::Result<()>
-        ensures taken { IsOk result }
-    {
-        Ok(())
-    }
-}
 
 /// A run is taken down as a capture (of `captures`): behind its head of each event first the packet that came with it, and
 /// then those that its gateway sent.

@@ -6,7 +6,7 @@ use Rattle.faults.specs.declared.faults.Fault.{Fault}
 use Rattle.faults.specs.declared.faults.Fault.TheVariants.{NoMemory, NotWritten}
 use Rattle.faults.specs.declared.jobs.Job.{Job}
 use Rattle.std.specs.Prelude.{List}
-use Rattle.recording.specs.Tapes.{TakesOn}
+use Rattle.frame_sim.specs.Tapes.{TakesOn}
 use Rattle.simulation.specs.Status.{RunsScript}
 use Rattle.simulation.specs.Tapes.{IsTapedRun}
 

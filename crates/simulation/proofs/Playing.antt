@@ -7,7 +7,7 @@ use Rattle.nat_types.specs.declared.events.WorldEvent.{WorldEvent}
 use Rattle.frame_sim.specs.World.{World}
 use Rattle.frame_sim.specs.Runs.{AreSteps}
 use Rattle.frame_sim.specs.Status.{IsNew}
-use Rattle.recording.specs.Tapes.{TakesOn}
+use Rattle.frame_sim.specs.Tapes.{TakesOn}
 use Rattle.faults.specs.declared.jobs.Job.{Job}
 use Rattle.faults.specs.Jobs.{IsJobOf}
 use Rattle.frame_sim.specs.World.{founding}

@@ -3,7 +3,7 @@ use Rattle.std.proofs.Common.{◌≡◌, List, ◌∷◌}
 use Rattle.nat_types.specs.declared.events.WorldEvent.{WorldEvent}
 use Rattle.frame_sim.specs.declared.events.Step.{Step}
 use Rattle.frame_sim.specs.World.{World}
-use Rattle.recording.specs.Tapes.{AreTaken, TakesOn}
+use Rattle.frame_sim.specs.Tapes.{AreTaken, TakesOn}
 
 -- what takes the others down from here, takes all down from the beginning
 pub record LeadsOn {T : Type 0} (takes : TakesOn T) (w : World) (first : T) (all : List WorldEvent) (every : List Step) (t : T) (es : List WorldEvent) (ss : List Step) : Type 0 where

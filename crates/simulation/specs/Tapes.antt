@@ -7,7 +7,7 @@ use Rattle.faults.specs.declared.jobs.Job.{Job}
 use Rattle.faults.specs.Jobs.{IsJobOf}
 use Rattle.frame_sim.specs.World.{World}
 use Rattle.frame_sim.specs.Status.{IsRun, TakesSteps}
-use Rattle.recording.specs.Tapes.{AreTaken, TakesOn}
+use Rattle.frame_sim.specs.Tapes.{AreTaken, TakesOn}
 use Rattle.simulation.specs.Texts.{run_lines}
 
 -- the steps that these events take, in order, from one world to another, a tape that took them down, and their text

@@ -2,7 +2,7 @@ use Rattle.std.proofs.Common.{◌∙◌, List, ap, inl, inr, refl, subst}
 use Rattle.std.specs.Io.KnownBytes.{Appends}
 use Rattle.frame_sim.specs.declared.events.Step.{Step}
 use Rattle.frame_sim.specs.Status.{run_status}
-use Rattle.recording.specs.Tapes.{AreTaken}
+use Rattle.frame_sim.specs.Tapes.{AreTaken}
 use Rattle.printing.specs.Printed.{IsBegun}
 use Rattle.simulation.specs.Texts.{run_lines}
 use Rattle.simulation.proofs.Playing.{on_err}

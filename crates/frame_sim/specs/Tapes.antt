@@ -1,0 +1,15 @@
+-- What takes a run down, event by event.
+use Rattle.std.specs.Prelude.{◌≡◌, List, [], ◌∷◌}
+use Rattle.nat_types.specs.declared.events.WorldEvent.{WorldEvent}
+use Rattle.frame_sim.specs.declared.events.Step.{Step}
+use Rattle.frame_sim.specs.World.{World}
+
+-- what a tape may be after it took an event down
+abbrev pub TakesOn : Type 0 → Type 1
+TakesOn T = T → World → WorldEvent → Step → T → Type 0
+
+-- it has taken these events down, in order, each with its step, by a world that has had them all
+abbrev pub AreTaken : {T : Type 0} → TakesOn T → World → T → List WorldEvent → List Step → T → Type 0
+AreTaken takes w t [] ss t2 = t2 ≡ t
+AreTaken takes w t (e ∷ es) [] t2 = t2 ≡ t
+AreTaken {T = T} takes w t (e ∷ es) (s ∷ ss) t2 = (next : T) × (takes t w e s next × AreTaken takes w next es ss t2)
