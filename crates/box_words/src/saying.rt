@@ -1,5 +1,5 @@
 //! The words that an operator says to a running box.
-ghost use Rattle.std.specs.Prelude.{◌≡◌, ◌⊎◌, IfOk, OnOk, Some, option_map, string_bytes};
+ghost use Rattle.std.specs.Prelude.{◌≡◌, ◌⊎◌, IfErr, IfOk, OnOk, Some, option_map, string_bytes};
 ghost use Rattle.control.specs.Answers.{content_of, heard};
 ghost use Rattle.control.specs.Paths.{IsBeside};
 ghost use Rattle.control.specs.Words.{word_of};

@@ -1,3 +1,5 @@
 mod Statuses
 mod Asked
 mod Refusing
+mod Passing
+mod Taping

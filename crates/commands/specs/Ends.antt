@@ -7,7 +7,7 @@ use Rattle.command_line.specs.declared.tasks.Task.{Task}
 use Rattle.command_line.specs.declared.tasks.Task.TheVariants as task
 use Rattle.command_line.specs.declared.words.CheckWords.{CheckWords}
 use Rattle.gate.specs.Served.{HasServed}
-use Rattle.script_runs.specs.Runs.{HasLoop, HasRun}
+use Rattle.commands.specs.Runs.{HasLoop, HasRun}
 
 -- the line that tells the version
 abbrev pub version_line : List ℕ

@@ -7,13 +7,13 @@ ghost use Rattle.commands.specs.Asked.{format_of};
 ghost use Rattle.commands.specs.Ends.{AreDone, Ends};
 
 use crate::asking::{look_at, pairs_of, state_of};
+use crate::runs::{repeat, sim};
 use crate::versions::tell_version;
 use boot_file::{Blocks, Lockable};
 use box_words::{peer_off, side, stop};
 use command_line::{GateWords, Task, WayWords, command};
 use gate::{Start, WayTexts, gate, init};
 use journal::Format;
-use script_runs::{repeat, sim};
 use std::fs::Files;
 use std::io::Write;
 use std::net::Net;

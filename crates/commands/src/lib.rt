@@ -2,7 +2,10 @@
 #![tactic(auto)]
 
 mod asking;
+mod capture_files;
 mod commands;
+mod meters;
+mod runs;
 mod versions;
 
 pub use commands::act;

@@ -1,6 +1,6 @@
 use Rattle.std.proofs.Common.{◌∙◌}
-use Rattle.script_runs.proofs.Taping.{isnt_1, run_of}
-use Rattle.script_runs.proofs.runs.sim_captured.Goals as goal
+use Rattle.commands.proofs.Taping.{isnt_1, run_of}
+use Rattle.commands.proofs.runs.sim_captured.Goals as goal
 
 pub returns-in-Ok-capture_at-clause-run : goal.returns-in-Ok-capture_at-clause-run
 returns-in-Ok-capture_at-clause-run g c h = run_of _ _ _ _ _ _ _ _ _ _ c.in-Ok.ensures.job c.taped-run.ensures.run (c.ended.ensures.run h)

@@ -1,5 +1,5 @@
-use Rattle.script_runs.proofs.Passing.{has_loop_of}
-use Rattle.script_runs.proofs.runs.repeat_captured.Goals as goal
+use Rattle.commands.proofs.Passing.{has_loop_of}
+use Rattle.commands.proofs.runs.repeat_captured.Goals as goal
 
 pub returns-in-Ok-capture_at-clause-run : goal.returns-in-Ok-capture_at-clause-run
 returns-in-Ok-capture_at-clause-run g c h =

@@ -1,11 +1,11 @@
 //! Scripts that are run, and captured where that is asked for.
-ghost use Rattle.std.specs.Prelude.{◌≡◌, ◌⊎◌, IfErr, IfOk, Ok};
+ghost use Rattle.std.specs.Prelude.{◌≡◌, ◌⊎◌, IfErr, IfOk, Ok, OnOk};
 ghost use Rattle.faults.specs.Faults.{status_of};
 ghost use Rattle.faults.specs.Jobs.{IsJobOf};
 ghost use Rattle.loopback_run.specs.Loops.{IsLoop};
 ghost use Rattle.simulation.specs.Status.{RunsScript};
 ghost use Rattle.simulation.specs.Tapes.{IsTapedRun};
-ghost use Rattle.script_runs.specs.Runs.{HasLoop, HasRun};
+ghost use Rattle.commands.specs.Runs.{HasLoop, HasRun};
 
 use crate::capture_files::{capture_at, ended, unmade};
 use crate::meters::Meter;
@@ -14,6 +14,7 @@ use faults::{Fault, Job, job_of, text_of};
 use frame_sim::Tape;
 use loopback::{Channel, Loopback, PortFault};
 use loopback_run::run_loop;
+use settings::Settings;
 use settings_file::{SettingFault, port_clash_of_both};
 use simulation::{Unwatched, simulate, simulate_watched};
 use std::alloc::Global;
@@ -23,7 +24,7 @@ use std::net::Net;
 use std::rt::Clock;
 
 /// Runs the script of one file with the settings of another.
-pub fn sim<R: Files + Clock + AllocGlobal, O: Write, E: Write>(
+pub(crate) fn sim<R: Files + Clock + AllocGlobal, O: Write, E: Write>(
     rt: &R,
     files: &RunWords,
     is_watched: bool,
@@ -138,7 +139,7 @@ fn taped<R: Clock + AllocGlobal, T: Tape, O: Write, E: Write>(
 }
 
 /// Runs the script of one file with the settings of another, over the own loopback ports of both gateways.
-pub fn repeat<R: Files + Net + Clock + AllocGlobal, O: Write, E: Write>(
+pub(crate) fn repeat<R: Files + Net + Clock + AllocGlobal, O: Write, E: Write>(
     rt: &R,
     files: &RunWords,
     output: &mut O,
@@ -216,11 +217,20 @@ fn opened<P: Channel>(
     ensures known { IfErr result (λ fault. status_of fault ≡ 1) }
 {
     let job = job_of(alloc, settings, script)?;
-    if let Some(key) = port_clash_of_both(&job.settings) {
+    take_ports(passage, &job.settings)?;
+    Ok(job)
+}
+
+/// Has a passage take the ports of settings, in which none may stand twice.
+fn take_ports<P: Channel>(passage: &mut P, settings: &Settings) -> Result<(), Fault>
+    ensures opened { OnOk result (P.opens passage.old settings.now passage.new) }
+    ensures known { IfErr result (λ fault. status_of fault ≡ 1) }
+{
+    if let Some(key) = port_clash_of_both(settings) {
         return Err(Fault::Setting(SettingFault::CantWork(key)));
     }
-    match passage.open(&job.settings) {
-        Ok(()) => Ok(job),
+    match passage.open(settings) {
+        Ok(()) => Ok(()),
         Err(PortFault::NoPort(number)) => Err(Fault::NoSocket(number)),
         Err(PortFault::NoMemory) => Err(Fault::NoMemory),
     }

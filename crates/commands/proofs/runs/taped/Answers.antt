@@ -1,5 +1,5 @@
-use Rattle.script_runs.proofs.Taping.{known}
-use Rattle.script_runs.proofs.runs.taped.Goals as goal
+use Rattle.commands.proofs.Taping.{known}
+use Rattle.commands.proofs.runs.taped.Goals as goal
 
 pub returns-then-is_watched-clause-known : goal.returns-then-is_watched-clause-known
 returns-then-is_watched-clause-known g c = known c.play.result c.play.ensures.fault

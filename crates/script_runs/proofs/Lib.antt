@@ -1,2 +1,0 @@
-mod Passing
-mod Taping
