@@ -4,7 +4,7 @@ use Rattle.faults.specs.Jobs.{IsJobOf}
 use Rattle.faults.specs.declared.jobs.Job.{Job}
 use Rattle.loopback.specs.Standings.{Standing, unasked}
 use Rattle.loopback_run.specs.Loops.{IsLoop, LoopsScript}
-use Rattle.commands.specs.Runs.{HasLoop, has_ports, may_pass}
+use Rattle.commands.specs.Ends.{HasLoop, has_ports, may_pass}
 
 pub has_loop : (text script : List ℕ) (before after : Standing) (output printed : Option (List ℕ)) (status : ℕ)
     → before ≡ unasked → LoopsScript has_ports may_pass text script before after output printed status → HasLoop output printed status

@@ -5,9 +5,9 @@ ghost use Rattle.commands.specs.Ends.{IsChecked};
 
 use crate::commands::text_of;
 use boot_file::Lockable;
-use box_words::{await_synced, pairs, status};
 use checks::{Request, check, compare};
 use command_line::{CheckWords, PairsWords, StatusWords};
+use gate::{await_synced, pairs, status};
 use report_texts::Filter;
 use std::fs::Files;
 use std::io::Write;
@@ -81,13 +81,13 @@ fn seconds_of(seconds: Option<u32>) -> u32
 }
 
 /// The form of a report.
-fn form_of(form: command_line::Form) -> box_words::Form
+fn form_of(form: command_line::Form) -> gate::Form
     ensures { result ≡ form_of form }
 {
     match form {
-        command_line::Form::Plain => box_words::Form::Plain,
-        command_line::Form::Json => box_words::Form::Json,
-        command_line::Form::Prometheus => box_words::Form::Prometheus,
+        command_line::Form::Plain => gate::Form::Plain,
+        command_line::Form::Json => gate::Form::Json,
+        command_line::Form::Prometheus => gate::Form::Prometheus,
     }
 }
 

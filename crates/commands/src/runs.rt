@@ -5,7 +5,7 @@ ghost use Rattle.faults.specs.Jobs.{IsJobOf};
 ghost use Rattle.loopback_run.specs.Loops.{IsLoop};
 ghost use Rattle.simulation.specs.Status.{RunsScript};
 ghost use Rattle.simulation.specs.Tapes.{IsTapedRun};
-ghost use Rattle.commands.specs.Runs.{HasLoop, HasRun};
+ghost use Rattle.commands.specs.Ends.{HasLoop, HasRun};
 
 use crate::capture_files::{capture_at, ended, unmade};
 use crate::meters::Meter;

@@ -10,9 +10,8 @@ use Rattle.rounds.specs.Rounds.{AnswersOwed, AreMade, AreRounds, Box, Calls, IsA
 use Rattle.rounds.specs.declared.judging.Question.{Question}
 use Rattle.rounds.specs.declared.judging.Reply.{Reply}
 use Rattle.rounds.specs.declared.judging.Reply.TheVariants.{Heard, Later, Refused}
-use Rattle.box_words.specs.Held.{AreHeld}
 use Rattle.gate.specs.Boots.{HasStarted}
-use Rattle.gate.specs.Served.{HadRounds, HasRun, HasServed, any_reading, listed}
+use Rattle.gate.specs.Served.{AreHeld, HadRounds, HasRun, HasServed, any_reading, listed}
 
 -- ---- a run by a wire and a clock is one by any clock, and by the calls of the wire, listed
 

@@ -1,4 +1,6 @@
 pub mod Asked
 pub mod Boots
+pub mod Faults
 pub mod Served
 pub mod Starts
+pub mod Said

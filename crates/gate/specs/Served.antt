@@ -1,13 +1,19 @@
 -- The rounds of a gateway, from its start on.
 use Rattle.std.specs.Prelude.{◌≡◌, ◌++◌, ◌∷◌, ℕ, Bool, false, List, [], Option, None, IsTrue, codes}
 use Rattle.std.specs.Io.KnownBytes.{Appends}
+use Rattle.toml.specs.Parse.{parse_document}
 use Rattle.nat_types.specs.declared.gateways.GatewayId.{GatewayId}
 use Rattle.settings.specs.declared.whole.Settings.{Settings}
-use Rattle.box_words.specs.Held.{AreHeld}
+use Rattle.settings_file.specs.Settings.{IsReadFrom}
 use Rattle.spec_step.specs.Shown.{Shown}
 use Rattle.sockets.specs.Letters.{Call}
 use Rattle.rounds.specs.Rounds.{Box, Calls, IsRun, Reads, box, most_rounds}
 use Rattle.gate.specs.Boots.{HasStarted}
+
+-- some text holds these settings
+pub record AreHeld (settings : Settings) : Type 0 where
+  pub text : List ℕ
+  pub read : IsReadFrom (parse_document text) settings
 
 -- a clock of which nothing is known
 abbrev pub any_reading : Reads (Unit {0})

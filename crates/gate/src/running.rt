@@ -8,18 +8,20 @@ ghost use Rattle.settings_file.specs.Clashes.{clash_of_one};
 ghost use Rattle.settings_file.specs.declared.keys.Key.{Key};
 ghost use Rattle.gate.specs.Asked.{IsManagerOf, is_loopback, on_loopback};
 ghost use Rattle.gate.specs.Boots.{HasBoot, HasStarted, IsIdentity, IsStart, boot_line};
-ghost use Rattle.box_words.specs.Faults.{IsBeforeBoot, IsOfFilter, IsOfNoWay, IsOfRun, IsOfStart, of_clash};
-ghost use Rattle.gate.specs.Served.{HadRounds, HasRun, HasServed};
+ghost use Rattle.gate.specs.Faults.{IsBeforeBoot, IsOfFilter, IsOfNoWay, IsOfRun, IsOfStart, of_clash};
+ghost use Rattle.gate.specs.Served.{AreHeld, HadRounds, HasRun, HasServed};
 ghost use Rattle.gate.specs.Starts.{Refuses};
 
 use crate::capturing::{CaptureAt, capture_at};
+use crate::ends::refused_end;
+use crate::refusals::BoxFault;
+use crate::saying::control_path;
 use crate::ways::{WayTexts, ways_of};
 use boot_file::{Blocks, FileDisk, Lockable};
 use boot_store::{Disk, next_boot};
-use box_words::{BoxFault, control_path, refused_end, settings_at};
 use checks::digest;
 use control::{Control, ControlPath};
-use faults::Fault;
+use faults::{Fault, text_of};
 use gateway::{Gateway, Hashers};
 use journal::{Entry, Format, Journal, StandardError, Unhindered, environment, filter_of, tell};
 use log::filter::FilteredLog;
@@ -608,4 +610,14 @@ fn begun(
     ensures { IfOk result (IsStart settings.now id found boot) }
 {
     Gateway::new(alloc, settings, id, boot, found, hashers)
+}
+
+/// The settings in the file at a path.
+pub(crate) fn settings_at<R: Files + AllocGlobal>(rt: &R, path: &str) -> Result<Settings, BoxFault>
+    ensures held { IfOk result AreHeld }
+    ensures err { IfErr result IsOfRun }
+{
+    let text = text_of(rt, path)?;
+    let settings = settings_file::read(rt.alloc(), text.as_str())?;
+    Ok(settings)
 }

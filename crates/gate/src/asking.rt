@@ -7,12 +7,13 @@ use control::{Answer, ask, spelled_pairs, spelled_pairs_after, spelled_status};
 use nat_types::{GatewayId, Key};
 use report_texts::{Filter, write_json, write_metrics, write_pairs, write_people};
 use reports::{Page, Report};
+use rounds::{Clockwork, Stopwatch};
 use std::fs::Files;
 use std::io::{self, Write};
 use std::net::Net;
 use std::rt::Clock;
 use std::thread;
-use std::time::{Duration, Instant};
+use std::time::Duration;
 
 /// The bytes of the longest answer.
 const ROOM: usize = 4_096;
@@ -122,10 +123,10 @@ fn awaited<R: Files + Net + Clock + AllocGlobal>(
     ensures { IfOk result (λ report. report.gateway.synced ≡ true) }
 {
     let line = line_to(rt, settings, id)?;
-    let limit = Duration::from_secs(u64::from(seconds));
-    let start = Instant::now(rt).ok();
+    let limit = u64::from(seconds) * 100;
+    let mut clock = Stopwatch::start(rt);
     for _ in 0..u64::MAX {
-        let is_over = has_passed(rt, start, limit);
+        let is_over = clock.moment() >= limit;
         match synced(rt, &line) {
             Err(fault) if is_over => return Err(fault),
             Err(_) => thread::sleep(rt, Duration::from_millis(PAUSE)),
@@ -133,14 +134,6 @@ fn awaited<R: Files + Net + Clock + AllocGlobal>(
         }
     }
     Err(BoxFault::NotSynced)
-}
-
-/// Whether so much time has passed since then. Where the clock can't be read nobody waits for it.
-fn has_passed<R: Clock>(rt: &R, start: Option<Instant>, limit: Duration) -> bool {
-    match start.map(|start| start.elapsed(rt)) {
-        Some(Ok(passed)) => limit <= passed,
-        _ => true,
-    }
 }
 
 /// The report of the box at a line's end, where it says that it is synced.

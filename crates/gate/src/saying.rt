@@ -1,19 +1,17 @@
 //! The words that an operator says to a running box.
-ghost use Rattle.std.specs.Prelude.{◌≡◌, ◌⊎◌, IfErr, IfOk, OnOk, Some, option_map, string_bytes};
+ghost use Rattle.std.specs.Prelude.{◌≡◌, ◌⊎◌, IfOk, OnOk, Some, option_map, string_bytes};
 ghost use Rattle.control.specs.Answers.{content_of, heard};
 ghost use Rattle.control.specs.Paths.{IsBeside};
 ghost use Rattle.control.specs.Words.{word_of};
-ghost use Rattle.box_words.specs.Faults.{IsOfRun};
-ghost use Rattle.box_words.specs.Held.{AreHeld};
-ghost use Rattle.box_words.specs.Said.{IsLineTo, off_bytes, said_off as meaning_off, said_side};
+ghost use Rattle.gate.specs.Said.{IsLineTo, off_bytes, said_off as meaning_off, said_side};
 ghost use Rattle.settings.specs.Parts.{gateway_of};
 
 use crate::asking::asked;
 use crate::refusals::{BoxFault, Explained};
+use crate::running::settings_at;
 use control::{
     Answer, ControlPath, PathFault, say, spelled_known_off, spelled_off, spelled_side, spelled_stop,
 };
-use faults::text_of;
 use nat_types::{GatewayId, Side};
 use settings::Settings;
 use std::alloc::Global;
@@ -179,7 +177,7 @@ pub(crate) fn line_to<R: Files + AllocGlobal>(
 }
 
 /// Where the gateway's control socket lies: beside its boot file.
-pub fn control_path(
+pub(crate) fn control_path(
     alloc: Global,
     settings: &Settings,
     id: GatewayId,
@@ -188,14 +186,4 @@ pub fn control_path(
         (IsBeside (string_bytes (gateway_of settings.now id).boot_file)) }
 {
     ControlPath::beside(alloc, settings.gateway(id).boot_file.as_str())
-}
-
-/// The settings in the file at a path.
-pub fn settings_at<R: Files + AllocGlobal>(rt: &R, path: &str) -> Result<Settings, BoxFault>
-    ensures held { IfOk result AreHeld }
-    ensures err { IfErr result IsOfRun }
-{
-    let text = text_of(rt, path)?;
-    let settings = settings_file::read(rt.alloc(), text.as_str())?;
-    Ok(settings)
 }

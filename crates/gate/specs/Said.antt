@@ -7,10 +7,10 @@ use Rattle.settings.specs.Parts.{gateway_of}
 use Rattle.control.specs.Paths.{IsBeside}
 use Rattle.control.specs.declared.words.Word.{Word}
 use Rattle.control.specs.declared.words.Word.TheVariants as word
-use Rattle.box_words.specs.Held.{AreHeld}
-use Rattle.box_words.specs.declared.saying.Line.{Line}
-use Rattle.box_words.specs.declared.saying.OffWord.{OffWord}
-use Rattle.box_words.specs.declared.saying.OffWord.TheVariants as off
+use Rattle.gate.specs.Served.{AreHeld}
+use Rattle.gate.specs.declared.saying.Line.{Line}
+use Rattle.gate.specs.declared.saying.OffWord.{OffWord}
+use Rattle.gate.specs.declared.saying.OffWord.TheVariants as off
 
 -- some text holds settings that have this box: it is spoken to beside its own boot file, and named by that file
 pub record IsLineTo (id : GatewayId) (line : Line) : Type 0 where
