@@ -1,17 +1,19 @@
 //! What is asked of settings, and of a running gateway.
 ghost use Rattle.std.specs.Prelude.{◌≡◌, ◌⊎◌, option_map, string_bytes, unwrap_or};
+ghost use Rattle.commands.specs.Acts.{IsAsked};
 ghost use Rattle.commands.specs.Asked.{form_of};
 ghost use Rattle.commands.specs.Ends.{IsChecked};
+ghost use Rattle.gate.specs.Deeds.{HasListed};
 
 use crate::commands::text_of;
 use boot_file::Lockable;
 use checks::{Request, check, compare};
 use command_line::{CheckWords, PairsWords, StatusWords};
-use gate::{await_synced, pairs, status};
+use gate::{Site, await_synced, pairs, status};
 use report_texts::Filter;
+use std::alloc::Global;
 use std::fs::Files;
 use std::io::Write;
-use std::net::Net;
 use std::rt::Clock;
 
 /// How long a gateway is waited for, in seconds, where the words don't say.
@@ -57,19 +59,23 @@ fn request_of(words: &CheckWords) -> Request<'_>
 }
 
 /// Writes a running gateway's report, or waits until it is synced.
-pub(crate) fn state_of<R: Files + Net + Clock + AllocGlobal, O: Write, E: Write>(
+pub(crate) fn state_of<R: Clock + AllocGlobal, S: Site, O: Write, E: Write>(
     rt: &R,
+    site: &mut S,
     words: &StatusWords,
     output: &mut O,
     errors: &mut E,
 ) -> u8
     ensures status { (result ≡ 0) ⊎ (result ≡ 1) }
+    ensures asked { result ≡ 0 → IsAsked S.does words.now site.old site.new }
 {
     let settings = words.settings.as_str();
     if words.until_synced {
-        await_synced(rt, settings, words.id, seconds_of(words.seconds), errors)
+        let seconds = seconds_of(words.seconds);
+        await_synced(rt, site, settings, words.id, seconds, errors)
     } else {
-        status(rt, settings, words.id, form_of(words.form), output, errors)
+        let form = form_of(words.form);
+        status(rt.alloc(), site, settings, words.id, form, output, errors)
     }
 }
 
@@ -92,16 +98,19 @@ fn form_of(form: command_line::Form) -> gate::Form
 }
 
 /// Lists pairs of a running gateway.
-pub(crate) fn pairs_of<R: Files + Net + AllocGlobal, O: Write, E: Write>(
-    rt: &R,
+pub(crate) fn pairs_of<S: Site, O: Write, E: Write>(
+    alloc: Global,
+    site: &mut S,
     words: &PairsWords,
     output: &mut O,
     errors: &mut E,
 ) -> u8
     ensures status { (result ≡ 0) ⊎ (result ≡ 1) }
+    ensures listed { result ≡ 0
+        → HasListed S.does (string_bytes words.now.settings) words.now.id site.old site.new }
 {
-    let settings = words.settings.as_str();
-    pairs(rt, settings, words.id, &filter_of(words), output, errors)
+    let (settings, filter) = (words.settings.as_str(), filter_of(words));
+    pairs(alloc, site, settings, words.id, &filter, output, errors)
 }
 
 /// Which pairs these words ask for.

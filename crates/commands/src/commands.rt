@@ -4,6 +4,7 @@ ghost use Rattle.command_line.specs.Line.{AskVersion, MayAskVersion};
 ghost use Rattle.command_line.specs.Tasks.{FoundsAtZero};
 ghost use Rattle.commands.specs.Words.{AreRefused};
 ghost use Rattle.commands.specs.Asked.{format_of};
+ghost use Rattle.commands.specs.Acts.{Acts};
 ghost use Rattle.commands.specs.Ends.{AreDone, Ends};
 
 use crate::asking::{look_at, pairs_of, state_of};
@@ -11,7 +12,7 @@ use crate::runs::{repeat, sim};
 use crate::versions::tell_version;
 use boot_file::{Blocks, Lockable};
 use command_line::{GateWords, Task, WayWords, command};
-use gate::{Start, WayTexts, gate, init, peer_off, side, stop};
+use gate::{Machine, Site, Start, WayTexts, gate, init, peer_off, side, stop};
 use journal::Format;
 use std::fs::Files;
 use std::io::Write;
@@ -46,41 +47,54 @@ where
     ensures most { result ≤ 3 }
 {
     match command(rt.alloc(), words) {
-        Ok(task) => done(rt, &task, is_watched, output, errors),
+        Ok(task) => {
+            let mut site = Machine::new(rt);
+            done(rt, &mut site, &task, is_watched, output, errors)
+        }
         Err(fault) => fault.tell(errors),
     }
 }
 
-/// Does a task.
+/// Does a task: boxes are spoken to, and boot files made, at a site.
 fn done<
     R: Files + Net + Clock + RandomSource + Eprint + Env + Input + AllocGlobal,
+    S: Site,
     O: Write,
     E: Write,
->(rt: &R, task: &Task, is_watched: bool, output: &mut O, errors: &mut E) -> u8
+>(rt: &R, site: &mut S, task: &Task, is_watched: bool, output: &mut O, errors: &mut E) -> u8
 where
     R::File: Blocks + Lockable + AsRawFd,
     requires found { FoundsAtZero task.now }
     ensures status { (result ≡ 0) ⊎ ((result ≡ 1) ⊎ (result ≡ 3)) }
     ensures done { (result ≡ 0) ⊎ (result ≡ 3)
         → Ends (O.contents output.old) (O.contents output.new) task.now result }
+    ensures acts { result ≡ 0 → Acts S.does task.now site.old site.new }
 {
     match task {
-        Task::Init(file) => init(rt, file.as_str(), errors),
+        Task::Init(file) => init(rt.alloc(), site, file.as_str(), errors),
         Task::Check(words) => look_at(rt, words, output, errors),
         Task::Gate(words) => gate(rt, &start_of(words), output, errors),
-        Task::Status(words) => state_of(rt, words, output, errors),
-        Task::Pairs(words) => pairs_of(rt, words, output, errors),
-        Task::Stop(settings, id) => stop(rt, settings.as_str(), *id, errors),
+        Task::Status(words) => state_of(rt, site, words, output, errors),
+        Task::Pairs(words) => pairs_of(rt.alloc(), site, words, output, errors),
+        Task::Stop(settings, id) => stop(rt.alloc(), site, settings.as_str(), *id, errors),
         Task::PeerOff(words) => {
-            let settings = words.settings.as_str();
-            peer_off(rt, settings, words.id, words.boot, words.force, errors)
+            let (settings, boot) = (words.settings.as_str(), words.boot);
+            peer_off(
+                rt.alloc(),
+                site,
+                settings,
+                words.id,
+                boot,
+                words.force,
+                errors,
+            )
         }
         Task::Side {
             settings,
             id,
             side: told,
             up,
-        } => side(rt, settings.as_str(), *id, *told, *up, errors),
+        } => side(rt.alloc(), site, settings.as_str(), *id, *told, *up, errors),
         Task::Sim(files) => sim(rt, files, is_watched, output, errors),
         Task::Loop(files) => repeat(rt, files, output, errors),
         Task::Version => tell_version(output, errors),

@@ -1,3 +1,4 @@
 mod Beginning
+mod Doing
 mod Refusing
 mod Serving

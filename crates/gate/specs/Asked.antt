@@ -1,5 +1,11 @@
 -- What a start's words ask for.
 use Rattle.std.specs.Prelude.{◌≡◌, ℕ, Bool, true, false, List, Option, Some, None}
+use Rattle.log.specs.Filter.{Rule, or_errors}
+use Rattle.journal.specs.Filters.{rules_of}
+use Rattle.nat_types.specs.declared.gateways.GatewayId.{GatewayId}
+use Rattle.settings.specs.declared.whole.Settings.{Settings}
+use Rattle.sockets.specs.Ports.{link_ports, own_settings}
+use Rattle.sockets.specs.declared.places.Ports.{Ports}
 use Rattle.std.specs.Borrow.{Bor}
 use Rattle.settings_file.specs.declared.places.OnLoopback.{OnLoopback}
 use Rattle.sockets.specs.declared.ways.Way.{Way}
@@ -21,3 +27,16 @@ is_loopback other = false
 -- the places that are on loopback
 abbrev pub on_loopback : Ways → OnLoopback
 on_loopback ways = record { inside = is_loopback ways.inside; outside = is_loopback ways.outside; link = is_loopback ways.link }
+
+-- the ports that settings give a box
+abbrev pub box_ports : Settings → GatewayId → Ports
+box_ports settings id = record {
+  link = link_ports settings id;
+  inside = ((own_settings settings id).inside_port, settings.inside.wire);
+  outside = ((own_settings settings id).outside_port, settings.outside.wire);
+}
+
+-- these rules are those of an option's text, where there is one
+abbrev pub IsChosenBy : Option (Bor (List ℕ)) → List Rule → Type 0
+IsChosenBy (Some text) rules = rules ≡ or_errors (rules_of text.now)
+IsChosenBy None rules = Unit {0}

@@ -1,16 +1,19 @@
 //! What an operator asks of a running box.
-ghost use Rattle.std.specs.Prelude.{◌≡◌, ◌⊎◌, ◌≤◌, length, true, IfOk};
+ghost use Rattle.std.specs.Prelude.{◌≡◌, ◌⊎◌, ◌≤◌, IfOk, None, OnOk, take};
+ghost use Rattle.control.specs.Answers.{answer_of};
+ghost use Rattle.control.specs.Words.{word_of};
+ghost use Rattle.gate.specs.Deeds.{HasListed, HasPage, HasPages, HasReported, HasSynced, IsSyncedAt, Lists, Reports, asked as deed_asked, next_of};
 
 use crate::refusals::BoxFault;
 use crate::saying::{Line, line_to};
-use control::{Answer, ask, spelled_pairs, spelled_pairs_after, spelled_status};
+use crate::sites::Site;
+use control::{Answer, spelled_pairs, spelled_pairs_after, spelled_status};
 use nat_types::{GatewayId, Key};
 use report_texts::{Filter, write_json, write_metrics, write_pairs, write_people};
 use reports::{Page, Report};
 use rounds::{Clockwork, Stopwatch};
-use std::fs::Files;
+use std::alloc::Global;
 use std::io::{self, Write};
-use std::net::Net;
 use std::rt::Clock;
 use std::thread;
 use std::time::Duration;
@@ -32,8 +35,9 @@ pub enum Form {
 }
 
 /// Writes a running box's report. The answer is the exit status: 0, or 1 for a fault, which is told on `errors`.
-pub fn status<R: Files + Net + AllocGlobal, O: Write, E: Write>(
-    rt: &R,
+pub fn status<S: Site, O: Write, E: Write>(
+    alloc: Global,
+    site: &mut S,
     settings: &str,
     id: GatewayId,
     form: Form,
@@ -41,22 +45,26 @@ pub fn status<R: Files + Net + AllocGlobal, O: Write, E: Write>(
     errors: &mut E,
 ) -> u8
     ensures status { (result ≡ 0) ⊎ (result ≡ 1) }
+    ensures reported { result ≡ 0 → HasReported S.does settings.now id site.old site.new }
 {
-    match written(rt, settings, id, form, output) {
+    match written(alloc, site, settings, id, form, output) {
         Ok(()) => 0,
         Err(fault) => fault.tell(errors),
     }
 }
 
-fn written<R: Files + Net + AllocGlobal, O: Write>(
-    rt: &R,
+fn written<S: Site, O: Write>(
+    alloc: Global,
+    site: &mut S,
     settings: &str,
     id: GatewayId,
     form: Form,
     output: &mut O,
-) -> Result<(), BoxFault> {
-    let line = line_to(rt, settings, id)?;
-    let report = reported(rt, &line)?;
+) -> Result<(), BoxFault>
+    ensures { OnOk result (HasReported S.does settings.now id site.old site.new) }
+{
+    let line = line_to(alloc, site, settings, id)?;
+    let report = reported(alloc, site, &line)?;
     write_report(output, form, &report)?;
     Ok(())
 }
@@ -72,77 +80,97 @@ fn write_report<O: Write>(output: &mut O, form: Form, report: &Report) -> io::Re
 }
 
 /// The report of the box at a line's end.
-fn reported<R: Net + AllocGlobal>(rt: &R, line: &Line) -> Result<Report, BoxFault> {
+fn reported<S: Site>(alloc: Global, site: &mut S, line: &Line) -> Result<Report, BoxFault>
+    ensures { IfOk result (λ report. Reports S.does line.now.path report site.old site.new) }
+{
     let mut room = [0; ROOM];
-    let count = asked(rt, line, &spelled_status(), &mut room)?;
+    let count = asked(alloc, site, line, &spelled_status(), &mut room)?;
     match Answer::read(&room[..count]) {
         Some(Answer::Report(bytes)) => Ok(Report::read(bytes)?),
-        _ => Err(line.unheard(rt.alloc())),
+        _ => Err(line.unheard(alloc)),
     }
 }
 
 /// The answer to a word: how many bytes of the room it has.
-pub(crate) fn asked<R: Net + AllocGlobal>(
-    rt: &R,
+pub(crate) fn asked<S: Site>(
+    alloc: Global,
+    site: &mut S,
     line: &Line,
     word: &[u8],
     room: &mut [u8; ROOM],
 ) -> Result<usize, BoxFault>
     ensures within { IfOk result (λ count. count ≤ 4096) }
+    ensures asked { IfOk result (λ count. S.does site.old (deed_asked line.now.path
+        (word_of word.now) (answer_of (take count room.new))) site.new) }
 {
-    match ask(rt, &line.path, word, room) {
+    match site.ask(&line.path, word, room) {
         Ok(count) => Ok(count),
-        Err(_) => Err(line.unheard(rt.alloc())),
+        Err(_) => Err(line.unheard(alloc)),
     }
 }
 
 /// Asks a box every 100 ms until it is synced, for so many seconds. The answer is the exit status: 0 once it is, or 1 for a
 /// fault, which is told on `errors`: the last one, where it isn't in time.
-pub fn await_synced<R: Files + Net + Clock + AllocGlobal, E: Write>(
+pub fn await_synced<R: Clock + AllocGlobal, S: Site, E: Write>(
     rt: &R,
+    site: &mut S,
     settings: &str,
     id: GatewayId,
     seconds: u32,
     errors: &mut E,
 ) -> u8
     ensures status { (result ≡ 0) ⊎ (result ≡ 1) }
+    ensures synced { result ≡ 0 → HasSynced S.does settings.now id site.old site.new }
 {
-    match awaited(rt, settings, id, seconds) {
-        Ok(_) => 0,
+    match awaited(rt, site, settings, id, seconds) {
+        Ok(()) => 0,
         Err(fault) => fault.tell(errors),
     }
 }
 
-/// The first report of a box, asked every 100 ms for so many seconds, that says that it is synced.
-fn awaited<R: Files + Net + Clock + AllocGlobal>(
+/// Asks a box every 100 ms, for so many seconds, until its report says that it is synced.
+fn awaited<R: Clock + AllocGlobal, S: Site>(
     rt: &R,
+    site: &mut S,
     settings: &str,
     id: GatewayId,
     seconds: u32,
-) -> Result<Report, BoxFault>
-    ensures { IfOk result (λ report. report.gateway.synced ≡ true) }
+) -> Result<(), BoxFault>
+    ensures { OnOk result (HasSynced S.does settings.now id site.old site.new) }
 {
-    let line = line_to(rt, settings, id)?;
+    let line = line_to(rt.alloc(), site, settings, id)?;
+    awaited_at(rt, site, &line, seconds)
+}
+
+/// The same of the box at a line's end.
+fn awaited_at<R: Clock + AllocGlobal, S: Site>(
+    rt: &R,
+    site: &mut S,
+    line: &Line,
+    seconds: u32,
+) -> Result<(), BoxFault>
+    ensures { OnOk result (IsSyncedAt S.does line.now.path site.new) }
+{
     let limit = u64::from(seconds) * 100;
     let mut clock = Stopwatch::start(rt);
     for _ in 0..u64::MAX {
         let is_over = clock.moment() >= limit;
-        match synced(rt, &line) {
+        match synced(rt.alloc(), site, line) {
             Err(fault) if is_over => return Err(fault),
             Err(_) => thread::sleep(rt, Duration::from_millis(PAUSE)),
-            Ok(report) => return Ok(report),
+            Ok(()) => return Ok(()),
         }
     }
     Err(BoxFault::NotSynced)
 }
 
-/// The report of the box at a line's end, where it says that it is synced.
-fn synced<R: Net + AllocGlobal>(rt: &R, line: &Line) -> Result<Report, BoxFault>
-    ensures { IfOk result (λ report. report.gateway.synced ≡ true) }
+/// Asks the box at a line's end whether it is synced.
+fn synced<S: Site>(alloc: Global, site: &mut S, line: &Line) -> Result<(), BoxFault>
+    ensures { OnOk result (IsSyncedAt S.does line.now.path site.new) }
 {
-    let report = reported(rt, line)?;
+    let report = reported(alloc, site, line)?;
     if report.is_synced() {
-        Ok(report)
+        Ok(())
     } else {
         Err(BoxFault::NotSynced)
     }
@@ -150,8 +178,9 @@ fn synced<R: Net + AllocGlobal>(rt: &R, line: &Line) -> Result<Report, BoxFault>
 
 /// Lists the pairs of a running box that pass a filter, in the order of its table. The answer is the exit status: 0, or 1
 /// for a fault, which is told on `errors`. A pair that stays in the table meanwhile is listed once.
-pub fn pairs<R: Files + Net + AllocGlobal, O: Write, E: Write>(
-    rt: &R,
+pub fn pairs<S: Site, O: Write, E: Write>(
+    alloc: Global,
+    site: &mut S,
     settings: &str,
     id: GatewayId,
     filter: &Filter,
@@ -159,47 +188,89 @@ pub fn pairs<R: Files + Net + AllocGlobal, O: Write, E: Write>(
     errors: &mut E,
 ) -> u8
     ensures status { (result ≡ 0) ⊎ (result ≡ 1) }
+    ensures listed { result ≡ 0 → HasListed S.does settings.now id site.old site.new }
 {
-    match listed(rt, settings, id, filter, output) {
+    match listed(alloc, site, settings, id, filter, output) {
         Ok(()) => 0,
         Err(fault) => fault.tell(errors),
     }
 }
 
-fn listed<R: Files + Net + AllocGlobal, O: Write>(
-    rt: &R,
+fn listed<S: Site, O: Write>(
+    alloc: Global,
+    site: &mut S,
     settings: &str,
     id: GatewayId,
     filter: &Filter,
     output: &mut O,
-) -> Result<(), BoxFault> {
-    let line = line_to(rt, settings, id)?;
-    let mut last = None;
-    for _ in 0..u64::MAX {
-        let page = page_behind(rt, &line, last)?;
-        write_pairs(output, &page, filter)?;
-        last = page.last();
-        if !page.has_more() || last.is_none() {
-            break;
-        }
-    }
+) -> Result<(), BoxFault>
+    ensures { OnOk result (HasListed S.does settings.now id site.old site.new) }
+{
+    let line = line_to(alloc, site, settings, id)?;
+    listed_at(alloc, site, &line, filter, output)?;
     output.flush()?;
     Ok(())
 }
 
-/// The page behind a key, or the first one.
-fn page_behind<R: Net + AllocGlobal>(
-    rt: &R,
+/// Writes the pairs of the box at a line's end, page after page.
+fn listed_at<S: Site, O: Write>(
+    alloc: Global,
+    site: &mut S,
     line: &Line,
-    last: Option<Key>,
-) -> Result<Page, BoxFault> {
+    filter: &Filter,
+    output: &mut O,
+) -> Result<(), BoxFault>
+    ensures { OnOk result (HasPages S.does line.now.path None site.old site.new) }
+{
+    let mut next = written_page(alloc, site, line, None, filter, output)?;
+    for _ in 0..u64::MAX {
+        if next.is_none() {
+            return Ok(());
+        }
+        next = written_page(alloc, site, line, next, filter, output)?;
+    }
+    Err(line.unheard(alloc))
+}
+
+/// Writes the pairs of the page behind a key, or of the first one. The answer is the key behind which the next begins.
+fn written_page<S: Site, O: Write>(
+    alloc: Global,
+    site: &mut S,
+    line: &Line,
+    behind: Option<Key>,
+    filter: &Filter,
+    output: &mut O,
+) -> Result<Option<Key>, BoxFault>
+    ensures { IfOk result (λ next. HasPage S.does line.now.path behind next site.old site.new) }
+{
+    let page = page_behind(alloc, site, line, behind)?;
+    write_pairs(output, &page, filter)?;
+    Ok(next_key(&page))
+}
+
+/// The key behind which the next page begins, where others follow.
+fn next_key(page: &Page) -> Option<Key>
+    ensures { result ≡ next_of page.now }
+{
+    if page.has_more() { page.last() } else { None }
+}
+
+/// The page behind a key, or the first one.
+fn page_behind<S: Site>(
+    alloc: Global,
+    site: &mut S,
+    line: &Line,
+    behind: Option<Key>,
+) -> Result<Page, BoxFault>
+    ensures { IfOk result (λ page. Lists S.does line.now.path behind page site.old site.new) }
+{
     let mut room = [0; ROOM];
-    let count = match last {
-        Some(key) => asked(rt, line, &spelled_pairs_after(key), &mut room)?,
-        None => asked(rt, line, &spelled_pairs(), &mut room)?,
+    let count = match behind {
+        Some(key) => asked(alloc, site, line, &spelled_pairs_after(key), &mut room)?,
+        None => asked(alloc, site, line, &spelled_pairs(), &mut room)?,
     };
     match Answer::read(&room[..count]) {
-        Some(Answer::Page(bytes)) => Ok(Page::read(rt.alloc(), bytes)?),
-        _ => Err(line.unheard(rt.alloc())),
+        Some(Answer::Page(bytes)) => Ok(Page::read(alloc, bytes)?),
+        _ => Err(line.unheard(alloc)),
     }
 }

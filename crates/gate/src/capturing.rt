@@ -1,5 +1,5 @@
 //! The file of a capture.
-ghost use Rattle.std.specs.Prelude.{◌≡◌, IfErr, IfOk, is_some};
+ghost use Rattle.std.specs.Prelude.{◌≡◌, IfErr, IfOk, is_some, option_map};
 ghost use Rattle.gate.specs.Faults.{IsOfCapture, IsOfNoWay, IsOfRun};
 
 use crate::refusals::{BoxFault, of_capture};
@@ -22,6 +22,8 @@ pub(crate) fn capture_at<'a, R: Files + AllocGlobal>(
     path: Option<&'a str>,
 ) -> Result<Option<CaptureAt<'a, R::File>>, BoxFault>
     ensures asked { IfOk result (λ capture. is_some capture ≡ is_some path.entry) }
+    ensures path { IfOk result (λ capture. option_map (λ c. c.path.now) capture
+        ≡ option_map (λ p. p.now) path.entry) }
     ensures err { IfErr result IsOfCapture }
     ensures no_way { IfErr result IsOfNoWay }
 {

@@ -7,9 +7,11 @@ mod ends;
 mod refusals;
 mod running;
 mod saying;
+mod sites;
 mod ways;
 
 pub use asking::{Form, await_synced, pairs, status};
 pub use running::{Start, gate, init};
 pub use saying::{peer_off, side, stop};
+pub use sites::{Machine, Site};
 pub use ways::WayTexts;

@@ -1,12 +1,17 @@
 //! What is done at a box: its boot file and its rounds.
-ghost use Rattle.std.specs.Prelude.{◌≡◌, ◌⊎◌, ◌<◌, ◌↔◌, [], IfErr, IfOk, IsTrue, None, Ok, OnOk, Some, codes, true};
+ghost use Rattle.std.specs.Prelude.{◌≡◌, ◌⊎◌, ◌<◌, ◌↔◌, [], IfErr, IfOk, IsTrue, None, Ok, OnOk, Some, codes, false, is_some, option_map, string_bytes, true};
 ghost use Rattle.std.specs.Io.KnownBytes.{Appends};
 ghost use Rattle.nat_types.specs.declared.gateways.GatewayId.TheVariants.{Zero};
 ghost use Rattle.slots.specs.Hashers.{is_drawn};
+ghost use Rattle.control.specs.Paths.{IsBeside};
+ghost use Rattle.log.specs.Filter.{filtered_rules};
+ghost use Rattle.settings.specs.Parts.{gateway_of};
+ghost use Rattle.sockets.specs.Boards.{Opens};
 ghost use Rattle.boot_store.specs.Crash.{Decides, Keeps, Rises, Since};
 ghost use Rattle.settings_file.specs.Clashes.{clash_of_one};
 ghost use Rattle.settings_file.specs.declared.keys.Key.{Key};
-ghost use Rattle.gate.specs.Asked.{IsManagerOf, is_loopback, on_loopback};
+ghost use Rattle.gate.specs.Asked.{IsChosenBy, IsManagerOf, box_ports, is_loopback, on_loopback};
+ghost use Rattle.gate.specs.Deeds.{made};
 ghost use Rattle.gate.specs.Boots.{HasBoot, HasStarted, IsIdentity, IsStart, boot_line};
 ghost use Rattle.gate.specs.Faults.{IsBeforeBoot, IsOfFilter, IsOfNoWay, IsOfRun, IsOfStart, of_clash};
 ghost use Rattle.gate.specs.Served.{AreHeld, HadRounds, HasRun, HasServed};
@@ -16,8 +21,9 @@ use crate::capturing::{CaptureAt, capture_at};
 use crate::ends::refused_end;
 use crate::refusals::BoxFault;
 use crate::saying::control_path;
+use crate::sites::Site;
 use crate::ways::{WayTexts, ways_of};
-use boot_file::{Blocks, FileDisk, Lockable};
+use boot_file::{Blocks, FileDisk, FileFault, Lockable};
 use boot_store::{Disk, next_boot};
 use checks::digest;
 use control::{Control, ControlPath};
@@ -43,14 +49,13 @@ use tap::{SinceFirst, Tapped};
 
 /// Makes the boot file of a box. The answer is the exit status: 0, or 1 for a fault, which is told
 /// on `errors`.
-pub fn init<R: Files + AllocGlobal, E: Write>(rt: &R, file: &str, errors: &mut E) -> u8
-where
-    R::File: Blocks,
+pub fn init<S: Site, E: Write>(alloc: Global, site: &mut S, file: &str, errors: &mut E) -> u8
     ensures status { (result ≡ 0) ⊎ (result ≡ 1) }
+    ensures made { result ≡ 0 → S.does site.old (made file.now) site.new }
 {
-    match boot_file::create(rt, file) {
-        Ok(_) => 0,
-        Err(fault) => BoxFault::of_boot_file(rt.alloc(), file, fault).tell(errors),
+    match site.make(file) {
+        Ok(()) => 0,
+        Err(fault) => BoxFault::of_boot_file(alloc, file, fault).tell(errors),
     }
 }
 
@@ -223,16 +228,35 @@ fn locked<R: Files + Net + Clock + RandomSource + Eprint + Env + Input + AllocGl
 where
     R::File: Blocks + Lockable + AsRawFd,
     requires found { IsTrue start.now.found → start.now.id ≡ Zero }
+    requires no_clash { clash_of_one settings.now start.now.id (on_loopback ways.now) ≡ None }
     ensures ok { OnOk result (HasRun settings.now start.now.id start.now.rounds start.now.found
         start.now.track start.now.until_eof (O.contents output.old) (O.contents output.new)) }
     ensures err { IfErr result IsOfNoWay }
 {
     let path = control_path(rt.alloc(), settings, start.id)?;
     let boot_file = settings.gateway(start.id).boot_file.as_str();
-    match boot_file::open(rt, boot_file) {
-        Ok(mut disk) => connected(rt, start, settings, ways, &path, manager, &mut disk, output),
+    match locked_at(rt, boot_file) {
+        Ok(mut file) => connected(rt, start, settings, ways, &path, manager, &mut file, output),
         Err(fault) => Err(BoxFault::of_boot_file(rt.alloc(), boot_file, fault)),
     }
+}
+
+/// A boot file that is locked, and its path.
+#[derive(Drop)]
+struct LockedFile<'a, F> {
+    path: &'a str,
+    disk: FileDisk<F>,
+}
+
+/// Opens and locks the boot file at a path.
+fn locked_at<'a, R: Files>(rt: &R, path: &'a str) -> Result<LockedFile<'a, R::File>, FileFault>
+where
+    R::File: Blocks + Lockable,
+    ensures locked { IfOk result (λ file. ⟦<R::File as Lockable>⟧.locked file.disk.file) }
+    ensures path { IfOk result (λ file. file.path.now ≡ path.now) }
+{
+    let disk = boot_file::open(rt, path)?;
+    Ok(LockedFile { path, disk })
 }
 
 /// Opens the control socket, and the sockets that the ways need, while the boot file is locked: no other box listens there.
@@ -244,52 +268,79 @@ fn connected<R: Files + Net + Clock + RandomSource + Eprint + Env + Input + Allo
     ways: &Ways,
     path: &ControlPath,
     manager: &Option<Manager>,
-    disk: &mut FileDisk<R::File>,
+    file: &mut LockedFile<'_, R::File>,
     output: &mut O,
 ) -> Result<(), BoxFault>
 where
     R::File: Blocks + Lockable + AsRawFd,
     requires found { IsTrue start.now.found → start.now.id ≡ Zero }
-    requires locked { ⟦<R::File as Lockable>⟧.locked disk.old.file }
+    requires locked { ⟦<R::File as Lockable>⟧.locked file.old.disk.file }
+    requires own_file { file.old.path.now
+        ≡ string_bytes (gateway_of settings.now start.now.id).boot_file }
+    requires beside { IsBeside
+        (string_bytes (gateway_of settings.now start.now.id).boot_file) path.now }
     ensures ok { OnOk result (HasRun settings.now start.now.id start.now.rounds start.now.found
         start.now.track start.now.until_eof (O.contents output.old) (O.contents output.new)) }
     ensures err { IfErr result IsOfNoWay }
-    ensures untouched { IfErr result (λ why. IsBeforeBoot why → disk.new ≡ disk.old) }
+    ensures untouched { IfErr result (λ why. IsBeforeBoot why → file.new.disk ≡ file.old.disk) }
+    ensures silent { IfErr result (λ why. IsBeforeBoot why → output.new ≡ output.old) }
 {
     let Ok(control) = Control::open(rt, path) else {
-        let boot_file = settings.gateway(start.id).boot_file.as_str();
-        return Err(BoxFault::no_control(rt.alloc(), boot_file));
+        return Err(BoxFault::no_control(rt.alloc(), file.path));
     };
-    let ports = ports_of(settings, start.id);
-    match Sockets::open(rt, rt.alloc(), ways, ports, control) {
-        Ok(wire) => logged(rt, start, settings, manager, disk, wire, output),
+    match sockets_of(rt, settings, start.id, ways, control) {
+        Ok(wire) => logged(
+            rt,
+            start,
+            settings,
+            ways,
+            manager,
+            &mut file.disk,
+            wire,
+            output,
+        ),
         Err(SocketFault::NoMemory) => Err(BoxFault::from(NoMemory)),
-        Err(SocketFault::NoSocket) => Err(BoxFault::NoSocket(refused_end(rt, ways, ports))),
+        Err(SocketFault::NoSocket) => {
+            let ports = ports_of(settings, start.id);
+            Err(BoxFault::NoSocket(refused_end(rt, ways, ports)))
+        }
     }
 }
 
+/// The sockets that the ways of a box need, and its control socket.
+fn sockets_of<R: Net + AllocGlobal>(
+    rt: &R,
+    settings: &Settings,
+    id: GatewayId,
+    ways: &Ways,
+    control: Control,
+) -> Result<Sockets, SocketFault>
+    ensures opened { IfOk result
+        (λ wire. Opens ways.now (box_ports settings.now id) wire.board) }
+{
+    Sockets::open(rt, rt.alloc(), ways, ports_of(settings, id), control)
+}
+
 /// Reads the filter of the records.
-fn logged<
-    R: Files + Clock + RandomSource + Eprint + Env + Input + AllocGlobal,
-    D: Disk,
-    W: Wire + Drop,
-    O: Write,
->(
+fn logged<R: Files + Clock + RandomSource + Eprint + Env + Input + AllocGlobal, D: Disk, O: Write>(
     rt: &R,
     start: &Start<'_>,
     settings: &Settings,
+    ways: &Ways,
     manager: &Option<Manager>,
     disk: &mut D,
-    wire: W,
+    wire: Sockets,
     output: &mut O,
 ) -> Result<(), BoxFault>
 where
     R::File: AsRawFd,
     requires found { IsTrue start.now.found → start.now.id ≡ Zero }
+    requires opened { Opens ways.now (box_ports settings.now start.now.id) wire.board }
     ensures ok { OnOk result (HasRun settings.now start.now.id start.now.rounds start.now.found
         start.now.track start.now.until_eof (O.contents output.old) (O.contents output.new)) }
     ensures err { IfErr result IsOfNoWay }
     ensures untouched { IfErr result (λ why. IsBeforeBoot why → disk.new ≡ disk.old) }
+    ensures silent { IfErr result (λ why. IsBeforeBoot why → output.new ≡ output.old) }
 {
     let log = log_of(rt, start.log, start.format)?;
     let ended = captured(rt, start, settings, manager, disk, wire, output, &log);
@@ -321,6 +372,7 @@ where
         start.now.track start.now.until_eof (O.contents output.old) (O.contents output.new)) }
     ensures err { IfErr result IsOfNoWay }
     ensures untouched { IfErr result (λ why. IsBeforeBoot why → disk.new ≡ disk.old) }
+    ensures silent { IfErr result (λ why. IsBeforeBoot why → output.new ≡ output.old) }
 {
     match capture_at(rt, start.capture)? {
         Some(capture) => tapped(
@@ -352,6 +404,8 @@ fn tapped<
 where
     R::File: AsRawFd,
     requires found { IsTrue start.now.found → start.now.id ≡ Zero }
+    requires captured { option_map (λ path. path.now) start.now.capture
+        ≡ Some capture.path.now }
     ensures ok { OnOk result (HasRun settings.now start.now.id start.now.rounds start.now.found
         start.now.track start.now.until_eof (O.contents output.old) (O.contents output.new)) }
     ensures err { IfErr result IsOfStart }
@@ -412,6 +466,7 @@ fn log_of<'a, R: Eprint + Env + AllocGlobal>(
     option: Option<&str>,
     format: Format,
 ) -> Result<FilteredLog<Unhindered<StandardError<&'a R>>>, BoxFault>
+    ensures chosen { IfOk result (λ log. IsChosenBy option.entry (filtered_rules log)) }
     ensures err { IfErr result IsOfFilter }
     ensures no_way { IfErr result IsOfNoWay }
 {
@@ -432,6 +487,7 @@ fn filtered<'a, R: Eprint + AllocGlobal>(
     environment: Option<&String>,
     format: Format,
 ) -> Result<FilteredLog<Unhindered<StandardError<&'a R>>>, BoxFault>
+    ensures chosen { IfOk result (λ log. IsChosenBy option.entry (filtered_rules log)) }
     ensures err { IfErr result IsOfFilter }
     ensures no_way { IfErr result IsOfNoWay }
 {
@@ -457,6 +513,7 @@ fn run<R: Clock + RandomSource + Input + AllocGlobal, D: Disk, W: Wire, O: Write
     log: &L,
 ) -> Result<(), BoxFault>
     requires found { IsTrue start.now.found → start.now.id ≡ Zero }
+    requires uncaptured { is_some start.now.capture ≡ false }
     ensures ok { OnOk result (HasRun settings.now start.now.id start.now.rounds start.now.found
         start.now.track start.now.until_eof (O.contents output.old) (O.contents output.new)) }
     ensures err { IfErr result IsOfStart }
@@ -540,6 +597,8 @@ fn started<R: RandomSource + AllocGlobal, D: Disk, O: Write, L: Log>(
     ensures start { IfOk result (λ begun. HasStarted settings.now id found
         (O.contents output.old) (O.contents output.new) begun.1) }
     ensures identity { IfOk result (λ begun. IsIdentity settings.now id begun.0 begun.1) }
+    ensures decided { D.honest disk.old → IfOk result (λ begun. Decides found
+        (D.now disk.old) (D.now disk.new) (Ok begun.0.boot)) }
     ensures err { IfErr result IsOfStart }
 {
     let digest = digest(rt.alloc(), settings)?;
@@ -613,7 +672,7 @@ fn begun(
 }
 
 /// The settings in the file at a path.
-pub(crate) fn settings_at<R: Files + AllocGlobal>(rt: &R, path: &str) -> Result<Settings, BoxFault>
+fn settings_at<R: Files + AllocGlobal>(rt: &R, path: &str) -> Result<Settings, BoxFault>
     ensures held { IfOk result AreHeld }
     ensures err { IfErr result IsOfRun }
 {

@@ -3,27 +3,27 @@ ghost use Rattle.std.specs.Prelude.{◌≡◌, ◌⊎◌, IfOk, OnOk, Some, opti
 ghost use Rattle.control.specs.Answers.{content_of, heard};
 ghost use Rattle.control.specs.Paths.{IsBeside};
 ghost use Rattle.control.specs.Words.{word_of};
-ghost use Rattle.gate.specs.Said.{IsLineTo, off_bytes, said_off as meaning_off, said_side};
+ghost use Rattle.gate.specs.Deeds.{HasSaid, HasTaken, IsBoxOf};
+ghost use Rattle.gate.specs.Said.{off_bytes, said_off as meaning_off, said_side, said_stop};
 ghost use Rattle.settings.specs.Parts.{gateway_of};
 
 use crate::asking::asked;
 use crate::refusals::{BoxFault, Explained};
-use crate::running::settings_at;
+use crate::sites::Site;
 use control::{
-    Answer, ControlPath, PathFault, say, spelled_known_off, spelled_off, spelled_side, spelled_stop,
+    Answer, ControlPath, PathFault, spelled_known_off, spelled_off, spelled_side, spelled_stop,
 };
 use nat_types::{GatewayId, Side};
 use settings::Settings;
 use std::alloc::Global;
-use std::fs::Files;
 use std::io::Write;
-use std::net::Net;
 
 /// Tells a running box that a boot of the other is off: this one, or where there is none that which the box knows. Where it
 /// is forced the boot may be above the known one. The answer is the exit status: 0 once the box has taken it, or 1 where it
 /// refuses it or for a fault, which is told on `errors`.
-pub fn peer_off<R: Files + Net + AllocGlobal, E: Write>(
-    rt: &R,
+pub fn peer_off<S: Site, E: Write>(
+    alloc: Global,
+    site: &mut S,
     settings: &str,
     id: GatewayId,
     boot: Option<u64>,
@@ -31,9 +31,11 @@ pub fn peer_off<R: Files + Net + AllocGlobal, E: Write>(
     errors: &mut E,
 ) -> u8
     ensures status { (result ≡ 0) ⊎ (result ≡ 1) }
+    ensures taken { result ≡ 0 → HasTaken S.does settings.now id
+        (Some (meaning_off boot forced)) site.old site.new }
 {
     let word = OffWord::of(boot, forced);
-    match said_off(rt, settings, id, word.bytes()) {
+    match said_off(alloc, site, settings, id, word.bytes()) {
         Ok(()) => 0,
         Err(fault) => fault.tell(errors),
     }
@@ -70,16 +72,19 @@ impl OffWord {
 }
 
 /// Says a word that the box may refuse.
-fn said_off<R: Files + Net + AllocGlobal>(
-    rt: &R,
+fn said_off<S: Site>(
+    alloc: Global,
+    site: &mut S,
     settings: &str,
     id: GatewayId,
     word: &[u8],
-) -> Result<(), BoxFault> {
-    let line = line_to(rt, settings, id)?;
+) -> Result<(), BoxFault>
+    ensures { OnOk result (HasTaken S.does settings.now id (word_of word.now) site.old site.new) }
+{
+    let line = line_to(alloc, site, settings, id)?;
     let mut room = [0; 4_096];
-    let count = asked(rt, &line, word, &mut room)?;
-    taken_by(rt.alloc(), &line, Answer::read(&room[..count]))
+    let count = asked(alloc, site, &line, word, &mut room)?;
+    taken_by(alloc, &line, Answer::read(&room[..count]))
 }
 
 /// Whether a box has taken a word, by its answer; or why it doesn't.
@@ -95,15 +100,18 @@ fn taken_by(alloc: Global, line: &Line, answer: Option<Answer<'_>>) -> Result<()
 
 /// Tells a running box to end. The answer is the exit status: 0 once the box has heard it, or 1 for a fault, which is told
 /// on `errors`. The box ends with its next tick.
-pub fn stop<R: Files + Net + AllocGlobal, E: Write>(
-    rt: &R,
+pub fn stop<S: Site, E: Write>(
+    alloc: Global,
+    site: &mut S,
     settings: &str,
     id: GatewayId,
     errors: &mut E,
 ) -> u8
     ensures status { (result ≡ 0) ⊎ (result ≡ 1) }
+    ensures said { result ≡ 0
+        → HasSaid S.does settings.now id (Some said_stop) site.old site.new }
 {
-    match said(rt, settings, id, &spelled_stop()) {
+    match said(alloc, site, settings, id, &spelled_stop()) {
         Ok(()) => 0,
         Err(fault) => fault.tell(errors),
     }
@@ -111,8 +119,9 @@ pub fn stop<R: Files + Net + AllocGlobal, E: Write>(
 
 /// Tells a running gateway that a side can be used (`up`), or can't. It counts whether or not the gateway tracks
 /// carriers. The answer is the exit status: 0 once the gateway has heard it, or 1 for a fault, which is told on `errors`.
-pub fn side<R: Files + Net + AllocGlobal, E: Write>(
-    rt: &R,
+pub fn side<S: Site, E: Write>(
+    alloc: Global,
+    site: &mut S,
     settings: &str,
     id: GatewayId,
     side: Side,
@@ -120,8 +129,10 @@ pub fn side<R: Files + Net + AllocGlobal, E: Write>(
     errors: &mut E,
 ) -> u8
     ensures status { (result ≡ 0) ⊎ (result ≡ 1) }
+    ensures said { result ≡ 0
+        → HasSaid S.does settings.now id (Some (said_side side up)) site.old site.new }
 {
-    match said(rt, settings, id, &side_word(side, up)) {
+    match said(alloc, site, settings, id, &side_word(side, up)) {
         Ok(()) => 0,
         Err(fault) => fault.tell(errors),
     }
@@ -135,16 +146,19 @@ fn side_word(side: Side, up: bool) -> [u8; 5]
 }
 
 /// Says a word at the gateway's control socket, and waits until it is heard.
-fn said<R: Files + Net + AllocGlobal>(
-    rt: &R,
+fn said<S: Site>(
+    alloc: Global,
+    site: &mut S,
     settings: &str,
     id: GatewayId,
     word: &[u8],
-) -> Result<(), BoxFault> {
-    let line = line_to(rt, settings, id)?;
-    match say(rt, &line.path, word) {
+) -> Result<(), BoxFault>
+    ensures { OnOk result (HasSaid S.does settings.now id (word_of word.now) site.old site.new) }
+{
+    let line = line_to(alloc, site, settings, id)?;
+    match site.say(&line.path, word) {
         Ok(()) => Ok(()),
-        Err(_) => Err(line.unheard(rt.alloc())),
+        Err(_) => Err(line.unheard(alloc)),
     }
 }
 
@@ -163,16 +177,20 @@ impl Line {
 }
 
 /// Where the gateway of the settings at a path is spoken to.
-pub(crate) fn line_to<R: Files + AllocGlobal>(
-    rt: &R,
+pub(crate) fn line_to<S: Site>(
+    alloc: Global,
+    site: &mut S,
     settings: &str,
     id: GatewayId,
 ) -> Result<Line, BoxFault>
-    ensures { IfOk result (IsLineTo id) }
+    ensures reached { IfOk result (λ line. IsBoxOf S.does settings.now id
+        (string_bytes line.boot_file) site.old site.new) }
+    ensures beside { IfOk result (λ line. IsBeside (string_bytes line.boot_file) line.path) }
 {
-    let settings = settings_at(rt, settings)?;
-    let path = control_path(rt.alloc(), &settings, id)?;
-    let boot_file = String::from_str(rt.alloc(), settings.gateway(id).boot_file.as_str())?;
+    let text = site.text(settings)?;
+    let settings = settings_file::read(alloc, text.as_str())?;
+    let path = control_path(alloc, &settings, id)?;
+    let boot_file = String::from_str(alloc, settings.gateway(id).boot_file.as_str())?;
     Ok(Line { path, boot_file })
 }
 

@@ -33,3 +33,21 @@ pub returns-in-Version-clause-done : goal.returns-in-Version-clause-done
 returns-in-Version-clause-done g c h =
     let none = is_0 _ c.tell_version.ensures.status h in
     rw c.in-Version.is (none, c.tell_version.ensures.printed none)
+
+pub returns-in-Init-clause-acts : goal.returns-in-Init-clause-acts
+returns-in-Init-clause-acts g c h = rw c.in-Init.is (rw c.as_str.ensures.value at (c.init.ensures.made h))
+
+pub returns-in-Status-clause-acts : goal.returns-in-Status-clause-acts
+returns-in-Status-clause-acts g c h = rw c.in-Status.is (c.state_of.ensures.asked h)
+
+pub returns-in-Pairs-clause-acts : goal.returns-in-Pairs-clause-acts
+returns-in-Pairs-clause-acts g c h = rw c.in-Pairs.is (c.pairs_of.ensures.listed h)
+
+pub returns-in-Stop-clause-acts : goal.returns-in-Stop-clause-acts
+returns-in-Stop-clause-acts g c h = rw c.in-Stop.is (rw c.as_str-in-Stop.ensures.value at (c.stop.ensures.said h))
+
+pub returns-in-PeerOff-clause-acts : goal.returns-in-PeerOff-clause-acts
+returns-in-PeerOff-clause-acts g c h = rw c.in-PeerOff.is (rw c.as_str-settings.ensures.value at (c.peer_off.ensures.taken h))
+
+pub returns-in-Side-clause-acts : goal.returns-in-Side-clause-acts
+returns-in-Side-clause-acts g c h = rw c.in-Side.is (rw c.as_str-in-Side.ensures.value at (c.side.ensures.said h))

@@ -1,10 +1,11 @@
 use Rattle.std.proofs.Common.{rules}
 use Rattle.gate.proofs.saying.line_to.Goals as goal
 
-pub returns : goal.returns
-returns g c = record {
-  settings = c.in_ok-settings.settings;
+pub returns-clause-reached : goal.returns-clause-reached
+returns-clause-reached g c = record {
+  text = _;
+  read_it = c.in_ok-text.ensures.read;
+  values = c.in_ok-settings.settings;
   held = search rules;
-  beside = search rules;
-  named = search rules;
+  own_file = search rules;
 }

@@ -1,0 +1,125 @@
+-- What an operator's command does at a site.
+use Rattle.std.specs.Prelude.{◌≡◌, ℕ, List, [], ◌∷◌, Option, Some, None, true, Ok, string_bytes, if◌then◌else◌}
+use Rattle.toml.specs.Parse.{parse_document}
+use Rattle.nat_types.specs.declared.gateways.GatewayId.{GatewayId}
+use Rattle.nat_types.specs.declared.pairs.Key.{Key}
+use Rattle.settings.specs.declared.whole.Settings.{Settings}
+use Rattle.settings.specs.Parts.{gateway_of}
+use Rattle.settings_file.specs.Settings.{IsReadFrom}
+use Rattle.control.specs.Answers.{Content, heard, page as page_of, report as report_of}
+use Rattle.control.specs.Paths.{IsBeside, Paths}
+use Rattle.control.specs.declared.words.Word.{Word}
+use Rattle.control.specs.declared.words.Word.TheVariants.{Pairs, Status}
+use Rattle.reports.specs.Formats.{reading}
+use Rattle.reports.specs.Pages.{Page, last_of}
+use Rattle.reports.specs.Reports.{page as page_format, report as report_format}
+use Rattle.reports.specs.declared.reports.Report.{Report}
+
+-- a file was read, which has this text; a boot file was made; a box that is reached so was said this word, and heard it; or was
+-- said it, and gave this answer. What was said, or answered, may be none
+pub data Deed : Type 0 where
+  read : List ℕ → List ℕ → Deed
+  made : List ℕ → Deed
+  said : Paths → Option Word → Deed
+  asked : Paths → Option Word → Option Content → Deed
+
+-- what a deed is to a site, and what the site is then
+abbrev pub Does : Type 0 → Type 1
+Does S = S → Deed → S → Type 0
+
+-- The settings at a path were read: those of its text have a box of this id, whose boot file is this
+pub record IsBoxOf {S : Type 0} (does : Does S) (settings : List ℕ) (id : GatewayId) (boot_file : List ℕ) (before after : S) : Type 0 where
+  pub text : List ℕ
+  pub read_it : does before (read settings text) after
+  pub values : Settings
+  pub held : IsReadFrom (parse_document text) values
+  pub own_file : boot_file ≡ string_bytes (gateway_of values id).boot_file
+
+-- the settings at a path were read; their box of this id is reached so, beside its boot file
+pub record IsReached {S : Type 0} (does : Does S) (settings : List ℕ) (id : GatewayId) (path : Paths) (before after : S) : Type 0 where
+  pub boot_file : List ℕ
+  pub box : IsBoxOf does settings id boot_file before after
+  pub beside : IsBeside boot_file path
+
+-- just that box was said this word, and it was heard; and nothing else was done
+pub record HasSaid {S : Type 0} (does : Does S) (settings : List ℕ) (id : GatewayId) (word : Option Word) (before after : S) : Type 0 where
+  pub path : Paths
+  pub between : S
+  pub reached : IsReached does settings id path before between
+  pub said_it : does between (said path word) after
+
+-- just that box was said this word, and answered that it takes it; and nothing else was done
+pub record HasTaken {S : Type 0} (does : Does S) (settings : List ℕ) (id : GatewayId) (word : Option Word) (before after : S) : Type 0 where
+  pub path : Paths
+  pub between : S
+  pub reached : IsReached does settings id path before between
+  pub taken : does between (asked path word (Some heard)) after
+
+-- a box was asked how it stands, and answered by this report
+pub record Reports {S : Type 0} (does : Does S) (path : Paths) (report : Report) (before after : S) : Type 0 where
+  pub bytes : List ℕ
+  pub reads : reading report_format bytes ≡ Ok report
+  pub answered : does before (asked path (Some Status) (Some (report_of bytes))) after
+
+-- a box was asked for the pairs behind a key, or the first ones, and answered by this page
+pub record Lists {S : Type 0} (does : Does S) (path : Paths) (behind : Option Key) (page : Page) (before after : S) : Type 0 where
+  pub bytes : List ℕ
+  pub reads : reading page_format bytes ≡ Ok page
+  pub answered : does before (asked path (Some (Pairs behind)) (Some (page_of bytes))) after
+
+-- just that box was asked how it stands, and answered by a report; and nothing else was done
+pub record HasReported {S : Type 0} (does : Does S) (settings : List ℕ) (id : GatewayId) (before after : S) : Type 0 where
+  pub path : Paths
+  pub between : S
+  pub reached : IsReached does settings id path before between
+  pub report : Report
+  pub reports : Reports does path report between after
+
+-- at last a box was asked how it stands, and answered that it is synced
+pub record IsSyncedAt {S : Type 0} (does : Does S) (path : Paths) (after : S) : Type 0 where
+  pub report : Report
+  pub before : S
+  pub reports : Reports does path report before after
+  pub synced : report.gateway.synced ≡ true
+
+-- at last just that box was asked how it stands, and answered that it is synced
+pub record HasSynced {S : Type 0} (does : Does S) (settings : List ℕ) (id : GatewayId) (before after : S) : Type 0 where
+  pub path : Paths
+  pub between : S
+  pub reached : IsReached does settings id path before between
+  pub synced : IsSyncedAt does path after
+
+-- the key behind which the next page begins, where others follow
+abbrev pub next_of : Page → Option Key
+next_of page = if page.more then last_of page.entries else None
+
+-- the key behind which the page is that follows these, the newest of which comes first
+abbrev pub next_behind : List Page → Option Key
+next_behind [] = None
+next_behind (page ∷ earlier) = next_of page
+
+-- a box was asked for these pages, the newest of which comes first: the first ones, and then each behind the one before
+abbrev pub AreListed : {S : Type 0} → Does S → Paths → List Page → S → S → Type 0
+AreListed does path [] before after = after ≡ before
+AreListed {S = S} does path (page ∷ earlier) before after =
+    (middle : S) × (AreListed does path earlier before middle × Lists does path (next_behind earlier) page middle after)
+
+-- a box was asked for a page behind a key, or the first one, behind which the next one begins at this key
+pub record HasPage {S : Type 0} (does : Does S) (path : Paths) (behind next : Option Key) (before after : S) : Type 0 where
+  pub page : Page
+  pub lists : Lists does path behind page before after
+  pub goes_on : next_of page ≡ next
+
+-- so far: some pages, behind which the next one begins at this key
+pub record HasPages {S : Type 0} (does : Does S) (path : Paths) (next : Option Key) (before after : S) : Type 0 where
+  pub newest : Page
+  pub earlier : List Page
+  pub listed : AreListed does path (newest ∷ earlier) before after
+  pub goes_on : next_of newest ≡ next
+
+-- just that box was asked for its pages until none followed; and nothing else was done
+pub record HasListed {S : Type 0} (does : Does S) (settings : List ℕ) (id : GatewayId) (before after : S) : Type 0 where
+  pub path : Paths
+  pub between : S
+  pub reached : IsReached does settings id path before between
+  pub pages : HasPages does path None between after

@@ -1,0 +1,72 @@
+//! Where an operator's commands work.
+ghost use Rattle.std.specs.Prelude.{◌≤◌, IfOk, OnOk, length, string_bytes, take};
+ghost use Rattle.control.specs.Answers.{answer_of};
+ghost use Rattle.control.specs.Words.{word_of};
+ghost use Rattle.gate.specs.Deeds.{Deed, asked, made, read, said};
+
+use boot_file::{Blocks, FileFault};
+use control::{ControlPath, NoSocket};
+use faults::{Fault, text_of};
+use std::fs::Files;
+use std::net::Net;
+
+/// Where an operator's commands work: files are read and made there, and boxes are spoken to.
+pub trait Site {
+    /// What a deed is to the site, and what the site is then.
+    ghost does: { Self → Deed → Self → Type 0 };
+
+    /// The text of the file at a path.
+    fn text(&mut self, path: &str) -> Result<String, Fault>
+        ensures read { IfOk result
+            (λ text. does self.old (read path.now (string_bytes text)) self.new) };
+
+    /// Makes a boot file.
+    fn make(&mut self, path: &str) -> Result<(), FileFault>
+        ensures made { OnOk result (does self.old (made path.now) self.new) };
+
+    /// Says a word to the box whose control socket lies there, and waits until it is heard.
+    fn say(&mut self, path: &ControlPath, word: &[u8]) -> Result<(), NoSocket>
+        ensures said { OnOk result (does self.old (said path.now (word_of word.now)) self.new) };
+
+    /// Says a word to the box whose control socket lies there, and waits for its answer, which is so many bytes of the room.
+    fn ask(&mut self, path: &ControlPath, word: &[u8], room: &mut [u8]) -> Result<usize, NoSocket>
+        ensures within { IfOk result (λ count. count ≤ length room.new) }
+        ensures asked { IfOk result (λ count. does self.old
+            (asked path.now (word_of word.now) (answer_of (take count room.new))) self.new) };
+}
+
+/// This machine: of what is done there nothing is known.
+#[derive(Drop)]
+pub struct Machine<'a, R> {
+    rt: &'a R,
+}
+
+impl<'a, R> Machine<'a, R> {
+    pub fn new(rt: &'a R) -> Machine<'a, R> {
+        Machine { rt }
+    }
+}
+
+impl<R: Files + Net + AllocGlobal> Site for Machine<'_, R>
+where
+    R::File: Blocks,
+{
+    ghost does = { λ _ _ _. Unit {0} };
+
+    fn text(&mut self, path: &str) -> Result<String, Fault> {
+        text_of(self.rt, path)
+    }
+
+    fn make(&mut self, path: &str) -> Result<(), FileFault> {
+        boot_file::create(self.rt, path)?;
+        Ok(())
+    }
+
+    fn say(&mut self, path: &ControlPath, word: &[u8]) -> Result<(), NoSocket> {
+        control::say(self.rt, path, word)
+    }
+
+    fn ask(&mut self, path: &ControlPath, word: &[u8], room: &mut [u8]) -> Result<usize, NoSocket> {
+        control::ask(self.rt, path, word, room)
+    }
+}
