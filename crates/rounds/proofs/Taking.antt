@@ -1,12 +1,11 @@
 -- What is taken, one part after another.
 use Rattle.std.proofs.Common.{◌≡◌, ◌∙◌, ◌+◌, ◌<◌, ◌⊎◌, ◌++◌, ℕ, Bool, true, false, not, List, [], ◌∷◌, take, Option, Some, None, Result, Ok, Err, IfOk, is_err, length, refl, sym, ap, subst, inl, inr, add-one, arith, length-append}
-use Rattle.std.proofs.lemmas.List.{append-nil, append_assoc}
-use Rattle.std.proofs.Math.Seq.{take-append-add}
+use Rattle.std.proofs.lemmas.List.{append-nil, append_assoc, take_at}
 use Rattle.std.proofs.lemmas.List.Folds.{list_any-append}
 use Rattle.sockets.specs.Letters.{Call, Polled, answer_of, asked, came, failed, is_nothing, nothing}
 use Rattle.sockets.specs.declared.places.Place.{Place}
 use Rattle.sockets.specs.declared.wire.WireFault.{WireFault}
-use Rattle.rounds.specs.Rounds.{AreAllRounds, AreMade, AreRounds, Box, Calls, IsRound, Reads, TakesAll, TakesLetter}
+use Rattle.rounds.specs.Rounds.{AreMade, AreRounds, AreRoundsAsked, Box, Calls, IsRound, Reads, TakesAll, TakesLetter}
 use Rattle.rounds.specs.Polls.{Asks, HasAsked, HasPolled}
 
 -- ---- what is sent
@@ -39,10 +38,12 @@ made_all does calls rest a b had is =
 
 -- ---- what is answered
 
--- behind what stands before them, as many bytes as there are
-pub laid : (head front rest : List ℕ) (n : ℕ) → front ≡ head → length head ≡ 2 → take (2 + n) (front ++ rest) ≡ head ++ take n rest
-laid head front rest n is two =
-    rw is (subst (λ (k : ℕ). take (k + n) (head ++ rest) ≡ head ++ take n rest) two (take-append-add head rest n))
+-- two bytes were laid at the front, and others behind them
+pub laid : (head bytes front rest middle tail : List ℕ) → front ≡ head → middle ≡ bytes → length head ≡ 2
+    → take (2 + length bytes) (take 2 (front ++ rest) ++ (middle ++ tail)) ≡ head ++ bytes
+laid head bytes front rest middle tail is same two =
+    rw (is, same, take_at head rest 2 two, ← append_assoc head bytes tail)
+    (take_at (head ++ bytes) tail (2 + length bytes) (length-append head bytes ∙ ap (λ (k : ℕ). k + length bytes) two))
 
 -- an Err says nothing of a count
 pub of_err : {E : Type 0} (r : Result ℕ E) (left : ℕ) → is_err r ≡ true → IfOk r (λ (x : ℕ). x ≡ left)
@@ -142,22 +143,18 @@ pub one_round_more : {W C : Type 0} (does : Calls W) (track : Bool) (reads : Rea
 one_round_more does track reads n a b c x y z before last = rw add-one (b, (y, (before, last)))
 
 -- the box is to end, as was told at its control socket or otherwise
-pub all_told : {W C : Type 0} (does : Calls W) (track : Bool) (reads : Reads C) (n most : ℕ) (otherwise : Type 0) (a b : Box W) (x y : C)
-    → AreRounds does track reads n a x b y → n < most → (b.ending ≡ true) ⊎ otherwise
-    → AreAllRounds does track reads most otherwise a x b y
-all_told does track reads n most otherwise a b x y had below why = record {
-  count = n;
-  within = omega (arith, below);
-  rounds = had;
-  over = by why;
-}
+pub all_told : {W C : Type 0} (does : Calls W) (track : Bool) (reads : Reads C) (n most : ℕ) (otherwise goes_on : Type 0) (a b : Box W) (x y : C)
+    → AreRounds does track reads n a x b y → (0 < n → goes_on) → n < most → (b.ending ≡ true) ⊎ otherwise
+    → AreRoundsAsked does track reads most otherwise goes_on a x b y
+all_told does track reads n most otherwise goes_on a b x y had each below why =
+    (record { count = n; within = omega (arith, below); rounds = had; over = by why }, each)
   where
     by : (b.ending ≡ true) ⊎ otherwise → (b.ending ≡ true) ⊎ (otherwise ⊎ (n ≡ most))
     by (inl said) = inl said
     by (inr told) = inr (inl told)
 
 -- it has had the most
-pub all_had : {W C : Type 0} (does : Calls W) (track : Bool) (reads : Reads C) (n most : ℕ) (otherwise : Type 0) (a b : Box W) (x y : C)
-    → AreRounds does track reads n a x b y → n ≡ most → AreAllRounds does track reads most otherwise a x b y
-all_had does track reads n most otherwise a b x y had is =
-    record { count = n; within = omega (arith, is); rounds = had; over = inr (inr is) }
+pub all_had : {W C : Type 0} (does : Calls W) (track : Bool) (reads : Reads C) (n most : ℕ) (otherwise goes_on : Type 0) (a b : Box W) (x y : C)
+    → AreRounds does track reads n a x b y → (0 < n → goes_on) → n ≡ most → AreRoundsAsked does track reads most otherwise goes_on a x b y
+all_had does track reads n most otherwise goes_on a b x y had each is =
+    (record { count = n; within = omega (arith, is); rounds = had; over = inr (inr is) }, each)

@@ -5,3 +5,4 @@ pub mod Rounds
 pub mod LeftOut
 pub mod Polls
 pub mod Outages
+pub mod Answers

@@ -3,7 +3,7 @@
 use Rattle.std.specs.Prelude.{◌≡◌, ◌<◌, ◌≤◌, ◌⊎◌, ◌+◌, ◌++◌, ◌||◌, ℕ, zero, suc, Bool, false, true, List, [], ◌∷◌, length, map, Option, Some, None, Result, IfOk}
 use Rattle.std.specs.Borrow.{Bor}
 use Rattle.std.specs.List.{list_any}
-use Rattle.control.specs.Answers.{Content, answer_of, heard, page, refused, report}
+use Rattle.control.specs.Answers.{Content, answer_of, heard, refused}
 use Rattle.sockets.specs.Letters.{Call, Polled, ReceivedDatagram, answered, asked, came, failed, is_nothing, nothing, sent}
 use Rattle.sockets.specs.declared.places.Place.{Place}
 use Rattle.sockets.specs.declared.places.Place.TheVariants as place
@@ -12,10 +12,10 @@ use Rattle.spec_step.specs.declared.events.Event.{Event}
 use Rattle.spec_step.specs.declared.events.Event.TheVariants.{Stop, Tick}
 use Rattle.spec_step.specs.Shown.{Shown, scene}
 use Rattle.spec_step.specs.Steps.{IsStepOn}
+use Rattle.rounds.specs.Answers.{IsAnswerTo}
 use Rattle.rounds.specs.Letters.{event_of, is_end, reply_at}
 use Rattle.rounds.specs.Views.{seen}
 use Rattle.rounds.specs.declared.judging.Question.{Question}
-use Rattle.rounds.specs.declared.judging.Question.TheVariants.{Status, Pairs}
 use Rattle.rounds.specs.declared.judging.Reply.{Reply}
 use Rattle.rounds.specs.declared.judging.Reply.TheVariants.{Heard, Refused, Later}
 use Rattle.rounds.specs.declared.views.View.{View}
@@ -82,16 +82,11 @@ Replies does (Some (Refused refusal)) is_done b b2 = Says does (refused refusal)
 Replies does (Some Heard) true b b2 = Says does heard b b2
 Replies does (Some Heard) false b b2 = IsAnswered does [] b b2
 
--- the answer to a question: a report, or a page; or nothing, where memory is refused for it
-abbrev pub IsAnswerTo : Question → List ℕ → Type 0
-IsAnswerTo Status bytes = (bytes ≡ []) ⊎ ((rest : List ℕ) × (answer_of bytes ≡ Some (report rest)))
-IsAnswerTo (Pairs behind) bytes = (bytes ≡ []) ⊎ ((rest : List ℕ) × (answer_of bytes ≡ Some (page rest)))
-
--- what is owed is answered
+-- what is owed is answered, of the gateway as it stands; or with nothing, where memory is refused for it
 abbrev pub AnswersOwed : {W : Type 0} → Calls W → Option Question → Box W → Box W → Type 0
 AnswersOwed does None b b2 = b2 ≡ b
 AnswersOwed does (Some question) b b2 =
-    (bytes : List ℕ) × (IsAnswerTo question bytes × IsAnswered does bytes (record b { owed = None }) b2)
+    (bytes : List ℕ) × (((bytes ≡ []) ⊎ IsAnswerTo b.shown question bytes) × IsAnswered does bytes (record b { owed = None }) b2)
 
 -- the event that a letter is to a gateway that stands so, or that it is none; carriers are tracked or not
 pub record Brings (track : Bool) (view : View) (letter : ReceivedDatagram) (event : Option Event) : Type 0 where
@@ -171,6 +166,11 @@ pub record AreAllRounds {W C : Type 0} (does : Calls W) (track : Bool) (reads : 
     pub rounds : AreRounds does track reads count b c b2 c2
     pub over : (b2.ending ≡ true) ⊎ (otherwise ⊎ (count ≡ most))
 
+-- the same, of a box that asked before each round whether it was told otherwise, and wasn't
+abbrev pub AreRoundsAsked : {W C : Type 0} → Calls W → Bool → Reads C → ℕ → Type 0 → Type 0 → Box W → C → Box W → C → Type 0
+AreRoundsAsked does track reads most otherwise goes_on b c b2 c2 =
+    (all : AreAllRounds does track reads most otherwise b c b2 c2) × (0 < all.count → goes_on)
+
 -- all rounds, and then one Stop and nothing more
 pub record IsRun {W C : Type 0} (does : Calls W) (track : Bool) (reads : Reads C) (most : ℕ) (otherwise : Type 0)
     (b : Box W) (c : C) (b2 : Box W) (c2 : C) : Type 0
@@ -180,13 +180,14 @@ pub record IsRun {W C : Type 0} (does : Calls W) (track : Bool) (reads : Reads C
     pub is_done : Bool
     pub stop : Takes does is_done last Stop b2
 
--- a whole run, whatever is answered: a gateway shows this at its end, and its wire is this; and Ok answers how many events were
--- left out
-pub record RunsTo {W C E : Type 0} (does : Calls W) (track : Bool) (reads : Reads C) (most : ℕ) (otherwise : Type 0)
+-- a whole run, whatever is answered: a gateway shows this at its end, and its wire is this; it had a round only where nothing
+-- told it otherwise; and Ok answers how many events were left out
+pub record RunsTo {W C E : Type 0} (does : Calls W) (track : Bool) (reads : Reads C) (most : ℕ) (otherwise goes_on : Type 0)
     (b : Box W) (c : C) (g : Shown) (wire : W) (c2 : C) (result : Result ℕ E) : Type 0
   where
     pub last : Box W
     pub run : IsRun does track reads most otherwise b c last c2
+    pub asked : 0 < run.all.count → goes_on
     pub shown : last.shown ≡ g
     pub wire_is : last.wire ≡ wire
     pub answered : IfOk result (λ left. left ≡ last.left_out)

@@ -1,6 +1,7 @@
 //! What a box has on its desk while it runs.
-ghost use Rattle.std.specs.Prelude.{◌≡◌, ◌||◌, false, None};
+ghost use Rattle.std.specs.Prelude.{◌≡◌, ◌<◌, ◌/◌, ◌||◌, false, None, max, nat_lt};
 ghost use Rattle.rounds.specs.Letters.{is_end};
+ghost use Rattle.supervision.specs.declared.notices.Notice.TheVariants.{Alive};
 
 use crate::judging::Question;
 use crate::left::LeftOut;
@@ -96,13 +97,26 @@ impl Desk {
         ensures left { self.new.left ≡ self.old.left }
         ensures ending { self.new.ending ≡ self.old.ending }
         ensures question { self.new.question ≡ self.old.question }
+        ensures second { self.new.second ≡ max self.old.second (gateway.now.moment / 100) }
+        ensures told { self.old.second < gateway.now.moment / 100
+            → S.heard supervisor.now Alive }
     {
-        let second = gateway.moment() / 100;
-        if self.second < second {
-            self.second = second;
+        if begins(&mut self.second, gateway.moment() / 100) {
             supervisor.alive();
         }
     }
+}
+
+/// Whether a second is later than the last one, which it is then.
+fn begins(last: &mut u64, second: u64) -> bool
+    ensures begins { result ≡ nat_lt last.old second }
+    ensures last { last.new ≡ max last.old second }
+{
+    let is_later = *last < second;
+    if is_later {
+        *last = second;
+    }
+    is_later
 }
 
 /// Where what comes at a place belongs.

@@ -1,8 +1,9 @@
 //! What who says a word to a box is answered.
-ghost use Rattle.std.specs.Prelude.{◌≡◌, ◌≤◌, ◌++◌, ℕ, List, take, IfOk};
+ghost use Rattle.std.specs.Prelude.{◌≡◌, ◌≤◌, ◌++◌, length, take, IfOk};
 ghost use Rattle.sockets.specs.Letters.{answered};
 ghost use Rattle.spec_step.specs.Shown.{Shown};
-ghost use Rattle.rounds.specs.Rounds.{AnswersOwed, IsAnswerTo, Replies, box};
+ghost use Rattle.rounds.specs.Answers.{CountsLosses, IsAnswerTo, SaysOf, with_losses};
+ghost use Rattle.rounds.specs.Rounds.{AnswersOwed, Replies, box};
 
 use crate::desk::Desk;
 use crate::judging::{Question, Reply};
@@ -11,7 +12,7 @@ use gateway::Gateway;
 use journal::{Journal, Origin};
 use nat_types::{NoMemory, Side};
 use reports::{Count, Counters, Report};
-use sockets::{LONGEST, Place, Wire};
+use sockets::{LONGEST, Losses, Place, Wire};
 use surveys::{gateway_report, page_behind};
 
 /// Answers a word at once, where a reply is owed; a question is kept for the round's end. A word that isn't done, for want
@@ -57,11 +58,17 @@ pub(crate) fn answer_question<W: Wire, L: Journal>(
         return;
     };
     desk.question = None;
-    let count = answer_to(question, gateway, wire, room, desk, log);
-    answer(&room[..count], wire, desk);
+    match answer_to(question, gateway, wire, room, desk, log) {
+        Ok(count) => answer(&room[..count], wire, desk),
+        Err(NoMemory) => answer(&[], wire, desk),
+    }
 }
 
-/// Lays the answer to a question, and says how many bytes it has.
+/// Lays the whole answer to a question, and says how many bytes it has.
+///
+/// # Errors
+///
+/// Where memory is refused for it.
 fn answer_to<W: Wire, L: Journal>(
     question: Question,
     gateway: &Gateway,
@@ -69,19 +76,20 @@ fn answer_to<W: Wire, L: Journal>(
     room: &mut [u8; LONGEST],
     desk: &Desk,
     log: &L,
-) -> usize
-    ensures within { result ≤ 4096 }
-    ensures answers { IsAnswerTo question (take result room.new) }
+) -> Result<usize, NoMemory>
+    ensures within { IfOk result (λ count. count ≤ 4096) }
+    ensures answers { IfOk result (λ count.
+        IsAnswerTo gateway.now question (take count room.new)) }
 {
     match question {
-        Question::Status => match report_of(gateway, wire, desk, log) {
-            Ok(report) => lay(begun_report(), report.bytes().as_slice(), room),
-            Err(NoMemory) => 0,
-        },
-        Question::Pairs(after) => match page_behind(desk.alloc, gateway, after) {
-            Ok(page) => lay(begun_page(), page.bytes().as_slice(), room),
-            Err(NoMemory) => 0,
-        },
+        Question::Status => {
+            let report = report_of(gateway, wire, desk, log)?;
+            Ok(lay(begun_report(), report.bytes().as_slice(), room))
+        }
+        Question::Pairs(after) => {
+            let page = page_behind(desk.alloc, gateway, after)?;
+            Ok(lay(begun_page(), page.bytes().as_slice(), room))
+        }
     }
 }
 
@@ -96,8 +104,9 @@ fn report_of<W: Wire, L: Journal>(
     ensures boot { IfOk result (λ r. r.boot ≡ desk.now.identity.boot) }
     ensures digest { IfOk result (λ r. r.digest ≡ desk.now.identity.digest) }
     ensures sides { IfOk result (λ r. r.sides ≡ desk.now.sides) }
-    ensures moment { IfOk result (λ r. r.gateway.moment ≡ gateway.now.moment) }
-    ensures away { IfOk result (λ r. r.gateway.away ≡ gateway.now.away) }
+    ensures gateway { IfOk result (λ r. SaysOf gateway.now r.gateway) }
+    ensures counters { IfOk result (λ r.
+        CountsLosses W.lost wire.now desk.now.counters r.counters) }
 {
     Ok(Report {
         id: desk.identity.id,
@@ -111,31 +120,36 @@ fn report_of<W: Wire, L: Journal>(
 }
 
 /// What was counted, with what the wire has counted itself.
-fn counted<W: Wire>(wire: &W, counters: Counters) -> Counters {
+fn counted<W: Wire>(wire: &W, counters: Counters) -> Counters
+    ensures { CountsLosses W.lost wire.now counters result }
+{
     let mut counters = counters;
-    for (origin, place) in PLACES {
-        let losses = wire.losses(place);
-        counters.add(origin, Count::TooLong, losses.too_long);
-        counters.add(origin, Count::SendFailed, losses.failed);
-    }
+    let inside = wire.losses(Place::Side(Side::Inside));
+    let outside = wire.losses(Place::Side(Side::Outside));
+    let link = wire.losses(Place::Link);
+    let own = wire.losses(Place::Operator);
+    add_losses(&mut counters, Origin::Inside, inside);
+    add_losses(&mut counters, Origin::Outside, outside);
+    add_losses(&mut counters, Origin::Link, link);
+    add_losses(&mut counters, Origin::Own, own);
     counters
 }
 
-/// Where a wire loses something, and where it belongs.
-const PLACES: [(Origin, Place); 4] = [
-    (Origin::Inside, Place::Side(Side::Inside)),
-    (Origin::Outside, Place::Side(Side::Outside)),
-    (Origin::Link, Place::Link),
-    (Origin::Own, Place::Operator),
-];
-
-/// Lays bytes behind what stands before them, as far as there is room, and says how many that are.
-fn lay(head: [u8; 2], bytes: &[u8], room: &mut [u8; LONGEST]) -> usize
-    ensures within { result ≤ 4096 }
-    ensures laid { (rest : List ℕ) × (take result room.new ≡ head ++ rest) }
+/// With what the wire lost of one place.
+fn add_losses(counters: &mut Counters, origin: Origin, losses: Losses)
+    ensures { counters.new ≡ with_losses origin losses counters.old }
 {
-    let count = bytes.len().min(LONGEST - 2);
-    room[2..2 + count].copy_from_slice(&bytes[..count]);
+    counters.add(origin, Count::TooLong, losses.too_long);
+    counters.add(origin, Count::SendFailed, losses.failed);
+}
+
+/// Lays bytes behind what stands before them, and says how many that are.
+fn lay(head: [u8; 2], bytes: &[u8], room: &mut [u8; LONGEST]) -> usize
+    requires { length bytes.now ≤ 4094 }
+    ensures within { result ≤ 4096 }
+    ensures laid { take result room.new ≡ head ++ bytes.now }
+{
     room[..2].copy_from_slice(&head);
-    2 + count
+    room[2..2 + bytes.len()].copy_from_slice(bytes);
+    2 + bytes.len()
 }

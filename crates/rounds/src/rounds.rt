@@ -1,9 +1,11 @@
 //! The rounds of a box.
-ghost use Rattle.std.specs.Prelude.{◌≡◌, ◌⊎◌, Bool, true, false, None, Option, OnOk, codes};
+ghost use Rattle.std.specs.Prelude.{◌≡◌, ◌<◌, ◌⊎◌, Bool, true, false, None, Option, OnOk, codes};
 ghost use Rattle.std.specs.Io.KnownBytes.{Appends};
-ghost use Rattle.rounds.specs.Rounds.{AreAllRounds, AreMade, IsRound, IsRun, RunsTo, Takes};
+ghost use Rattle.supervision.specs.declared.notices.Notice.TheVariants.{Ending};
+ghost use Rattle.rounds.specs.Rounds.{AreMade, AreRoundsAsked, IsRound, IsRun, RunsTo, Takes};
 ghost use Rattle.rounds.specs.Rounds.{TakesAny, TakesLetter, all_sent, box, most_rounds};
 ghost use Rattle.rounds.specs.Polls.{Asks, HasPolled};
+ghost use Rattle.rounds.specs.Views.{seen};
 ghost use Rattle.rounds.specs.declared.judging.Question.{Question};
 
 use crate::desk::{Desk, Identity};
@@ -59,8 +61,10 @@ pub fn serve<W: Wire, C: Clockwork, T: Told, S: Supervisor, O: Write, L: Journal
     output: &mut O,
     log: &L,
 ) -> io::Result<LeftOut>
-    ensures rounds { RunsTo W.does track C.reads (most_rounds rounds) (T.tells until.now)
+    ensures rounds { RunsTo W.does track C.reads (most_rounds rounds)
+        (T.tells until.now) (T.goes_on until.now)
         (box gateway.old wire.old 0 false None) clock.old gateway.new wire.new clock.new result }
+    ensures ending { S.heard supervisor.now Ending }
     ensures ended { OnOk result
         (Appends (O.contents output.old) (O.contents output.new) (codes "end\n")) }
 {
@@ -86,7 +90,8 @@ pub fn run_rounds<W: Wire, C: Clockwork, T: Told, S: Supervisor, L: Journal>(
     log: &L,
 ) -> LeftOut
     ensures { (ending : Bool) × (owed : Option Question) ×
-        AreAllRounds W.does track C.reads (most_rounds rounds) (T.tells until.now)
+        AreRoundsAsked W.does track C.reads (most_rounds rounds)
+        (T.tells until.now) (T.goes_on until.now)
         (box gateway.old wire.old 0 false None) clock.old
         (box gateway.new wire.new result ending owed) clock.new }
 {
@@ -111,10 +116,12 @@ fn run<W: Wire, C: Clockwork, T: Told, S: Supervisor, L: Journal>(
     supervisor: &S,
     log: &L,
 ) -> LeftOut
-    ensures { (ending : Bool) × (owed : Option Question) ×
-        IsRun W.does track C.reads (most_rounds rounds) (T.tells until.now)
+    ensures rounds { (ending : Bool) × (owed : Option Question) ×
+        ((run : IsRun W.does track C.reads (most_rounds rounds) (T.tells until.now)
         (box gateway.old wire.old 0 false None) clock.old
-        (box gateway.new wire.new result ending owed) clock.new }
+        (box gateway.new wire.new result ending owed) clock.new)
+        × (0 < run.all.count → T.goes_on until.now)) }
+    ensures ending { S.heard supervisor.now Ending }
 {
     let mut desk = Desk::new(alloc, gateway, identity);
     all_rounds(
@@ -138,7 +145,8 @@ fn all_rounds<W: Wire, C: Clockwork, T: Told, S: Supervisor, L: Journal>(
     desk: &mut Desk,
     log: &L,
 )
-    ensures { AreAllRounds W.does track C.reads (most_rounds rounds) (T.tells until.now)
+    ensures { AreRoundsAsked W.does track C.reads (most_rounds rounds)
+        (T.tells until.now) (T.goes_on until.now)
         (box gateway.old wire.old desk.old.left desk.old.ending desk.old.question) clock.old
         (box gateway.new wire.new desk.new.left desk.new.ending desk.new.question) clock.new }
 {
@@ -166,6 +174,7 @@ fn most_of(rounds: Option<u32>) -> u64
 /// Whether the box is to end.
 fn is_over<T: Told>(desk: &Desk, until: &T) -> bool
     ensures goes_on { result ≡ false → desk.now.ending ≡ false }
+    ensures asked { result ≡ false → T.goes_on until.now }
     ensures ends { result ≡ true → (desk.now.ending ≡ true) ⊎ T.tells until.now }
 {
     desk.ending || until.is_told()
@@ -295,6 +304,7 @@ fn hand_in<W: Wire, L: Journal>(
     ensures taken { Takes W.does result
         (box gateway.old wire.old desk.old.left desk.old.ending desk.old.question) event.entry
         (box gateway.new wire.new desk.new.left desk.new.ending desk.new.question) }
+    ensures view { desk.new.view ≡ seen gateway.new }
 {
     desk.out.clear();
     let outcome = gateway.step(event, &mut desk.out);

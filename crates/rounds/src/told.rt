@@ -1,5 +1,5 @@
 //! What tells a box that it is to end, beside its control socket and the number of its rounds.
-ghost use Rattle.std.specs.Prelude.{◌≡◌, true, IsTrue};
+ghost use Rattle.std.specs.Prelude.{◌≡◌, false, true, IsTrue};
 
 use libc::types::pollfd;
 use std::io::{ErrorKind, Read};
@@ -9,9 +9,13 @@ pub trait Told {
     /// It may tell so.
     ghost tells: { Self → Type 0 };
 
+    /// It may tell to go on.
+    ghost goes_on: { Self → Type 0 } = { λ _. Unit {0} };
+
     /// Whether the box is to end. It never waits.
     fn is_told(&self) -> bool
-        ensures { IsTrue result → tells self.now };
+        ensures tells { IsTrue result → tells self.now }
+        ensures goes_on { result ≡ false → goes_on self.now };
 }
 
 /// The end of the standard input: a box that watches it ends there.

@@ -360,6 +360,10 @@ impl Sockets {
 impl Wire for Sockets {
     ghost does = { DoesAt };
 
+    ghost failing = { λ s place is. is ≡ failing_at s.board place };
+
+    ghost lost = { λ s place losses. losses ≡ losses_at s.board place };
+
     fn send(&mut self, to: Place, bytes: &[u8]) -> Result<(), WireFault> {
         self.board.send(to, bytes).map_err(|_| WireFault)
     }
@@ -376,18 +380,14 @@ impl Wire for Sockets {
         self.board.receive(limit, room)
     }
 
-    fn is_failing(&self, place: Place) -> bool
-        ensures { result ≡ failing_at self.now.board place }
-    {
+    fn is_failing(&self, place: Place) -> bool {
         match self.board.attachment(place) {
             Some(attachment) => attachment.is_failing(),
             None => false,
         }
     }
 
-    fn losses(&self, place: Place) -> Losses
-        ensures { result ≡ losses_at self.now.board place }
-    {
+    fn losses(&self, place: Place) -> Losses {
         match self.board.attachment(place) {
             Some(attachment) => attachment.losses(),
             None => Losses {

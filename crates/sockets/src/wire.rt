@@ -1,7 +1,10 @@
 //! What a box sends datagrams to and receives them from.
-ghost use Rattle.std.specs.Prelude.{◌≡◌, ◌≤◌, ◌-◌, ◌==◌, IfOk, IfSome};
+ghost use Rattle.std.specs.Prelude.{◌≡◌, ◌≤◌, ◌-◌, ◌==◌, Bool, IfOk, IfSome};
+ghost use Rattle.std.specs.declared.time.Duration.{Duration};
 ghost use Rattle.sockets.specs.Failing.{FailsAt, FailsOr};
 ghost use Rattle.sockets.specs.Letters.{Call, answer_of, answered, asked, sent};
+ghost use Rattle.sockets.specs.declared.losses.Losses.{Losses};
+ghost use Rattle.sockets.specs.declared.places.Place.{Place};
 
 use crate::{Losses, Place};
 use std::marker::Model;
@@ -20,6 +23,15 @@ pub trait Wire {
     /// What a call is to the wire, and what the wire is then.
     ghost does: { Self → Call → Self → Type 0 };
 
+    /// How long it waits at most for the next datagram, and what the wire is then.
+    ghost waits: { Self → Duration → Self → Type 0 } = { λ _ _ _. Unit {0} };
+
+    /// What it says of whether a place fails.
+    ghost failing: { Self → Place → Bool → Type 0 } = { λ _ _ _. Unit {0} };
+
+    /// What it says of how many datagrams of a place weren't sent.
+    ghost lost: { Self → Place → Losses → Type 0 } = { λ _ _ _. Unit {0} };
+
     /// Sends a datagram. After an Err it is lost, and so is what would go to the operator.
     fn send(&mut self, to: Place, bytes: &[u8]) -> Result<(), WireFault>
         ensures does { does self.old (sent to bytes.now) self.new };
@@ -37,14 +49,17 @@ pub trait Wire {
         room: &mut [u8; LONGEST],
     ) -> Result<Option<(Place, usize)>, WireFault>
         ensures within { IfOk result (λ found. IfSome found (λ datagram. datagram.1 ≤ 4096)) }
-        ensures does { does self.old (asked (answer_of result room.new)) self.new };
+        ensures does { does self.old (asked (answer_of result room.new)) self.new }
+        ensures waits { waits self.old limit self.new };
 
     /// Whether the last datagram of a place failed: it couldn't be sent, or to receive it failed. It is so until one
     /// is sent or comes.
-    fn is_failing(&self, place: Place) -> bool;
+    fn is_failing(&self, place: Place) -> bool
+        ensures { failing self.now place result };
 
     /// How many datagrams of a place weren't sent; of the operator's place, how many answers.
-    fn losses(&self, place: Place) -> Losses;
+    fn losses(&self, place: Place) -> Losses
+        ensures { lost self.now place result };
 }
 
 /// A wire whose call with a given number, counted from 1 over what it sends and receives, fails; all others are those of
@@ -84,6 +99,10 @@ impl<'a, W: Wire> Failing<'a, W> {
 
 impl<W: Wire> Wire for Failing<'_, W> {
     ghost does = { FailsAt W.does };
+
+    ghost failing = { λ f place is. W.failing f.wire.now place is };
+
+    ghost lost = { λ f place losses. W.lost f.wire.now place losses };
 
     fn send(&mut self, to: Place, bytes: &[u8]) -> Result<(), WireFault> {
         if self.fails() {

@@ -1,2 +1,3 @@
 pub mod Notices
 pub mod Managers
+pub mod Messages

@@ -1,6 +1,8 @@
 //! A service manager at the other end of a socket.
 ghost use Rattle.std.specs.Prelude.{◌≡◌, ◌↔◌, ◌<ℤ◌, pos, IfErr, IsTrue, MatchOption};
 ghost use Rattle.supervision.specs.Managers.{IsManagerText, IsNoManagerText, manager_of};
+ghost use Rattle.supervision.specs.Messages.{WasSent};
+ghost use Rattle.supervision.specs.Notices.{text_of};
 
 use crate::Supervisor;
 use crate::notices::{Notice, laid_out};
@@ -52,12 +54,21 @@ impl Manager {
         Ok(())
     }
 
-    /// Tells it something, by one message that doesn't wait. One that fails is lost.
-    fn tell(&self, notice: Notice) {
+    /// Tells it something, by one message.
+    fn tell(&self, notice: Notice)
+        ensures { WasSent self.now.descriptor (text_of notice) }
+    {
         let text = laid_out(notice);
-        let bytes = text.as_str().as_bytes();
-        let _lost = os::sendv(RawFd::from(self.descriptor), [bytes, &[], &[], &[]]);
+        send(self.descriptor, text.as_str().as_bytes());
     }
+}
+
+/// Hands a message to the system, and doesn't wait. One that fails is lost.
+#[tactic(auto, unfolding(crate::specs::Messages::WasSent))]
+fn send(descriptor: u16, bytes: &[u8])
+    ensures { WasSent descriptor bytes.now }
+{
+    let _lost = os::sendv(RawFd::from(descriptor), [bytes, &[], &[], &[]]);
 }
 
 /// Whether the system refused a call, by what it answered.
@@ -68,6 +79,8 @@ fn is_refused(answer: i32) -> bool
 }
 
 impl Supervisor for Manager {
+    ghost heard = { λ manager notice. WasSent manager.descriptor (text_of notice) };
+
     fn ready(&self, boot: u64) {
         self.tell(Notice::Ready(boot));
     }

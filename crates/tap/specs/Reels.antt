@@ -1,5 +1,5 @@
 -- A capture that is being written.
-use Rattle.std.specs.Prelude.{ℕ, ◌≡◌, ◌+◌, ◌-◌, ◌^◌, min, List, Option}
+use Rattle.std.specs.Prelude.{ℕ, ◌≡◌, ◌+◌, ◌-◌, ◌^◌, min, List, Option, Result, Ok, Err}
 use Rattle.std.specs.Io.KnownBytes.{Appends, Keeps, append_known}
 use Rattle.captures.specs.Captures.{Captured, capture_of, head, packet_block}
 
@@ -35,3 +35,8 @@ pub record LeavesOut {O : Type 0} (contents : Holds O) (r r2 : Reeled O) : Type 
 -- behind these bytes stands a capture of just these packets
 abbrev pub IsCapture : {O : Type 0} → Holds O → Option (List ℕ) → Reeled O → List Captured → Type 0
 IsCapture contents before r ps = Appends before (whole contents r) (capture_of ps)
+
+-- how many bytes a write took
+abbrev pub taken : {E : Type 0} → Result ℕ E → ℕ
+taken (Ok count) = count
+taken (Err fault) = 0

@@ -1,7 +1,8 @@
 //! Where a capture goes.
-ghost use Rattle.std.specs.Prelude.{◌≡◌, ◌≤◌, true, List, ℕ, Option, IfOk, IsTrue, length};
+ghost use Rattle.std.specs.Prelude.{◌≡◌, ◌<◌, ◌≤◌, false, true, List, ℕ, Option, IfOk, IsTrue, length};
 ghost use Rattle.std.specs.Io.KnownBytes.{WriteAppends};
 ghost use Rattle.std.specs.Io.{WritesAtMost};
+ghost use Rattle.tap.specs.Reels.{taken};
 
 use crate::Reel;
 use captures::{Reader, Vacant};
@@ -19,9 +20,13 @@ pub trait Outlet {
     /// A write of at most 4,096 bytes wouldn't wait.
     ghost IsRoomy: { Self → Type 0 };
 
+    /// It had no room when it was asked last, or took less than it was handed.
+    ghost IsFull: { Self → Type 0 } = { λ _. Unit {0} };
+
     /// Whether a write of at most 4,096 bytes wouldn't wait. It never waits itself.
     fn has_room(&mut self) -> bool
         ensures room { IsTrue result → IsRoomy self.new }
+        ensures full { result ≡ false → IsFull self.new }
         ensures bytes { contents self.new ≡ contents self.old };
 
     /// Writes bytes, and says how many of them were taken: those at the front.
@@ -33,6 +38,7 @@ pub trait Outlet {
         requires room { IsRoomy self.old }
         requires few { length bytes.now ≤ 4096 }
         ensures bound { WritesAtMost result bytes.now }
+        ensures full { taken result < length bytes.now → IsFull self.new }
         ensures bytes { WriteAppends (contents self.old) (contents self.new) result bytes.now };
 }
 
@@ -79,6 +85,8 @@ impl<F: Write + AsRawFd> Outlet for CaptureFile<F> {
     ghost contents = { λ c. F.contents c.file };
 
     ghost IsRoomy = { λ c. c.room ≡ true };
+
+    ghost IsFull = { λ c. c.room ≡ false };
 
     fn has_room(&mut self) -> bool {
         self.room = polled(self.file.as_raw_fd());

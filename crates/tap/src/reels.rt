@@ -1,7 +1,7 @@
 //! A capture that is being written.
-ghost use Rattle.std.specs.Prelude.{◌≡◌, ◌≤◌, [], drop, take, length, IfOk, IsTrue, MatchBool};
+ghost use Rattle.std.specs.Prelude.{◌≡◌, ◌<◌, ◌≤◌, [], drop, false, take, length, IfOk, IsTrue, MatchBool};
 ghost use Rattle.std.specs.Io.KnownBytes.{Appends, Keeps};
-ghost use Rattle.captures.specs.Captures.{captured_of, packet_block};
+ghost use Rattle.captures.specs.Captures.{captured_of, head, packet_block};
 ghost use Rattle.tap.specs.Reels.{Adds, Begins, LeavesOut, whole};
 
 use crate::Outlet;
@@ -48,7 +48,8 @@ impl<O: Outlet + Drop> Reel<O> {
     /// `WouldBlock` where the outlet has no room for it, the outlet's own where it refuses it, and `WriteZero` where it
     /// takes nothing; `OutOfMemory`.
     pub fn begin(alloc: Global, mut outlet: O) -> io::Result<Reel<O>>
-        ensures { IfOk result (Begins O.contents outlet) }
+        ensures begins { IfOk result (Begins O.contents outlet) }
+        ensures some { IfOk result (λ reel. length reel.owed < length head) }
     {
         let mut block = Vec::with_capacity(alloc, ROOM)?;
         write_head(&mut block)?;
@@ -80,12 +81,16 @@ impl<O: Outlet> Reel<O> {
     /// Hands on what is owed of the last block, and says whether nothing is owed any more.
     pub fn settle(&mut self) -> bool
         ensures settled { IsTrue result → self.new.owed ≡ [] }
+        ensures unsettled { result ≡ false → 0 < length self.new.owed }
+        ensures full { 0 < length self.new.owed → length self.old.owed ≤ 4096
+            → O.IsFull self.new.outlet }
         ensures kept { Keeps (whole O.contents self.old) (whole O.contents self.new) }
         ensures left_out { self.new.left_out ≡ self.old.left_out }
     {
-        if self.begun < self.block.len() {
-            self.hand_on();
+        if self.block.len() <= self.begun {
+            return true;
         }
+        self.hand_on();
         self.block.len() <= self.begun
     }
 
@@ -122,6 +127,8 @@ impl<O: Outlet> Reel<O> {
     fn hand_on(&mut self) -> usize
         ensures taken { Appends (O.contents self.old.outlet) (O.contents self.new.outlet)
             (take result self.old.owed) }
+        ensures full { length self.old.owed ≤ 4096 → result < length self.old.owed
+            → O.IsFull self.new.outlet }
         ensures owed { self.new.owed ≡ drop result self.old.owed }
         ensures left_out { self.new.left_out ≡ self.old.left_out }
     {
@@ -138,8 +145,9 @@ impl<O: Outlet> Reel<O> {
 ///
 /// Nothing is taken.
 fn open_with<O: Outlet>(outlet: &mut O, bytes: &[u8]) -> io::Result<usize>
-    ensures { IfOk result (λ count.
+    ensures taken { IfOk result (λ count.
         Appends (O.contents outlet.old) (O.contents outlet.new) (take count bytes.now)) }
+    ensures some { IfOk result (λ count. (0 < count) × (count ≤ length bytes.now)) }
 {
     if !outlet.has_room() {
         return Err(io::Error::from(ErrorKind::WouldBlock));
@@ -154,6 +162,7 @@ fn open_with<O: Outlet>(outlet: &mut O, bytes: &[u8]) -> io::Result<usize>
 fn pour<O: Outlet>(outlet: &mut O, bytes: &[u8]) -> usize
     requires { length bytes.now ≤ 4096 }
     ensures bound { result ≤ length bytes.now }
+    ensures full { result < length bytes.now → O.IsFull outlet.new }
     ensures taken { Appends (O.contents outlet.old) (O.contents outlet.new)
         (take result bytes.now) }
 {

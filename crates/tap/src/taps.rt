@@ -1,5 +1,5 @@
 //! A wire whose packets are captured.
-ghost use Rattle.std.specs.Prelude.{◌≡◌, ◌≤◌, IfOk, IfSome};
+ghost use Rattle.std.specs.Prelude.{◌≡◌, ◌<◌, ◌≤◌, IfOk, IfSome, length};
 ghost use Rattle.sockets.specs.Letters.{answer_of, answered, asked, sent};
 ghost use Rattle.captures.specs.declared.interfaces.Direction.TheVariants.{Outbound};
 ghost use Rattle.std.specs.Io.KnownBytes.{Keeps};
@@ -66,6 +66,8 @@ impl<W: Wire, M: Moments, O: Outlet> Tapped<W, M, O> {
     pub fn end(&mut self)
         ensures wire { self.new.wire ≡ self.old.wire }
         ensures kept { Keeps (whole O.contents self.old.reel) (whole O.contents self.new.reel) }
+        ensures ended { 0 < length self.new.reel.owed → length self.old.reel.owed ≤ 4096
+            → O.IsFull self.new.reel.outlet }
         ensures left_out { self.new.reel.left_out ≡ self.old.reel.left_out }
     {
         let _is_settled = self.reel.settle();
@@ -93,6 +95,12 @@ impl<W: Wire, M: Moments, O: Outlet> Tapped<W, M, O> {
 impl<W: Wire, M: Moments, O: Outlet> Wire for Tapped<W, M, O> {
     ghost does = { λ t call t2. W.does t.wire call t2.wire };
 
+    ghost waits = { λ t limit t2. W.waits t.wire limit t2.wire };
+
+    ghost failing = { λ t place is. W.failing t.wire place is };
+
+    ghost lost = { λ t place losses. W.lost t.wire place losses };
+
     fn send(&mut self, to: Place, bytes: &[u8]) -> Result<(), WireFault>
         ensures does { W.does self.old.wire (sent to bytes.now) self.new.wire }
         ensures taken { TakesSent O.contents self.old self.new to result bytes.now }
@@ -118,6 +126,7 @@ impl<W: Wire, M: Moments, O: Outlet> Wire for Tapped<W, M, O> {
     ) -> Result<Option<(Place, usize)>, WireFault>
         ensures within { IfOk result (λ found. IfSome found (λ datagram. datagram.1 ≤ 4096)) }
         ensures does { W.does self.old.wire (asked (answer_of result room.new)) self.new.wire }
+        ensures waits { W.waits self.old.wire limit self.new.wire }
         ensures taken { TakesAnswer O.contents self.old self.new result room.new }
     {
         let result = self.wire.receive(limit, room);

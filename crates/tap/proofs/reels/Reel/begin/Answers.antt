@@ -4,12 +4,12 @@ use Rattle.captures.specs.Captures.{head}
 use Rattle.tap.proofs.Whole.{opened}
 use Rattle.tap.proofs.reels.Reel.begin.Goals as goal
 
-pub returns : goal.returns
-returns g c =
+pub returns-clause-begins : goal.returns-clause-begins
+returns-clause-begins g c =
     let contents = g.O.Outlet.contents in
     let laid = c.write_head.new.output.items in
     let is : laid ≡ head = c.in_ok-write_head.ensures ∙ ap (λ (l : List ℕ). l ++ head) c.in_ok-block.ensures.items in
-    let moved = rw c.deref.ensures.value at c.in_ok-begun.ensures in
+    let moved = rw c.deref.ensures.value at c.in_ok-begun.ensures.taken in
     let rest = drop c.in_ok-begun.begun laid in
     record {
       begun = subst (λ (l : List ℕ). Appends (contents c.args.outlet) (append_known (contents c.open_with.new.outlet) rest) l) is
