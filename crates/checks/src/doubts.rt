@@ -4,7 +4,7 @@ use settings_file::Key;
 use std::fmt;
 
 /// What is likely not meant, though a pair can run with it.
-#[derive(Clone, Copy, Debug, PartialEq, Eq)]
+#[derive(Clone, Copy)]
 pub enum Doubt {
     /// The range has one port.
     OnePort,
@@ -66,7 +66,7 @@ impl Doubt {
 }
 
 /// A key of settings, and what is likely not meant there.
-#[derive(Clone, Copy, Debug, PartialEq, Eq)]
+#[derive(Clone, Copy)]
 pub struct Warning {
     pub key: Key,
     pub doubt: Doubt,

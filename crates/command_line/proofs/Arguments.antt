@@ -1,5 +1,5 @@
 -- The arguments of a command, one after the other.
-use Rattle.std.proofs.Common.{◌≡◌, ◌∷◌, List}
+use Rattle.std.proofs.Common.{◌≡◌, ◌∷◌, ◌||◌, Bool, false, List, refl}
 use Rattle.clap.specs.Words.{App, Rule, with_rule}
 use Rattle.command_line.specs.Arguments.{rule_for, with_all}
 use Rattle.command_line.specs.declared.options.Argument.{Argument}
@@ -8,3 +8,7 @@ use Rattle.command_line.specs.declared.options.Argument.{Argument}
 pub one_more : (a b whole : App) (all rest : List Argument) (x : Argument) (r : Rule) → all ≡ x ∷ rest → b ≡ with_rule a r → r ≡ rule_for x
     → with_all a all ≡ whole → with_all b rest ≡ whole
 one_more a b whole all rest x r is made rule had = rw (made, rule) (rw is at had)
+
+-- an argument that isn't global leaves a command without global ones
+pub no_globals : (new old own : Bool) → new ≡ (old || own) → old ≡ false → own ≡ false → new ≡ false
+no_globals new old own is none local = rw (is, none, local) refl

@@ -1,6 +1,6 @@
 mod Arguments
-mod Beneath
 mod Entering
+mod Judged
 mod Numbers
 mod Passing
 mod Readings

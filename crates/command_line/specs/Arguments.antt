@@ -1,6 +1,6 @@
 -- The arguments of a command, as clap is told of them.
-use Rattle.std.specs.Prelude.{◌≡◌, ℕ, List, [], ◌∷◌, Result, Ok}
-use Rattle.clap.specs.Words.{App, Rule, with_rule, with_subcommand}
+use Rattle.std.specs.Prelude.{ℕ, List, [], ◌∷◌}
+use Rattle.clap.specs.Words.{App, Rule, with_rule}
 use Rattle.command_line.specs.Line.{file_rule, flag_rule, id_rule, id_rule_if, number_rule, rounds_rule, text_rule, way_rule, word_rule}
 use Rattle.command_line.specs.declared.options.Argument.{Argument}
 use Rattle.command_line.specs.declared.options.Form.{Form}
@@ -25,7 +25,3 @@ rule_for argument = rule_by argument.0 argument.1.now
 abbrev pub with_all : App → List Argument → App
 with_all a [] = a
 with_all a (argument ∷ rest) = with_all (with_rule a (rule_for argument)) rest
-
--- a command is another one with one more beneath it, which was made
-abbrev pub Beneath : {C E : Type 0} → (C → App) → C → Result C E → C → Type 0
-Beneath {C = C} app line beneath made = (b : C) × ((beneath ≡ Ok b) × (app made ≡ with_subcommand (app line) (app b).top))

@@ -1,10 +1,45 @@
--- What the faults of a command line lead to.
-use Rattle.std.specs.Prelude.{ℕ}
+-- What the faults of a command line lead to, and their texts.
+use Rattle.std.specs.Prelude.{◌≡◌, ◌≢◌, ℕ, List, ◌++◌, codes, Option, Some, None}
+use Rattle.clap.specs.Words.{kind_of}
+use Rattle.clap.specs.declared.error.Error.{Error}
+use Rattle.clap.specs.declared.error.kind.ErrorKind.TheVariants.{OutOfMemory}
 use Rattle.command_line.specs.declared.faults.LineFault.{LineFault}
 use Rattle.command_line.specs.declared.faults.LineFault.TheVariants.{Refused, Values, NoMemory}
+use Rattle.command_line.specs.declared.faults.ValueFault.{ValueFault}
+use Rattle.command_line.specs.declared.faults.ValueFault.TheVariants.{FoundNeedsIdZero, NoSide, NoStatus, NoFilter}
 
 -- 1 for want of memory, 2 for words that are no command line
 abbrev pub status_of : LineFault → ℕ
 status_of (Refused error) = 2
 status_of (Values why) = 2
 status_of NoMemory = 1
+
+-- the fault of an error of clap's: the error as it is, or memory just where it is of that kind
+abbrev pub IsOfClap : Error → LineFault → Type 0
+IsOfClap error (Refused told) = (told ≡ error) × (kind_of error ≢ OutOfMemory)
+IsOfClap error (Values why) = ⊥
+IsOfClap error NoMemory = kind_of error ≡ OutOfMemory
+
+-- ---- texts
+
+abbrev pub value_text : ValueFault → List ℕ
+value_text FoundNeedsIdZero = codes "found needs id 0"
+value_text NoSide = codes "side needs inside or outside, and up or down"
+value_text NoStatus = codes "status takes json or prometheus, and until synced"
+value_text NoFilter = codes "pairs takes icmp, tcp or udp, an IPv4 address, and a state as in --state held"
+
+-- a fault's text: of clap's own nothing is known
+abbrev pub line_text : LineFault → Option (List ℕ)
+line_text (Refused error) = None
+line_text (Values why) = Some (value_text why)
+line_text NoMemory = Some (codes "memory 1 NoMemory")
+
+-- the line of a text
+abbrev pub line_of : List ℕ → List ℕ
+line_of text = codes "natpair: " ++ text ++ codes "\n"
+
+-- what a user is told
+abbrev pub told_line : LineFault → Option (List ℕ)
+told_line (Refused error) = None
+told_line (Values why) = Some (line_of (value_text why))
+told_line NoMemory = Some (line_of (codes "memory 1 NoMemory"))

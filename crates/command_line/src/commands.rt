@@ -1,15 +1,15 @@
 //! The commands.
 ghost use Rattle.std.specs.Prelude.{◌≡◌, codes, false, IfOk};
-ghost use Rattle.clap.specs.Words.{app_of, new_app, rule_of, with_rule, with_subcommand};
+ghost use Rattle.clap.specs.Words.{App, app_of, new_app, with_subcommand};
 ghost use Rattle.clap.specs.declared.builder.command.Command.TheViews.{out-Command as fields_of};
-ghost use Rattle.command_line.specs.Arguments.{Beneath, with_all};
+ghost use Rattle.command_line.specs.Arguments.{with_all};
 ghost use Rattle.command_line.specs.Line.{check_app, gate_app, init_app, line_app, loop_app};
 ghost use Rattle.command_line.specs.Line.{pairs_app, peer_off_app, side_app, sim_app, status_app};
-ghost use Rattle.command_line.specs.Line.{stop_app, top_app, with_words};
+ghost use Rattle.command_line.specs.Line.{stop_app, top_app};
 
 use crate::VERSION;
 use crate::options::{Argument, Form};
-use clap::{Arg, Command};
+use clap::Command;
 use std::alloc::{AllocError, Global};
 
 /// What stands below the options of `gate`.
@@ -52,17 +52,6 @@ const CAPTURE: Argument<'static> = Argument(
     "A file for all frames and datagrams, in pcapng, as in --capture day.pcapng",
 );
 
-/// A command with one more argument.
-fn with<'a>(command: Command<'a>, arg: Arg<'a>) -> Result<Command<'a>, AllocError>
-    requires local { (fields_of command).has_globals ≡ false }
-    requires own { arg.global ≡ false }
-    ensures app { IfOk result (λ c. app_of c
-        ≡ with_rule (app_of command.entry) (rule_of arg.entry)) }
-    ensures local { IfOk result (λ c. (fields_of c).has_globals ≡ false) }
-{
-    command.arg(arg)
-}
-
 /// A command of a name, with these arguments: what it does, and what stands below its options.
 fn command<'a>(
     alloc: Global,
@@ -77,7 +66,7 @@ fn command<'a>(
 {
     let mut command = Command::new(alloc, name).about(about).after_help(below);
     for argument in arguments {
-        command = with(command, argument.arg(alloc))?;
+        command = command.arg(argument.arg(alloc))?;
     }
     Ok(command)
 }
@@ -350,34 +339,29 @@ fn top<'a>(alloc: Global) -> Command<'a>
 
 /// A command with one more beneath it, which has no global option.
 fn with_command<'a>(
-    command: Command<'a>,
+    line: Result<Command<'a>, AllocError>,
     beneath: Result<Command<'a>, AllocError>,
 ) -> Result<Command<'a>, AllocError>
     requires { IfOk beneath (λ b. (fields_of b).has_globals ≡ false) }
-    ensures { IfOk result (λ c. Beneath app_of command.entry beneath.entry c) }
+    ensures { (a b : App) → IfOk line.entry (λ c. app_of c ≡ a)
+        → IfOk beneath.entry (λ c. app_of c ≡ b)
+        → IfOk result (λ c. app_of c ≡ with_subcommand a b.top) }
 {
-    command.subcommand(beneath?)
-}
-
-/// The commands that are said to a gateway that runs.
-fn with_words<'a>(alloc: Global, line: Command<'a>) -> Result<Command<'a>, AllocError>
-    ensures { IfOk result (λ c. app_of c ≡ with_words (app_of line.entry)) }
-{
-    let line = with_command(line, status(alloc))?;
-    let line = with_command(line, pairs(alloc))?;
-    let line = with_command(line, stop(alloc))?;
-    let line = with_command(line, peer_off(alloc))?;
-    with_command(line, side(alloc))
+    line?.subcommand(beneath?)
 }
 
 /// All commands.
 pub(crate) fn line<'a>(alloc: Global) -> Result<Command<'a>, AllocError>
     ensures { IfOk result (λ c. app_of c ≡ line_app) }
 {
-    let line = with_command(top(alloc), init(alloc))?;
-    let line = with_command(line, check(alloc))?;
-    let line = with_command(line, gate(alloc))?;
-    let line = with_words(alloc, line)?;
-    let line = with_command(line, sim(alloc))?;
+    let line = with_command(Ok(top(alloc)), init(alloc));
+    let line = with_command(line, check(alloc));
+    let line = with_command(line, gate(alloc));
+    let line = with_command(line, status(alloc));
+    let line = with_command(line, pairs(alloc));
+    let line = with_command(line, stop(alloc));
+    let line = with_command(line, peer_off(alloc));
+    let line = with_command(line, side(alloc));
+    let line = with_command(line, sim(alloc));
     with_command(line, repeat(alloc))
 }

@@ -1,41 +1,102 @@
 //! Why words are no command line.
+ghost use Rattle.std.specs.Prelude.{◌≡◌, OnOk};
+ghost use Rattle.std.specs.Io.KnownBytes.{Appends};
+ghost use Rattle.command_line.specs.Faults.{line_of};
+
+use clap::error::ErrorKind;
 use std::alloc::AllocError;
+use std::error::Error;
+use std::fmt;
 use std::io::{self, Write};
-use thiserror::Error;
 
 /// What is wrong with the values of a command, each of which `clap` takes.
-#[derive(Clone, Copy, Debug, PartialEq, Eq, Error)]
+#[derive(Clone, Copy)]
 pub enum ValueFault {
     /// `--found` stands beside `--id 1`: only gateway 0 founds the pair.
-    #[error("found needs id 0")]
     FoundNeedsIdZero,
     /// The words of `side` name no side, or don't say whether its cable is in or out.
-    #[error("side needs inside or outside, and up or down")]
     NoSide,
     /// `status` is to be written in two forms, or waited for until something else than `synced`.
-    #[error("status takes json or prometheus, and until synced")]
     NoStatus,
     /// The words of `pairs` are no protocol, no address or no state.
-    #[error("pairs takes icmp, tcp or udp, an IPv4 address, and a state as in --state held")]
     NoFilter,
 }
 
+impl ValueFault {
+    ghost use Rattle.std.specs.Prelude.{◌≡◌};
+    ghost use Rattle.command_line.specs.Faults.{value_text};
+
+    /// What a user is told.
+    fn as_str(self) -> &'static str
+        ensures { result.now ≡ value_text self }
+    {
+        match self {
+            ValueFault::FoundNeedsIdZero => "found needs id 0",
+            ValueFault::NoSide => "side needs inside or outside, and up or down",
+            ValueFault::NoStatus => "status takes json or prometheus, and until synced",
+            ValueFault::NoFilter =>
+                "pairs takes icmp, tcp or udp, an IPv4 address, and a state as in --state held",
+        }
+    }
+}
+
+impl fmt::Display for ValueFault {
+    ghost use Rattle.std.specs.Prelude.{Some};
+    ghost use Rattle.command_line.specs.Faults.{value_text};
+
+    ghost output = { λ why. Some (value_text why) };
+
+    fn fmt<W: fmt::Write>(&self, f: &mut fmt::Formatter<W>) -> fmt::Result {
+        f.write_str(self.as_str())
+    }
+}
+
+/// The same text.
+impl fmt::Debug for ValueFault {
+    fn fmt<W: fmt::Write>(&self, f: &mut fmt::Formatter<W>) -> fmt::Result {
+        f.write_str(self.as_str())
+    }
+}
+
+impl Error for ValueFault {}
+
 /// Why words are no command line of the program.
-#[derive(Debug, Drop, Error)]
+#[derive(Drop)]
 pub enum LineFault {
     /// `clap` refuses the words, or they ask for help: its text is what the user is shown.
-    #[error("{0}")]
     Refused(clap::Error),
     /// `clap` takes them, but a command's values don't go together.
-    #[error("{0}")]
     Values(ValueFault),
-    #[error("memory 1 NoMemory")]
     NoMemory,
 }
 
+impl fmt::Display for LineFault {
+    ghost use Rattle.command_line.specs.Faults.{line_text};
+
+    ghost output = { λ fault. line_text fault };
+
+    fn fmt<W: fmt::Write>(&self, f: &mut fmt::Formatter<W>) -> fmt::Result {
+        match self {
+            LineFault::Refused(error) => fmt::Display::fmt(error, f),
+            LineFault::Values(why) => f.write_str(why.as_str()),
+            LineFault::NoMemory => f.write_str("memory 1 NoMemory"),
+        }
+    }
+}
+
+/// The same text.
+impl fmt::Debug for LineFault {
+    fn fmt<W: fmt::Write>(&self, f: &mut fmt::Formatter<W>) -> fmt::Result {
+        fmt::Display::fmt(self, f)
+    }
+}
+
+impl Error for LineFault {}
+
 impl LineFault {
-    ghost use Rattle.std.specs.Prelude.{◌≡◌};
-    ghost use Rattle.command_line.specs.Faults.{status_of};
+    ghost use Rattle.std.specs.Prelude.{◌≡◌, IfSome, OnOk};
+    ghost use Rattle.std.specs.Io.KnownBytes.{Appends};
+    ghost use Rattle.command_line.specs.Faults.{status_of, told_line};
 
     /// The exit status that the fault leads to.
     pub fn status(&self) -> u8
@@ -56,12 +117,24 @@ impl LineFault {
         self.status()
     }
 
-    fn show<E: Write>(&self, errors: &mut E) -> io::Result<()> {
+    fn show<E: Write>(&self, errors: &mut E) -> io::Result<()>
+        ensures told { OnOk result (IfSome (told_line self.now)
+            (Appends (E.contents errors.old) (E.contents errors.new))) }
+    {
         match self {
             LineFault::Refused(error) => write!(errors, "{error}"),
-            fault => writeln!(errors, "natpair: {fault}"),
+            LineFault::Values(why) => line(why.as_str(), errors),
+            LineFault::NoMemory => line("memory 1 NoMemory", errors),
         }
     }
+}
+
+/// Writes a line of a text behind `natpair: `.
+fn line<E: Write>(text: &str, errors: &mut E) -> io::Result<()>
+    ensures { OnOk result
+        (Appends (E.contents errors.old) (E.contents errors.new) (line_of text.now)) }
+{
+    writeln!(errors, "natpair: {text}")
 }
 
 impl From<AllocError> for LineFault {
@@ -72,5 +145,19 @@ impl From<AllocError> for LineFault {
 
     fn from(_: AllocError) -> LineFault {
         LineFault::NoMemory
+    }
+}
+
+impl From<clap::Error> for LineFault {
+    ghost use Rattle.command_line.specs.Faults.{IsOfClap};
+
+    ghost from_gives = { λ error fault. IsOfClap error fault };
+
+    /// What `clap` refuses is told as it does; want of memory as the program's own.
+    fn from(error: clap::Error) -> LineFault {
+        match error.kind() {
+            ErrorKind::OutOfMemory => LineFault::NoMemory,
+            _ => LineFault::Refused(error),
+        }
     }
 }

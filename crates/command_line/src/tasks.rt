@@ -89,13 +89,10 @@ fn gate(alloc: Global, matches: &ArgMatches<'_>) -> Result<Task, LineFault>
     requires numbers { HasNumbers (rows_of (found_of matches.now)) }
     requires id { HasId (rows_of (found_of matches.now)) }
     ensures ok { IfOk result (IsTask (codes "gate") (rows_of (found_of matches.now))) }
-    ensures zero { IfOk result FoundsAtZero }
     ensures sound { OnOk result (¬ (AreWrong (rows_of (found_of matches.now)) FoundNeedsIdZero)) }
     ensures err { IfErr result (RefusesAs FoundNeedsIdZero (rows_of (found_of matches.now))) }
 {
-    let Some(id) = values::id(matches) else {
-        unreachable!()
-    };
+    let id = values::gateway(matches);
     let found = values::flag(matches, "found");
     if found && id == GatewayId::One {
         return Err(LineFault::Values(ValueFault::FoundNeedsIdZero));
@@ -135,13 +132,10 @@ fn status(alloc: Global, matches: &ArgMatches<'_>) -> Result<Task, LineFault>
     requires numbers { HasNumbers (rows_of (found_of matches.now)) }
     requires id { HasId (rows_of (found_of matches.now)) }
     ensures ok { IfOk result (IsTask (codes "status") (rows_of (found_of matches.now))) }
-    ensures zero { IfOk result FoundsAtZero }
     ensures sound { OnOk result (¬ (AreWrong (rows_of (found_of matches.now)) NoStatus)) }
     ensures err { IfErr result (RefusesAs NoStatus (rows_of (found_of matches.now))) }
 {
-    let Some(id) = values::id(matches) else {
-        unreachable!()
-    };
+    let id = values::gateway(matches);
     let Some(form) = filters::form(matches) else {
         return Err(LineFault::Values(ValueFault::NoStatus));
     };
@@ -163,13 +157,10 @@ fn pairs(alloc: Global, matches: &ArgMatches<'_>) -> Result<Task, LineFault>
     requires numbers { HasNumbers (rows_of (found_of matches.now)) }
     requires id { HasId (rows_of (found_of matches.now)) }
     ensures ok { IfOk result (IsTask (codes "pairs") (rows_of (found_of matches.now))) }
-    ensures zero { IfOk result FoundsAtZero }
     ensures sound { OnOk result (¬ (AreWrong (rows_of (found_of matches.now)) NoFilter)) }
     ensures err { IfErr result (RefusesAs NoFilter (rows_of (found_of matches.now))) }
 {
-    let Some(id) = values::id(matches) else {
-        unreachable!()
-    };
+    let id = values::gateway(matches);
     let Some(protocol) = filters::protocol(matches) else {
         return Err(LineFault::Values(ValueFault::NoFilter));
     };
@@ -195,9 +186,7 @@ fn stop(alloc: Global, matches: &ArgMatches<'_>) -> Result<Task, AllocError>
     requires { HasId (rows_of (found_of matches.now)) }
     ensures { IfOk result (IsTask (codes "stop") (rows_of (found_of matches.now))) }
 {
-    let Some(id) = values::id(matches) else {
-        unreachable!()
-    };
+    let id = values::gateway(matches);
     let settings = values::word(alloc, matches, "SETTINGS")?;
     Ok(Task::Stop(settings, id))
 }
@@ -207,9 +196,7 @@ fn peer_off(alloc: Global, matches: &ArgMatches<'_>) -> Result<Task, AllocError>
     requires id { HasId (rows_of (found_of matches.now)) }
     ensures { IfOk result (IsTask (codes "peer-off") (rows_of (found_of matches.now))) }
 {
-    let Some(id) = values::id(matches) else {
-        unreachable!()
-    };
+    let id = values::gateway(matches);
     let words = PeerOffWords {
         settings: values::word(alloc, matches, "SETTINGS")?,
         id,
@@ -222,13 +209,10 @@ fn peer_off(alloc: Global, matches: &ArgMatches<'_>) -> Result<Task, AllocError>
 fn side(alloc: Global, matches: &ArgMatches<'_>) -> Result<Task, LineFault>
     requires { HasId (rows_of (found_of matches.now)) }
     ensures ok { IfOk result (IsTask (codes "side") (rows_of (found_of matches.now))) }
-    ensures zero { IfOk result FoundsAtZero }
     ensures sound { OnOk result (¬ (AreWrong (rows_of (found_of matches.now)) NoSide)) }
     ensures err { IfErr result (RefusesAs NoSide (rows_of (found_of matches.now))) }
 {
-    let Some(id) = values::id(matches) else {
-        unreachable!()
-    };
+    let id = values::gateway(matches);
     let Some(side) = values::side(matches) else {
         return Err(LineFault::Values(ValueFault::NoSide));
     };
@@ -281,7 +265,6 @@ fn named(alloc: Global, name: &str, matches: &ArgMatches<'_>) -> Result<Task, Li
     requires numbers { HasNumbers (rows_of (found_of matches.now)) }
     requires id { wants_id name.now ≡ true → HasId (rows_of (found_of matches.now)) }
     ensures ok { IfOk result (IsTask name.now (rows_of (found_of matches.now))) }
-    ensures zero { IfOk result FoundsAtZero }
     ensures sound { OnOk result ((why : Why)
         → ¬ (IsFaulty name.now (rows_of (found_of matches.now)) why)) }
     ensures err { IfErr result (RefusesValues name.now (rows_of (found_of matches.now))) }
@@ -305,7 +288,6 @@ fn of_matches(alloc: Global, matches: &ArgMatches<'_>) -> Result<Task, LineFault
     requires one { Enters (subcommand_rows_of matches.now) }
     requires numbers { Numbered (subcommand_rows_of matches.now) }
     ensures ok { IfOk result (Asks (subcommand_rows_of matches.now)) }
-    ensures zero { IfOk result FoundsAtZero }
     ensures sound { OnOk result ((why : Why)
         → ¬ (IsEnteredFaulty (subcommand_rows_of matches.now) why)) }
     ensures err { IfErr result (RefusesEntered (subcommand_rows_of matches.now)) }
@@ -328,8 +310,7 @@ fn parse<'a>(alloc: Global, words: &'a [String]) -> Result<ArgMatches<'a>, LineF
     let line = commands::line(alloc)?;
     match line.try_get_matches_from(words) {
         Ok(matches) => Ok(matches),
-        Err(error) if error.kind() == ErrorKind::OutOfMemory => Err(LineFault::NoMemory),
-        Err(error) => Err(LineFault::Refused(error)),
+        Err(error) => Err(LineFault::from(error)),
     }
 }
 

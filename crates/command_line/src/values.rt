@@ -1,7 +1,7 @@
 //! The values that clap gives the options of a command.
 ghost use Rattle.std.specs.Prelude.{◌≡◌, option_map, string_bytes, IfOk};
 ghost use Rattle.clap.specs.Words.{first_of, found_of, one_of, rows_of};
-ghost use Rattle.command_line.specs.Values.{word_of, flag_of, side_in, state_in, HasIdIf, HasNumberIf, IsIdIf, IsReadIf, ReadsNumber, ReadsId};
+ghost use Rattle.command_line.specs.Values.{word_of, flag_of, side_in, state_in, HasId, HasIdIf, HasNumberIf, IsId, IsIdIf, IsReadIf, ReadsNumber, ReadsId};
 
 use clap::ArgMatches;
 use nat_types::{GatewayId, Side};
@@ -94,13 +94,24 @@ pub(crate) fn long_if(matches: &ArgMatches<'_>, name: &str) -> Option<u64>
 }
 
 /// The gateway that `--id` names.
-pub(crate) fn id(matches: &ArgMatches<'_>) -> Option<GatewayId>
+fn id(matches: &ArgMatches<'_>) -> Option<GatewayId>
     ensures { ReadsId (rows_of (found_of matches.now)) result }
 {
     match byte(matches, "id") {
         Some(0) => Some(GatewayId::Zero),
         Some(1) => Some(GatewayId::One),
         _ => None,
+    }
+}
+
+/// The gateway that `--id` names, where it has to.
+pub(crate) fn gateway(matches: &ArgMatches<'_>) -> GatewayId
+    requires { HasId (rows_of (found_of matches.now)) }
+    ensures { IsId (rows_of (found_of matches.now)) result }
+{
+    match id(matches) {
+        Some(id) => id,
+        None => unreachable!(),
     }
 }
 

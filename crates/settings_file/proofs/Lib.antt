@@ -2,3 +2,4 @@ mod Agree
 mod Apart
 mod Good
 mod Lists
+mod Loops

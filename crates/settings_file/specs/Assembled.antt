@@ -1,21 +1,30 @@
--- The steps of reading: keys, values, settings.
-use Rattle.std.specs.Prelude.{◌≡◌, Bool, true, false, Some, None, string_bytes}
+-- The values of a document, and settings made of them.
+use Rattle.std.specs.Prelude.{◌≡◌, Bool, true, false, Some, map, option_map}
 use Rattle.toml.specs.Data.{Members}
 use Rattle.settings.specs.declared.whole.Settings.{Settings}
 use Rattle.settings_file.specs.declared.faults.SettingFault.{SettingFault}
-use Rattle.settings_file.specs.declared.faults.SettingFault.TheVariants.{UnknownKey, Missing, RangesOverlap, SameIds, NoMemory}
+use Rattle.settings_file.specs.declared.faults.SettingFault.TheVariants.{RangesOverlap, SameIds}
 use Rattle.settings_file.specs.declared.values.Values.{Values}
-use Rattle.settings_file.specs.Missing.{first_missing}
-use Rattle.settings_file.specs.Unknown.{first_unknown}
+use Rattle.settings_file.specs.declared.keys.Section.TheVariants.{Inside, Outside, GatewayZero, GatewayOne}
+use Rattle.settings_file.specs.declared.keys.Name.TheVariants.{Zero, One, Router}
+use Rattle.settings_file.specs.Document.{address_at}
+use Rattle.settings_file.specs.Neighbours.{neighbours_of, neighbour_in}
+use Rattle.settings_file.specs.Values.{IsRange, IsLimit, IsInterface, IsIcmp, IsGateway}
 use Rattle.settings_file.specs.Settings.{overlap}
 use Rattle.settings_file.specs.Ids.{same_ids}
 
--- a fault tells a key that is unknown, or else one that is missing
-abbrev pub TellsKey : Members → SettingFault → Type 0
-TellsKey t (UnknownKey path) = first_unknown t ≡ Some (string_bytes path)
-TellsKey t (Missing k) = (first_unknown t ≡ None) × (first_missing t ≡ Some k)
-TellsKey t NoMemory = Unit {0}
-TellsKey t _ = ⊥
+-- values that stand at the keys of a document
+pub record AreValues (t : Members) (v : Values) : Type 0 where
+  pub zero_ports : IsRange t Zero v.zero_ports
+  pub one_ports : IsRange t One v.one_ports
+  pub limit_is : IsLimit t v.host_limit
+  pub inside_is : IsInterface t Inside v.inside
+  pub outside_is : IsInterface t Outside v.outside
+  pub router_is : address_at t Outside Router ≡ Some v.router.0
+  pub icmp_is : IsIcmp t v.icmp
+  pub zero_is : IsGateway t GatewayZero v.zero
+  pub one_is : IsGateway t GatewayOne v.one
+  pub neighbours_are : option_map (map neighbour_in) (neighbours_of t) ≡ Some (map (λ n. Some n) v.neighbours.items)
 
 abbrev pub overlap_of : Values → Bool
 overlap_of v = overlap (Some (v.zero_ports.lowest.0, v.zero_ports.highest.0)) (Some (v.one_ports.lowest.0, v.one_ports.highest.0))

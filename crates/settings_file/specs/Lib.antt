@@ -7,6 +7,7 @@ pub mod Keys
 pub mod Listing
 pub mod Missing
 pub mod Neighbours
+pub mod Parts
 pub mod Rows
 pub mod Settings
 pub mod Texts

@@ -1,5 +1,5 @@
 -- Keys that can't be left out.
-use Rattle.std.specs.Prelude.{Bool, List, [], ◌∷◌, ◌++◌, filter, Option, is_none, is_some, unwrap_or, option_and_then}
+use Rattle.std.specs.Prelude.{Bool, List, [], ◌∷◌, ◌++◌, filter, Option, None, is_none, unwrap_or, option_and_then}
 use Rattle.std.specs.List.{find}
 use Rattle.toml.specs.Data.{Data, Members}
 use Rattle.settings_file.specs.declared.keys.Section.TheVariants.{Ports, Inside, Outside, GatewayZero, GatewayOne}
@@ -27,13 +27,10 @@ required =
 unfoldable pub lacks : Members → Key → Bool
 lacks t k = is_none (option_and_then (value_of t k.section) k.name)
 
--- a neighbour lacks a key
-abbrev pub is_incomplete : Data → Bool
-is_incomplete d = is_some (missing_in d)
-
--- the first key that the first incomplete neighbour lacks
+-- the first key that a neighbour lacks
 abbrev pub missing_from : List Data → Option Key
-missing_from ds = option_and_then missing_in (find is_incomplete ds)
+missing_from [] = None
+missing_from (d ∷ rest) = earlier (missing_in d) (missing_from rest)
 
 -- what isn't a list of tables lacks no key
 unfoldable pub missing_neighbour : Members → Option Key

@@ -28,11 +28,15 @@ above_zero digit = option_and_then (λ n. if n == 0 then None else Some n) digit
 abbrev pub two_digits_of : ℕ → ℕ → Option ℕ
 two_digits_of a b = joined 10 (above_zero (digit_of a)) (digit_of b)
 
+-- of three
+abbrev pub three_digits_of : ℕ → ℕ → ℕ → Option ℕ
+three_digits_of a b c = joined 10 (two_digits_of a b) (digit_of c)
+
 -- a decimal number without leading zeros, of one to three digits
 abbrev pub number_of : List ℕ → Option ℕ
 number_of (a ∷ []) = digit_of a
 number_of (a ∷ b ∷ []) = two_digits_of a b
-number_of (a ∷ b ∷ c ∷ []) = joined 10 (two_digits_of a b) (digit_of c)
+number_of (a ∷ b ∷ c ∷ []) = three_digits_of a b c
 number_of _ = None
 
 -- a decimal number from 0 to 255 without leading zeros

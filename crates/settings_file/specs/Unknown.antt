@@ -34,7 +34,7 @@ unfoldable pub is_known : Section → List ℕ → Bool
 is_known section text = list_any (has_text text) (names_of section)
 
 abbrev pub is_titled : List ℕ → Section → Bool
-is_titled text section = bytes_eq (section_text section) text
+is_titled text section = bytes_eq text (section_text section)
 
 abbrev pub sections : List Section
 sections = Ports ∷ Inside ∷ Outside ∷ Icmp ∷ GatewayZero ∷ GatewayOne ∷ Neighbour ∷ []

@@ -21,7 +21,12 @@ fn is_same(one: Option<u16>, other: Option<u16>) -> bool
 fn is_taken(before: &[(Key, Option<u16>)], row: (Key, Option<u16>)) -> bool
     ensures { result ≡ is_taken before.now row }
 {
-    before.iter().any(|earlier| is_same(earlier.1, row.1))
+    for earlier in before {
+        if is_same(earlier.1, row.1) {
+            return true;
+        }
+    }
+    false
 }
 
 fn first_taken(rows: &[(Key, Option<u16>)]) -> Option<Key>

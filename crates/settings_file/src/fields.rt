@@ -6,7 +6,7 @@ ghost use Rattle.toml.specs.View.{table_view, view};
 ghost use Rattle.addresses.specs.Address.{IsIn};
 ghost use Rattle.settings_file.specs.Keys.{section_text, key};
 ghost use Rattle.settings_file.specs.Document.{value_of, number_in, number_at, number_or, optional_at, flag_or, text_at, address_at, mac_at};
-ghost use Rattle.settings_file.specs.Document.{network_of_prefix, range_of, range_items, range_at, list_in, is_in, is_host};
+ghost use Rattle.settings_file.specs.Document.{network_of_prefix, in_order, range_of, range_items, range_at, list_in, is_in, is_host};
 ghost use Rattle.settings_file.specs.Faults.{IsBadAt, TellsFirst, first_bad};
 
 use crate::faults::ValueFault;
@@ -51,11 +51,9 @@ pub(crate) fn number_in(value: &Value, low: u16, high: u16) -> Option<u16>
     ensures low { IfSome result (λ n. low ≤ n) }
     ensures high { IfSome result (λ n. n ≤ high) }
 {
-    let number = u16::try_from(value.as_integer()?).ok()?;
-    if low <= number && number <= high {
-        Some(number)
-    } else {
-        None
+    match u16::try_from(value.as_integer()?) {
+        Ok(number) if low <= number && number <= high => Some(number),
+        _ => None,
     }
 }
 
@@ -308,24 +306,27 @@ pub(crate) fn list(value: &Value) -> Option<&[Value]>
     }
 }
 
+/// Two ports, where they are there in their order.
+fn in_order(low: Option<u16>, high: Option<u16>) -> Option<PortRange>
+    requires { IfSome low (λ n. 1024 ≤ n) }
+    ensures { option_map (λ r. (r.lowest.0, r.highest.0)) result ≡ in_order low high }
+{
+    match (low, high) {
+        (Some(low), Some(high)) if low <= high => Some(PortRange {
+            lowest: Port(low),
+            highest: Port(high),
+        }),
+        _ => None,
+    }
+}
+
 /// A first and a last port.
 fn range_in(list: &[Value]) -> Option<PortRange>
     ensures { option_map (λ r. (r.lowest.0, r.highest.0)) result
         ≡ range_items (map view list.now) }
 {
     match list {
-        [low, high] => {
-            let low = number_in(low, 1024, 65535)?;
-            let high = number_in(high, 1024, 65535)?;
-            if low <= high {
-                Some(PortRange {
-                    lowest: Port(low),
-                    highest: Port(high),
-                })
-            } else {
-                None
-            }
-        }
+        [low, high] => in_order(number_in(low, 1024, 65535), number_in(high, 1024, 65535)),
         _ => None,
     }
 }

@@ -1,11 +1,11 @@
 //! The keys that settings have, and their texts.
-ghost use Rattle.std.specs.Prelude.{◌≡◌};
-ghost use Rattle.settings_file.specs.Keys.{section_text, name_text, key, whole};
+ghost use Rattle.std.specs.Prelude.{◌≡◌, Some};
+ghost use Rattle.settings_file.specs.Keys.{section_text, name_text, key, key_text, whole};
 
 use std::fmt;
 
 /// A table of the settings, or the list of static neighbours.
-#[derive(Clone, Copy, Debug, PartialEq, Eq)]
+#[derive(Clone, Copy)]
 pub enum Section {
     Ports,
     Inside,
@@ -34,7 +34,7 @@ impl Section {
 }
 
 /// A key within a table of the settings.
-#[derive(Clone, Copy, Debug, PartialEq, Eq)]
+#[derive(Clone, Copy)]
 pub enum Name {
     Zero,
     One,
@@ -99,7 +99,7 @@ impl Name {
 }
 
 /// A key of the settings; without a name, a section as a whole.
-#[derive(Clone, Copy, Debug, PartialEq, Eq)]
+#[derive(Clone, Copy)]
 pub struct Key {
     pub section: Section,
     pub name: Option<Name>,
@@ -129,6 +129,8 @@ impl Key {
 
 /// The key's path, as `inside.prefix`, or `neighbour` for the whole list.
 impl fmt::Display for Key {
+    ghost output = { λ k. Some (key_text k) };
+
     fn fmt<W: fmt::Write>(&self, f: &mut fmt::Formatter<W>) -> fmt::Result {
         let section = self.section.as_str();
         match self.name {

@@ -1,9 +1,11 @@
 //! Looks for all faults of a text.
-ghost use Rattle.std.specs.Prelude.{◌↔◌, Some, IfOk};
+ghost use Rattle.std.specs.Prelude.{◌≡◌, ◌↔◌, Ok, Some, IfOk};
 ghost use Rattle.toml.specs.Parse.{parse_document};
 ghost use Rattle.toml.specs.View.{table_view};
 ghost use Rattle.settings_file.specs.Settings.{Tells};
 ghost use Rattle.settings_file.specs.Listing.{IsSeenIn, IsSeen, HasNoFault, IsGood};
+ghost use Rattle.settings_file.specs.declared.faults.SettingFault.TheVariants as faults;
+ghost use Rattle.settings_file.specs.declared.looks.Look.TheVariants as looks;
 
 use crate::listing::all_bad_values;
 use crate::missing::all_missing;
@@ -17,7 +19,9 @@ use toml::Table;
 /// What is seen of a document that holds no settings, for this fault.
 fn seen_of_fault(alloc: Global, document: &Table, fault: &SettingFault) -> Result<Look, AllocError>
     requires { Tells (Some (table_view document.now)) fault.now }
-    ensures { IfOk result (IsSeenIn (table_view document.now)) }
+    ensures seen { IfOk result (IsSeenIn (table_view document.now)) }
+    ensures ranges { fault.now ≡ faults.RangesOverlap → result ≡ Ok looks.RangesOverlap }
+    ensures ids { fault.now ≡ faults.SameIds → result ≡ Ok looks.SameIds }
 {
     match fault {
         SettingFault::UnknownKey(_) => Ok(Look::UnknownKeys(unknown(alloc, document)?)),

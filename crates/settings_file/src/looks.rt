@@ -4,7 +4,7 @@ use crate::Key;
 use settings::Settings;
 
 /// What is seen of a text: all faults of the first kind of which it has one, or its settings.
-#[derive(Debug, Drop)]
+#[derive(Drop)]
 pub enum Look {
     /// The text isn't TOML.
     NotToml,

@@ -1,8 +1,8 @@
 //! Keys of a document that can't be left out.
-ghost use Rattle.std.specs.Prelude.{◌≡◌, ◌++◌, filter, map, option_map, IfOk, OnOk};
+ghost use Rattle.std.specs.Prelude.{◌≡◌, ◌++◌, filter, map, IfOk, OnOk};
 ghost use Rattle.std.specs.List.{find};
 ghost use Rattle.toml.specs.View.{table_view, view};
-ghost use Rattle.settings_file.specs.Missing.{required, lacks, is_incomplete, missing_from, missing_neighbour, first_missing, all_missing};
+ghost use Rattle.settings_file.specs.Missing.{required, lacks, missing_from, missing_neighbour, first_missing, all_missing};
 ghost use Rattle.settings_file.specs.Neighbours.{all_missing_from};
 
 use crate::rows::add_bad;
@@ -58,30 +58,24 @@ fn lacks(document: &Table, key: Key) -> bool
 fn missing_of(document: &Table, keys: &[Key]) -> Option<Key>
     ensures { result ≡ find (lacks (table_view document.now)) keys.now }
 {
-    keys.iter().copied().find(|key| lacks(document, *key))
+    for key in keys {
+        if lacks(document, *key) {
+            return Some(*key);
+        }
+    }
+    None
 }
 
-fn is_incomplete(neighbour: &Value) -> bool
-    ensures { result ≡ is_incomplete (view neighbour.now) }
-{
-    neighbours::missing_in(neighbour).is_some()
-}
-
-fn first_incomplete(tables: &[Value]) -> Option<&Value>
-    ensures { option_map (λ v. v.now) result ≡ find (λ v. is_incomplete (view v)) tables.now }
-{
-    tables.iter().find(|table| is_incomplete(table))
-}
-
-/// The first key that the first incomplete neighbour lacks.
-#[tactic(auto, using(crate::proofs::Lists::find_view))]
+/// The first key that a neighbour lacks.
 fn missing_from(tables: &[Value]) -> Option<Key>
     ensures { result ≡ missing_from (map view tables.now) }
 {
-    match first_incomplete(tables) {
-        Some(neighbour) => neighbours::missing_in(neighbour),
-        None => None,
+    for table in tables {
+        if let Some(key) = neighbours::missing_in(table) {
+            return Some(key);
+        }
     }
+    None
 }
 
 #[tactic(auto, unfolding(crate::specs::Missing::missing_neighbour))]

@@ -1,9 +1,9 @@
 //! The static neighbours of a document.
-ghost use Rattle.std.specs.Prelude.{◌≡◌, ◌≤◌, ◌++◌, Some, None, length, map, is_some, option_map, option_and_then, vec_len, IfOk, IfErr, OnOk};
+ghost use Rattle.std.specs.Prelude.{◌≡◌, ◌≤◌, ◌++◌, Some, length, map, is_some, option_map, option_and_then, vec_len, IfOk, OnOk};
 ghost use Rattle.std.specs.List.{list_all};
 ghost use Rattle.toml.specs.Data.{as_str};
 ghost use Rattle.toml.specs.View.{table_view, view};
-ghost use Rattle.settings_file.specs.Faults.{TellsFirst};
+ghost use Rattle.settings_file.specs.Faults.{FindsBad};
 ghost use Rattle.std.specs.List.{flat_map};
 ghost use Rattle.settings_file.specs.declared.keys.Section.TheVariants as sections;
 ghost use Rattle.settings_file.specs.Keys.{key};
@@ -25,7 +25,12 @@ const NEIGHBOURS: usize = 64;
 fn are_tables(list: &[Value]) -> bool
     ensures { result ≡ list_all (λ v. is_table (view v)) list.now }
 {
-    list.iter().all(|value| value.is_table())
+    for value in list {
+        if !value.is_table() {
+            return false;
+        }
+    }
+    true
 }
 
 /// The tables of a list that has no other values.
@@ -222,10 +227,8 @@ fn neighbour(
     outside: Prefix,
 ) -> Result<Neighbour, ValueFault>
     ensures ok { IfOk result (λ n. neighbour_in (view table.now) ≡ Some n) }
-    ensures good { OnOk result (bad_neighbour (Some (inside.address.0, inside.length))
-        (Some (outside.address.0, outside.length)) (view table.now) ≡ None) }
-    ensures err { IfErr result (TellsFirst (bad_neighbour (Some (inside.address.0, inside.length))
-        (Some (outside.address.0, outside.length)) (view table.now))) }
+    ensures bad { FindsBad (bad_neighbour (Some (inside.address.0, inside.length))
+        (Some (outside.address.0, outside.length)) (view table.now)) result }
 {
     let Some(side) = side_of(table) else {
         return Err(ValueFault::BadValue(Key::new(Section::Neighbour, Name::Side)));
@@ -254,10 +257,8 @@ fn neighbours_in(
 ) -> Result<Vec<Neighbour>, ValueFault>
     ensures ok { IfOk result (λ v. map Some v.items ≡ map neighbour_in (map view tables.now)) }
     ensures len { IfOk result (λ v. vec_len v ≡ length tables.now) }
-    ensures good { OnOk result (bad_in (Some (inside.address.0, inside.length))
-        (Some (outside.address.0, outside.length)) (map view tables.now) ≡ None) }
-    ensures err { IfErr result (TellsFirst (bad_in (Some (inside.address.0, inside.length))
-        (Some (outside.address.0, outside.length)) (map view tables.now))) }
+    ensures bad { FindsBad (bad_in (Some (inside.address.0, inside.length))
+        (Some (outside.address.0, outside.length)) (map view tables.now)) result }
 {
     let mut neighbours = Vec::new(alloc);
     for table in tables {
@@ -278,10 +279,8 @@ pub(crate) fn neighbours(
     ensures ok { IfOk result (λ v. option_map (map neighbour_in)
         (neighbours_of (table_view document.now)) ≡ Some (map Some v.items)) }
     ensures few { IfOk result (λ v. vec_len v ≤ 64) }
-    ensures good { OnOk result (bad_neighbours (Some (inside.address.0, inside.length))
-        (Some (outside.address.0, outside.length)) (table_view document.now) ≡ None) }
-    ensures err { IfErr result (TellsFirst (bad_neighbours (Some (inside.address.0, inside.length))
-        (Some (outside.address.0, outside.length)) (table_view document.now))) }
+    ensures bad { FindsBad (bad_neighbours (Some (inside.address.0, inside.length))
+        (Some (outside.address.0, outside.length)) (table_view document.now)) result }
 {
     let whole = Key::whole(Section::Neighbour);
     let Some(tables) = tables(document) else {

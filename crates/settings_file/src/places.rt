@@ -1,7 +1,7 @@
 //! Which places of a box are reached by loopback sockets.
 
 /// The places of a box that are reached by loopback sockets.
-#[derive(Clone, Copy, Debug, PartialEq, Eq)]
+#[derive(Clone, Copy)]
 pub struct OnLoopback {
     pub inside: bool,
     pub outside: bool,

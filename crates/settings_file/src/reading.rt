@@ -1,32 +1,41 @@
 //! Reads settings.
-ghost use Rattle.std.specs.Prelude.{◌≡◌, Some, None, IfOk, IfErr, OnOk};
+ghost use Rattle.std.specs.Prelude.{◌≡◌, Some, None, option_map, string_bytes, IfOk, IfErr, OnOk};
 ghost use Rattle.toml.specs.Parse.{parse_document};
 ghost use Rattle.toml.specs.View.{table_view};
+ghost use Rattle.settings_file.specs.Faults.{TellsCantWork, TellsMissing, TellsUnknown};
 ghost use Rattle.settings_file.specs.Missing.{first_missing};
 ghost use Rattle.settings_file.specs.Unknown.{first_unknown};
 ghost use Rattle.settings_file.specs.Settings.{IsHeld, IsReadFrom, Tells, refusal_of, HoldsValues};
-ghost use Rattle.settings_file.specs.Works.{Works};
-ghost use Rattle.settings_file.specs.Assembled.{TellsKey, IsAssembled, TellsValues};
+ghost use Rattle.settings_file.specs.Works.{Works, cant_work};
+ghost use Rattle.settings_file.specs.Assembled.{IsAssembled, TellsValues};
 
 use crate::SettingFault;
+use crate::gathering::read_values;
 use crate::ids::{overlap, same_ids};
 use crate::missing::first_missing;
 use crate::unknown::first_unknown;
-use crate::values::{Values, read_values};
+use crate::values::Values;
 use crate::works::cant_work;
 use settings::{PortRanges, Settings};
 use std::alloc::Global;
 use toml::Table;
 
-/// Whether a document has just the keys that settings have.
-fn check_keys(alloc: Global, document: &Table) -> Result<(), SettingFault>
-    ensures known { OnOk result (first_unknown (table_view document.now) ≡ None) }
-    ensures there { OnOk result (first_missing (table_view document.now) ≡ None) }
-    ensures err { IfErr result (TellsKey (table_view document.now)) }
+/// No key is unknown; else the least of those that are.
+fn none_unknown(least: Option<String>) -> Result<(), SettingFault>
+    ensures ok { OnOk result (option_map string_bytes least ≡ None) }
+    ensures err { IfErr result (TellsUnknown (option_map string_bytes least)) }
 {
-    if let Some(path) = first_unknown(alloc, document)? {
-        return Err(SettingFault::UnknownKey(path));
+    match least {
+        Some(path) => Err(SettingFault::UnknownKey(path)),
+        None => Ok(()),
     }
+}
+
+/// No key is missing; else the first of those that are. It takes no memory.
+fn none_missing(document: &Table) -> Result<(), SettingFault>
+    ensures ok { OnOk result (first_missing (table_view document.now) ≡ None) }
+    ensures err { IfErr result (TellsMissing (first_missing (table_view document.now))) }
+{
     match first_missing(document) {
         Some(key) => Err(SettingFault::Missing(key)),
         None => Ok(()),
@@ -64,15 +73,28 @@ fn assemble(values: Values) -> Result<Settings, SettingFault>
 }
 
 /// The settings that a document holds, whether they can work or not.
-#[tactic(auto, using(crate::proofs::Agree::ports_agree, crate::proofs::Agree::ids_agree, crate::proofs::Agree::no_refusal, crate::proofs::Agree::told_keys, crate::proofs::Agree::told_values, crate::proofs::Agree::refuses_ports, crate::proofs::Agree::refuses_ids))]
+#[tactic(auto, using(crate::proofs::Agree::told_unknown, crate::proofs::Agree::told_missing, crate::proofs::Agree::told_values))]
 pub(crate) fn held(alloc: Global, document: &Table) -> Result<Settings, SettingFault>
     ensures free { OnOk result (refusal_of (table_view document.now) ≡ None) }
     ensures values { IfOk result (HoldsValues (table_view document.now)) }
     ensures err { IfErr result (Tells (Some (table_view document.now))) }
 {
-    check_keys(alloc, document)?;
+    none_unknown(first_unknown(alloc, document)?)?;
+    none_missing(document)?;
     let values = read_values(alloc, document)?;
     assemble(values)
+}
+
+/// Settings that can work; else the first key that can't. It takes no memory.
+fn working(settings: Settings) -> Result<Settings, SettingFault>
+    ensures same { IfOk result (λ s. s ≡ settings) }
+    ensures works { OnOk result (Works settings) }
+    ensures err { IfErr result (TellsCantWork (cant_work settings)) }
+{
+    match cant_work(&settings) {
+        Some(key) => Err(SettingFault::CantWork(key)),
+        None => Ok(settings),
+    }
 }
 
 /// The settings of a document.
@@ -81,10 +103,7 @@ fn settings_of(alloc: Global, document: &Table) -> Result<Settings, SettingFault
     ensures err { IfErr result (Tells (Some (table_view document.now))) }
 {
     let settings = held(alloc, document)?;
-    match cant_work(&settings) {
-        Some(key) => Err(SettingFault::CantWork(key)),
-        None => Ok(settings),
-    }
+    working(settings)
 }
 
 /// Reads settings from a text in TOML.

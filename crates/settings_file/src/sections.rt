@@ -1,11 +1,11 @@
 //! The sections of a document: ports, the two networks and the router, and what is said by ICMP.
-ghost use Rattle.std.specs.Prelude.{◌≡◌, IsTrue, ◌<◌, ◌≤◌, Some, None, IfOk, IfErr, OnOk};
+ghost use Rattle.std.specs.Prelude.{◌≡◌, IsTrue, ◌<◌, ◌≤◌, Some, IfOk};
 ghost use Rattle.std.specs.Option.{ForSome};
 ghost use Rattle.toml.specs.View.{table_view};
 ghost use Rattle.settings_file.specs.declared.keys.Section.TheVariants.{Inside, Outside};
 ghost use Rattle.settings_file.specs.declared.keys.Name.TheVariants.{Zero, One, Router};
 ghost use Rattle.settings_file.specs.Document.{address_at, is_apart, is_section, IsApart};
-ghost use Rattle.settings_file.specs.Faults.{TellsFirst};
+ghost use Rattle.settings_file.specs.Faults.{FindsBad};
 ghost use Rattle.settings_file.specs.Rows.{bad_ports, bad_inside, bad_outside, bad_icmp, network_at};
 ghost use Rattle.settings_file.specs.Values.{IsRange, IsLimit, IsInterface, IsIcmp};
 
@@ -23,8 +23,7 @@ pub(crate) fn ports(document: &Table) -> Result<(PortRange, PortRange, Option<u1
     ensures one { IfOk result (λ r. IsRange (table_view document.now) One r.1) }
     ensures limit { IfOk result (λ r. IsLimit (table_view document.now) r.2) }
     ensures limited { IfOk result (λ r. ForSome r.2 (λ most. 0 < most)) }
-    ensures good { OnOk result (bad_ports (table_view document.now) ≡ None) }
-    ensures err { IfErr result (TellsFirst (bad_ports (table_view document.now))) }
+    ensures bad { FindsBad (bad_ports (table_view document.now)) result }
 {
     let zero = fields::range(document, Section::Ports, Name::Zero)?;
     let one = fields::range(document, Section::Ports, Name::One)?;
@@ -36,8 +35,7 @@ pub(crate) fn ports(document: &Table) -> Result<(PortRange, PortRange, Option<u1
 #[tactic(auto, unfolding(crate::specs::Rows::bad_inside))]
 pub(crate) fn inside(alloc: Global, document: &Table) -> Result<InterfaceSettings, ValueFault>
     ensures ok { IfOk result (IsInterface (table_view document.now) Inside) }
-    ensures good { OnOk result (bad_inside (table_view document.now) ≡ None) }
-    ensures err { IfErr result (TellsFirst (bad_inside (table_view document.now))) }
+    ensures bad { FindsBad (bad_inside (table_view document.now)) result }
 {
     let virtual_ip = fields::address(alloc, document, Section::Inside, Name::Virtual)?;
     let prefix_length = fields::number(document, Section::Inside, Name::Prefix, 8, 30)? as u8;
@@ -76,10 +74,8 @@ pub(crate) fn outside(
         (λ r. IsApart inside r.0.virtual_ip.0 r.0.prefix_length) }
     ensures router { IfOk result
         (λ r. address_at (table_view document.now) Outside Router ≡ Some r.1.0) }
-    ensures good { OnOk result (bad_outside (Some (inside.address.0, inside.length))
-        (network_at (table_view document.now) Outside) (table_view document.now) ≡ None) }
-    ensures err { IfErr result (TellsFirst (bad_outside (Some (inside.address.0, inside.length))
-        (network_at (table_view document.now) Outside) (table_view document.now))) }
+    ensures bad { FindsBad (bad_outside (Some (inside.address.0, inside.length))
+        (network_at (table_view document.now) Outside) (table_view document.now)) result }
 {
     let virtual_ip = fields::address(alloc, document, Section::Outside, Name::Virtual)?;
     let prefix_length = fields::number(document, Section::Outside, Name::Prefix, 8, 30)? as u8;
@@ -116,8 +112,7 @@ pub(crate) fn is_section(document: &Table, section: Section) -> bool
 #[tactic(auto, unfolding(crate::specs::Rows::bad_icmp))]
 pub(crate) fn icmp(document: &Table) -> Result<IcmpSettings, ValueFault>
     ensures ok { IfOk result (IsIcmp (table_view document.now)) }
-    ensures good { OnOk result (bad_icmp (table_view document.now) ≡ None) }
-    ensures err { IfErr result (TellsFirst (bad_icmp (table_view document.now))) }
+    ensures bad { FindsBad (bad_icmp (table_view document.now)) result }
 {
     if !is_section(document, Section::Icmp) {
         return Err(ValueFault::BadValue(Key::whole(Section::Icmp)));

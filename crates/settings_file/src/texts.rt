@@ -1,7 +1,7 @@
 //! Addresses as the settings write them.
 ghost use Rattle.std.specs.Prelude.{◌≡◌, ◌<◌, map, option_map, IfOk, IfSome};
 ghost use Rattle.std.specs.List.{slice_split};
-ghost use Rattle.settings_file.specs.Texts.{digit_of, nibble_of, two_digits_of, octet_of, pair_of, parts_at, address_in, address_of, mac_in, mac_of};
+ghost use Rattle.settings_file.specs.Texts.{digit_of, nibble_of, two_digits_of, three_digits_of, number_of, joined, octet_of, pair_of, parts_at, address_in, address_of, mac_in, mac_of};
 
 use addresses::{Ip, Mac};
 use std::alloc::{AllocError, Global};
@@ -21,12 +21,32 @@ fn two_digits(first: u8, second: u8) -> Option<u16>
     ensures value { result ≡ two_digits_of first second }
     ensures small { IfSome result (λ n. n < 100) }
 {
-    let first = digit(first)?;
-    let second = digit(second)?;
-    if first == 0 {
-        None
-    } else {
-        Some(10 * first + second)
+    match (digit(first), digit(second)) {
+        (Some(first), Some(second)) if first != 0 => Some(10 * first + second),
+        _ => None,
+    }
+}
+
+/// The same of three digits.
+fn three_digits(first: u8, second: u8, third: u8) -> Option<u16>
+    ensures value { result ≡ three_digits_of first second third }
+    ensures small { IfSome result (λ n. n < 1000) }
+{
+    match (two_digits(first, second), digit(third)) {
+        (Some(tens), Some(ones)) => Some(10 * tens + ones),
+        _ => None,
+    }
+}
+
+/// A decimal number of one to three digits without leading zeros.
+fn number_of(digits: &[u8]) -> Option<u16>
+    ensures { result ≡ number_of digits.now }
+{
+    match digits {
+        [a] => digit(*a),
+        [a, b] => two_digits(*a, *b),
+        [a, b, c] => three_digits(*a, *b, *c),
+        _ => None,
     }
 }
 
@@ -35,13 +55,10 @@ fn two_digits(first: u8, second: u8) -> Option<u16>
 fn octet(word: &str) -> Option<u8>
     ensures { result ≡ octet_of word.now }
 {
-    let value = match word.as_bytes() {
-        [a] => digit(*a)?,
-        [a, b] => two_digits(*a, *b)?,
-        [a, b, c] => 10 * two_digits(*a, *b)? + digit(*c)?,
-        _ => return None,
-    };
-    if value < 256 { Some(value as u8) } else { None }
+    match number_of(word.as_bytes()) {
+        Some(value) if value < 256 => Some(value as u8),
+        _ => None,
+    }
 }
 
 fn nibble(byte: u8) -> Option<u8>
@@ -56,13 +73,25 @@ fn nibble(byte: u8) -> Option<u8>
     }
 }
 
+/// The byte of two hexadecimal digits.
+fn joined(high: Option<u8>, low: Option<u8>) -> Option<u8>
+    requires high { IfSome high (λ n. n < 16) }
+    requires low { IfSome low (λ n. n < 16) }
+    ensures { result ≡ joined 16 high low }
+{
+    match (high, low) {
+        (Some(high), Some(low)) => Some(16 * high + low),
+        _ => None,
+    }
+}
+
 /// A byte as a pair of hexadecimal digits.
 #[tactic(auto, unfolding(crate::specs::Texts::pair_of))]
 fn pair(word: &str) -> Option<u8>
     ensures { result ≡ pair_of word.now }
 {
     match word.as_bytes() {
-        [high, low] => Some(16 * nibble(*high)? + nibble(*low)?),
+        [high, low] => joined(nibble(*high), nibble(*low)),
         _ => None,
     }
 }
@@ -79,7 +108,10 @@ fn address_in(parts: &[&str]) -> Option<Ip>
     ensures { option_map (λ ip. ip.0) result ≡ address_in (map (λ part. part.now) parts.now) }
 {
     match parts {
-        [a, b, c, d] => Some(Ip::new([octet(a)?, octet(b)?, octet(c)?, octet(d)?])),
+        [a, b, c, d] => match (octet(a), octet(b), octet(c), octet(d)) {
+            (Some(a), Some(b), Some(c), Some(d)) => Some(Ip::new([a, b, c, d])),
+            _ => None,
+        },
         _ => None,
     }
 }
@@ -88,14 +120,12 @@ fn mac_in(parts: &[&str]) -> Option<Mac>
     ensures { option_map (λ mac. mac.0) result ≡ mac_in (map (λ part. part.now) parts.now) }
 {
     match parts {
-        [a, b, c, d, e, f] => Some(Mac([
-            pair(a)?,
-            pair(b)?,
-            pair(c)?,
-            pair(d)?,
-            pair(e)?,
-            pair(f)?,
-        ])),
+        [a, b, c, d, e, f] => match (pair(a), pair(b), pair(c), pair(d), pair(e), pair(f)) {
+            (Some(a), Some(b), Some(c), Some(d), Some(e), Some(f)) => {
+                Some(Mac([a, b, c, d, e, f]))
+            }
+            _ => None,
+        },
         _ => None,
     }
 }

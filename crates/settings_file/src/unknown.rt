@@ -1,11 +1,11 @@
 //! Keys of a document that settings don't have.
 ghost use Rattle.std.specs.Prelude.{◌≡◌, ◌++◌, Some, None, map, option_map, string_bytes, IfOk, OnOk};
-ghost use Rattle.std.specs.List.{find, list_any};
+ghost use Rattle.std.specs.List.{list_any};
 ghost use Rattle.toml.specs.Data.{as_table};
 ghost use Rattle.toml.specs.View.{table_view, view};
 ghost use Rattle.settings_file.specs.declared.keys.Section.TheVariants.{Neighbour};
 ghost use Rattle.settings_file.specs.Neighbours.{tables_in};
-ghost use Rattle.settings_file.specs.Unknown.{names_of, has_text, is_known, is_titled, sections, section_named, path, unknown_in, unknown_at, unknown_from, unknown_neighbour, unknown_under, unknown_of, lesser, least_from, first_unknown};
+ghost use Rattle.settings_file.specs.Unknown.{has_text, is_known, section_named, path, unknown_in, unknown_at, unknown_from, unknown_neighbour, unknown_under, unknown_of, lesser, least_from, first_unknown};
 
 use crate::{Name, Section, neighbours};
 use std::alloc::{AllocError, Global};
@@ -48,16 +48,6 @@ const GATEWAY: [Name; 11] = [
 
 const NEIGHBOUR: [Name; 3] = [Name::Side, Name::Ip, Name::Mac];
 
-const SECTIONS: [Section; 7] = [
-    Section::Ports,
-    Section::Inside,
-    Section::Outside,
-    Section::Icmp,
-    Section::GatewayZero,
-    Section::GatewayOne,
-    Section::Neighbour,
-];
-
 fn has_text(name: Name, text: &str) -> bool
     ensures { result ≡ has_text text.now name }
 {
@@ -67,7 +57,12 @@ fn has_text(name: Name, text: &str) -> bool
 fn any_has_text(names: &[Name], text: &str) -> bool
     ensures { result ≡ list_any (has_text text.now) names.now }
 {
-    names.iter().any(|name| has_text(*name, text))
+    for name in names {
+        if has_text(*name, text) {
+            return true;
+        }
+    }
+    false
 }
 
 #[tactic(auto, unfolding(crate::specs::Unknown::is_known))]
@@ -84,35 +79,27 @@ fn is_known(section: Section, text: &str) -> bool
     }
 }
 
-fn is_titled(section: Section, text: &str) -> bool
-    ensures { result ≡ is_titled text.now section }
-{
-    section.as_str() == text
-}
-
-fn titled(sections: &[Section], text: &str) -> Option<Section>
-    ensures { result ≡ find (is_titled text.now) sections.now }
-{
-    sections
-        .iter()
-        .copied()
-        .find(|section| is_titled(*section, text))
-}
-
 #[tactic(auto, unfolding(crate::specs::Unknown::section_named))]
 fn section_named(text: &str) -> Option<Section>
     ensures { result ≡ section_named text.now }
 {
-    titled(&SECTIONS, text)
+    match text {
+        "ports" => Some(Section::Ports),
+        "inside" => Some(Section::Inside),
+        "outside" => Some(Section::Outside),
+        "icmp" => Some(Section::Icmp),
+        "gateway_0" => Some(Section::GatewayZero),
+        "gateway_1" => Some(Section::GatewayOne),
+        "neighbour" => Some(Section::Neighbour),
+        _ => None,
+    }
 }
 
 fn path(alloc: Global, section: Section, text: &str) -> Result<String, AllocError>
     ensures { IfOk result (λ p. string_bytes p ≡ path section text.now) }
 {
-    let mut path = String::from_str(alloc, section.as_str())?;
-    path.push_str(".")?;
-    path.push_str(text)?;
-    Ok(path)
+    let section = section.as_str();
+    format!(in alloc; "{section}.{text}")
 }
 
 /// The lesser of two paths by their bytes.

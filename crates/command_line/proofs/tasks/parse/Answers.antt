@@ -1,4 +1,4 @@
-use Rattle.std.proofs.Common.{◌≡◌, ◌∙◌, ◌⊎◌, List, [], ◌∷◌, Option, ap, sym, subst, true, false, refl, inl, inr, map, string_bytes}
+use Rattle.std.proofs.Common.{◌≡◌, ◌∙◌, ◌⊎◌, List, [], ◌∷◌, Option, ap, sym, subst, true, refl, inl, inr, map, string_bytes}
 use Rattle.clap.specs.Kinds.{HasKind, IsAmong, Kinds}
 use Rattle.clap.specs.Values.{kind_of}
 use Rattle.clap.specs.declared.error.Error.{Error}
@@ -7,7 +7,9 @@ use Rattle.clap.specs.declared.error.kind.ErrorKind.TheVariants as kind
 use Rattle.clap.specs.Words.{App, Row, Text, fault_of, is_simple, is_simple_and_free, subcommand_of, subcommand_rows_of}
 use Rattle.command_line.specs.Line.{Takes, entered_by, faults_of, line_app}
 use Rattle.command_line.specs.Tasks.{Enters, Numbered, RefusesWords}
-use Rattle.command_line.specs.declared.faults.LineFault.TheVariants.{Refused}
+use Rattle.command_line.specs.Faults.{IsOfClap}
+use Rattle.command_line.specs.declared.faults.LineFault.{LineFault}
+use Rattle.command_line.specs.declared.faults.LineFault.TheVariants.{Refused, Values, NoMemory}
 use Rattle.command_line.proofs.Entering.{enters}
 use Rattle.command_line.proofs.Numbers.{numbered}
 use Rattle.command_line.proofs.tasks.parse.Goals as goal
@@ -60,25 +62,22 @@ alone k kinds is h = go (subst (IsAmong k) is h)
     go (inl same) = same
     go (inr none) = absurd none
 
--- an error of one of the kinds that the words have, and not of memory, says why they are refused; so does another of its kind
-refuses : (words : List Text) (told e : Error) → kind_of told ≡ kind_of e → HasKind (faults_of words) e → (kind_of e ≡ kind.OutOfMemory → ⊥)
-    → RefusesWords words (Refused told)
-refuses words told e same kinds others =
-    let found = among (faults_of words) e kinds others in (
+-- the fault of an error of one of the kinds that the words have says why they are refused
+refuses : (words : List Text) (e : Error) (f : LineFault) → IsOfClap e f → HasKind (faults_of words) e → RefusesWords words f
+refuses words e (Refused told) h kinds =
+    let same : kind_of told ≡ kind_of e = ap kind_of h.0 in
+    let found = among (faults_of words) e kinds h.1 in (
       λ taken. subst (IsAmong (kind_of e)) taken found,
       λ is. subst (λ (k : ErrorKind). IsAmong k (faults_of words)) (sym same ∙ is) found,
       λ asked. same ∙ alone (kind_of e) (faults_of words) asked found,
     )
+refuses words e (Values why) h kinds = absurd h
+refuses words e NoMemory h kinds = tt
 
-pub returns-in-Err-2-clause-err : goal.returns-in-Err-2-clause-err
-returns-in-Err-2-clause-err c =
+pub returns-in-Err-clause-err : goal.returns-in-Err-clause-err
+returns-in-Err-clause-err c =
     let line = c.in_ok-line.ensures in
     let words = map string_bytes c.args.words.now in
-    let kinds : HasKind (faults_of words) c.in-Err-2.error =
-    subst (λ (ks : Kinds). HasKind ks c.in-Err-2.error) (ap (λ (a : App). fault_of a words) line) (c.in-Err-2.ensures.kinds (ap is_simple_and_free line ∙ is_free)) in
-    let others : kind_of c.in-Err-2.error ≡ kind.OutOfMemory → ⊥ = λ memory.
-    let is : c.kind.result ≡ kind.OutOfMemory = c.kind.ensures ∙ (ap kind_of c.in-Err-2.error-is ∙ memory) in
-    let bad : c.eq.result ≡ true = c.eq.ensures ∙ rw is refl in
-    let never : false ≡ true = sym c.if-eq.false ∙ bad in
-    cc in
-    refuses words c.in-Err.error c.in-Err-2.error (ap kind_of c.in-Err-2.error-is) kinds others
+    let kinds : HasKind (faults_of words) c.in-Err.error =
+    subst (λ (ks : Kinds). HasKind ks c.in-Err.error) (ap (λ (a : App). fault_of a words) line) (c.in-Err.ensures.kinds (ap is_simple_and_free line ∙ is_free)) in
+    refuses words c.in-Err.error c.from.result c.from.ensures kinds
