@@ -1,10 +1,11 @@
 //! A report as JSON. No name and no value in it has a character that would want escaping.
 ghost use Rattle.std.specs.Prelude.{◌≡◌, ◌++◌, OnOk, codes, map};
 ghost use Rattle.std.specs.Io.KnownBytes.{Appends};
-ghost use Rattle.report_texts.specs.Json.{behind, box_members, drop_member, drops_of, drops_value};
-ghost use Rattle.report_texts.specs.Json.{end_members, frames_value, heard_value, json_text, member};
-ghost use Rattle.report_texts.specs.Json.{member_text, object, pairs_value, peer_value, place_value};
-ghost use Rattle.report_texts.specs.Json.{ports_value, side_value, states_of, waiting_value};
+ghost use Rattle.report_texts.specs.Json.{behind, box_members, drop_member, drops_of};
+ghost use Rattle.report_texts.specs.Json.{drops_value, end_members, frames_value, heard_value};
+ghost use Rattle.report_texts.specs.Json.{json_text, member, member_text, object, pairs_value};
+ghost use Rattle.report_texts.specs.Json.{peer_value, place_value, ports_value, side_value};
+ghost use Rattle.report_texts.specs.Json.{states_of, waiting_value};
 ghost use Rattle.report_texts.specs.Pieces.{piece_text};
 ghost use Rattle.report_texts.specs.declared.names.TheConstants.{REASONS};
 

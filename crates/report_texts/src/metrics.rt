@@ -5,8 +5,9 @@ ghost use Rattle.std.specs.Io.KnownBytes.{Appends};
 ghost use Rattle.report_texts.specs.Metrics.{box_metrics, came_metrics, drops_at, drops_metrics};
 ghost use Rattle.report_texts.specs.Metrics.{end_metrics, family_text, heard_metric, info_metric};
 ghost use Rattle.report_texts.specs.Metrics.{is_active, metrics_text, pair_metrics, pairs_name};
-ghost use Rattle.report_texts.specs.Metrics.{peer_metrics, places_metric, port_metrics, sample_text};
-ghost use Rattle.report_texts.specs.Metrics.{side_metrics, states_metrics, traffic_metrics};
+ghost use Rattle.report_texts.specs.Metrics.{peer_metrics, places_metric, port_metrics};
+ghost use Rattle.report_texts.specs.Metrics.{sample_text, side_metrics, states_metrics};
+ghost use Rattle.report_texts.specs.Metrics.{traffic_metrics};
 ghost use Rattle.report_texts.specs.Sums.{is_heard};
 
 use crate::names::{REASONS, dropped, id_name, left_out, origin_name, reason_name};
