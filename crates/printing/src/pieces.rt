@@ -3,7 +3,8 @@ ghost use Rattle.std.specs.Io.KnownBytes.{WriteAppends};
 ghost use Rattle.std.specs.Io.{WritesAtMost};
 ghost use Rattle.std.specs.Prelude.{flat_map};
 ghost use Rattle.hex.specs.Hex.{encode_lower};
-ghost use Rattle.std.specs.Prelude.{◌≤◌, ◌≡◌, IfOk, OnErr, length};
+ghost use Rattle.std.specs.Prelude.{◌≤◌, ◌≡◌, IfErr, IfOk, IsErr, OnErr, length};
+ghost use Rattle.std.specs.IoError.{error_kind};
 ghost use Rattle.printing.specs.Printed.{Prints};
 
 use std::io::{self, ErrorKind, Write};
@@ -12,6 +13,8 @@ use std::io::{self, ErrorKind, Write};
 fn taken(count: usize) -> io::Result<usize>
     ensures some { IfOk result (λ n. n ≡ count) }
     ensures none { OnErr result (count ≡ 0) }
+    ensures zero { count ≡ 0 → IsErr result }
+    ensures kind { IfErr result (λ e. error_kind e ≡ ErrorKind.WriteZero) }
 {
     if count == 0 {
         return Err(ErrorKind::WriteZero.into());

@@ -11,7 +11,7 @@ use nat_types::{GatewayId, Pair};
 use std::io::{self, Write};
 
 /// How a gateway stands.
-#[derive(Clone, Copy, Debug, PartialEq, Eq)]
+#[derive(Clone, Copy)]
 pub enum Standing {
     Down,
     /// It is up, and its table isn't loaded.

@@ -1,1 +1,5 @@
 mod Each
+mod Parts
+mod Objects
+mod Drops
+mod Groups

@@ -2,3 +2,9 @@ pub mod Wanted
 pub mod Names
 pub mod Sums
 pub mod Lists
+pub mod Units
+pub mod Pieces
+pub mod Pairs
+pub mod Json
+pub mod People
+pub mod Metrics

@@ -1,11 +1,30 @@
 -- The names of things in texts.
-use Rattle.std.specs.Prelude.{ℕ, Bool, true, false, List, codes}
+use Rattle.std.specs.Prelude.{ℕ, Bool, true, false, List, [], codes}
 use Rattle.addresses.specs.declared.transport.Protocol.{Protocol}
 use Rattle.addresses.specs.declared.transport.Protocol.TheVariants.{Icmp, Tcp, Udp}
+use Rattle.nat_types.specs.declared.gateways.GatewayId.{GatewayId}
+use Rattle.nat_types.specs.declared.gateways.GatewayId.TheVariants.{Zero, One}
 use Rattle.nat_types.specs.declared.pairs.EntryState.{EntryState}
 use Rattle.nat_types.specs.declared.pairs.EntryState.TheVariants.{Pending, Doomed, Live, Closing, Held}
+use Rattle.vrrp_states.specs.declared.State.{State}
+use Rattle.vrrp_states.specs.declared.State.TheVariants as role
 use Rattle.journal.specs.declared.origins.Origin.{Origin}
 use Rattle.journal.specs.declared.origins.Origin.TheVariants.{Inside, Outside, Link, Own}
+
+abbrev pub id_name : GatewayId → List ℕ
+id_name Zero = codes "0"
+id_name One = codes "1"
+
+abbrev pub protocol_name : Protocol → List ℕ
+protocol_name Icmp = codes "icmp"
+protocol_name Tcp = codes "tcp"
+protocol_name Udp = codes "udp"
+
+-- of a virtual router's state
+abbrev pub role_name : State → List ℕ
+role_name role.Initialize = codes "Initialize"
+role_name role.Backup = codes "Backup"
+role_name role.Active = codes "Active"
 
 abbrev pub origin_name : Origin → List ℕ
 origin_name Inside = codes "inside"
@@ -21,10 +40,10 @@ state_name Closing = codes "closing"
 state_name Held = codes "held"
 
 -- as wide as all names
-abbrev pub protocol_name : Protocol → List ℕ
-protocol_name Icmp = codes "icmp    "
-protocol_name Tcp = codes "tcp     "
-protocol_name Udp = codes "udp     "
+abbrev pub wide_name : Protocol → List ℕ
+wide_name Icmp = codes "icmp    "
+wide_name Tcp = codes "tcp     "
+wide_name Udp = codes "udp     "
 
 -- what is counted of a place
 abbrev pub traffic_name : Origin → List ℕ
@@ -45,3 +64,13 @@ synced_name false = codes "not synced"
 abbrev pub serving_name : Bool → List ℕ
 serving_name true = codes "serves"
 serving_name false = codes "doesn't serve"
+
+-- behind whether its table is loaded, where a gateway gave way
+abbrev pub away_name : Bool → List ℕ
+away_name true = codes ", away"
+away_name false = []
+
+-- in JSON
+abbrev pub truth_name : Bool → List ℕ
+truth_name true = codes "true"
+truth_name false = codes "false"

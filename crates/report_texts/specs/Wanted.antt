@@ -1,5 +1,5 @@
 -- Which entries of a table are wanted.
-use Rattle.std.specs.Prelude.{ℕ, ◌==◌, Bool, true, ◌&&◌, Option, Some, None}
+use Rattle.std.specs.Prelude.{◌==◌, Bool, true, ◌&&◌, Option, Some, None}
 use Rattle.addresses.specs.Transport.{protocol_number}
 use Rattle.addresses.specs.declared.internet.Ip.{Ip}
 use Rattle.addresses.specs.declared.transport.Port.{Port}

@@ -1,156 +1,340 @@
 //! A report as JSON. No name and no value in it has a character that would want escaping.
+ghost use Rattle.std.specs.Prelude.{◌≡◌, ◌++◌, OnOk, codes, map};
+ghost use Rattle.std.specs.Io.KnownBytes.{Appends};
+ghost use Rattle.report_texts.specs.Json.{behind, box_members, drop_member, drops_of};
+ghost use Rattle.report_texts.specs.Json.{drops_value, end_members, frames_value, heard_value};
+ghost use Rattle.report_texts.specs.Json.{json_text, member, member_text, object, pairs_value};
+ghost use Rattle.report_texts.specs.Json.{peer_value, place_value, ports_value, side_value};
+ghost use Rattle.report_texts.specs.Json.{states_of, waiting_value};
+ghost use Rattle.report_texts.specs.Pieces.{piece_text};
+ghost use Rattle.report_texts.specs.declared.names.TheConstants.{REASONS};
 
-use crate::names::{ORIGINS, REASONS, dropped, left_out, origin_name, state_name};
-use crate::units::Seconds;
+use crate::names::{
+    REASONS, dropped, id_name, left_out, origin_name, protocol_name, reason_name, role_name,
+    state_name,
+};
+use crate::pieces::{Piece, put};
 use addresses::Protocol;
 use journal::Origin;
-use reports::{Count, Counters, PROTOCOLS, PeerReport, Report, STATES, SideReport};
+use nat_types::EntryState;
+use reports::{
+    Count, Counters, PairCounts, PeerReport, PortCounts, Report, SideReport, WaitingCounts,
+};
 use std::io::{self, Write};
+
+/// A name, and its value.
+#[derive(Clone, Copy)]
+struct Member<'t>(&'t str, Piece<'t>);
 
 /// Writes a report as one JSON object, and ends the line. The digest is a text of 16 hexadecimal digits.
 ///
 /// # Errors
 ///
 /// Where output is refused.
-pub fn write_json<O: Write>(output: &mut O, report: &Report) -> io::Result<()> {
-    write_head(output, report)?;
-    let now = report.gateway.moment;
-    write_side(output, "inside", &report.sides.inside, now)?;
-    write_side(output, "outside", &report.sides.outside, now)?;
-    write_peer(output, &report.gateway.peer)?;
-    write_pairs(output, report)?;
-    write_ports(output, report)?;
-    let waiting = report.gateway.waiting;
-    write!(
-        output,
-        ",\"waiting\":{{\"pair\":{},\"next_hop\":{}}}",
-        waiting.pair, waiting.next_hop
-    )?;
-    write_traffic(output, &report.counters)?;
-    write_drops(output, &report.counters)?;
-    let events = left_out(&report.counters);
-    writeln!(
-        output,
-        ",\"left_out\":{events},\"lines_left_out\":{}}}",
-        report.lines_left_out
-    )
+pub fn write_json<O: Write>(output: &mut O, report: &Report) -> io::Result<()>
+    ensures { OnOk result
+        (Appends (O.contents output.old) (O.contents output.new) (json_text report.now)) }
+{
+    let state = &report.gateway;
+    put_box(output, report)?;
+    put_side(output, "inside", &report.sides.inside, state.moment)?;
+    put_side(output, "outside", &report.sides.outside, state.moment)?;
+    put_peer(output, &state.peer)?;
+    put_pairs(output, &state.pairs)?;
+    put_ports(output, &state.ports)?;
+    put_waiting(output, &state.waiting)?;
+    put_frames(output, &report.counters)?;
+    put_place(output, ",", "datagrams", &report.counters, Origin::Link)?;
+    put_place(output, ",", "words", &report.counters, Origin::Own)?;
+    put_drops(output, &report.counters)?;
+    put_end(output, report)
 }
 
-fn write_head<O: Write>(output: &mut O, report: &Report) -> io::Result<()> {
-    let (id, boot, up) = (report.id, report.boot, Seconds(report.gateway.moment));
-    let (synced, away) = (report.gateway.synced, report.gateway.away);
-    write!(output, "{{\"box\":{id},\"boot\":{boot},\"up_seconds\":{up}")?;
-    write!(
-        output,
-        ",\"synced\":{synced},\"away\":{away},\"digest\":\"{:016x}\"",
-        report.digest
-    )
-}
-
-fn write_side<O: Write>(output: &mut O, name: &str, side: &SideReport, now: u64) -> io::Result<()> {
-    let since = Seconds(now.saturating_sub(side.role_since));
-    write!(
-        output,
-        ",\"{name}\":{{\"role\":\"{:?}\",\"since_seconds\":{since},\"up\":{}}}",
-        side.role, side.up
-    )
-}
-
-fn write_peer<O: Write>(output: &mut O, peer: &PeerReport) -> io::Result<()> {
-    write!(
-        output,
-        ",\"peer\":{{\"boot\":{},\"heard_seconds\":",
-        peer.boot
-    )?;
-    match peer.heard {
-        Some(ago) => write!(output, "{}", Seconds(ago))?,
-        None => write!(output, "null")?,
-    }
-    write!(output, ",\"serves\":{}}}", peer.serves)
-}
-
-/// What stands before the next of several: a comma, but before the first an opening.
-fn before(is_first: bool) -> &'static str {
-    if is_first { "" } else { "," }
-}
-
-fn write_pairs<O: Write>(output: &mut O, report: &Report) -> io::Result<()> {
-    write!(output, ",\"pairs\":{{")?;
-    let mut is_first = true;
-    for protocol in PROTOCOLS {
-        write!(output, "{}\"{protocol}\":", before(is_first))?;
-        write_states(output, report, protocol)?;
-        is_first = false;
-    }
-    write!(output, "}}")
-}
-
-fn write_states<O: Write>(output: &mut O, report: &Report, protocol: Protocol) -> io::Result<()> {
-    write!(output, "{{")?;
-    let mut is_first = true;
-    for state in STATES {
-        let count = report.gateway.pairs.of(protocol, state);
-        write!(
+/// Writes members, the first behind a text, each other one behind a comma.
+fn put_members<'t, O: Write>(
+    output: &mut O,
+    before: &'t str,
+    members: &[Member<'t>],
+) -> io::Result<()>
+    ensures { OnOk result (Appends (O.contents output.old) (O.contents output.new)
+        (behind before.now (map member_text members.now))) }
+{
+    let mut lead = before;
+    for member in members {
+        put(
             output,
-            "{}\"{}\":{count}",
-            before(is_first),
-            state_name(state)
+            &[
+                Piece::Text(lead),
+                Piece::Quoted(member.0),
+                Piece::Text(":"),
+                member.1,
+            ],
         )?;
-        is_first = false;
+        lead = ",";
     }
-    write!(output, "}}")
+    Ok(())
 }
 
-fn write_ports<O: Write>(output: &mut O, report: &Report) -> io::Result<()> {
-    let ports = report.gateway.ports;
-    write!(output, ",\"ports\":{{\"owned\":{}", ports.owned)?;
-    for protocol in PROTOCOLS {
-        write!(output, ",\"free_{protocol}\":{}", ports.free(protocol))?;
-    }
-    write!(output, "}}")
-}
-
-/// The frames of the sides, the datagrams of the link, and the words of the control socket.
-fn write_traffic<O: Write>(output: &mut O, counters: &Counters) -> io::Result<()> {
-    write!(output, ",\"frames\":{{\"inside\":")?;
-    write_place(output, counters, Origin::Inside)?;
-    write!(output, ",\"outside\":")?;
-    write_place(output, counters, Origin::Outside)?;
-    write!(output, "}},\"datagrams\":")?;
-    write_place(output, counters, Origin::Link)?;
-    write!(output, ",\"words\":")?;
-    write_place(output, counters, Origin::Own)
-}
-
-fn write_place<O: Write>(output: &mut O, counters: &Counters, origin: Origin) -> io::Result<()> {
-    let received = counters.of(origin, Count::Received);
-    let sent = counters.of(origin, Count::Sent);
-    let failed = counters.of(origin, Count::SendFailed);
-    let too_long = counters.of(origin, Count::TooLong);
-    write!(
+/// Writes a name with an object of members, behind a text.
+fn put_object<'t, O: Write>(
+    output: &mut O,
+    before: &'t str,
+    name: &'t str,
+    members: &[Member<'t>],
+) -> io::Result<()>
+    ensures { OnOk result (Appends (O.contents output.old) (O.contents output.new)
+        (before.now ++ member name.now (object (map member_text members.now)))) }
+{
+    put(
         output,
-        "{{\"in\":{received},\"out\":{sent},\"failed\":{failed},\"too_long\":{too_long}}}"
+        &[Piece::Text(before), Piece::Quoted(name), Piece::Text(":")],
+    )?;
+    put_members(output, "{", members)?;
+    put(output, &[Piece::Text("}")])
+}
+
+/// Which box it is, and how it stands.
+fn put_box<O: Write>(output: &mut O, report: &Report) -> io::Result<()>
+    ensures { OnOk result (Appends (O.contents output.old) (O.contents output.new)
+        (behind (codes "{") (box_members report.now))) }
+{
+    put_members(
+        output,
+        "{",
+        &[
+            Member("box", Piece::Text(id_name(report.id))),
+            Member("boot", Piece::Number(report.boot)),
+            Member("up_seconds", Piece::Seconds(report.gateway.moment)),
+            Member("synced", Piece::Truth(report.gateway.synced)),
+            Member("away", Piece::Truth(report.gateway.away)),
+            Member("digest", Piece::Digest(report.digest)),
+        ],
     )
 }
 
-fn write_drops<O: Write>(output: &mut O, counters: &Counters) -> io::Result<()> {
-    write!(output, ",\"dropped\":{{")?;
-    let mut is_first = true;
-    for origin in ORIGINS {
-        write!(output, "{}\"{}\":", before(is_first), origin_name(origin))?;
-        write_reasons(output, counters, origin)?;
-        is_first = false;
-    }
-    write!(output, "}}")
+fn put_side<O: Write>(output: &mut O, name: &str, side: &SideReport, now: u64) -> io::Result<()>
+    ensures { OnOk result (Appends (O.contents output.old) (O.contents output.new)
+        (codes "," ++ member name.now (side_value now side.now))) }
+{
+    let since = now.saturating_sub(side.role_since);
+    put_object(
+        output,
+        ",",
+        name,
+        &[
+            Member("role", Piece::Quoted(role_name(side.role))),
+            Member("since_seconds", Piece::Seconds(since)),
+            Member("up", Piece::Truth(side.up)),
+        ],
+    )
 }
 
-fn write_reasons<O: Write>(output: &mut O, counters: &Counters, origin: Origin) -> io::Result<()> {
-    write!(output, "{{")?;
-    let mut is_first = true;
-    for reason in REASONS {
-        let count = dropped(counters, origin, reason);
-        write!(output, "{}\"{reason:?}\":{count}", before(is_first))?;
-        is_first = false;
+/// How long ago the other box was heard, or `null`.
+fn heard_value(heard: Option<u64>) -> Piece<'static>
+    ensures { piece_text result ≡ heard_value heard }
+{
+    match heard {
+        Some(ago) => Piece::Seconds(ago),
+        None => Piece::Text("null"),
     }
-    write!(output, "}}")
+}
+
+fn put_peer<O: Write>(output: &mut O, peer: &PeerReport) -> io::Result<()>
+    ensures { OnOk result (Appends (O.contents output.old) (O.contents output.new)
+        (codes "," ++ member (codes "peer") (peer_value peer.now))) }
+{
+    put_object(
+        output,
+        ",",
+        "peer",
+        &[
+            Member("boot", Piece::Number(peer.boot)),
+            Member("heard_seconds", heard_value(peer.heard)),
+            Member("serves", Piece::Truth(peer.serves)),
+        ],
+    )
+}
+
+fn put_pairs<O: Write>(output: &mut O, counts: &PairCounts) -> io::Result<()>
+    ensures { OnOk result (Appends (O.contents output.old) (O.contents output.new)
+        (codes "," ++ member (codes "pairs") (pairs_value counts.now))) }
+{
+    put_states(output, ",\"pairs\":{", counts, Protocol::Icmp)?;
+    put_states(output, ",", counts, Protocol::Tcp)?;
+    put_states(output, ",", counts, Protocol::Udp)?;
+    put(output, &[Piece::Text("}")])
+}
+
+/// How many entries of a protocol have each state.
+fn put_states<O: Write>(
+    output: &mut O,
+    before: &str,
+    counts: &PairCounts,
+    protocol: Protocol,
+) -> io::Result<()>
+    ensures { OnOk result (Appends (O.contents output.old) (O.contents output.new)
+        (before.now ++ states_of counts.now protocol)) }
+{
+    put_object(
+        output,
+        before,
+        protocol_name(protocol),
+        &[
+            Member(
+                "pending",
+                Piece::Number(counts.of(protocol, EntryState::Pending)),
+            ),
+            Member(
+                "doomed",
+                Piece::Number(counts.of(protocol, EntryState::Doomed)),
+            ),
+            Member("live", Piece::Number(counts.of(protocol, EntryState::Live))),
+            Member(
+                "closing",
+                Piece::Number(counts.of(protocol, EntryState::Closing)),
+            ),
+            Member("held", Piece::Number(counts.of(protocol, EntryState::Held))),
+        ],
+    )
+}
+
+fn put_ports<O: Write>(output: &mut O, ports: &PortCounts) -> io::Result<()>
+    ensures { OnOk result (Appends (O.contents output.old) (O.contents output.new)
+        (codes "," ++ member (codes "ports") (ports_value ports.now))) }
+{
+    put_object(
+        output,
+        ",",
+        "ports",
+        &[
+            Member("owned", Piece::Number(ports.owned)),
+            Member("free_icmp", Piece::Number(ports.free_icmp)),
+            Member("free_tcp", Piece::Number(ports.free_tcp)),
+            Member("free_udp", Piece::Number(ports.free_udp)),
+        ],
+    )
+}
+
+fn put_waiting<O: Write>(output: &mut O, waiting: &WaitingCounts) -> io::Result<()>
+    ensures { OnOk result (Appends (O.contents output.old) (O.contents output.new)
+        (codes "," ++ member (codes "waiting") (waiting_value waiting.now))) }
+{
+    put_object(
+        output,
+        ",",
+        "waiting",
+        &[
+            Member("pair", Piece::Number(waiting.pair)),
+            Member("next_hop", Piece::Number(waiting.next_hop)),
+        ],
+    )
+}
+
+fn put_frames<O: Write>(output: &mut O, counters: &Counters) -> io::Result<()>
+    ensures { OnOk result (Appends (O.contents output.old) (O.contents output.new)
+        (codes "," ++ member (codes "frames") (frames_value counters.now))) }
+{
+    put_place(output, ",\"frames\":{", "inside", counters, Origin::Inside)?;
+    put_place(output, ",", "outside", counters, Origin::Outside)?;
+    put(output, &[Piece::Text("}")])
+}
+
+/// What came and went at a place.
+fn put_place<O: Write>(
+    output: &mut O,
+    before: &str,
+    name: &str,
+    counters: &Counters,
+    origin: Origin,
+) -> io::Result<()>
+    ensures { OnOk result (Appends (O.contents output.old) (O.contents output.new)
+        (before.now ++ member name.now (place_value counters.now origin))) }
+{
+    put_object(
+        output,
+        before,
+        name,
+        &[
+            Member("in", Piece::Number(counters.of(origin, Count::Received))),
+            Member("out", Piece::Number(counters.of(origin, Count::Sent))),
+            Member(
+                "failed",
+                Piece::Number(counters.of(origin, Count::SendFailed)),
+            ),
+            Member(
+                "too_long",
+                Piece::Number(counters.of(origin, Count::TooLong)),
+            ),
+        ],
+    )
+}
+
+fn put_drops<O: Write>(output: &mut O, counters: &Counters) -> io::Result<()>
+    ensures { OnOk result (Appends (O.contents output.old) (O.contents output.new)
+        (codes "," ++ member (codes "dropped") (drops_value counters.now))) }
+{
+    put_dropped(output, ",\"dropped\":{", counters, Origin::Inside)?;
+    put_dropped(output, ",", counters, Origin::Outside)?;
+    put_dropped(output, ",", counters, Origin::Link)?;
+    put_dropped(output, ",", counters, Origin::Own)?;
+    put(output, &[Piece::Text("}")])
+}
+
+/// What was dropped at a place, behind a text.
+fn put_dropped<O: Write>(
+    output: &mut O,
+    before: &str,
+    counters: &Counters,
+    origin: Origin,
+) -> io::Result<()>
+    ensures { OnOk result (Appends (O.contents output.old) (O.contents output.new)
+        (before.now ++ drops_of counters.now origin)) }
+{
+    put(
+        output,
+        &[
+            Piece::Text(before),
+            Piece::Quoted(origin_name(origin)),
+            Piece::Text(":"),
+        ],
+    )?;
+    put_reasons(output, counters, origin)?;
+    put(output, &[Piece::Text("}")])
+}
+
+/// How many were dropped at a place for each reason, and what opens their object.
+fn put_reasons<O: Write>(output: &mut O, counters: &Counters, origin: Origin) -> io::Result<()>
+    ensures { OnOk result (Appends (O.contents output.old) (O.contents output.new)
+        (behind (codes "{") (map (drop_member counters.now origin) REASONS))) }
+{
+    let mut lead = "{";
+    for reason in &REASONS {
+        put(
+            output,
+            &[
+                Piece::Text(lead),
+                Piece::Quoted(reason_name(*reason)),
+                Piece::Text(":"),
+                Piece::Number(dropped(counters, origin, *reason)),
+            ],
+        )?;
+        lead = ",";
+    }
+    Ok(())
+}
+
+/// What was left out, and the end of the object and of its line.
+fn put_end<O: Write>(output: &mut O, report: &Report) -> io::Result<()>
+    ensures { OnOk result (Appends (O.contents output.old) (O.contents output.new)
+        (behind (codes ",") (end_members report.now) ++ codes "}\n")) }
+{
+    put_members(
+        output,
+        ",",
+        &[
+            Member("left_out", Piece::Number(left_out(&report.counters))),
+            Member("lines_left_out", Piece::Number(report.lines_left_out)),
+        ],
+    )?;
+    put(output, &[Piece::Text("}\n")])
 }

@@ -7,6 +7,7 @@ mod metrics;
 mod names;
 mod pairs;
 mod people;
+mod pieces;
 mod units;
 
 pub use json::write_json;

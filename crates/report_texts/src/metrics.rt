@@ -1,84 +1,104 @@
 //! A report as metrics in Prometheus' text format: of each family what it is, its kind, and its samples. No label has a
 //! character that would want escaping.
-ghost use Rattle.std.specs.Prelude.{◌≡◌};
-ghost use Rattle.reports.specs.Formats.{flag_number};
+ghost use Rattle.std.specs.Prelude.{◌≡◌, OnOk, flat_map};
+ghost use Rattle.std.specs.Io.KnownBytes.{Appends};
+ghost use Rattle.report_texts.specs.Metrics.{box_metrics, came_metrics, drops_at, drops_metrics};
+ghost use Rattle.report_texts.specs.Metrics.{end_metrics, family_text, heard_metric, info_metric};
+ghost use Rattle.report_texts.specs.Metrics.{is_active, metrics_text, pair_metrics, pairs_name};
+ghost use Rattle.report_texts.specs.Metrics.{peer_metrics, places_metric, port_metrics};
+ghost use Rattle.report_texts.specs.Metrics.{sample_text, side_metrics, states_metrics};
+ghost use Rattle.report_texts.specs.Metrics.{traffic_metrics};
 ghost use Rattle.report_texts.specs.Sums.{is_heard};
 
-use crate::names::{ORIGINS, REASONS, dropped, left_out, origin_name, state_name};
-use crate::units::Seconds;
+use crate::names::{REASONS, dropped, id_name, left_out, origin_name, reason_name};
+use crate::pieces::{Piece, put};
+use addresses::Protocol;
 use journal::Origin;
-use nat_types::Side;
-use reports::{Count, Counters, PROTOCOLS, Report, STATES};
-use std::fmt::Display;
+use nat_types::EntryState;
+use reports::{Count, Counters, GatewayReport, PairCounts, PeerReport, Report, Sides};
 use std::io::{self, Write};
 use vrrp_states::State;
 
-/// The kind of a family.
-#[derive(Clone, Copy, Debug)]
-enum Kind {
-    /// It goes up and down.
-    Gauge,
-    /// It rises, from 0 at the box's start.
-    Counter,
-}
+/// A sample of a family: its labels, and its value.
+#[derive(Clone, Copy)]
+struct Sample<'t>(&'t str, Piece<'t>);
+
+/// It goes up and down.
+const GAUGE: &str = "gauge";
+
+/// It rises, from 0 at the box's start.
+const COUNTER: &str = "counter";
 
 /// Writes a report in Prometheus' text format.
 ///
 /// # Errors
 ///
 /// Where output is refused.
-pub fn write_metrics<O: Write>(output: &mut O, report: &Report) -> io::Result<()> {
-    write_box(output, report)?;
-    write_sides(output, report)?;
-    write_peer(output, report)?;
-    write_pairs(output, report)?;
-    write_ports(output, report)?;
-    write_traffic(output, &report.counters)?;
-    write_drops(output, &report.counters)?;
-    write_sum(
-        output,
-        "natpair_left_out_total",
-        "Events left out for want of memory.",
-        left_out(&report.counters),
-    )?;
-    write_sum(
-        output,
-        "natpair_lines_left_out_total",
-        "Lines of the log left out, since a write would have waited.",
-        report.lines_left_out,
-    )
-}
-
-/// What a family is, and of which kind.
-fn write_family<O: Write>(output: &mut O, name: &str, help: &str, kind: Kind) -> io::Result<()> {
-    writeln!(output, "# HELP {name} {help}")?;
-    match kind {
-        Kind::Gauge => writeln!(output, "# TYPE {name} gauge"),
-        Kind::Counter => writeln!(output, "# TYPE {name} counter"),
-    }
-}
-
-/// A family of one sample.
-fn write_gauge<O: Write, V: Display + Drop>(
-    output: &mut O,
-    name: &str,
-    help: &str,
-    value: V,
-) -> io::Result<()> {
-    write_family(output, name, help, Kind::Gauge)?;
-    writeln!(output, "{name} {value}")
-}
-
-fn write_sum<O: Write>(output: &mut O, name: &str, help: &str, value: u64) -> io::Result<()> {
-    write_family(output, name, help, Kind::Counter)?;
-    writeln!(output, "{name} {value}")
-}
-
-/// 1 or 0.
-fn truth(is_so: bool) -> u64
-    ensures { result ≡ flag_number is_so }
+pub fn write_metrics<O: Write>(output: &mut O, report: &Report) -> io::Result<()>
+    ensures { OnOk result (Appends (O.contents output.old) (O.contents output.new)
+        (metrics_text report.now)) }
 {
-    u64::from(is_so)
+    put_info(output, report)?;
+    put_box(output, report)?;
+    put_sides(output, &report.sides, report.gateway.moment)?;
+    put_peer(output, &report.gateway.peer)?;
+    put_pairs(output, &report.gateway.pairs)?;
+    put_ports(output, &report.gateway)?;
+    put_traffic(output, &report.counters)?;
+    put_drops(output, &report.counters)?;
+    put_end(output, report)
+}
+
+/// Writes what a family is, and of which kind, and its samples.
+fn put_family<'t, O: Write>(
+    output: &mut O,
+    kind: &'t str,
+    name: &'t str,
+    help: &'t str,
+    samples: &[Sample<'t>],
+) -> io::Result<()>
+    ensures { OnOk result (Appends (O.contents output.old) (O.contents output.new)
+        (family_text kind.now name.now help.now samples.now)) }
+{
+    put(
+        output,
+        &[
+            Piece::Text("# HELP "),
+            Piece::Text(name),
+            Piece::Text(" "),
+            Piece::Text(help),
+            Piece::Text("\n# TYPE "),
+            Piece::Text(name),
+            Piece::Text(" "),
+            Piece::Text(kind),
+            Piece::Text("\n"),
+        ],
+    )?;
+    put_samples(output, name, samples)
+}
+
+/// Writes the samples of a family.
+fn put_samples<'t, O: Write>(
+    output: &mut O,
+    name: &'t str,
+    samples: &[Sample<'t>],
+) -> io::Result<()>
+    ensures { OnOk result (Appends (O.contents output.old) (O.contents output.new)
+        (flat_map (sample_text name.now) samples.now)) }
+{
+    for sample in samples {
+        put(
+            output,
+            &[
+                Piece::Text(name),
+                Piece::Text(sample.0),
+                Piece::Text(" "),
+                sample.1,
+                Piece::Text("\n"),
+            ],
+        )?;
+    }
+    Ok(())
 }
 
 /// Whether the other box was heard in the last 3 seconds.
@@ -91,272 +111,415 @@ fn is_heard(heard: Option<u64>) -> bool
     }
 }
 
-fn write_box<O: Write>(output: &mut O, report: &Report) -> io::Result<()> {
-    let name = "natpair_info";
-    write_family(
+/// Which box it is.
+fn put_info<O: Write>(output: &mut O, report: &Report) -> io::Result<()>
+    ensures { OnOk result (Appends (O.contents output.old) (O.contents output.new)
+        (info_metric report.now)) }
+{
+    put_family(
         output,
-        name,
+        GAUGE,
+        "natpair_info",
         "Which box it is, and a digest of the settings that both boxes must have alike.",
-        Kind::Gauge,
+        &[],
     )?;
-    writeln!(
+    put(
         output,
-        "{name}{{box=\"{}\",digest=\"{:016x}\"}} 1",
-        report.id, report.digest
-    )?;
+        &[
+            Piece::Text("natpair_info{box="),
+            Piece::Quoted(id_name(report.id)),
+            Piece::Text(",digest="),
+            Piece::Digest(report.digest),
+            Piece::Text("} 1\n"),
+        ],
+    )
+}
+
+/// How it stands.
+fn put_box<O: Write>(output: &mut O, report: &Report) -> io::Result<()>
+    ensures { OnOk result (Appends (O.contents output.old) (O.contents output.new)
+        (box_metrics report.now)) }
+{
     let state = &report.gateway;
-    write_gauge(
+    put_family(
         output,
+        GAUGE,
         "natpair_up_seconds",
         "Time since the box's start.",
-        Seconds(state.moment),
+        &[Sample("", Piece::Seconds(state.moment))],
     )?;
-    write_gauge(
+    put_family(
         output,
+        GAUGE,
         "natpair_boot",
         "Number of the box's start.",
-        report.boot,
+        &[Sample("", Piece::Number(report.boot))],
     )?;
-    write_gauge(
+    put_family(
         output,
+        GAUGE,
         "natpair_synced",
         "Whether the box's table is loaded.",
-        truth(state.synced),
+        &[Sample("", Piece::Flag(state.synced))],
     )?;
-    write_gauge(
+    put_family(
         output,
+        GAUGE,
         "natpair_away",
         "Whether the box gave way to the other one.",
-        truth(state.away),
+        &[Sample("", Piece::Flag(state.away))],
     )
 }
 
-fn write_sides<O: Write>(output: &mut O, report: &Report) -> io::Result<()> {
-    let sides = [Side::Inside, Side::Outside];
-    let name = "natpair_active";
-    write_family(
+fn is_active(role: State) -> bool
+    ensures { result ≡ is_active role }
+{
+    match role {
+        State::Active => true,
+        State::Initialize | State::Backup => false,
+    }
+}
+
+fn put_sides<O: Write>(output: &mut O, sides: &Sides, now: u64) -> io::Result<()>
+    ensures { OnOk result (Appends (O.contents output.old) (O.contents output.new)
+        (side_metrics sides.now now)) }
+{
+    let (inside, outside) = (&sides.inside, &sides.outside);
+    put_family(
         output,
-        name,
+        GAUGE,
+        "natpair_active",
         "Whether the box's virtual router is Active.",
-        Kind::Gauge,
+        &[
+            Sample("{side=\"inside\"}", Piece::Flag(is_active(inside.role))),
+            Sample("{side=\"outside\"}", Piece::Flag(is_active(outside.role))),
+        ],
     )?;
-    for side in sides {
-        let is_active = matches!(report.sides.side(side).role, State::Active);
-        writeln!(output, "{name}{{side=\"{side}\"}} {}", truth(is_active))?;
-    }
-    let name = "natpair_side_up";
-    write_family(output, name, "Whether the side's cable is in.", Kind::Gauge)?;
-    for side in sides {
-        writeln!(
-            output,
-            "{name}{{side=\"{side}\"}} {}",
-            truth(report.sides.side(side).up)
-        )?;
-    }
-    write_roles(output, report)
-}
-
-fn write_roles<O: Write>(output: &mut O, report: &Report) -> io::Result<()> {
-    let name = "natpair_role_since_seconds";
-    write_family(
+    put_family(
         output,
-        name,
+        GAUGE,
+        "natpair_side_up",
+        "Whether the side's cable is in.",
+        &[
+            Sample("{side=\"inside\"}", Piece::Flag(inside.up)),
+            Sample("{side=\"outside\"}", Piece::Flag(outside.up)),
+        ],
+    )?;
+    put_family(
+        output,
+        GAUGE,
+        "natpair_role_since_seconds",
         "Time since the last change of the virtual router's state.",
-        Kind::Gauge,
-    )?;
-    for side in [Side::Inside, Side::Outside] {
-        let since = report.sides.side(side).role_since;
-        let ago = report.gateway.moment.saturating_sub(since);
-        writeln!(output, "{name}{{side=\"{side}\"}} {}", Seconds(ago))?;
-    }
-    Ok(())
+        &[
+            Sample(
+                "{side=\"inside\"}",
+                Piece::Seconds(now.saturating_sub(inside.role_since)),
+            ),
+            Sample(
+                "{side=\"outside\"}",
+                Piece::Seconds(now.saturating_sub(outside.role_since)),
+            ),
+        ],
+    )
 }
 
-fn write_peer<O: Write>(output: &mut O, report: &Report) -> io::Result<()> {
-    let peer = &report.gateway.peer;
-    write_gauge(
+fn put_peer<O: Write>(output: &mut O, peer: &PeerReport) -> io::Result<()>
+    ensures { OnOk result (Appends (O.contents output.old) (O.contents output.new)
+        (peer_metrics peer.now)) }
+{
+    put_family(
         output,
+        GAUGE,
         "natpair_peer_boot",
         "Number of the other box's start, or 0 where none is known.",
-        peer.boot,
+        &[Sample("", Piece::Number(peer.boot))],
     )?;
-    write_gauge(
+    put_family(
         output,
+        GAUGE,
         "natpair_peer_heard",
         "Whether the other box was heard in the last 3 seconds.",
-        truth(is_heard(peer.heard)),
+        &[Sample("", Piece::Flag(is_heard(peer.heard)))],
     )?;
-    if let Some(ago) = peer.heard {
-        write_gauge(
-            output,
-            "natpair_peer_heard_seconds",
-            "Time since the other box was heard.",
-            Seconds(ago),
-        )?;
-    }
-    write_gauge(
+    put_heard(output, peer.heard)?;
+    put_family(
         output,
+        GAUGE,
         "natpair_peer_serves",
         "Whether the other box serves.",
-        truth(peer.serves),
+        &[Sample("", Piece::Flag(peer.serves))],
     )
 }
 
-fn write_pairs<O: Write>(output: &mut O, report: &Report) -> io::Result<()> {
-    write_family(
-        output,
-        "natpair_pairs",
-        "Entries of the table.",
-        Kind::Gauge,
-    )?;
-    for protocol in PROTOCOLS {
-        for state in STATES {
-            let count = report.gateway.pairs.of(protocol, state);
-            writeln!(
-                output,
-                "natpair_pairs{{protocol=\"{protocol}\",state=\"{}\"}} {count}",
-                state_name(state)
-            )?;
-        }
+/// How long ago the other box was heard, if it was.
+fn put_heard<O: Write>(output: &mut O, heard: Option<u64>) -> io::Result<()>
+    ensures { OnOk result (Appends (O.contents output.old) (O.contents output.new)
+        (heard_metric heard)) }
+{
+    match heard {
+        Some(ago) => put_family(
+            output,
+            GAUGE,
+            "natpair_peer_heard_seconds",
+            "Time since the other box was heard.",
+            &[Sample("", Piece::Seconds(ago))],
+        ),
+        None => Ok(()),
     }
-    Ok(())
 }
 
-fn write_ports<O: Write>(output: &mut O, report: &Report) -> io::Result<()> {
-    let ports = report.gateway.ports;
-    write_gauge(
+fn put_pairs<O: Write>(output: &mut O, counts: &PairCounts) -> io::Result<()>
+    ensures { OnOk result (Appends (O.contents output.old) (O.contents output.new)
+        (pair_metrics counts.now)) }
+{
+    put_family(output, GAUGE, "natpair_pairs", "Entries of the table.", &[])?;
+    put_states(output, counts, Protocol::Icmp)?;
+    put_states(output, counts, Protocol::Tcp)?;
+    put_states(output, counts, Protocol::Udp)
+}
+
+/// How many entries of a protocol have each state.
+fn put_states<O: Write>(output: &mut O, counts: &PairCounts, protocol: Protocol) -> io::Result<()>
+    ensures { OnOk result (Appends (O.contents output.old) (O.contents output.new)
+        (states_metrics counts.now protocol)) }
+{
+    let name = pairs_name(protocol);
+    put_samples(
         output,
+        name,
+        &[
+            Sample(
+                "pending\"}",
+                Piece::Number(counts.of(protocol, EntryState::Pending)),
+            ),
+            Sample(
+                "doomed\"}",
+                Piece::Number(counts.of(protocol, EntryState::Doomed)),
+            ),
+            Sample(
+                "live\"}",
+                Piece::Number(counts.of(protocol, EntryState::Live)),
+            ),
+            Sample(
+                "closing\"}",
+                Piece::Number(counts.of(protocol, EntryState::Closing)),
+            ),
+            Sample(
+                "held\"}",
+                Piece::Number(counts.of(protocol, EntryState::Held)),
+            ),
+        ],
+    )
+}
+
+/// How a sample of the entries of a protocol begins.
+fn pairs_name(protocol: Protocol) -> &'static str
+    ensures { result.now ≡ pairs_name protocol }
+{
+    match protocol {
+        Protocol::Icmp => "natpair_pairs{protocol=\"icmp\",state=\"",
+        Protocol::Tcp => "natpair_pairs{protocol=\"tcp\",state=\"",
+        Protocol::Udp => "natpair_pairs{protocol=\"udp\",state=\"",
+    }
+}
+
+fn put_ports<O: Write>(output: &mut O, state: &GatewayReport) -> io::Result<()>
+    ensures { OnOk result (Appends (O.contents output.old) (O.contents output.new)
+        (port_metrics state.now)) }
+{
+    let (ports, waiting) = (&state.ports, &state.waiting);
+    put_family(
+        output,
+        GAUGE,
         "natpair_ports_owned",
         "Ports that the box owns.",
-        ports.owned,
+        &[Sample("", Piece::Number(ports.owned))],
     )?;
-    write_family(
+    put_family(
         output,
+        GAUGE,
         "natpair_ports_free",
         "Owned ports without an entry of the protocol.",
-        Kind::Gauge,
+        &[
+            Sample("{protocol=\"icmp\"}", Piece::Number(ports.free_icmp)),
+            Sample("{protocol=\"tcp\"}", Piece::Number(ports.free_tcp)),
+            Sample("{protocol=\"udp\"}", Piece::Number(ports.free_udp)),
+        ],
     )?;
-    for protocol in PROTOCOLS {
-        writeln!(
-            output,
-            "natpair_ports_free{{protocol=\"{protocol}\"}} {}",
-            ports.free(protocol)
-        )?;
-    }
-    let waiting = report.gateway.waiting;
-    write_family(
+    put_family(
         output,
+        GAUGE,
         "natpair_waiting_packets",
         "Packets that wait, of 64 places each.",
-        Kind::Gauge,
-    )?;
-    writeln!(
-        output,
-        "natpair_waiting_packets{{for=\"pair\"}} {}",
-        waiting.pair
-    )?;
-    writeln!(
-        output,
-        "natpair_waiting_packets{{for=\"next_hop\"}} {}",
-        waiting.next_hop
+        &[
+            Sample("{for=\"pair\"}", Piece::Number(waiting.pair)),
+            Sample("{for=\"next_hop\"}", Piece::Number(waiting.next_hop)),
+        ],
     )
 }
 
-fn write_traffic<O: Write>(output: &mut O, counters: &Counters) -> io::Result<()> {
-    write_family(
+fn put_traffic<O: Write>(output: &mut O, counters: &Counters) -> io::Result<()>
+    ensures { OnOk result (Appends (O.contents output.old) (O.contents output.new)
+        (traffic_metrics counters.now)) }
+{
+    put_came(output, counters)?;
+    put_places(
         output,
-        "natpair_frames_total",
-        "Frames received and sent.",
-        Kind::Counter,
-    )?;
-    write_frames(output, counters, Side::Inside)?;
-    write_frames(output, counters, Side::Outside)?;
-    let received = counters.of(Origin::Link, Count::Received);
-    let sent = counters.of(Origin::Link, Count::Sent);
-    write_family(
-        output,
-        "natpair_datagrams_total",
-        "Datagrams of the link received and sent.",
-        Kind::Counter,
-    )?;
-    writeln!(
-        output,
-        "natpair_datagrams_total{{direction=\"in\"}} {received}"
-    )?;
-    writeln!(
-        output,
-        "natpair_datagrams_total{{direction=\"out\"}} {sent}"
-    )?;
-    write_places(
-        output,
-        counters,
         "natpair_send_failures_total",
         "What the system didn't take.",
+        counters,
         Count::SendFailed,
     )?;
-    write_places(
+    put_places(
         output,
-        counters,
         "natpair_too_long_total",
         "What was longer than its way takes.",
+        counters,
         Count::TooLong,
     )
 }
 
-fn write_frames<O: Write>(output: &mut O, counters: &Counters, side: Side) -> io::Result<()> {
-    let received = counters.of(Origin::of(side), Count::Received);
-    let sent = counters.of(Origin::of(side), Count::Sent);
-    writeln!(
+/// What came and went.
+fn put_came<O: Write>(output: &mut O, counters: &Counters) -> io::Result<()>
+    ensures { OnOk result (Appends (O.contents output.old) (O.contents output.new)
+        (came_metrics counters.now)) }
+{
+    let (inside, outside, link) = (Origin::Inside, Origin::Outside, Origin::Link);
+    put_family(
         output,
-        "natpair_frames_total{{side=\"{side}\",direction=\"in\"}} {received}"
+        COUNTER,
+        "natpair_frames_total",
+        "Frames received and sent.",
+        &[
+            Sample(
+                "{side=\"inside\",direction=\"in\"}",
+                Piece::Number(counters.of(inside, Count::Received)),
+            ),
+            Sample(
+                "{side=\"inside\",direction=\"out\"}",
+                Piece::Number(counters.of(inside, Count::Sent)),
+            ),
+            Sample(
+                "{side=\"outside\",direction=\"in\"}",
+                Piece::Number(counters.of(outside, Count::Received)),
+            ),
+            Sample(
+                "{side=\"outside\",direction=\"out\"}",
+                Piece::Number(counters.of(outside, Count::Sent)),
+            ),
+        ],
     )?;
-    writeln!(
+    put_family(
         output,
-        "natpair_frames_total{{side=\"{side}\",direction=\"out\"}} {sent}"
+        COUNTER,
+        "natpair_datagrams_total",
+        "Datagrams of the link received and sent.",
+        &[
+            Sample(
+                "{direction=\"in\"}",
+                Piece::Number(counters.of(link, Count::Received)),
+            ),
+            Sample(
+                "{direction=\"out\"}",
+                Piece::Number(counters.of(link, Count::Sent)),
+            ),
+        ],
     )
 }
 
 /// A count of each place.
-fn write_places<O: Write>(
+fn put_places<'t, O: Write>(
     output: &mut O,
+    name: &'t str,
+    help: &'t str,
     counters: &Counters,
-    name: &str,
-    help: &str,
     what: Count,
-) -> io::Result<()> {
-    write_family(output, name, help, Kind::Counter)?;
-    for origin in ORIGINS {
-        let count = counters.of(origin, what);
-        writeln!(
-            output,
-            "{name}{{place=\"{}\"}} {count}",
-            origin_name(origin)
-        )?;
-    }
-    Ok(())
+) -> io::Result<()>
+    ensures { OnOk result (Appends (O.contents output.old) (O.contents output.new)
+        (places_metric name.now help.now counters.now what)) }
+{
+    put_family(
+        output,
+        COUNTER,
+        name,
+        help,
+        &[
+            Sample(
+                "{place=\"inside\"}",
+                Piece::Number(counters.of(Origin::Inside, what)),
+            ),
+            Sample(
+                "{place=\"outside\"}",
+                Piece::Number(counters.of(Origin::Outside, what)),
+            ),
+            Sample(
+                "{place=\"link\"}",
+                Piece::Number(counters.of(Origin::Link, what)),
+            ),
+            Sample(
+                "{place=\"own\"}",
+                Piece::Number(counters.of(Origin::Own, what)),
+            ),
+        ],
+    )
 }
 
-fn write_drops<O: Write>(output: &mut O, counters: &Counters) -> io::Result<()> {
-    write_family(
+fn put_drops<O: Write>(output: &mut O, counters: &Counters) -> io::Result<()>
+    ensures { OnOk result (Appends (O.contents output.old) (O.contents output.new)
+        (drops_metrics counters.now)) }
+{
+    put_family(
         output,
+        COUNTER,
         "natpair_dropped_total",
         "Events of which nothing came, by where they came from and why.",
-        Kind::Counter,
+        &[],
     )?;
-    for origin in ORIGINS {
-        write_reasons(output, counters, origin)?;
+    put_reasons(output, counters, Origin::Inside)?;
+    put_reasons(output, counters, Origin::Outside)?;
+    put_reasons(output, counters, Origin::Link)?;
+    put_reasons(output, counters, Origin::Own)
+}
+
+/// How many were dropped at a place for each reason.
+fn put_reasons<O: Write>(output: &mut O, counters: &Counters, origin: Origin) -> io::Result<()>
+    ensures { OnOk result (Appends (O.contents output.old) (O.contents output.new)
+        (drops_at counters.now origin)) }
+{
+    for reason in &REASONS {
+        put(
+            output,
+            &[
+                Piece::Text("natpair_dropped_total{place="),
+                Piece::Quoted(origin_name(origin)),
+                Piece::Text(",reason="),
+                Piece::Quoted(reason_name(*reason)),
+                Piece::Text("} "),
+                Piece::Number(dropped(counters, origin, *reason)),
+                Piece::Text("\n"),
+            ],
+        )?;
     }
     Ok(())
 }
 
-fn write_reasons<O: Write>(output: &mut O, counters: &Counters, origin: Origin) -> io::Result<()> {
-    let place = origin_name(origin);
-    for reason in REASONS {
-        let count = dropped(counters, origin, reason);
-        writeln!(
-            output,
-            "natpair_dropped_total{{place=\"{place}\",reason=\"{reason:?}\"}} {count}"
-        )?;
-    }
-    Ok(())
+/// What was left out.
+fn put_end<O: Write>(output: &mut O, report: &Report) -> io::Result<()>
+    ensures { OnOk result (Appends (O.contents output.old) (O.contents output.new)
+        (end_metrics report.now)) }
+{
+    put_family(
+        output,
+        COUNTER,
+        "natpair_left_out_total",
+        "Events left out for want of memory.",
+        &[Sample("", Piece::Number(left_out(&report.counters)))],
+    )?;
+    put_family(
+        output,
+        COUNTER,
+        "natpair_lines_left_out_total",
+        "Lines of the log left out, since a write would have waited.",
+        &[Sample("", Piece::Number(report.lines_left_out))],
+    )
 }

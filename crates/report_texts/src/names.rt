@@ -1,12 +1,16 @@
 //! The names of things in texts, and what is counted of them.
 ghost use Rattle.std.specs.Prelude.{◌≡◌};
-ghost use Rattle.report_texts.specs.Names.{origin_name, state_name};
+ghost use Rattle.journal.specs.Texts.{reason_name};
+ghost use Rattle.report_texts.specs.Names.{id_name, origin_name, protocol_name, role_name};
+ghost use Rattle.report_texts.specs.Names.{state_name};
 ghost use Rattle.report_texts.specs.Sums.{dropped_at, left_out_in, lost_at};
 
+use addresses::Protocol;
 use journal::{Cause, Origin};
-use nat_types::EntryState;
+use nat_types::{EntryState, GatewayId};
 use packet_rules::Reason;
 use reports::{Count, Counters};
+use vrrp_states::State;
 
 /// All origins, in the order of texts.
 pub(crate) const ORIGINS: [Origin; 4] = [
@@ -39,6 +43,62 @@ pub(crate) const REASONS: [Reason; 20] = [
     Reason::TooLong,
     Reason::TooMany,
 ];
+
+pub(crate) fn id_name(id: GatewayId) -> &'static str
+    ensures { result.now ≡ id_name id }
+{
+    match id {
+        GatewayId::Zero => "0",
+        GatewayId::One => "1",
+    }
+}
+
+pub(crate) fn protocol_name(protocol: Protocol) -> &'static str
+    ensures { result.now ≡ protocol_name protocol }
+{
+    match protocol {
+        Protocol::Icmp => "icmp",
+        Protocol::Tcp => "tcp",
+        Protocol::Udp => "udp",
+    }
+}
+
+pub(crate) fn role_name(role: State) -> &'static str
+    ensures { result.now ≡ role_name role }
+{
+    match role {
+        State::Initialize => "Initialize",
+        State::Backup => "Backup",
+        State::Active => "Active",
+    }
+}
+
+pub(crate) fn reason_name(reason: Reason) -> &'static str
+    ensures { result.now ≡ reason_name reason }
+{
+    match reason {
+        Reason::ShortFrame => "ShortFrame",
+        Reason::NotMine => "NotMine",
+        Reason::BadHeader => "BadHeader",
+        Reason::BadLength => "BadLength",
+        Reason::BadHeaderSum => "BadHeaderSum",
+        Reason::Fragment => "Fragment",
+        Reason::TtlOver => "TtlOver",
+        Reason::NotUdpTcp => "NotUdpTcp",
+        Reason::BadTransport => "BadTransport",
+        Reason::BadArp => "BadArp",
+        Reason::BadAdvert => "BadAdvert",
+        Reason::NotUp => "NotUp",
+        Reason::NoBinding => "NoBinding",
+        Reason::NoPort => "NoPort",
+        Reason::CannotWait => "CannotWait",
+        Reason::BadDatagram => "BadDatagram",
+        Reason::OldWord => "OldWord",
+        Reason::HostLimit => "HostLimit",
+        Reason::TooLong => "TooLong",
+        Reason::TooMany => "TooMany",
+    }
+}
 
 pub(crate) fn origin_name(origin: Origin) -> &'static str
     ensures { result.now ≡ origin_name origin }

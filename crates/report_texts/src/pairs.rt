@@ -1,16 +1,19 @@
 //! The lines of pairs.
-ghost use Rattle.std.specs.Prelude.{◌≡◌, false};
+ghost use Rattle.std.specs.Prelude.{◌≡◌, OnOk, flat_map};
+ghost use Rattle.std.specs.Io.KnownBytes.{Appends};
+ghost use Rattle.report_texts.specs.Pairs.{entry_line, wanted_line};
 ghost use Rattle.report_texts.specs.Wanted.{passes, wants_address, wants_port, wants_protocol, wants_state};
 
-use crate::names::state_name;
+use crate::names::{protocol_name, state_name};
+use crate::pieces::{Piece, put};
 use addresses::{Ip, Port, Protocol};
 use bindings::Entry;
-use nat_types::EntryState;
+use nat_types::{Endpoint, EntryState, Key};
 use reports::Page;
 use std::io::{self, Write};
 
 /// Which entries are wanted: those that have each thing that is said here.
-#[derive(Clone, Copy, Debug, PartialEq, Eq)]
+#[derive(Clone, Copy)]
 pub struct Filter {
     pub protocol: Option<Protocol>,
     /// Of the inside host.
@@ -82,8 +85,18 @@ impl Filter {
 /// # Errors
 ///
 /// Where output is refused.
-pub fn write_pairs<O: Write>(output: &mut O, page: &Page, filter: &Filter) -> io::Result<()> {
-    for entry in page.entries() {
+pub fn write_pairs<O: Write>(output: &mut O, page: &Page, filter: &Filter) -> io::Result<()>
+    ensures { OnOk result (Appends (O.contents output.old) (O.contents output.new)
+        (flat_map (wanted_line filter.now) page.now.entries)) }
+{
+    write_entries(output, page.entries(), filter)
+}
+
+fn write_entries<O: Write>(output: &mut O, entries: &[Entry], filter: &Filter) -> io::Result<()>
+    ensures { OnOk result (Appends (O.contents output.old) (O.contents output.new)
+        (flat_map (wanted_line filter.now) entries.now)) }
+{
+    for entry in entries {
         write_pair(output, entry, filter)?;
     }
     Ok(())
@@ -91,10 +104,45 @@ pub fn write_pairs<O: Write>(output: &mut O, page: &Page, filter: &Filter) -> io
 
 /// Writes the line of an entry, if it is wanted.
 fn write_pair<O: Write>(output: &mut O, entry: &Entry, filter: &Filter) -> io::Result<()>
-    ensures unwanted { passes filter.now entry.now ≡ false → output.new ≡ output.old }
+    ensures { OnOk result (Appends (O.contents output.old) (O.contents output.new)
+        (wanted_line filter.now entry.now)) }
 {
     if filter.passes(entry) {
-        writeln!(output, "{} {}", entry.pair, state_name(entry.state))?;
+        write_line(output, entry.pair.key, entry.pair.endpoint, entry.state)
+    } else {
+        Ok(())
     }
-    Ok(())
+}
+
+fn write_line<O: Write>(
+    output: &mut O,
+    key: Key,
+    endpoint: Endpoint,
+    state: EntryState,
+) -> io::Result<()>
+    ensures { OnOk result (Appends (O.contents output.old) (O.contents output.new)
+        (entry_line key endpoint state)) }
+{
+    let address = u64::from(endpoint.address.0);
+    put(
+        output,
+        &[
+            Piece::Text(protocol_name(key.protocol)),
+            Piece::Text(" "),
+            Piece::Number(u64::from(key.port.0)),
+            Piece::Text(" "),
+            Piece::Number(address / 0x100_0000),
+            Piece::Text("."),
+            Piece::Number(address / 0x1_0000 % 256),
+            Piece::Text("."),
+            Piece::Number(address / 0x100 % 256),
+            Piece::Text("."),
+            Piece::Number(address % 256),
+            Piece::Text(" "),
+            Piece::Number(u64::from(endpoint.port.0)),
+            Piece::Text(" "),
+            Piece::Text(state_name(state)),
+            Piece::Text("\n"),
+        ],
+    )
 }

@@ -1,12 +1,21 @@
 //! A report for people.
-ghost use Rattle.std.specs.Prelude.{◌≡◌};
-ghost use Rattle.report_texts.specs.Names.{cable_name, protocol_name, serving_name, synced_name, traffic_name};
+ghost use Rattle.std.specs.Prelude.{◌≡◌, IfOk, OnOk};
+ghost use Rattle.std.specs.Io.KnownBytes.{Appends};
+ghost use Rattle.report_texts.specs.Names.{away_name, cable_name, serving_name, synced_name};
+ghost use Rattle.report_texts.specs.Names.{traffic_name, wide_name};
+ghost use Rattle.report_texts.specs.People.{before_drop, box_lines, drop_part, drops_line};
+ghost use Rattle.report_texts.specs.People.{drops_lines, end_line, is_still_first, known_line};
+ghost use Rattle.report_texts.specs.People.{peer_line};
+ghost use Rattle.report_texts.specs.People.{people_text, place_of_drops, protocol_line, side_line};
+ghost use Rattle.report_texts.specs.People.{table_lines, traffic_line, traffic_lines};
 
-use crate::names::{ORIGINS, REASONS, dropped, left_out, origin_name, state_name};
-use crate::units::{Grouped, Seconds, Span};
+use crate::names::{REASONS, dropped, id_name, left_out, reason_name, role_name};
+use crate::pieces::{Piece, put};
 use addresses::Protocol;
 use journal::Origin;
-use reports::{Count, PROTOCOLS, PeerReport, Report, STATES, SideReport};
+use nat_types::EntryState;
+use packet_rules::Reason;
+use reports::{Count, Counters, GatewayReport, PeerReport, Report, SideReport};
 use std::io::{self, Write};
 
 /// Writes a report for people: a line for each thing, with its name before it.
@@ -14,62 +23,110 @@ use std::io::{self, Write};
 /// # Errors
 ///
 /// Where output is refused.
-pub fn write_people<O: Write>(output: &mut O, report: &Report) -> io::Result<()> {
-    write_head(output, report)?;
-    let now = report.gateway.moment;
-    write_side(output, "inside ", &report.sides.inside, now)?;
-    write_side(output, "outside", &report.sides.outside, now)?;
-    write_peer(output, &report.gateway.peer)?;
-    for protocol in PROTOCOLS {
-        write_protocol(output, report, protocol)?;
-    }
-    let ports = Grouped(report.gateway.ports.owned);
-    let waiting = report.gateway.waiting;
-    writeln!(output, "ports    {ports} owned")?;
-    writeln!(
-        output,
-        "waiting  {} of 64 for a pair, {} of 64 for a next hop",
-        waiting.pair, waiting.next_hop
-    )?;
-    write_traffic(output, report)?;
-    write_drops(output, report)?;
-    let events = Grouped(left_out(&report.counters));
-    let lines = Grouped(report.lines_left_out);
-    writeln!(output, "left out {events} events, {lines} lines of the log")
+pub fn write_people<O: Write>(output: &mut O, report: &Report) -> io::Result<()>
+    ensures { OnOk result
+        (Appends (O.contents output.old) (O.contents output.new) (people_text report.now)) }
+{
+    let state = &report.gateway;
+    put_box(output, report)?;
+    put_side(output, "inside ", &report.sides.inside, state.moment)?;
+    put_side(output, "outside", &report.sides.outside, state.moment)?;
+    put_peer(output, &state.peer)?;
+    put_table(output, state)?;
+    put_traffic(output, &report.counters)?;
+    put_drops(output, &report.counters)?;
+    put_end(output, report)
 }
 
-fn write_head<O: Write>(output: &mut O, report: &Report) -> io::Result<()> {
-    let (id, boot, up) = (report.id, report.boot, Span(report.gateway.moment));
-    let synced = synced_name(report.gateway.synced);
-    let away = if report.gateway.away { ", away" } else { "" };
-    writeln!(output, "box {id}, boot {boot}, up {up}, {synced}{away}")?;
-    writeln!(output, "settings {:016x}", report.digest)
-}
-
-fn write_side<O: Write>(output: &mut O, name: &str, side: &SideReport, now: u64) -> io::Result<()> {
-    let role = side.role;
-    let since = Span(now.saturating_sub(side.role_since));
-    let cable = cable_name(side.up);
-    let plugged = Span(now.saturating_sub(side.up_since));
-    writeln!(
+/// Which box it is, and how it stands.
+fn put_box<O: Write>(output: &mut O, report: &Report) -> io::Result<()>
+    ensures { OnOk result
+        (Appends (O.contents output.old) (O.contents output.new) (box_lines report.now)) }
+{
+    put(
         output,
-        "{name}  {role:?} for {since}, cable {cable} for {plugged}"
+        &[
+            Piece::Text("box "),
+            Piece::Text(id_name(report.id)),
+            Piece::Text(", boot "),
+            Piece::Number(report.boot),
+            Piece::Text(", up "),
+            Piece::Span(report.gateway.moment),
+            Piece::Text(", "),
+            Piece::Text(synced_name(report.gateway.synced)),
+            Piece::Text(away_name(report.gateway.away)),
+            Piece::Text("\nsettings "),
+            Piece::Sixteen(report.digest),
+            Piece::Text("\n"),
+        ],
     )
 }
 
-fn write_peer<O: Write>(output: &mut O, peer: &PeerReport) -> io::Result<()> {
-    let serves = serving_name(peer.serves);
+fn put_side<O: Write>(output: &mut O, name: &str, side: &SideReport, now: u64) -> io::Result<()>
+    ensures { OnOk result (Appends (O.contents output.old) (O.contents output.new)
+        (side_line name.now now side.now)) }
+{
+    put(
+        output,
+        &[
+            Piece::Text(name),
+            Piece::Text("  "),
+            Piece::Text(role_name(side.role)),
+            Piece::Text(" for "),
+            Piece::Span(now.saturating_sub(side.role_since)),
+            Piece::Text(", cable "),
+            Piece::Text(cable_name(side.up)),
+            Piece::Text(" for "),
+            Piece::Span(now.saturating_sub(side.up_since)),
+            Piece::Text("\n"),
+        ],
+    )
+}
+
+fn put_peer<O: Write>(output: &mut O, peer: &PeerReport) -> io::Result<()>
+    ensures { OnOk result
+        (Appends (O.contents output.old) (O.contents output.new) (peer_line peer.now)) }
+{
     if peer.boot == 0 {
-        return writeln!(output, "peer     not known");
+        put(output, &[Piece::Text("peer     not known\n")])
+    } else {
+        put_known(output, peer.boot, peer.heard, serving_name(peer.serves))
     }
-    match peer.heard {
-        Some(ago) => writeln!(
+}
+
+/// The line of a box that is known.
+fn put_known<O: Write>(
+    output: &mut O,
+    boot: u64,
+    heard: Option<u64>,
+    serving: &str,
+) -> io::Result<()>
+    ensures { OnOk result (Appends (O.contents output.old) (O.contents output.new)
+        (known_line boot heard serving.now)) }
+{
+    match heard {
+        Some(ago) => put(
             output,
-            "peer     boot {}, heard {} s ago, {serves}",
-            peer.boot,
-            Seconds(ago)
+            &[
+                Piece::Text("peer     boot "),
+                Piece::Number(boot),
+                Piece::Text(", heard "),
+                Piece::Seconds(ago),
+                Piece::Text(" s ago, "),
+                Piece::Text(serving),
+                Piece::Text("\n"),
+            ],
         ),
-        None => writeln!(output, "peer     boot {}, not heard, {serves}", peer.boot),
+        None => put(
+            output,
+            &[
+                Piece::Text("peer     boot "),
+                Piece::Number(boot),
+                Piece::Text(", not heard, "),
+                Piece::Text(serving),
+                Piece::Text("\n"),
+            ],
+        ),
     }
 }
 
@@ -78,6 +135,13 @@ fn synced_name(is_synced: bool) -> &'static str
     ensures { result.now ≡ synced_name is_synced }
 {
     if is_synced { "synced" } else { "not synced" }
+}
+
+/// Behind it, where a gateway gave way to the other one.
+fn away_name(is_away: bool) -> &'static str
+    ensures { result.now ≡ away_name is_away }
+{
+    if is_away { ", away" } else { "" }
 }
 
 /// Whether a cable is in, in a word.
@@ -95,8 +159,8 @@ fn serving_name(serves: bool) -> &'static str
 }
 
 /// A protocol's name, as wide as all names.
-fn protocol_name(protocol: Protocol) -> &'static str
-    ensures { result.now ≡ protocol_name protocol }
+fn wide_name(protocol: Protocol) -> &'static str
+    ensures { result.now ≡ wide_name protocol }
 {
     match protocol {
         Protocol::Icmp => "icmp    ",
@@ -105,31 +169,88 @@ fn protocol_name(protocol: Protocol) -> &'static str
     }
 }
 
-/// How many entries of a protocol have each state, and its free ports.
-fn write_protocol<O: Write>(output: &mut O, report: &Report, protocol: Protocol) -> io::Result<()> {
-    write!(output, "{}", protocol_name(protocol))?;
-    for state in STATES {
-        let count = Grouped(report.gateway.pairs.of(protocol, state));
-        write!(output, " {} {count},", state_name(state))?;
-    }
-    let free = Grouped(report.gateway.ports.free(protocol));
-    writeln!(output, " ports free {free}")
+/// What the table has, and what waits.
+fn put_table<O: Write>(output: &mut O, state: &GatewayReport) -> io::Result<()>
+    ensures { OnOk result
+        (Appends (O.contents output.old) (O.contents output.new) (table_lines state.now)) }
+{
+    put_protocol(output, state, Protocol::Icmp)?;
+    put_protocol(output, state, Protocol::Tcp)?;
+    put_protocol(output, state, Protocol::Udp)?;
+    put(
+        output,
+        &[
+            Piece::Text("ports    "),
+            Piece::Grouped(state.ports.owned),
+            Piece::Text(" owned\nwaiting  "),
+            Piece::Number(state.waiting.pair),
+            Piece::Text(" of 64 for a pair, "),
+            Piece::Number(state.waiting.next_hop),
+            Piece::Text(" of 64 for a next hop\n"),
+        ],
+    )
 }
 
-/// What was received and sent, and what wasn't sent.
-fn write_traffic<O: Write>(output: &mut O, report: &Report) -> io::Result<()> {
-    for origin in ORIGINS {
-        let received = Grouped(report.counters.of(origin, Count::Received));
-        let sent = Grouped(report.counters.of(origin, Count::Sent));
-        let failed = Grouped(report.counters.of(origin, Count::SendFailed));
-        let too_long = Grouped(report.counters.of(origin, Count::TooLong));
-        let name = traffic_name(origin);
-        writeln!(
-            output,
-            "{name} {received} in, {sent} out, {failed} not sent, {too_long} too long"
-        )?;
-    }
-    Ok(())
+/// How many entries of a protocol have each state, and its free ports.
+fn put_protocol<O: Write>(
+    output: &mut O,
+    state: &GatewayReport,
+    protocol: Protocol,
+) -> io::Result<()>
+    ensures { OnOk result (Appends (O.contents output.old) (O.contents output.new)
+        (protocol_line state.now protocol)) }
+{
+    put(
+        output,
+        &[
+            Piece::Text(wide_name(protocol)),
+            Piece::Text(" pending "),
+            Piece::Grouped(state.pairs.of(protocol, EntryState::Pending)),
+            Piece::Text(", doomed "),
+            Piece::Grouped(state.pairs.of(protocol, EntryState::Doomed)),
+            Piece::Text(", live "),
+            Piece::Grouped(state.pairs.of(protocol, EntryState::Live)),
+            Piece::Text(", closing "),
+            Piece::Grouped(state.pairs.of(protocol, EntryState::Closing)),
+            Piece::Text(", held "),
+            Piece::Grouped(state.pairs.of(protocol, EntryState::Held)),
+            Piece::Text(", ports free "),
+            Piece::Grouped(state.ports.free(protocol)),
+            Piece::Text("\n"),
+        ],
+    )
+}
+
+fn put_traffic<O: Write>(output: &mut O, counters: &Counters) -> io::Result<()>
+    ensures { OnOk result
+        (Appends (O.contents output.old) (O.contents output.new) (traffic_lines counters.now)) }
+{
+    put_place(output, counters, Origin::Inside)?;
+    put_place(output, counters, Origin::Outside)?;
+    put_place(output, counters, Origin::Link)?;
+    put_place(output, counters, Origin::Own)
+}
+
+/// What was received and sent at a place, and what wasn't sent.
+fn put_place<O: Write>(output: &mut O, counters: &Counters, origin: Origin) -> io::Result<()>
+    ensures { OnOk result (Appends (O.contents output.old) (O.contents output.new)
+        (traffic_line counters.now origin)) }
+{
+    put(
+        output,
+        &[
+            Piece::Text(traffic_name(origin)),
+            Piece::Text(" "),
+            Piece::Grouped(counters.of(origin, Count::Received)),
+            Piece::Text(" in, "),
+            Piece::Grouped(counters.of(origin, Count::Sent)),
+            Piece::Text(" out, "),
+            Piece::Grouped(counters.of(origin, Count::SendFailed)),
+            Piece::Text(" not sent, "),
+            Piece::Grouped(counters.of(origin, Count::TooLong)),
+            Piece::Text(" too long\n"),
+        ],
+    )
 }
 
 fn traffic_name(origin: Origin) -> &'static str
@@ -144,29 +265,99 @@ fn traffic_name(origin: Origin) -> &'static str
 }
 
 /// What was dropped at each place, where something was.
-fn write_drops<O: Write>(output: &mut O, report: &Report) -> io::Result<()> {
-    for origin in ORIGINS {
-        write_drops_at(output, report, origin)?;
-    }
-    Ok(())
+fn put_drops<O: Write>(output: &mut O, counters: &Counters) -> io::Result<()>
+    ensures { OnOk result
+        (Appends (O.contents output.old) (O.contents output.new) (drops_lines counters.now)) }
+{
+    put_dropped(output, counters, Origin::Inside)?;
+    put_dropped(output, counters, Origin::Outside)?;
+    put_dropped(output, counters, Origin::Link)?;
+    put_dropped(output, counters, Origin::Own)
 }
 
-fn write_drops_at<O: Write>(output: &mut O, report: &Report, origin: Origin) -> io::Result<()> {
+/// The line of a place, if something was dropped there: each reason for which something was.
+fn put_dropped<O: Write>(output: &mut O, counters: &Counters, origin: Origin) -> io::Result<()>
+    ensures { OnOk result (Appends (O.contents output.old) (O.contents output.new)
+        (drops_line counters.now origin)) }
+{
     let mut is_first = true;
-    for reason in REASONS {
-        let count = dropped(&report.counters, origin, reason);
-        if count > 0 {
-            let before = if is_first { "dropped  " } else { ", " };
-            let place = if is_first { origin_name(origin) } else { "" };
-            let colon = if is_first { ": " } else { "" };
-            let number = reason.number();
-            write!(
-                output,
-                "{before}{place}{colon}{number} {reason:?} {}",
-                Grouped(count)
-            )?;
-            is_first = false;
-        }
+    for reason in &REASONS {
+        is_first = put_drop(output, counters, origin, *reason, is_first)?;
     }
-    if is_first { Ok(()) } else { writeln!(output) }
+    if is_first {
+        Ok(())
+    } else {
+        put(output, &[Piece::Text("\n")])
+    }
+}
+
+/// Writes how many were dropped for a reason, if some were, and says whether the next one is the line's first still.
+fn put_drop<O: Write>(
+    output: &mut O,
+    counters: &Counters,
+    origin: Origin,
+    reason: Reason,
+    is_first: bool,
+) -> io::Result<bool>
+    ensures text { OnOk result (Appends (O.contents output.old) (O.contents output.new)
+        (drop_part counters.now origin reason is_first)) }
+    ensures first { IfOk result
+        (λ still. still ≡ is_still_first counters.now origin reason is_first) }
+{
+    let count = dropped(counters, origin, reason);
+    if count == 0 {
+        return Ok(is_first);
+    }
+    put(
+        output,
+        &[
+            Piece::Text(before_drop(is_first, origin)),
+            Piece::Number(u64::from(reason.number())),
+            Piece::Text(" "),
+            Piece::Text(reason_name(reason)),
+            Piece::Text(" "),
+            Piece::Grouped(count),
+        ],
+    )?;
+    Ok(false)
+}
+
+/// What stands before a reason: the line's name before the first, a comma before each other one.
+fn before_drop(is_first: bool, origin: Origin) -> &'static str
+    ensures { result.now ≡ before_drop is_first origin }
+{
+    if is_first {
+        place_of_drops(origin)
+    } else {
+        ", "
+    }
+}
+
+/// How the line of a place begins.
+fn place_of_drops(origin: Origin) -> &'static str
+    ensures { result.now ≡ place_of_drops origin }
+{
+    match origin {
+        Origin::Inside => "dropped  inside: ",
+        Origin::Outside => "dropped  outside: ",
+        Origin::Link => "dropped  link: ",
+        Origin::Own => "dropped  own: ",
+    }
+}
+
+/// What was left out.
+fn put_end<O: Write>(output: &mut O, report: &Report) -> io::Result<()>
+    ensures { OnOk result
+        (Appends (O.contents output.old) (O.contents output.new) (end_line report.now)) }
+{
+    put(
+        output,
+        &[
+            Piece::Text("left out "),
+            Piece::Grouped(left_out(&report.counters)),
+            Piece::Text(" events, "),
+            Piece::Grouped(report.lines_left_out),
+            Piece::Text(" lines of the log\n"),
+        ],
+    )
 }

@@ -9,7 +9,7 @@ use std::marker::Model;
 
 /// What is counted of each place that something comes from or goes to. At the box itself (`Origin::Own`) words are
 /// received, and their answers sent.
-#[derive(Clone, Copy, Debug, PartialEq, Eq)]
+#[derive(Clone, Copy, PartialEq, Eq)]
 pub enum Count {
     /// A frame, a datagram or a word that came.
     Received,
@@ -28,7 +28,7 @@ pub const COUNTS: usize = 100;
 
 /// What a box has counted since its start. A count stops at 2^64 - 1. Each call takes a short time that is always the
 /// same, and no memory.
-#[derive(Clone, Copy, Debug, PartialEq, Eq)]
+#[derive(Clone, Copy, PartialEq, Eq)]
 pub struct Counters {
     pub(crate) counts: [u64; COUNTS],
 }

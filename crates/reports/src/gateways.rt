@@ -6,7 +6,7 @@ use crate::PairCounts;
 use addresses::Protocol;
 
 /// The other gateway, as this one knows it.
-#[derive(Clone, Copy, Debug, PartialEq, Eq)]
+#[derive(Clone, Copy, PartialEq, Eq)]
 pub struct PeerReport {
     /// The boot that was heard last, or 0.
     pub boot: u64,
@@ -17,7 +17,7 @@ pub struct PeerReport {
 }
 
 /// Ports by which pairs are made.
-#[derive(Clone, Copy, Debug, PartialEq, Eq)]
+#[derive(Clone, Copy, PartialEq, Eq)]
 pub struct PortCounts {
     /// How many the gateway owns; 0 where it isn't synced.
     pub owned: u64,
@@ -30,7 +30,7 @@ pub struct PortCounts {
 }
 
 /// Packets that wait, at most 64 of each kind.
-#[derive(Clone, Copy, Debug, PartialEq, Eq)]
+#[derive(Clone, Copy, PartialEq, Eq)]
 pub struct WaitingCounts {
     /// Those that wait for a pair.
     pub pair: u64,
@@ -39,7 +39,7 @@ pub struct WaitingCounts {
 }
 
 /// A gateway's state.
-#[derive(Clone, Copy, Debug, PartialEq, Eq)]
+#[derive(Clone, Copy, PartialEq, Eq)]
 pub struct GatewayReport {
     /// Its clock, in centiseconds since the box's start.
     pub moment: u64,

@@ -27,7 +27,7 @@ use std::marker::Model;
 pub const MOST_ENTRIES: usize = 128;
 
 /// Some entries of a table, by protocol (icmp first) and port.
-#[derive(Debug, Drop)]
+#[derive(Drop)]
 pub struct Page {
     entries: Vec<Entry>,
     more: bool,

@@ -24,7 +24,7 @@ pub const STATES: [EntryState; 5] = [
 pub const PAIR_COUNTS: usize = 15;
 
 /// How many entries of a table have each protocol and state. A count stops at 2^64 - 1.
-#[derive(Clone, Copy, Debug, PartialEq, Eq)]
+#[derive(Clone, Copy, PartialEq, Eq)]
 pub struct PairCounts {
     pub(crate) counts: [u64; PAIR_COUNTS],
 }

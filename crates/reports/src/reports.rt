@@ -14,7 +14,7 @@ use arrayvec::ArrayVec;
 use nat_types::GatewayId;
 
 /// A box's state, and what it has counted since its start.
-#[derive(Clone, Copy, Debug, PartialEq, Eq)]
+#[derive(Clone, Copy, PartialEq, Eq)]
 pub struct Report {
     pub id: GatewayId,
     /// The number of its start, from 1.

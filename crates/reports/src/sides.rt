@@ -7,7 +7,7 @@ use nat_types::Side;
 use vrrp_states::State;
 
 /// A side of a box. Moments are in centiseconds since the box's start.
-#[derive(Clone, Copy, Debug, PartialEq, Eq)]
+#[derive(Clone, Copy, PartialEq, Eq)]
 pub struct SideReport {
     /// The state of its virtual router.
     pub role: State,
@@ -59,7 +59,7 @@ impl SideReport {
 }
 
 /// Both sides of a box.
-#[derive(Clone, Copy, Debug, PartialEq, Eq)]
+#[derive(Clone, Copy, PartialEq, Eq)]
 pub struct Sides {
     pub inside: SideReport,
     pub outside: SideReport,

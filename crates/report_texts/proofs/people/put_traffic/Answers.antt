@@ -1,0 +1,5 @@
+use Rattle.report_texts.proofs.Parts.{ended}
+use Rattle.report_texts.proofs.people.put_traffic.Goals as goal
+
+pub returns : goal.returns
+returns g c = let r = c.put_place-4.result in ended r _ _ _ _ _ c.in_ok-put_place.ensures (ended r _ _ _ _ _ c.in_ok-put_place-2.ensures (ended r _ _ _ _ _ c.in_ok-put_place-3.ensures c.put_place-4.ensures))

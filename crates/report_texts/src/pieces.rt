@@ -1,0 +1,72 @@
+//! Texts in pieces, and how they are written.
+ghost use Rattle.std.specs.Prelude.{OnOk, flat_map};
+ghost use Rattle.std.specs.Io.KnownBytes.{Appends};
+ghost use Rattle.report_texts.specs.Pieces.{piece_text, quoted};
+ghost use Rattle.report_texts.specs.Units.{sixteen};
+
+use crate::units::{put_groups, put_seconds, put_sixteen, put_span};
+use itoa::Buffer;
+use std::io::{self, Write};
+
+/// A piece of a text.
+#[derive(Clone, Copy)]
+pub(crate) enum Piece<'t> {
+    Text(&'t str),
+    /// In quotation marks. It has no character that would want escaping.
+    Quoted(&'t str),
+    /// `true` or `false`.
+    Truth(bool),
+    /// 1 or 0.
+    Flag(bool),
+    /// A plain number.
+    Number(u64),
+    /// With a comma before each group of three digits.
+    Grouped(u64),
+    /// Centiseconds, as seconds.
+    Seconds(u64),
+    /// Centiseconds, in the two greatest units that they have.
+    Span(u64),
+    /// Sixteen hexadecimal digits.
+    Sixteen(u64),
+    /// The same in quotation marks.
+    Digest(u64),
+}
+
+/// Writes pieces, one behind the other.
+pub(crate) fn put<O: Write>(output: &mut O, pieces: &[Piece<'_>]) -> io::Result<()>
+    ensures { OnOk result (Appends (O.contents output.old) (O.contents output.new)
+        (flat_map piece_text pieces.now)) }
+{
+    for piece in pieces {
+        put_piece(output, *piece)?;
+    }
+    Ok(())
+}
+
+fn put_piece<O: Write>(output: &mut O, piece: Piece<'_>) -> io::Result<()>
+    ensures { OnOk result
+        (Appends (O.contents output.old) (O.contents output.new) (piece_text piece.entry)) }
+{
+    match piece {
+        Piece::Text(text) => output.write_all(text.as_bytes()),
+        Piece::Quoted(text) => write!(output, "\"{text}\""),
+        Piece::Truth(is_so) => write!(output, "{is_so}"),
+        Piece::Flag(is_so) => write!(output, "{}", u64::from(is_so)),
+        Piece::Number(number) => write!(output, "{number}"),
+        Piece::Grouped(number) => put_groups(output, Buffer::new().format(number).as_bytes()),
+        Piece::Seconds(moment) => put_seconds(output, moment),
+        Piece::Span(moment) => put_span(output, moment / 100),
+        Piece::Sixteen(number) => put_sixteen(output, number),
+        Piece::Digest(number) => put_digest(output, number),
+    }
+}
+
+/// Writes a number as sixteen hexadecimal digits in quotation marks.
+fn put_digest<O: Write>(output: &mut O, number: u64) -> io::Result<()>
+    ensures { OnOk result
+        (Appends (O.contents output.old) (O.contents output.new) (quoted (sixteen number))) }
+{
+    output.write_all(b"\"")?;
+    put_sixteen(output, number)?;
+    output.write_all(b"\"")
+}
