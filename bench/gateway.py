@@ -85,7 +85,7 @@ def run(*words, **options):
 def build(options, made):
     """The two programs by their names; the plain one only where there is rustc."""
     if options.program is None:
-        run("rt", "run", "--", "packets", "1", "1", cwd=CRATE)
+        run("rt", "run", "--", "start", cwd=CRATE)
     found = options.program or CRATE / "out/bench_gateway"
     shutil.copy(found, made / "gateway")
     programs = {"gateway": made / "gateway"}

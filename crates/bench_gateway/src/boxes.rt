@@ -2,11 +2,8 @@
 
 use crate::stations::{ACTIVE, Station};
 use addresses::Protocol;
-use anyhow::{Result, bail};
-use gateway::NoMemory;
-use nat_types::GatewayId;
+use cases_words::Case;
 use settings::Settings;
-use std::alloc::Global;
 
 /// Ticks are given, and datagrams carried, so often at most until nothing is left to do.
 pub(crate) const PATIENCE: u32 = 20_000;
@@ -20,43 +17,37 @@ pub(crate) struct Both {
 }
 
 impl Both {
-    /// A founded gateway of the sample settings with so many pairs, and one that starts.
-    pub(crate) fn ready(alloc: Global, protocol: Protocol, pairs: u32) -> Result<Both> {
-        let settings = Settings::sample(alloc)?;
-        Both::of(alloc, &settings, protocol, pairs)
-    }
-
-    /// The same by any settings.
-    pub(crate) fn of(
-        alloc: Global,
+    /// A founded gateway with so many pairs, and one that starts.
+    pub(crate) fn ready(
         settings: &Settings,
         protocol: Protocol,
         pairs: u32,
-    ) -> Result<Both> {
-        let zero = Station::ready_of(alloc, settings, protocol, pairs)?;
-        match Station::of(alloc, settings, GatewayId::One, 1, false) {
-            Ok(one) => Ok(Both {
+        case: &mut Case,
+    ) -> Option<Both> {
+        let zero = Station::ready(settings, protocol, pairs, case)?;
+        match Station::second(settings, case) {
+            Some(one) => Some(Both {
                 zero,
                 one,
                 moment: 0,
             }),
-            Err(fault) => {
+            None => {
                 zero.end();
-                Err(fault)
+                None
             }
         }
     }
 
     /// Both with so many pairs, which the second one has loaded.
-    pub(crate) fn synced(alloc: Global, protocol: Protocol, pairs: u32) -> Result<Both> {
-        let mut both = Both::ready(alloc, protocol, pairs)?;
-        match both.load() {
-            Ok(_ticks) => Ok(both),
-            Err(fault) => {
-                both.end();
-                Err(fault)
-            }
-        }
+    pub(crate) fn synced(
+        settings: &Settings,
+        protocol: Protocol,
+        pairs: u32,
+        case: &mut Case,
+    ) -> Option<Both> {
+        let mut both = Both::ready(settings, protocol, pairs, case)?;
+        both.load(case);
+        Some(both)
     }
 
     /// Ends both.
@@ -72,37 +63,37 @@ impl Both {
 
     /// Both clocks go on by so many centiseconds. What either tells at its tick, the other takes, and it what that
     /// answers, until neither tells anything.
-    pub(crate) fn tick(&mut self, by: u64) -> Result<(), NoMemory> {
+    pub(crate) fn tick(&mut self, by: u64, case: &mut Case) {
         self.moment = self.moment.saturating_add(by);
-        self.zero.tick(self.moment.saturating_add(ACTIVE))?;
-        converse(&mut self.zero, &mut self.one)?;
-        self.one.tick(self.moment)?;
-        converse(&mut self.one, &mut self.zero)
+        self.zero.tick(self.moment.saturating_add(ACTIVE), case);
+        converse(&mut self.zero, &mut self.one, case);
+        self.one.tick(self.moment, case);
+        converse(&mut self.one, &mut self.zero, case);
     }
 
     /// Ticks of both until the second one is synced; how many.
-    pub(crate) fn load(&mut self) -> Result<u32> {
+    pub(crate) fn load(&mut self, case: &mut Case) -> u32 {
         for ticks in 1..PATIENCE {
-            self.tick(1)?;
+            self.tick(1, case);
             if self.one.is_synced() {
-                return Ok(ticks);
+                return ticks;
             }
         }
-        bail!("the second gateway isn't synced");
+        case.fault();
+        PATIENCE
     }
 }
 
 /// What the first one told last, the other takes; it takes what that answers, and so on.
-pub(crate) fn converse(first: &mut Station, other: &mut Station) -> Result<(), NoMemory> {
+pub(crate) fn converse(first: &mut Station, other: &mut Station, case: &mut Case) {
     for _ in 0..PATIENCE {
         if !first.tells() {
             break;
         }
-        other.take(first)?;
+        other.take(first, case);
         if !other.tells() {
             break;
         }
-        first.take(other)?;
+        first.take(other, case);
     }
-    Ok(())
 }

@@ -2,13 +2,13 @@
 //! deletions, again and again; and the longest step of all that, by the processor's time.
 
 use crate::boxes::{Both, PATIENCE};
-use crate::flows::OPENING;
-use crate::packets::{FIN, Kind, LONGEST, PORTS, SYN, frame_of, set_flags, set_pair};
+use crate::clocks::computed;
+use crate::packets::{FIN, Kind, LONGEST, OPENING, PORTS, SYN, frame_of, set_flags, set_pair};
 use crate::stations::ACTIVE;
 use addresses::Protocol;
-use anyhow::{Result, bail};
+use cases_words::Case;
 use nat_types::Side;
-use std::time::CpuClock;
+use settings::Settings;
 
 /// A connection that both ends have closed rests for so many centiseconds.
 const REST: u64 = 24_000;
@@ -61,17 +61,13 @@ impl Watch {
     }
 
     /// The processor's time of this thread, in nanoseconds.
-    fn now<R: CpuClock>(&self, rt: &R) -> Result<u128> {
-        if self.is_on {
-            Ok(rt.thread_cpu_time()?.as_nanos())
-        } else {
-            Ok(0)
-        }
+    fn now(&self, rt: &HostRuntime, case: &mut Case) -> u128 {
+        if self.is_on { computed(rt, case) } else { 0 }
     }
 
     /// A step that isn't a tick is over.
-    fn stepped<R: CpuClock>(&mut self, rt: &R, start: u128) -> Result<()> {
-        let spent = self.now(rt)?.saturating_sub(start);
+    fn stepped(&mut self, rt: &HostRuntime, start: u128, case: &mut Case) {
+        let spent = self.now(rt, case).saturating_sub(start);
         self.steps = self.steps.saturating_add(1);
         if spent > self.longest {
             self.longest = spent;
@@ -80,7 +76,6 @@ impl Watch {
         if spent > STEP {
             self.slow = self.slow.saturating_add(1);
         }
-        Ok(())
     }
 
     /// A tick took so long, and let so many pairs go.
@@ -144,174 +139,167 @@ impl Frames {
 
 impl Churn {
     /// A packet comes to the first gateway.
-    fn hand<R: CpuClock>(&mut self, rt: &R, side: Side, frame: &[u8; LONGEST]) -> Result<()> {
-        let start = self.watch.now(rt)?;
-        self.both.zero.hand(side, frame, OPENING)?;
-        self.watch.stepped(rt, start)
+    fn hand(&mut self, rt: &HostRuntime, side: Side, frame: &[u8; LONGEST], case: &mut Case) {
+        let start = self.watch.now(rt, case);
+        self.both.zero.hand(side, frame, OPENING, case);
+        self.watch.stepped(rt, start, case);
     }
 
     /// The second gateway takes what the first one told last.
-    fn to_one<R: CpuClock>(&mut self, rt: &R) -> Result<()> {
-        let start = self.watch.now(rt)?;
-        self.both.one.take(&self.both.zero)?;
-        self.watch.stepped(rt, start)
+    fn to_one(&mut self, rt: &HostRuntime, case: &mut Case) {
+        let start = self.watch.now(rt, case);
+        self.both.one.take(&self.both.zero, case);
+        self.watch.stepped(rt, start, case);
     }
 
     /// The other way round.
-    fn to_zero<R: CpuClock>(&mut self, rt: &R) -> Result<()> {
-        let start = self.watch.now(rt)?;
-        self.both.zero.take(&self.both.one)?;
-        self.watch.stepped(rt, start)
+    fn to_zero(&mut self, rt: &HostRuntime, case: &mut Case) {
+        let start = self.watch.now(rt, case);
+        self.both.zero.take(&self.both.one, case);
+        self.watch.stepped(rt, start, case);
     }
 
     /// What the first gateway told last is taken, and what that answers, and so on.
-    fn converse<R: CpuClock>(&mut self, rt: &R) -> Result<()> {
+    fn converse(&mut self, rt: &HostRuntime, case: &mut Case) {
         for _ in 0..PATIENCE {
             if !self.both.zero.tells() {
                 break;
             }
-            self.to_one(rt)?;
+            self.to_one(rt, case);
             if !self.both.one.tells() {
                 break;
             }
-            self.to_zero(rt)?;
+            self.to_zero(rt, case);
         }
-        Ok(())
     }
 
     /// A tick of the first gateway.
-    fn tick_zero<R: CpuClock>(&mut self, rt: &R) -> Result<()> {
-        let start = self.watch.now(rt)?;
-        self.both
-            .zero
-            .tick(self.both.moment.saturating_add(ACTIVE))?;
-        let spent = self.watch.now(rt)?.saturating_sub(start);
+    fn tick_zero(&mut self, rt: &HostRuntime, case: &mut Case) {
+        let start = self.watch.now(rt, case);
+        let moment = self.both.moment.saturating_add(ACTIVE);
+        self.both.zero.tick(moment, case);
+        let spent = self.watch.now(rt, case).saturating_sub(start);
         self.watch.ticked(spent, self.both.zero.let_go());
-        Ok(())
     }
 
     /// A tick of the second gateway.
-    fn tick_one<R: CpuClock>(&mut self, rt: &R) -> Result<()> {
-        let start = self.watch.now(rt)?;
-        self.both.one.tick(self.both.moment)?;
-        let spent = self.watch.now(rt)?.saturating_sub(start);
+    fn tick_one(&mut self, rt: &HostRuntime, case: &mut Case) {
+        let start = self.watch.now(rt, case);
+        self.both.one.tick(self.both.moment, case);
+        let spent = self.watch.now(rt, case).saturating_sub(start);
         self.watch.ticked(spent, self.both.one.let_go());
-        Ok(())
     }
 
     /// Both clocks go on by so many centiseconds, and what is told is taken.
-    fn tick<R: CpuClock>(&mut self, rt: &R, by: u64) -> Result<()> {
+    fn tick(&mut self, rt: &HostRuntime, by: u64, case: &mut Case) {
         self.both.moment = self.both.moment.saturating_add(by);
-        self.tick_zero(rt)?;
-        self.converse(rt)?;
-        self.tick_one(rt)?;
+        self.tick_zero(rt, case);
+        self.converse(rt, case);
+        self.tick_one(rt, case);
         if self.both.one.tells() {
-            self.to_zero(rt)?;
-            self.converse(rt)?;
+            self.to_zero(rt, case);
+            self.converse(rt, case);
         }
-        Ok(())
     }
 
     /// A connection is opened: its pair is proposed and accepted, and its packet goes.
-    fn open<R: CpuClock>(&mut self, rt: &R, frames: &Frames) -> Result<()> {
-        self.hand(rt, Side::Inside, &frames.syn)?;
-        self.to_one(rt)?;
-        self.to_zero(rt)?;
+    fn open(&mut self, rt: &HostRuntime, frames: &Frames, case: &mut Case) {
+        self.hand(rt, Side::Inside, &frames.syn, case);
+        self.to_one(rt, case);
+        self.to_zero(rt, case);
         if !self.both.zero.sends() {
-            bail!("a packet waits");
+            case.fault();
         }
-        self.to_one(rt)
+        self.to_one(rt, case);
     }
 
     /// Both ends of a connection close it.
-    fn close<R: CpuClock>(&mut self, rt: &R, frames: &Frames) -> Result<()> {
-        self.hand(rt, Side::Inside, &frames.fin)?;
-        self.hand(rt, Side::Outside, &frames.other_fin)?;
+    fn close(&mut self, rt: &HostRuntime, frames: &Frames, case: &mut Case) {
+        self.hand(rt, Side::Inside, &frames.fin, case);
+        self.hand(rt, Side::Outside, &frames.other_fin, case);
         if !self.both.zero.sends() {
-            bail!("a packet wasn't sent on");
+            case.fault();
         }
-        Ok(())
     }
 
     /// The closed pairs rest, and both gateways let them go.
-    fn rest<R: CpuClock>(&mut self, rt: &R) -> Result<()> {
-        self.tick(rt, REST)?;
+    fn rest(&mut self, rt: &HostRuntime, case: &mut Case) {
+        self.tick(rt, REST, case);
         for _ in 0..PATIENCE {
             if self.both.zero.entry_count() == 0 && self.both.one.entry_count() == 0 {
-                return Ok(());
+                return;
             }
-            self.tick(rt, APART)?;
+            self.tick(rt, APART, case);
         }
-        bail!("pairs are left");
+        case.fault();
     }
 
-    /// So many connections are opened and closed, and let go.
-    fn round<R: CpuClock>(&mut self, rt: &R, frames: &mut Frames, endpoints: u32) -> Result<()> {
-        for number in 0..endpoints {
+    fn open_all(&mut self, rt: &HostRuntime, frames: &mut Frames, count: u32, case: &mut Case) {
+        for number in 0..count {
             frames.set(number);
-            self.open(rt, frames)?;
+            self.open(rt, frames, case);
         }
-        for number in 0..endpoints {
-            frames.set(number);
-            self.close(rt, frames)?;
-        }
-        self.rest(rt)
     }
 
-    /// So many rounds; the processor's nanoseconds.
-    fn rounds<R: CpuClock>(&mut self, rt: &R, rounds: u32, endpoints: u32) -> Result<u128> {
+    fn close_all(&mut self, rt: &HostRuntime, frames: &mut Frames, count: u32, case: &mut Case) {
+        for number in 0..count {
+            frames.set(number);
+            self.close(rt, frames, case);
+        }
+    }
+
+    /// So many rounds, in each of which so many connections are opened and closed, and let go; the processor's nanoseconds.
+    fn rounds(&mut self, rt: &HostRuntime, rounds: u32, endpoints: u32, case: &mut Case) -> u128 {
         let mut frames = Frames::new();
-        let start = rt.thread_cpu_time()?.as_nanos();
+        let start = computed(rt, case);
         for _ in 0..rounds {
-            self.round(rt, &mut frames, endpoints)?;
+            self.open_all(rt, &mut frames, endpoints, case);
+            self.close_all(rt, &mut frames, endpoints, case);
+            self.rest(rt, case);
         }
-        Ok(rt.thread_cpu_time()?.as_nanos().saturating_sub(start))
+        computed(rt, case).saturating_sub(start)
     }
 }
 
 /// What the steps took.
-fn report_watch<R: Print>(rt: &R, watch: &Watch) -> Result<()> {
-    let Watch {
-        steps,
-        longest,
-        longest_at,
-        slow,
-        ticks,
-        late,
-        beyond,
-        worst,
-        worst_let_go,
-        ..
-    } = watch;
-    println!(rt;
-        "longest step: {longest} ns, number {longest_at}; {slow} of {steps} above {STEP} ns"
-    )?;
-    println!(rt;
-        "worst tick: {worst} ns, let go {worst_let_go}, {beyond} ns beyond; {late} of {ticks} late"
-    )?;
-    Ok(())
+fn tell_watch(watch: &Watch, case: &mut Case) {
+    case.say("longest step: ", watch.longest);
+    case.say(" ns, number ", watch.longest_at);
+    case.say("; ", watch.slow);
+    case.say(" of ", watch.steps);
+    case.say(" above ", STEP);
+    case.say(" ns\nworst tick: ", watch.worst);
+    case.say(" ns, let go ", watch.worst_let_go);
+    case.say(", ", watch.beyond);
+    case.say(" ns beyond; ", watch.late);
+    case.say(" of ", watch.ticks);
+    case.put(" late\n");
+}
+
+/// What so many flows took.
+fn tell_flows(spent: u128, flows: u128, case: &mut Case) {
+    let each = spent / flows.max(1);
+    case.put(flows);
+    case.say(" flows: ", each);
+    case.say(" ns each, ", 1_000_000_000 / each.max(1));
+    case.put(" a second\n");
 }
 
 /// Prints what flows cost that come and go, in so many rounds; or, where the watch is on, the longest of their steps.
-pub(crate) fn report_churn<R: Print + CpuClock + AllocGlobal>(
-    rt: &R,
-    rounds: u32,
-    endpoints: u32,
-    is_on: bool,
-) -> Result<()> {
-    let both = Both::synced(rt.alloc(), Protocol::Tcp, 0)?;
+pub(crate) fn report_churn(rt: &HostRuntime, settings: &Settings, is_on: bool, case: &mut Case) {
+    let (rounds, endpoints) = (case.times(), case.times().min(PORTS));
+    let Some(both) = Both::synced(settings, Protocol::Tcp, 0, case) else {
+        return;
+    };
     let watch = Watch::new(is_on);
     let mut churn = Churn { both, watch };
-    let spent = churn.rounds(rt, rounds, endpoints.min(PORTS));
+    let spent = churn.rounds(rt, rounds, endpoints, case);
     let Churn { both, watch } = churn;
     both.end();
-    let spent = spent?;
     if is_on {
-        return report_watch(rt, &watch);
+        tell_watch(&watch, case);
+    } else {
+        let flows = u128::from(rounds).saturating_mul(u128::from(endpoints));
+        tell_flows(spent, flows, case);
     }
-    let flows = u128::from(rounds).saturating_mul(u128::from(endpoints.min(PORTS)));
-    let each = spent / flows.max(1);
-    let a_second = 1_000_000_000 / each.max(1);
-    println!(rt; "{flows} flows: {each} ns each, {a_second} a second")?;
-    Ok(())
 }

@@ -1,24 +1,71 @@
-//! New flows, and the ticks and datagrams of gateways that stand.
+//! Packets of pairs that stand, new flows, and the ticks and datagrams of gateways that stand.
 
 use crate::boxes::Both;
-use crate::packets::{Kind, LONGEST, PORTS, frame_of, set_pair};
+use crate::clocks::{now, since, tell_held, tell_sent};
+use crate::packets::{Kind, LONGEST, OPENING, PORTS, frame_of, set_pair};
 use crate::stations::{ACTIVE, Station};
 use addresses::Protocol;
-use anyhow::Result;
-use gateway::NoMemory;
+use cases_words::Case;
+use gateway::Outcome;
 use nat_types::Side;
-use std::rt::Clock;
-use std::time::Instant;
+use settings::Settings;
 
-/// The bytes of a packet that opens a pair.
-pub(crate) const OPENING: u16 = 44;
+/// The next packet's pair lies so many above this one's, so that they aren't found in order.
+const STRIDE: u32 = 7919;
 
 /// After so many centiseconds without a datagram one is due.
 const INTERVAL: u64 = 10;
 
-/// Nanoseconds for each of so many, rounded down.
-fn each<R: Clock>(rt: &R, start: Instant, count: u32) -> Result<u128> {
-    Ok(start.elapsed(rt)?.as_nanos() / u128::from(count.max(1)))
+/// The kind of packets that three words name: its side, its protocol and its size.
+fn kind_in(case: &mut Case) -> Kind {
+    Kind {
+        side: case.side(),
+        protocol: case.protocol(),
+        size: case.within(40, 1500) as u16,
+    }
+}
+
+/// Prints what each of so many packets costs, and how many were sent on. They are of as many pairs in turn.
+fn measure(
+    rt: &HostRuntime,
+    station: &mut Station,
+    kind: Kind,
+    count: u32,
+    pairs: u32,
+    case: &mut Case,
+) {
+    let mut frame = frame_of(kind);
+    let mut sent = 0u32;
+    let start = now(rt, case);
+    for number in 0..count {
+        let pair = number.wrapping_mul(STRIDE) % pairs.clamp(1, PORTS);
+        set_pair(&mut frame, kind.side, pair);
+        if station.hand(kind.side, &frame, kind.size, case) == Outcome::Sent {
+            sent = sent.saturating_add(1);
+        }
+    }
+    let spent = since(rt, start, case);
+    tell_sent(spent, count, sent, case);
+}
+
+/// Prints what packets of one kind cost.
+pub(crate) fn report_kind(rt: &HostRuntime, settings: &Settings, case: &mut Case) {
+    let kind = kind_in(case);
+    let (count, pairs) = (case.times(), case.times());
+    if let Some(mut station) = Station::ready(settings, kind.protocol, pairs, case) {
+        measure(rt, &mut station, kind, count, pairs, case);
+        station.end();
+    }
+}
+
+/// Prints what packets of one kind cost a gateway whose pairs another one has loaded.
+pub(crate) fn report_synced(rt: &HostRuntime, settings: &Settings, case: &mut Case) {
+    let kind = kind_in(case);
+    let (count, pairs) = (case.times(), case.times());
+    if let Some(mut both) = Both::synced(settings, kind.protocol, pairs, case) {
+        measure(rt, &mut both.zero, kind, count, pairs, case);
+        both.end();
+    }
 }
 
 /// A flow of its own protocol while there are ports of it.
@@ -37,101 +84,92 @@ fn kind_of(number: u32) -> Kind {
 
 impl Both {
     /// A packet of a new flow: its pair is proposed and accepted, and the packet goes. Whether it did.
-    pub(crate) fn opens(&mut self, frame: &[u8; LONGEST]) -> Result<bool, NoMemory> {
+    fn opens(&mut self, frame: &[u8; LONGEST], case: &mut Case) -> bool {
         let Both { zero, one, .. } = self;
-        zero.hand(Side::Inside, frame, OPENING)?;
-        one.take(zero)?;
-        zero.take(one)?;
+        zero.hand(Side::Inside, frame, OPENING, case);
+        one.take(zero, case);
+        zero.take(one, case);
         let sent = zero.sends();
-        one.take(zero)?;
-        Ok(sent)
+        one.take(zero, case);
+        sent
     }
 
     /// So many new flows; how many packets went.
-    fn open_all(&mut self, count: u32) -> Result<u32, NoMemory> {
+    fn open_all(&mut self, count: u32, case: &mut Case) -> u32 {
         let mut sent = 0u32;
         for number in 0..count {
             let mut frame = frame_of(kind_of(number));
             set_pair(&mut frame, Side::Inside, number);
-            if self.opens(&frame)? {
+            if self.opens(&frame, case) {
                 sent = sent.saturating_add(1);
             }
         }
-        Ok(sent)
+        sent
     }
 
     /// So many rounds: a tick of each, at which a datagram is due that the other takes.
-    fn tick_often(&mut self, count: u32) -> Result<(), NoMemory> {
+    fn tick_often(&mut self, count: u32, case: &mut Case) {
         for _ in 0..count {
-            self.tick(INTERVAL)?;
+            self.tick(INTERVAL, case);
         }
-        Ok(())
     }
 }
 
 /// Prints what a new flow costs a pair of gateways, of so many flows.
-pub(crate) fn report_new<R: Print + Clock + AllocGlobal>(rt: &R, count: u32) -> Result<()> {
-    let mut both = Both::synced(rt.alloc(), Protocol::Udp, 0)?;
-    let start = Instant::now(rt);
-    let opened = both.open_all(count);
-    both.end();
-    let (each, sent) = (each(rt, start?, count)?, opened?);
-    println!(rt; "{each} ns, {sent} of {count} sent")?;
-    Ok(())
+pub(crate) fn report_new(rt: &HostRuntime, settings: &Settings, case: &mut Case) {
+    let count = case.times();
+    if let Some(mut both) = Both::synced(settings, Protocol::Udp, 0, case) {
+        let start = now(rt, case);
+        let sent = both.open_all(count, case);
+        both.end();
+        let spent = since(rt, start, case);
+        tell_sent(spent, count, sent, case);
+    }
 }
 
 /// The same of a gateway that is alone.
-pub(crate) fn report_lone<R: Print + Clock + AllocGlobal>(rt: &R, count: u32) -> Result<()> {
-    let start = Instant::now(rt)?;
-    let station = Station::ready(rt.alloc(), Protocol::Udp, count)?;
-    station.end();
-    let each = each(rt, start, count)?;
-    println!(rt; "{each} ns, {count} of {count} sent")?;
-    Ok(())
+pub(crate) fn report_lone(rt: &HostRuntime, settings: &Settings, case: &mut Case) {
+    let count = case.times();
+    let start = now(rt, case);
+    if let Some(station) = Station::ready(settings, Protocol::Udp, count, case) {
+        station.end();
+    }
+    let spent = since(rt, start, case);
+    tell_sent(spent, count, count, case);
 }
 
 /// Prints what a round of ticks costs a pair of gateways with so many pairs of TCP, with its datagrams.
-pub(crate) fn report_pair<R: Print + Clock + AllocGlobal>(
-    rt: &R,
-    count: u32,
-    pairs: u32,
-) -> Result<()> {
-    let mut both = Both::synced(rt.alloc(), Protocol::Tcp, pairs)?;
-    let start = Instant::now(rt);
-    let ticked = both.tick_often(count);
-    let held = both.one.entry_count();
-    both.end();
-    ticked?;
-    let each = each(rt, start?, count)?;
-    println!(rt; "{each} ns, {held} pairs held")?;
-    Ok(())
+pub(crate) fn report_pair(rt: &HostRuntime, settings: &Settings, case: &mut Case) {
+    let (count, pairs) = (case.times(), case.times());
+    if let Some(mut both) = Both::synced(settings, Protocol::Tcp, pairs, case) {
+        let start = now(rt, case);
+        both.tick_often(count, case);
+        let held = both.one.entry_count();
+        both.end();
+        let spent = since(rt, start, case);
+        tell_held(spent, count, held, case);
+    }
 }
 
 /// So many ticks, at each of which the clock goes on by so many centiseconds.
-fn tick_alone(station: &mut Station, count: u32, by: u64) -> Result<(), NoMemory> {
+fn tick_alone(station: &mut Station, count: u32, by: u64, case: &mut Case) {
     let mut moment = ACTIVE;
     for _ in 0..count {
         moment = moment.saturating_add(by);
-        station.tick(moment)?;
+        station.tick(moment, case);
     }
-    Ok(())
 }
 
 /// Prints what a tick costs a gateway with so many pairs of TCP, none of which is idle: at each the clock goes on
 /// by so many centiseconds, or stands.
-pub(crate) fn report_ticks<R: Print + Clock + AllocGlobal>(
-    rt: &R,
-    count: u32,
-    pairs: u32,
-    by: u64,
-) -> Result<()> {
-    let mut station = Station::ready(rt.alloc(), Protocol::Tcp, pairs)?;
-    let start = Instant::now(rt);
-    let ticked = tick_alone(&mut station, count, by);
-    let held = station.entry_count();
-    station.end();
-    ticked?;
-    let each = each(rt, start?, count)?;
-    println!(rt; "{each} ns, {held} pairs held")?;
-    Ok(())
+pub(crate) fn report_ticks(rt: &HostRuntime, settings: &Settings, by: u64, case: &mut Case) {
+    let (count, pairs) = (case.times(), case.times());
+    if let Some(mut station) = Station::ready(settings, Protocol::Tcp, pairs, case) {
+        let start = now(rt, case);
+        tick_alone(&mut station, count, by, case);
+        let held = station.entry_count();
+        station.end();
+        let spent = since(rt, start, case);
+        tell_held(spent, count, held, case);
+    }
 }

@@ -2,124 +2,109 @@
 //! starts with an empty table.
 
 use crate::boxes::Both;
+use crate::clocks::{now, since};
 use crate::stations::{ACTIVE, Station};
 use addresses::Protocol;
-use anyhow::{Result, bail};
-use std::rt::Clock;
-use std::time::{Duration, Instant};
+use cases_words::Case;
+use settings::Settings;
 
 /// The pairs of a gateway are idle after so many centiseconds: more than the longest limit of a pair.
 const REST: u64 = 800_000;
 
 /// So many ticks are measured at once.
-pub(crate) const TICKS: u64 = 100;
+const TICKS: u64 = 100;
 
-/// What so many pairs cost.
-pub(crate) struct Costs {
-    /// To open them one after another.
-    pub(crate) opened: Duration,
-    /// The tick at which all of them are idle.
-    pub(crate) idled: Duration,
-    /// To load them into a gateway that starts: both gateways' steps.
-    pub(crate) loaded: Duration,
-    /// How many ticks each gateway had until then.
-    pub(crate) ticks: u32,
-    /// So many further ticks of the first gateway, whose pairs are idle, and whose peer is silent.
-    pub(crate) silent: Duration,
-    /// The same of the second one, which holds the first one's pairs.
-    pub(crate) held: Duration,
+/// Prints how many pairs a line is about, and what they do.
+fn tell(pairs: u32, what: &str, case: &mut Case) {
+    case.put(pairs);
+    case.say(" ", what);
+}
+
+fn tell_micros(nanoseconds: u128, case: &mut Case) {
+    case.say(": ", nanoseconds / 1000);
+    case.put(" us");
 }
 
 /// The tick at which all pairs of a gateway are idle.
-fn idle<R: Clock>(rt: &R, station: &mut Station) -> Result<Duration> {
-    let start = Instant::now(rt)?;
-    station.tick(ACTIVE + REST)?;
-    let idled = start.elapsed(rt)?;
-    if station.count()? > 0 {
-        bail!("pairs are left after the tick at which all were idle");
+fn idle(rt: &HostRuntime, station: &mut Station, case: &mut Case) -> u128 {
+    let start = now(rt, case);
+    station.tick(ACTIVE + REST, case);
+    let spent = since(rt, start, case);
+    if station.entry_count() > 0 {
+        case.fault();
     }
-    Ok(idled)
+    spent
 }
 
 /// Ticks of a gateway all of whose pairs are idle, and none of which it may let go. The first such tick isn't counted.
-fn rest<R: Clock>(rt: &R, station: &mut Station) -> Result<Duration> {
-    let pairs = station.count()?;
-    station.tick(ACTIVE + REST)?;
-    let start = Instant::now(rt)?;
+fn rest(rt: &HostRuntime, station: &mut Station, case: &mut Case) -> u128 {
+    let pairs = station.entry_count();
+    station.tick(ACTIVE + REST, case);
+    let start = now(rt, case);
     for tick in 1..=TICKS {
-        station.tick(ACTIVE + REST + tick)?;
+        station.tick(ACTIVE + REST + tick, case);
     }
-    let spent = start.elapsed(rt)?;
-    if station.count()? != pairs {
-        bail!("pairs were let go");
+    let spent = since(rt, start, case);
+    if station.entry_count() != pairs {
+        case.fault();
     }
-    Ok(spent)
+    spent
 }
 
 /// Opens so many pairs, and lets them idle.
-fn open_and_idle<R: Clock + AllocGlobal>(rt: &R, pairs: u32) -> Result<(Duration, Duration)> {
-    let start = Instant::now(rt)?;
-    let mut station = Station::ready(rt.alloc(), Protocol::Udp, pairs)?;
-    let opened = start.elapsed(rt);
-    let idled = idle(rt, &mut station);
-    station.end();
-    Ok((opened?, idled?))
-}
-
-impl Both {
-    /// The seconds of the load, and its ticks. Then both have as many pairs.
-    fn load_timed<R: Clock>(&mut self, rt: &R) -> Result<(Duration, u32)> {
-        let start = Instant::now(rt)?;
-        let ticks = self.load()?;
-        let spent = start.elapsed(rt)?;
-        if self.zero.count()? != self.one.count()? {
-            bail!("the second gateway's table isn't the first one's");
-        }
-        Ok((spent, ticks))
+fn open_and_idle(rt: &HostRuntime, settings: &Settings, pairs: u32, case: &mut Case) {
+    let start = now(rt, case);
+    if let Some(mut station) = Station::ready(settings, Protocol::Udp, pairs, case) {
+        let opened = since(rt, start, case);
+        let idled = idle(rt, &mut station, case);
+        station.end();
+        tell(pairs, "pairs opened", case);
+        tell_micros(opened, case);
+        case.end();
+        tell(pairs, "pairs idle at one tick", case);
+        tell_micros(idled, case);
+        case.end();
     }
-
-    fn load_and_rest<R: Clock>(&mut self, rt: &R) -> Result<Load> {
-        let (loaded, ticks) = self.load_timed(rt)?;
-        Ok(Load {
-            loaded,
-            ticks,
-            silent: rest(rt, &mut self.zero)?,
-            held: rest(rt, &mut self.one)?,
-        })
-    }
-}
-
-/// What a gateway that starts costs, and what both cost then while all pairs are idle.
-struct Load {
-    loaded: Duration,
-    ticks: u32,
-    silent: Duration,
-    held: Duration,
 }
 
 /// Loads so many pairs into a gateway that starts, and lets both rest.
-fn loaded<R: Clock + AllocGlobal>(rt: &R, pairs: u32) -> Result<Load> {
-    let mut both = Both::ready(rt.alloc(), Protocol::Udp, pairs)?;
-    let load = both.load_and_rest(rt);
-    both.end();
-    load
+fn load_and_rest(rt: &HostRuntime, settings: &Settings, pairs: u32, case: &mut Case) {
+    if let Some(mut both) = Both::ready(settings, Protocol::Udp, pairs, case) {
+        tell_load(rt, &mut both, pairs, case);
+        tell(pairs, "idle pairs, the peer silent", case);
+        tell_rest(rt, &mut both.zero, case);
+        tell(pairs, "idle pairs of the other gateway", case);
+        tell_rest(rt, &mut both.one, case);
+        both.end();
+    }
 }
 
-/// What so many pairs cost, at most as many as the gateway has ports.
-pub(crate) fn costs_of<R: Clock + AllocGlobal>(rt: &R, pairs: u32) -> Result<Costs> {
-    let (opened, idled) = open_and_idle(rt, pairs)?;
-    let Load {
-        loaded,
-        ticks,
-        silent,
-        held,
-    } = loaded(rt, pairs)?;
-    Ok(Costs {
-        opened,
-        idled,
-        loaded,
-        ticks,
-        silent,
-        held,
-    })
+/// What the steps of both cost until the second one has loaded all pairs, and how many ticks each had.
+fn tell_load(rt: &HostRuntime, both: &mut Both, pairs: u32, case: &mut Case) {
+    let start = now(rt, case);
+    let ticks = both.load(case);
+    let spent = since(rt, start, case);
+    if both.zero.entry_count() != both.one.entry_count() {
+        case.fault();
+    }
+    tell(pairs, "pairs loaded", case);
+    tell_micros(spent, case);
+    case.say(", ", ticks);
+    case.put(" ticks\n");
+}
+
+fn tell_rest(rt: &HostRuntime, station: &mut Station, case: &mut Case) {
+    let spent = rest(rt, station, case);
+    tell_micros(spent, case);
+    case.say(" for ", TICKS);
+    case.put(" ticks\n");
+}
+
+/// Prints what many pairs cost, for each of the numbers of pairs.
+pub(crate) fn report_many(rt: &HostRuntime, settings: &Settings, case: &mut Case) {
+    for _ in 0..case.left() {
+        let pairs = case.times();
+        open_and_idle(rt, settings, pairs, case);
+        load_and_rest(rt, settings, pairs, case);
+    }
 }

@@ -16,6 +16,9 @@ const STARTS: usize = 38;
 /// The ports of a protocol that the gateway has for new pairs.
 pub(crate) const PORTS: u32 = 20_000;
 
+/// The bytes of a packet that opens a pair.
+pub(crate) const OPENING: u16 = 44;
+
 /// The port of an inside host that has the first pair; those of the others are above it.
 const FIRST_INSIDE: u32 = 5000;
 

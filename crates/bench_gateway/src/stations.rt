@@ -1,19 +1,16 @@
 //! The gateway that is measured. Nothing here says what a step does, so that what a caller has to
-//! show stays small.
+//! show stays small. Where memory is refused the line is wrong.
 
-use crate::packets::{HEADER, Kind, LONGEST, PORTS, frame_of, set_pair};
+use crate::packets::{HEADER, Kind, LONGEST, OPENING, PORTS, frame_of, set_pair};
 use addresses::Protocol;
-use anyhow::{Result, bail};
-use gateway::{Event, Gateway, Hashers, NoMemory, Out, Outcome};
+use cases_words::Case;
+use gateway::{Event, Gateway, Hashers, Out, Outcome};
 use nat_types::{GatewayId, NoteKind, Side};
 use settings::Settings;
 use std::alloc::Global;
 
 /// When its routers are Active, in centiseconds.
 pub(crate) const ACTIVE: u64 = 360;
-
-/// The bytes of a packet that opens a pair.
-const OPENING: u16 = 44;
 
 /// A gateway, and what it told last. It goes by `end`.
 pub(crate) struct Station {
@@ -22,27 +19,27 @@ pub(crate) struct Station {
 }
 
 impl Station {
-    /// A gateway of the sample settings in this boot, founded or not.
-    pub(crate) fn new(alloc: Global, id: GatewayId, boot: u64, found: bool) -> Result<Station> {
-        let settings = Settings::sample(alloc)?;
-        Station::of(alloc, &settings, id, boot, found)
+    /// Gateway 0 as it is founded.
+    pub(crate) fn founded(settings: &Settings, case: &mut Case) -> Option<Station> {
+        Station::of(begun(case.alloc, settings, GatewayId::Zero), case)
     }
 
-    /// A gateway in this boot, founded or not; the second one can't be founded.
-    pub(crate) fn of(
-        alloc: Global,
-        settings: &Settings,
-        id: GatewayId,
-        boot: u64,
-        found: bool,
-    ) -> Result<Station> {
-        if boot == 0 || (found && id == GatewayId::One) {
-            bail!("boots are counted from 1, and the second gateway isn't founded");
+    /// Gateway 1 as it begins.
+    pub(crate) fn second(settings: &Settings, case: &mut Case) -> Option<Station> {
+        Station::of(begun(case.alloc, settings, GatewayId::One), case)
+    }
+
+    fn of(gateway: Option<Gateway>, case: &mut Case) -> Option<Station> {
+        match gateway {
+            Some(gateway) => Some(Station {
+                gateway,
+                out: Out::new(case.alloc),
+            }),
+            None => {
+                case.fault();
+                None
+            }
         }
-        let hashers = Hashers::fixed();
-        let gateway = Gateway::new(alloc, settings, id, boot, found, hashers)?;
-        let out = Out::new(alloc);
-        Ok(Station { gateway, out })
     }
 
     /// Ends its gateway, and gives its memory back.
@@ -52,61 +49,37 @@ impl Station {
         drop(out);
     }
 
-    /// A founded gateway of the sample settings, Active on both sides, with so many pairs: of this
-    /// protocol while it has ports, the others of the other one.
-    pub(crate) fn ready(alloc: Global, protocol: Protocol, pairs: u32) -> Result<Station> {
-        let settings = Settings::sample(alloc)?;
-        Station::ready_of(alloc, &settings, protocol, pairs)
-    }
-
-    /// The same by any settings.
-    pub(crate) fn ready_of(
-        alloc: Global,
+    /// A founded gateway, Active on both sides, with so many pairs: of this protocol while it has ports, the others of
+    /// the other one.
+    pub(crate) fn ready(
         settings: &Settings,
         protocol: Protocol,
         pairs: u32,
-    ) -> Result<Station> {
-        let mut station = Station::of(alloc, settings, GatewayId::Zero, 1, true)?;
-        match station.fill(protocol, pairs) {
-            Ok(()) => Ok(station),
-            Err(fault) => {
-                station.end();
-                Err(fault)
-            }
-        }
-    }
-
-    /// Becomes Active, and opens so many pairs.
-    fn fill(&mut self, protocol: Protocol, pairs: u32) -> Result<()> {
-        self.tick(ACTIVE)?;
-        self.open(protocol, pairs.min(PORTS))?;
-        self.open(other(protocol), pairs.saturating_sub(PORTS))
+        case: &mut Case,
+    ) -> Option<Station> {
+        let mut station = Station::founded(settings, case)?;
+        station.tick(ACTIVE, case);
+        station.open(protocol, pairs.min(PORTS), case);
+        station.open(other(protocol), pairs.saturating_sub(PORTS), case);
+        Some(station)
     }
 
     /// The clock goes on.
-    pub(crate) fn tick(&mut self, moment: u64) -> Result<(), NoMemory> {
-        let event = Event::Tick(moment);
-        step(&mut self.gateway, event, &mut self.out)?;
-        Ok(())
+    pub(crate) fn tick(&mut self, moment: u64, case: &mut Case) {
+        step(&mut self.gateway, Event::Tick(moment), &mut self.out, case);
     }
 
     /// Takes the datagrams that the other gateway told last. What it tells of its own with the last of them is there then.
-    pub(crate) fn take(&mut self, other: &Station) -> Result<(), NoMemory> {
+    pub(crate) fn take(&mut self, other: &Station, case: &mut Case) {
         for datagram in other.out.datagrams() {
             let event = Event::Datagram(datagram);
-            step(&mut self.gateway, event, &mut self.out)?;
+            step(&mut self.gateway, event, &mut self.out, case);
         }
-        Ok(())
     }
 
     /// Whether its table is loaded.
     pub(crate) fn is_synced(&self) -> bool {
         self.gateway.synced()
-    }
-
-    /// How many pairs it has.
-    pub(crate) fn count(&self) -> Result<usize> {
-        Ok(self.gateway.pairs()?.len())
     }
 
     /// How many entries its table has: nothing is listed.
@@ -136,7 +109,7 @@ impl Station {
     }
 
     /// Opens so many pairs, each by a packet of its own.
-    fn open(&mut self, protocol: Protocol, pairs: u32) -> Result<()> {
+    fn open(&mut self, protocol: Protocol, pairs: u32, case: &mut Case) {
         let (side, size) = (Side::Inside, OPENING);
         let mut frame = frame_of(Kind {
             side,
@@ -145,21 +118,10 @@ impl Station {
         });
         for number in 0..pairs {
             set_pair(&mut frame, side, number);
-            if !self.sends_on(side, &frame, size)? {
-                bail!("pair {number} wasn't opened");
+            if self.hand(side, &frame, size, case) != Outcome::Sent {
+                case.fault();
             }
         }
-        Ok(())
-    }
-
-    /// Whether it sends on a packet of so many bytes that comes in on a side.
-    pub(crate) fn sends_on(
-        &mut self,
-        side: Side,
-        frame: &[u8; LONGEST],
-        size: u16,
-    ) -> Result<bool, NoMemory> {
-        Ok(self.hand(side, frame, size)? == Outcome::Sent)
     }
 
     /// What becomes of a packet of so many bytes that comes in on a side.
@@ -168,10 +130,11 @@ impl Station {
         side: Side,
         frame: &[u8; LONGEST],
         size: u16,
-    ) -> Result<Outcome, NoMemory> {
+        case: &mut Case,
+    ) -> Outcome {
         let bytes = &frame[..(HEADER + usize::from(size)).min(LONGEST)];
         let event = Event::Frame(side, bytes);
-        step(&mut self.gateway, event, &mut self.out)
+        step(&mut self.gateway, event, &mut self.out, case)
     }
 }
 
@@ -183,15 +146,20 @@ fn other(protocol: Protocol) -> Protocol {
     }
 }
 
-/// One step, by a cleared `Out`.
-fn step(gateway: &mut Gateway, event: Event<'_>, out: &mut Out) -> Result<Outcome, NoMemory> {
-    out.clear();
-    gateway.step(event, out)
+/// A gateway in its first boot; gateway 0 is founded.
+fn begun(alloc: Global, settings: &Settings, id: GatewayId) -> Option<Gateway> {
+    let founds = id == GatewayId::Zero;
+    Gateway::new(alloc, settings, id, 1, founds, Hashers::fixed()).ok()
 }
 
-/// A gateway starts, and ends.
-pub(crate) fn start(alloc: Global) -> Result<()> {
-    let station = Station::new(alloc, GatewayId::Zero, 1, true)?;
-    station.end();
-    Ok(())
+/// One step, by a cleared `Out`.
+fn step(gateway: &mut Gateway, event: Event<'_>, out: &mut Out, case: &mut Case) -> Outcome {
+    out.clear();
+    match gateway.step(event, out) {
+        Ok(outcome) => outcome,
+        Err(_) => {
+            case.fault();
+            Outcome::Done
+        }
+    }
 }

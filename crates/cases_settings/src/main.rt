@@ -1,23 +1,33 @@
 //! Reads the sample settings, and texts that differ from them, and prints why each is refused and what `check` says of
-//! them; prints the built-in settings; and reads command lines.
+//! them; prints the built-in settings; and reads command lines. Then it makes and starts boot files: in its folder, on a
+//! modelled disk, and on blocks in memory.
 #![tactic(auto)]
 
 mod boots;
+mod calls;
 mod checking;
 mod clashes;
+mod disks;
 mod edits;
+mod files;
 mod full;
 mod lines;
 mod lists;
+mod memory;
 mod reading;
 mod sample;
+mod short;
+mod trials;
 
 use anyhow::Result;
+use calls::Calls;
 use cases_words::{Case, play};
 use checking::Checks;
 use checks::digest;
 use clashes::Clashes;
+use disks::Disks;
 use edits::Edits;
+use files::Files;
 use lines::Lines;
 use lists::Lists;
 use reading::settings_in;
@@ -83,14 +93,26 @@ fn try_sample(rt: &HostRuntime, sample: &str, case: &mut Case) -> Result<()> {
     tried
 }
 
-fn try_all(rt: &HostRuntime, case: &mut Case) -> Result<()> {
+fn try_settings(rt: &HostRuntime, case: &mut Case) -> Result<()> {
     let sample = fs::read_to_string(rt, "S.toml")?;
     case.part_by(';');
     try_sample(rt, sample.as_str(), case)?;
     try_checks(rt, sample.as_str(), case)?;
-    say_built(case)?;
+    say_built(case)
+}
+
+/// Boot files in the working folder, on the modelled disk, and on blocks in memory.
+fn try_boots(rt: &HostRuntime, case: &mut Case) -> Result<()> {
+    play(rt, "boot.cases", Calls::new(*rt), case)?;
+    play(rt, "boots.cases", Disks::new(case.alloc), case)?;
+    play(rt, "blocks.cases", Files::new(), case)
+}
+
+fn try_all(rt: &HostRuntime, case: &mut Case) -> Result<()> {
+    try_settings(rt, case)?;
     case.part_by(' ');
-    play(rt, "lines.cases", Lines, case)
+    play(rt, "lines.cases", Lines, case)?;
+    try_boots(rt, case)
 }
 
 fn main(rt: HostRuntime) -> Result<()> {

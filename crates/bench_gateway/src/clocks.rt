@@ -1,0 +1,59 @@
+//! What is told by a clock. Where there is none the line is wrong.
+
+use cases_words::Case;
+use std::time::{CpuClock, Instant};
+
+/// A moment.
+pub(crate) fn now(rt: &HostRuntime, case: &mut Case) -> Option<Instant> {
+    let now = Instant::now(rt).ok();
+    if now.is_none() {
+        case.fault();
+    }
+    now
+}
+
+/// The nanoseconds since a moment.
+pub(crate) fn since(rt: &HostRuntime, start: Option<Instant>, case: &mut Case) -> u128 {
+    match start {
+        Some(start) => match start.elapsed(rt) {
+            Ok(spent) => spent.as_nanos(),
+            Err(_) => {
+                case.fault();
+                0
+            }
+        },
+        None => 0,
+    }
+}
+
+/// The processor's time of this thread, in nanoseconds.
+pub(crate) fn computed(rt: &HostRuntime, case: &mut Case) -> u128 {
+    match rt.thread_cpu_time() {
+        Ok(spent) => spent.as_nanos(),
+        Err(_) => {
+            case.fault();
+            0
+        }
+    }
+}
+
+/// Prints the nanoseconds for each of so many, rounded down.
+pub(crate) fn tell_each(spent: u128, count: u32, case: &mut Case) {
+    case.put(spent / u128::from(count.max(1)));
+    case.put(" ns, ");
+}
+
+/// The same, and how many of them were sent on.
+pub(crate) fn tell_sent(spent: u128, count: u32, sent: u32, case: &mut Case) {
+    tell_each(spent, count, case);
+    case.put(sent);
+    case.say(" of ", count);
+    case.put(" sent\n");
+}
+
+/// The same, and how many pairs there are then.
+pub(crate) fn tell_held(spent: u128, count: u32, held: usize, case: &mut Case) {
+    tell_each(spent, count, case);
+    case.put(held);
+    case.put(" pairs held\n");
+}

@@ -1,0 +1,109 @@
+//! A frame cut at every length, and with every byte changed to every other value: how many of these are
+//! sent on, and how many steps note something.
+
+use crate::takers::step;
+use cases_words::Case;
+use gateway::{Event, Gateway, Out, Outcome};
+use nat_types::Side;
+
+/// What came of so many frames of a side.
+#[derive(Drop)]
+pub(crate) struct Trial {
+    side: Side,
+    /// The moment of the next frame in centiseconds, where each comes in a second of its own. Otherwise the clock stands.
+    next: Option<u64>,
+    all: u32,
+    sent: u32,
+    noted: u32,
+}
+
+impl Trial {
+    /// No frame has come.
+    pub(crate) fn new(side: Side, next: Option<u64>) -> Trial {
+        Trial {
+            side,
+            next,
+            all: 0,
+            sent: 0,
+            noted: 0,
+        }
+    }
+
+    pub(crate) fn tell(&self, case: &mut Case) {
+        case.say("  ", self.all);
+        case.say(" frames: sent ", self.sent);
+        case.say(", noted ", self.noted);
+        case.end();
+    }
+
+    /// The clock goes on, and a frame comes.
+    fn hand_in(&mut self, gateway: &mut Gateway, frame: &[u8], out: &mut Out, case: &mut Case) {
+        if let Some(moment) = self.next {
+            step(gateway, Event::Tick(moment), out, case);
+            self.next = Some(moment.saturating_add(100));
+        }
+        self.all = self.all.saturating_add(1);
+        if step(gateway, Event::Frame(self.side, frame), out, case) == Outcome::Sent {
+            self.sent = self.sent.saturating_add(1);
+        }
+        if !out.notes().is_empty() {
+            self.noted = self.noted.saturating_add(1);
+        }
+    }
+}
+
+/// The frame at every length below its own, from no byte on.
+pub(crate) fn cut(
+    trial: &mut Trial,
+    gateway: &mut Gateway,
+    frame: &[u8],
+    out: &mut Out,
+    case: &mut Case,
+) {
+    for length in 0..frame.len() {
+        trial.hand_in(gateway, &frame[..length], out, case);
+    }
+}
+
+/// The frame with one byte changed, each to each other value; and at which bytes a changed frame is sent.
+pub(crate) fn change(
+    trial: &mut Trial,
+    gateway: &mut Gateway,
+    frame: &mut [u8],
+    out: &mut Out,
+    case: &mut Case,
+) {
+    for at in 0..frame.len() {
+        let before = trial.sent;
+        change_at(trial, gateway, frame, at, out, case);
+        let sent = trial.sent.saturating_sub(before);
+        if 0 < sent {
+            case.say("  byte ", at);
+            case.say(": sent ", sent);
+            case.end();
+        }
+    }
+}
+
+/// The frame with this byte changed to each other value. Afterwards it is as it was.
+fn change_at(
+    trial: &mut Trial,
+    gateway: &mut Gateway,
+    frame: &mut [u8],
+    at: usize,
+    out: &mut Out,
+    case: &mut Case,
+) {
+    for _ in 1..=255u8 {
+        turn(frame, at);
+        trial.hand_in(gateway, frame, out, case);
+    }
+    turn(frame, at);
+}
+
+/// A byte becomes the next value.
+fn turn(frame: &mut [u8], at: usize) {
+    if let Some(byte) = frame.get_mut(at) {
+        *byte = byte.wrapping_add(1);
+    }
+}

@@ -1,0 +1,66 @@
+//! What is printed of a step, and of a table.
+
+use addresses::Port;
+use cases_words::Case;
+use gateway::{Out, Outcome};
+
+/// What came of a step and how many frames were sent; then the notes; then the datagram.
+pub(crate) fn tell(outcome: Outcome, out: &Out, case: &mut Case) {
+    tell_outcome(outcome, case);
+    let count = frame_count(out);
+    if 0 < count {
+        case.say(", frames ", count);
+    }
+    case.end();
+    for note in out.notes() {
+        case.say("  note ", *note);
+        case.end();
+    }
+    tell_datagrams(out, case);
+}
+
+fn tell_datagrams(out: &Out, case: &mut Case) {
+    for datagram in out.datagrams() {
+        case.hex("  link ", datagram);
+        case.end();
+    }
+}
+
+fn frame_count(out: &Out) -> u32 {
+    let mut count = 0u32;
+    for _ in out.frames() {
+        count = count.saturating_add(1);
+    }
+    count
+}
+
+fn tell_outcome(outcome: Outcome, case: &mut Case) {
+    match outcome {
+        Outcome::Sent => case.put("  sent"),
+        Outcome::Waiting => case.put("  waiting"),
+        Outcome::Done => case.put("  done"),
+        Outcome::Dropped(reason) => case.say("  dropped ", reason.number()),
+    }
+}
+
+/// The unbroken runs of rising ports, a line each.
+pub(crate) fn tell_owned(ports: &[Port], case: &mut Case) {
+    let Some((first, others)) = ports.split_first() else {
+        return;
+    };
+    let (mut first, mut last) = (*first, *first);
+    for port in others {
+        if last.0.checked_add(1) != Some(port.0) {
+            tell_run(first, last, case);
+            first = *port;
+        }
+        last = *port;
+    }
+    tell_run(first, last, case);
+}
+
+fn tell_run(first: Port, last: Port, case: &mut Case) {
+    case.say("  owns ", first);
+    case.say(" to ", last);
+    case.end();
+}
