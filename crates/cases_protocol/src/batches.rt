@@ -1,68 +1,49 @@
 //! Two tables, of which the one is drawn and the other loaded: what each line answers, or why it is
 //! refused. A line has a call and what is given to it.
 
-ghost use Rattle.std.specs.Prelude.{IfOk};
 ghost use Rattle.bindings.specs.Ports.{AreBounds};
 
 use crate::loader::Loader;
 use crate::sender::Sender;
-use crate::{beside, words_of};
+use crate::telling::tell_record;
 use addresses::Port;
-use anyhow::{Result, bail};
 use bindings::PortBounds;
-use cases_words::{Given, is_silent};
+use cases_words::{Actor, Case, beside};
 use nat_types::Record;
-use resync::OutOfPlace;
-use std::alloc::Global;
+use std::alloc::AllocError;
 use std::mem;
 
+/// The table that is drawn, and the one that is loaded.
 #[derive(Drop)]
-struct Cases {
+pub(crate) struct Tables {
     sender: Sender,
     loader: Loader,
 }
 
-fn write_record(out: &mut String, record_: &Record) -> Result<()> {
-    match record_ {
-        Record::Begin => write!(out, "begin")?,
-        Record::Done => write!(out, "done")?,
-        Record::Put(pair) => write!(out, "put {pair}")?,
-        Record::Owner { first, last } => write!(out, "owner {first} {last}")?,
-        _ => write!(out, "{record_:?}")?,
-    }
-    Ok(())
-}
-
-/// How many records there are, and which.
-fn listed(alloc: Global, records: &[Record]) -> Result<String> {
-    let mut out = String::new(alloc);
-    write!(out, "{}", records.len())?;
-    for item in records.iter() {
-        write!(out, "; ")?;
-        write_record(&mut out, item)?;
-    }
-    Ok(out)
-}
-
-/// The first and the last port of a range.
-fn bounds(given: &mut Given<'_>) -> Result<PortBounds>
-    ensures { IfOk result AreBounds }
+/// The first and the last port of a range. Where they are none, the line is wrong, and any range comes.
+pub(crate) fn bounds(case: &mut Case) -> PortBounds
+    ensures { AreBounds result }
 {
-    let (lowest, highest) = given.range()?;
-    Ok(PortBounds { lowest, highest })
+    let (lowest, highest) = (case.port(), case.port());
+    if lowest.0 < 1024 || highest.0 < lowest.0 {
+        case.fault();
+        let (lowest, highest) = (Port(1024), Port(1024));
+        return PortBounds { lowest, highest };
+    }
+    PortBounds { lowest, highest }
 }
 
-impl Cases {
-    fn new(alloc: Global, zero: PortBounds, one: PortBounds) -> Result<Cases>
+impl Tables {
+    fn new(zero: PortBounds, one: PortBounds, case: &mut Case) -> Result<Tables, AllocError>
         requires zero { AreBounds zero }
         requires one { AreBounds one }
     {
-        let sender = Sender::new(alloc, zero, one)?;
-        let (sender, loader) = beside(sender, Loader::new(alloc, zero, one))?;
-        Ok(Cases { sender, loader })
+        let sender = Sender::new(zero, one, case)?;
+        let (sender, loader) = beside(sender, Loader::new(case.alloc, zero, one))?;
+        Ok(Tables { sender, loader })
     }
 
-    fn sample(alloc: Global) -> Result<Cases> {
+    pub(crate) fn sample(case: &mut Case) -> Result<Tables, AllocError> {
         let zero = PortBounds {
             lowest: Port(20000),
             highest: Port(20001),
@@ -71,105 +52,71 @@ impl Cases {
             lowest: Port(40000),
             highest: Port(40003),
         };
-        Cases::new(alloc, zero, one)
+        Tables::new(zero, one, case)
     }
 
-    /// What a line answers; nothing, where its call gives nothing back.
-    fn answer(&mut self, given: &mut Given<'_>) -> Result<String> {
-        match given.word()? {
-            "draw" => self.draw(given),
-            "take" => self.take(given),
-            "loaded" => self.loader.listed(given.alloc),
-            call => {
-                self.change(call, given)?;
-                Ok(String::new(given.alloc))
-            }
+    fn begin(&mut self, case: &mut Case) {
+        let zero = bounds(case);
+        let one = bounds(case);
+        match Tables::new(zero, one, case) {
+            Ok(new) => drop(mem::replace(self, new)),
+            Err(_) => case.fault(),
         }
     }
 
-    fn change(&mut self, call: &str, given: &mut Given<'_>) -> Result<()> {
-        match call {
-            "new" => self.begin(given),
-            "own" => self.sender.own(given.port()?),
-            "disown" => self.sender.disown(given.port()?),
-            "add" => self.sender.add(given.pair()?, given.state()?),
-            "set_state" => self.sender.set_state(given.key()?, given.state()?),
-            call => bail!("no call {call}"),
+    fn ask(&mut self, case: &mut Case) {
+        case.back();
+        case.title("", ": ");
+        match case.word() {
+            "draw" => self.draw(case),
+            "take" => self.take(case),
+            "loaded" => self.loader.tell(case),
+            _ => case.fault(),
         }
-    }
-
-    fn begin(&mut self, given: &mut Given<'_>) -> Result<()> {
-        let zero = bounds(given)?;
-        let one = bounds(given)?;
-        let new = Cases::new(given.alloc, zero, one)?;
-        drop(mem::replace(self, new));
-        Ok(())
+        case.end();
     }
 
     /// Draws records, and hands them to the other table.
-    fn draw(&mut self, given: &mut Given<'_>) -> Result<String> {
-        let records = self.sender.draw(given.count()?);
-        let told = self.tell_drawn(given.alloc, records.as_slice());
+    fn draw(&mut self, case: &mut Case) {
+        let records = self.sender.draw(case.count());
+        self.hand_on(records.as_slice(), case);
         drop(records);
-        told
-    }
-
-    fn tell_drawn(&mut self, alloc: Global, records: &[Record]) -> Result<String> {
-        self.hand_on(records)?;
-        let mut out = listed(alloc, records)?;
         if self.sender.cursor.is_over() {
-            out.push_str("; over")?;
+            case.put("; over");
         }
-        Ok(out)
     }
 
-    fn hand_on(&mut self, records: &[Record]) -> Result<()> {
-        for item in records.iter() {
-            if self.loader.take(*item, 0)?.is_err() {
-                bail!("a drawn record is out of place");
+    /// Prints how many records there are, and which.
+    fn hand_on(&mut self, records: &[Record], case: &mut Case) {
+        case.put(records.len());
+        for item in records {
+            case.put("; ");
+            tell_record(item, case);
+            if self.loader.take(*item, case).is_none() {
+                case.fault();
             }
         }
-        Ok(())
     }
 
-    fn take(&mut self, given: &mut Given<'_>) -> Result<String> {
-        let item = given.record()?;
-        match self.loader.take(item, 0)? {
-            Ok(what) => Ok(format!(in given.alloc; "{what:?}")?),
-            Err(OutOfPlace) => Ok(format!(in given.alloc; "out of place")?),
+    fn take(&mut self, case: &mut Case) {
+        let item = case.record();
+        match self.loader.take(item, case) {
+            Some(what) => case.show("", what),
+            None => case.put("out of place"),
         }
     }
 }
 
-fn write_answer(out: &mut String, line: &str, answer: Result<String>) -> Result<()> {
-    match answer {
-        Ok(answer) if answer.is_empty() => {}
-        Ok(answer) => writeln!(out, "{line}: {answer}")?,
-        Err(refusal) => writeln!(out, "{line}: refused, {refusal}")?,
-    }
-    Ok(())
-}
-
-fn answer(alloc: Global, cases: &mut Cases, line: &str) -> Result<String> {
-    let words = words_of(alloc, line)?;
-    cases.answer(&mut Given::new(alloc, words.as_slice()))
-}
-
-/// The answers to the lines of a file.
-fn all_answers(alloc: Global, cases: &mut Cases, text: &str) -> Result<String> {
-    let mut out = String::new(alloc);
-    for line in text.lines() {
-        if !is_silent(line) {
-            write_answer(&mut out, line, answer(alloc, cases, line))?;
+impl Actor for Tables {
+    /// A call that gives nothing back prints nothing, but where it is refused.
+    fn act(&mut self, case: &mut Case) {
+        match case.word() {
+            "new" => self.begin(case),
+            "own" => self.sender.own(case.port(), case),
+            "disown" => self.sender.disown(case.port(), case),
+            "add" => self.sender.add(case.pair(), case.state(), case),
+            "set_state" => self.sender.set_state(case.key(), case.state(), case),
+            _ => self.ask(case),
         }
     }
-    Ok(out)
-}
-
-/// The lines for the cases of a file.
-pub(crate) fn answers(alloc: Global, text: &str) -> Result<String> {
-    let mut cases = Cases::sample(alloc)?;
-    let answers = all_answers(alloc, &mut cases, text);
-    drop(cases);
-    answers
 }

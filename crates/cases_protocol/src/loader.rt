@@ -4,15 +4,15 @@ ghost use Rattle.bindings.specs.Ports.{AreBounds};
 ghost use Rattle.bindings.specs.Table.{AreInRanges};
 
 use addresses::{Ip, Port, Protocol};
-use anyhow::Result;
 use bindings::{Hashers, PortBounds, Table};
+use cases_words::Case;
 use nat_types::{Endpoint, Record};
-use resync::{Loaded, Loading, OutOfPlace};
-use std::alloc::Global;
+use resync::{Loaded, Loading};
+use std::alloc::{AllocError, Global};
 
 /// A table, and how far its loading is.
 #[derive(Drop)]
-pub struct Loader {
+pub(crate) struct Loader {
     table: Table,
     loading: Loading,
     ghost zero: { loading.zero ≡ table.zero },
@@ -20,8 +20,21 @@ pub struct Loader {
     ghost within: { AreInRanges table },
 }
 
+/// An endpoint for which a table is made ready.
+pub(crate) fn any_endpoint() -> Endpoint {
+    Endpoint {
+        protocol: Protocol::Udp,
+        address: Ip(0),
+        port: Port(0),
+    }
+}
+
 impl Loader {
-    pub fn new(alloc: Global, zero: PortBounds, one: PortBounds) -> Result<Loader>
+    pub(crate) fn new(
+        alloc: Global,
+        zero: PortBounds,
+        one: PortBounds,
+    ) -> Result<Loader, AllocError>
         requires zero { AreBounds zero }
         requires one { AreBounds one }
     {
@@ -30,34 +43,34 @@ impl Loader {
         Ok(Loader { table, loading })
     }
 
-    pub fn take(&mut self, item: Record, now: u64) -> Result<Result<Loaded, OutOfPlace>> {
-        let any = Endpoint {
-            protocol: Protocol::Udp,
-            address: Ip(0),
-            port: Port(0),
-        };
-        self.table.ready(&[any])?;
-        Ok(self.loading.take(&mut self.table, item, now))
+    /// None where the record is out of place.
+    pub(crate) fn take(&mut self, item: Record, case: &mut Case) -> Option<Loaded> {
+        if self.table.ready(&[any_endpoint()]).is_err() {
+            case.fault();
+            return None;
+        }
+        self.loading.take(&mut self.table, item, 0).ok()
     }
 
     /// How many ports it is to own, and its entries.
-    pub fn listed(&self, alloc: Global) -> Result<String> {
-        let mut out = String::new(alloc);
-        let ports = self.table.owned()?.len();
-        write!(out, "{ports} ports")?;
-        self.write_entries(&mut out)?;
-        Ok(out)
+    pub(crate) fn tell(&self, case: &mut Case) {
+        match self.table.owned() {
+            Ok(ports) => case.put(ports.len()),
+            Err(_) => case.fault(),
+        }
+        case.put(" ports");
+        self.tell_entries(case);
     }
 
-    fn write_entries(&self, out: &mut String) -> Result<()> {
+    fn tell_entries(&self, case: &mut Case) {
         let mut last = None;
         for _ in 0..self.table.len() {
             if let Some(entry) = self.table.entry_after(last) {
                 let (pair, state) = (entry.pair, entry.state);
-                write!(out, ", {pair} {state:?}")?;
+                case.say(", ", pair);
+                case.show(" ", state);
                 last = Some(pair.key);
             }
         }
-        Ok(())
     }
 }

@@ -1,45 +1,41 @@
 //! The table that is sent, and its cursor.
-ghost use Rattle.std.specs.Prelude.{◌≡◌, true};
+ghost use Rattle.std.specs.Prelude.{◌≡◌};
 ghost use Rattle.bindings.specs.Ports.{AreBounds};
-ghost use Rattle.link.specs.Grammar.{IsWellFormedPair};
 ghost use Rattle.resync.specs.Batch.{CanBeSent};
 
-use crate::beside;
+use crate::spelled::is_spelled_pair;
 use addresses::Port;
 use anyhow::{Result, bail};
 use arrayvec::ArrayVec;
 use bindings::{Hashers, PortBounds, Table};
+use cases_words::Case;
 use nat_types::{EntryState, Key, Pair, Record};
 use resync::Cursor;
-use std::alloc::Global;
+use std::alloc::AllocError;
 
 /// A table whose pairs have a spelling on the link, and how far its batch is drawn.
 #[derive(Drop)]
-pub struct Sender {
+pub(crate) struct Sender {
     table: Table,
     zero: PortBounds,
     one: PortBounds,
-    pub cursor: Cursor,
+    pub(crate) cursor: Cursor,
     ghost sent: { CanBeSent table },
     ghost first: { table.zero ≡ zero },
     ghost second: { table.one ≡ one },
 }
 
-/// Whether the ports of a pair aren't 0.
-fn has_spelling(pair: Pair) -> bool
-    ensures { result ≡ true → IsWellFormedPair pair }
-{
-    pair.recall();
-    pair.key.port.0 > 0 && pair.endpoint.port.0 > 0
-}
-
 impl Sender {
     /// An empty table, which owns the first range.
-    pub fn new(alloc: Global, zero: PortBounds, one: PortBounds) -> Result<Sender>
+    pub(crate) fn new(
+        zero: PortBounds,
+        one: PortBounds,
+        case: &mut Case,
+    ) -> Result<Sender, AllocError>
         requires zero { AreBounds zero }
         requires one { AreBounds one }
     {
-        let table = Table::new(alloc, zero, one, Hashers::fixed())?;
+        let table = Table::new(case.alloc, zero, one, Hashers::fixed())?;
         let cursor = Cursor::new();
         let mut sender = Sender {
             table,
@@ -47,40 +43,43 @@ impl Sender {
             one,
             cursor,
         };
-        let owned = sender.own_first();
-        let (sender, ()) = beside(sender, owned)?;
+        sender.own_first(case);
         Ok(sender)
     }
 
     /// It owns the first range.
-    fn own_first(&mut self) -> Result<()> {
+    fn own_first(&mut self, case: &mut Case) {
         for port in self.zero.lowest.0..=self.zero.highest.0 {
-            self.own(Port(port))?;
+            self.own(Port(port), case);
         }
-        Ok(())
     }
 
-    pub fn own(&mut self, port: Port) -> Result<()> {
+    pub(crate) fn own(&mut self, port: Port, case: &mut Case) {
         if !self.zero.holds(port) && !self.one.holds(port) {
-            bail!("it lies in no range");
+            case.refuse("it lies in no range");
+        } else if self.table.owns(port) {
+            case.refuse("it is owned");
+        } else {
+            self.table.own(port);
         }
-        if self.table.owns(port) {
-            bail!("it is owned");
-        }
-        self.table.own(port);
-        Ok(())
     }
 
-    pub fn disown(&mut self, port: Port) -> Result<()> {
-        if !self.table.is_spare(port) {
-            bail!("it isn't spare");
+    pub(crate) fn disown(&mut self, port: Port, case: &mut Case) {
+        if self.table.is_spare(port) {
+            self.table.disown(port);
+        } else {
+            case.refuse("it isn't spare");
         }
-        self.table.disown(port);
-        Ok(())
     }
 
-    pub fn add(&mut self, pair: Pair, state: EntryState) -> Result<()> {
-        if !has_spelling(pair) {
+    pub(crate) fn add(&mut self, pair: Pair, state: EntryState, case: &mut Case) {
+        if let Err(fault) = self.added(pair, state) {
+            case.refuse(fault);
+        }
+    }
+
+    fn added(&mut self, pair: Pair, state: EntryState) -> Result<()> {
+        if !is_spelled_pair(pair) {
             bail!("a port is 0");
         }
         self.table.ready(&[pair.endpoint])?;
@@ -88,16 +87,15 @@ impl Sender {
         Ok(())
     }
 
-    pub fn set_state(&mut self, key: Key, state: EntryState) -> Result<()> {
+    pub(crate) fn set_state(&mut self, key: Key, state: EntryState, case: &mut Case) {
         match self.table.pair_of_port(key) {
-            Some(entry) if entry.state == EntryState::Doomed => bail!("it is Doomed"),
+            Some(entry) if entry.state == EntryState::Doomed => case.refuse("it is Doomed"),
             _ => self.table.set_state(key, state),
         }
-        Ok(())
     }
 
     /// So many records, at most 64, or all that are left.
-    pub fn draw(&mut self, count: usize) -> ArrayVec<Record, 64> {
+    pub(crate) fn draw(&mut self, count: usize) -> ArrayVec<Record, 64> {
         let mut records = ArrayVec::new();
         self.cursor.draw(&self.table, count.min(64), &mut records);
         records

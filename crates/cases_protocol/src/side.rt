@@ -1,22 +1,20 @@
 //! One gateway's side of the protocol, with its end of the link.
-ghost use Rattle.std.specs.Prelude.{◌≡◌, ◌<◌, ◌+◌, ◌≤◌, length, IfOk, vec_capacity, vec_len};
+ghost use Rattle.std.specs.Prelude.{◌≡◌, ◌<◌, ◌+◌, ◌≤◌, length, IfSome, vec_capacity, vec_len};
 ghost use Rattle.bindings.specs.Ports.{AreBounds};
 ghost use Rattle.link.specs.Grammar.{IsWellFormedRecord};
 ghost use Rattle.link.specs.Link.{free_places, occupied};
 ghost use Rattle.spec_binding.specs.Resets.{restart_batch};
 ghost use Rattle.bind_core.specs.Cores.{book_of};
 
-use crate::beside;
-use crate::spelled::{
-    is_spelled, is_spelled_endpoint, say, say_endpoint, say_entry, say_notes, say_owned,
-    say_pushed, say_want,
+use crate::loader::any_endpoint;
+use crate::spelled::{is_spelled, is_spelled_endpoint};
+use crate::telling::{
+    begin_part, refuse, tell_endpoint, tell_entry, tell_notes, tell_owned, tell_pushed, tell_want,
 };
-use addresses::{Ip, Port, Protocol};
-use anyhow::{Result, bail};
 use arrayvec::ArrayVec;
 use bind_core::{Core, Hashers};
 use bindings::{PortBounds, Table};
-use cases_words::Given;
+use cases_words::{Case, beside};
 use link::{Datagram, Link, write};
 use nat_types::{Endpoint, EntryState, GatewayId, Key, Note, Record};
 use spec_binding::rows_leave;
@@ -24,7 +22,7 @@ use std::alloc::Global;
 
 /// A core that has boot 1, its end of the link, and its clock.
 #[derive(Drop)]
-pub struct Side {
+pub(crate) struct Side {
     alloc: Global,
     id: GatewayId,
     core: Core,
@@ -32,15 +30,6 @@ pub struct Side {
     clock: u64,
     /// How many of the link's records were printed.
     printed: usize,
-}
-
-/// An endpoint for which a table is made ready.
-fn any_endpoint() -> Endpoint {
-    Endpoint {
-        protocol: Protocol::Udp,
-        address: Ip(0),
-        port: Port(0),
-    }
 }
 
 /// A datagram of the peer's without records.
@@ -56,34 +45,33 @@ fn empty_datagram(sender: GatewayId, boot: u64) -> Datagram {
     }
 }
 
+/// A core; gateway 0 alone is a founder.
 fn begin_core(
     alloc: Global,
     id: GatewayId,
-    word: &str,
+    is_founder: bool,
     zero: PortBounds,
     one: PortBounds,
     limit: Option<u16>,
-) -> Result<Core>
+) -> Option<Core>
     requires zero { AreBounds zero }
     requires one { AreBounds one }
 {
     let hashers = Hashers::fixed();
-    match (word, id) {
-        ("founder", GatewayId::Zero) => Ok(Core::founder(alloc, zero, one, limit, hashers)?),
-        ("unsynced", _) => Ok(Core::unsynced(alloc, id, zero, one, limit, hashers)?),
-        _ => bail!("no beginning {word}"),
+    if is_founder {
+        return Core::founder(alloc, zero, one, limit, hashers).ok();
     }
-}
-
-fn begin_link(alloc: Global, id: GatewayId, capacity: usize) -> Result<Link> {
-    Ok(Link::new(alloc, id, 1, capacity)?)
+    Core::unsynced(alloc, id, zero, one, limit, hashers).ok()
 }
 
 /// How many ports a table's gateway owns.
-fn count_owned(table: &Table) -> Result<usize>
-    ensures { IfOk result (λ n. n ≡ length table.now.owned) }
+fn count_owned(table: &Table) -> Option<usize>
+    ensures { IfSome result (λ n. n ≡ length table.now.owned) }
 {
-    Ok(table.owned()?.len())
+    match table.owned() {
+        Ok(ports) => Some(ports.len()),
+        Err(_) => None,
+    }
 }
 
 /// As the link has begun a session anew.
@@ -110,39 +98,22 @@ fn take_promised(core: &mut Core, link: &mut Link, item: &Record, now: u64, note
     core.take(*item, link, now, notes);
 }
 
-/// The first and the last port of a range.
-fn bounds(given: &mut Given<'_>) -> Result<PortBounds>
-    ensures { IfOk result AreBounds }
-{
-    let (lowest, highest) = given.range()?;
-    Ok(PortBounds { lowest, highest })
-}
-
-/// The most pairs that an inside address may have, where one more word is left.
-fn read_limit(given: &mut Given<'_>) -> Result<Option<u16>> {
-    if given.left().is_empty() {
-        return Ok(None);
-    }
-    match u16::try_from(given.number()?) {
-        Ok(limit) => Ok(Some(limit)),
-        Err(_) => bail!("a limit has 16 bits"),
-    }
-}
-
 impl Side {
-    /// As `0 founder 20000 20003 40000 40003 200 2`: who it is, how it begins, both ranges, the link's places, and the
-    /// most pairs that an inside address may have, if there is a limit.
-    pub fn new(given: &mut Given<'_>) -> Result<Side> {
-        let alloc = given.alloc;
-        let id = given.gateway()?;
-        let word = given.word()?;
-        let zero = bounds(given)?;
-        let one = bounds(given)?;
-        let capacity = given.count()?;
-        let limit = read_limit(given)?;
-        let core = begin_core(alloc, id, word, zero, one, limit)?;
-        let (core, link) = beside(core, begin_link(alloc, id, capacity))?;
-        Ok(Side {
+    pub(crate) fn new(
+        alloc: Global,
+        id: GatewayId,
+        is_founder: bool,
+        zero: PortBounds,
+        one: PortBounds,
+        capacity: usize,
+        limit: Option<u16>,
+    ) -> Option<Side>
+        requires zero { AreBounds zero }
+        requires one { AreBounds one }
+    {
+        let core = begin_core(alloc, id, is_founder, zero, one, limit)?;
+        let (core, link) = beside(core, Link::new(alloc, id, 1, capacity)).ok()?;
+        Some(Side {
             alloc,
             id,
             core,
@@ -153,150 +124,173 @@ impl Side {
     }
 
     /// The clock goes on.
-    pub fn set_clock(&mut self, now: u64) -> Result<()> {
+    pub(crate) fn set_clock(&mut self, case: &mut Case) {
+        let now = case.number();
         if now < self.clock {
-            bail!("it is later");
+            case.fault();
         }
         self.clock = now;
-        Ok(())
     }
 
     /// Makes the table ready for one more pair, and gives room for the notes of any call.
-    fn prepare(&mut self) -> Result<Vec<Note>>
-        ensures ready { IfOk result (λ v. 0 < self.new.core.table.ready) }
-        ensures room { IfOk result (λ v. vec_len v + length self.new.core.table.entries
+    fn prepare(&mut self) -> Option<Vec<Note>>
+        ensures ready { IfSome result (λ v. 0 < self.new.core.table.ready) }
+        ensures room { IfSome result (λ v. vec_len v + length self.new.core.table.entries
             < vec_capacity v) }
     {
-        self.core.ready(&[any_endpoint()])?;
+        self.core.ready(&[any_endpoint()]).ok()?;
         let room = self.core.table().len().saturating_add(1);
-        Ok(Vec::with_capacity(self.alloc, room)?)
+        Vec::with_capacity(self.alloc, room).ok()
     }
 
     /// Prints the records that were pushed since the last line, and the notes.
-    fn tell(&mut self, notes: &Vec<Note>, out: &mut String) -> Result<()> {
-        self.tell_pushed(out)?;
-        say_notes(out, notes.as_slice())
+    fn tell_done(&mut self, notes: &Vec<Note>, case: &mut Case) {
+        self.tell_pushed(case);
+        tell_notes(notes.as_slice(), case);
     }
 
-    fn tell_pushed(&mut self, out: &mut String) -> Result<()> {
+    fn tell_pushed(&mut self, case: &mut Case) {
         if self.link.wanted() > 0 {
-            return Ok(());
+            return;
         }
         let serves = self.core.is_synced();
-        let Some(datagram) = self.link.answer(serves) else {
-            return Ok(());
-        };
-        let said = say_pushed(out, datagram.records.as_slice(), self.printed);
-        self.printed = datagram.records.len();
-        drop(datagram);
-        said
+        if let Some(datagram) = self.link.answer(serves) {
+            tell_pushed(datagram.records.as_slice(), self.printed, case);
+            self.printed = datagram.records.len();
+            drop(datagram);
+        }
     }
 
-    pub fn want(&mut self, endpoint: Endpoint, out: &mut String) -> Result<()> {
+    pub(crate) fn want(&mut self, endpoint: Endpoint, case: &mut Case) {
         if !is_spelled_endpoint(endpoint) {
-            bail!("a port is 0");
+            return refuse("a port is 0", case);
         }
-        let mut notes = self.prepare()?;
+        let Some(mut notes) = self.prepare() else {
+            return case.fault();
+        };
         let looked = self.core.look(&self.link, endpoint);
         let want = self
             .core
             .want(endpoint, &mut self.link, self.clock, &mut notes);
         if looked != want {
-            bail!("look answers otherwise");
+            case.fault();
         }
-        say_want(out, want)?;
-        self.tell(&notes, out)
+        tell_want(want, case);
+        self.tell_done(&notes, case);
     }
 
-    pub fn take(&mut self, item: &Record, out: &mut String) -> Result<()> {
+    pub(crate) fn take(&mut self, item: &Record, case: &mut Case) {
         if !is_spelled(item) {
-            bail!("it has no spelling");
+            return refuse("it has no spelling", case);
         }
-        let mut notes = self.prepare()?;
+        let Some(mut notes) = self.prepare() else {
+            return case.fault();
+        };
         if self.link.room() == 0 {
-            bail!("no place is free");
+            return refuse("no place is free", case);
         }
         let ended = self
             .core
             .take(*item, &mut self.link, self.clock, &mut notes);
         if let Some(endpoint) = ended {
-            say_endpoint(out, "frees ", endpoint)?;
+            tell_endpoint("frees ", endpoint, case);
         }
-        self.tell(&notes, out)
+        self.tell_done(&notes, case);
     }
 
-    pub fn tick(&mut self, out: &mut String) -> Result<()> {
-        let mut notes = self.prepare()?;
+    pub(crate) fn tick(&mut self, case: &mut Case) {
+        let Some(mut notes) = self.prepare() else {
+            return case.fault();
+        };
         self.core.tick(&mut self.link, self.clock, &mut notes);
-        self.tell(&notes, out)
+        self.tell_done(&notes, case);
     }
 
     /// As `udp 20000 198.51.100.7 53 out -`: the key, the remote host, the way and the flags.
-    pub fn carried(&mut self, given: &mut Given<'_>, out: &mut String) -> Result<()> {
-        let key = given.key()?;
-        let remote = given.remote()?;
-        let way = given.way()?;
-        let flags = given.flags()?;
-        let mut notes = self.prepare()?;
+    pub(crate) fn carried(&mut self, case: &mut Case) {
+        let (key, remote) = (case.key(), case.remote());
+        let (way, flags) = (case.way(), case.flags());
+        let Some(mut notes) = self.prepare() else {
+            return case.fault();
+        };
         self.core
             .carried(key, remote, way, flags, self.clock, &mut notes);
-        self.tell(&notes, out)
+        self.tell_done(&notes, case);
     }
 
     /// A datagram without records comes of a boot of the peer's; whether it begins a session.
-    fn hear(&mut self, boot: u64) -> Result<bool> {
+    fn hear(&mut self, boot: u64, case: &mut Case) -> bool {
         let mut bytes = Vec::new(self.alloc);
-        write(&empty_datagram(self.id.other(), boot), &mut bytes)?;
-        Ok(self.link.take(bytes.as_slice(), self.clock)?.restarted)
+        case.keep(write(&empty_datagram(self.id.other(), boot), &mut bytes));
+        match self.link.take(bytes.as_slice(), self.clock) {
+            Ok(taken) => taken.restarted,
+            Err(_) => {
+                case.fault();
+                false
+            }
+        }
     }
 
     /// The known boot of the peer is heard again.
-    pub fn hear_again(&mut self) -> Result<()> {
+    pub(crate) fn hear_again(&mut self, case: &mut Case) {
         let boot = self.link.known_peer();
-        if self.hear(boot)? {
-            bail!("it begins a session");
+        if self.hear(boot, case) {
+            refuse("it begins a session", case);
         }
-        Ok(())
     }
 
     /// A greater boot is heard, maybe with a record that comes while the batch is promised. Then the batch is handed in.
-    pub fn restart(&mut self, boot: u64, item: Option<&Record>, out: &mut String) -> Result<()> {
+    pub(crate) fn restart(&mut self, boot: u64, item: Option<&Record>, case: &mut Case) {
         if boot <= self.link.known_peer() {
-            bail!("it isn't greater");
+            return refuse("it isn't greater", case);
         }
-        self.hear(boot)?;
+        self.hear(boot, case);
         self.printed = 0;
-        let mut notes = self.prepare()?;
-        if self.link.unacknowledged() > 0 || self.link.room() < self.most_of_batch()? {
-            bail!("there is no room for the batch");
+        match self.prepare() {
+            Some(notes) => self.restart_over(notes, item, case),
+            None => case.fault(),
+        }
+    }
+
+    fn restart_over(&mut self, notes: Vec<Note>, item: Option<&Record>, case: &mut Case)
+        requires { vec_len notes + length self.old.core.table.entries < vec_capacity notes }
+    {
+        let mut notes = notes;
+        let Some(most) = self.most_of_batch() else {
+            return case.fault();
+        };
+        if self.link.unacknowledged() > 0 || self.link.room() < most {
+            return refuse("there is no room for the batch", case);
         }
         begin_session(&mut self.core, &mut self.link, self.clock, &mut notes);
-        self.core.ready(&[any_endpoint()])?;
+        if self.core.ready(&[any_endpoint()]).is_err() {
+            return case.fault();
+        }
         if let Some(item) = item {
             if !is_spelled(item) || self.link.room() == 0 {
-                bail!("it can't come");
+                return refuse("it can't come", case);
             }
             take_promised(&mut self.core, &mut self.link, item, self.clock, &mut notes);
         }
         self.core.hand_in(&mut self.link);
-        self.tell(&notes, out)
+        self.tell_done(&notes, case);
     }
 
     /// How many records a batch of its table has at most.
-    fn most_of_batch(&self) -> Result<usize>
-        ensures { IfOk result (λ n. length (restart_batch (book_of self.now.core)) ≤ n) }
+    fn most_of_batch(&self) -> Option<usize>
+        ensures { IfSome result (λ n. length (restart_batch (book_of self.now.core)) ≤ n) }
     {
         rows_leave();
         let ports = count_owned(self.core.table())?;
         let pairs = self.core.table().len();
         if ports >= 1_000_000 || pairs >= 1_000_000 {
-            bail!("there are too many");
+            return None;
         }
-        Ok(ports + pairs + 2)
+        Some(ports + pairs + 2)
     }
 
     /// Where a packet to an outside port goes: to the endpoint of a Live or Held pair, once the core is synced.
-    pub fn inbound(&self, key: Key) -> Option<Endpoint> {
+    pub(crate) fn inbound(&self, key: Key) -> Option<Endpoint> {
         let entry = self.core.table().pair_of_port(key)?;
         match entry.state {
             EntryState::Live | EntryState::Held if self.core.is_synced() => {
@@ -307,42 +301,46 @@ impl Side {
     }
 
     /// The operator says that the peer's boots up to one are over.
-    pub fn peer_off(&mut self, boot: u64, out: &mut String) -> Result<()> {
-        let mut notes = self.prepare()?;
+    pub(crate) fn peer_off(&mut self, boot: u64, case: &mut Case) {
+        let Some(mut notes) = self.prepare() else {
+            return case.fault();
+        };
         if !self.core.is_synced() {
-            bail!("it isn't synced");
+            return refuse("it isn't synced", case);
         }
         if boot < self.link.known_peer() {
-            bail!("the word is old");
+            return refuse("the word is old", case);
         }
         self.link.close(boot);
         self.printed = 0;
         self.core.peer_off(&self.link, self.clock, &mut notes);
-        self.tell(&notes, out)
+        self.tell_done(&notes, case);
     }
 
     /// How far it is, its entries, and the ports that it owns.
-    pub fn list(&self, out: &mut String) -> Result<()> {
+    pub(crate) fn tell(&self, case: &mut Case) {
         let stage = match (self.core.is_synced(), self.core.is_lone()) {
             (false, _) => "unsynced",
             (true, false) => "paired",
             (true, true) => "lone",
         };
-        say(out, stage)?;
-        self.list_entries(out)?;
-        say_owned(out, self.core.owned()?.as_slice())
+        begin_part(stage, case);
+        self.tell_entries(case);
+        match self.core.owned() {
+            Ok(ports) => tell_owned(ports.as_slice(), case),
+            Err(_) => case.fault(),
+        }
     }
 
-    fn list_entries(&self, out: &mut String) -> Result<()> {
+    fn tell_entries(&self, case: &mut Case) {
         let table = self.core.table();
         let mut last = None;
         for _ in 0..table.len() {
             if let Some(entry) = table.entry_after(last) {
                 let (pair, state) = (entry.pair, entry.state);
-                say_entry(out, pair, state)?;
+                tell_entry(pair, state, case);
                 last = Some(pair.key);
             }
         }
-        Ok(())
     }
 }

@@ -1,107 +1,111 @@
 //! Lines on one range of ports.
+
+use crate::listing::tell_found;
 use addresses::{Parity, Port};
-use anyhow::{Result, bail};
-use cases_words::Given;
-use port_range::Range;
+use cases_words::{Actor, Case};
+use port_range::{Range, RangeFault};
 use std::alloc::Global;
-use std::mem;
+
+const PARITIES: [(&str, Parity); 2] = [("even", Parity::Even), ("odd", Parity::Odd)];
 
 /// `even` or `odd`.
-pub fn parity(given: &mut Given<'_>) -> Result<Parity> {
-    match given.word()? {
-        "even" => Ok(Parity::Even),
-        "odd" => Ok(Parity::Odd),
-        word => bail!("no parity {word}"),
-    }
+pub(crate) fn parity(case: &mut Case) -> Parity {
+    case.pick(&PARITIES, Parity::Even)
 }
 
 /// The range that the lines so far have come to.
 #[derive(Drop)]
-pub struct PortCase {
+pub(crate) struct PortCase {
     range: Range,
 }
 
 impl PortCase {
     /// The first range of the sample settings.
-    pub fn sample(alloc: Global) -> Result<PortCase> {
+    pub(crate) fn sample(alloc: Global) -> Result<PortCase, RangeFault> {
         let range = Range::new(alloc, Port(20000), Port(30000))?;
         Ok(PortCase { range })
     }
 
-    pub fn answer(&mut self, given: &mut Given<'_>) -> Result<String> {
-        let alloc = given.alloc;
-        match given.word()? {
-            "new" => self.begin(given, true)?,
-            "unowned" => self.begin(given, false)?,
-            "take" => self.take(given.port()?)?,
-            "put_back" => self.put_back(given.port()?)?,
-            "own" => self.own(given.port()?)?,
-            "disown" => self.disown(given.port()?)?,
-            "reset" => self.range.reset(),
-            call => return self.asked(call, given),
+    fn begin(&mut self, made: Result<Range, RangeFault>, case: &mut Case) {
+        match made {
+            Ok(range) => self.range = range,
+            Err(fault) => case.refuse(fault),
         }
-        Ok(String::new(alloc))
     }
 
-    fn asked(&self, call: &str, given: &mut Given<'_>) -> Result<String> {
-        let alloc = given.alloc;
-        if call == "free_like" {
-            return match self.range.free_like(parity(given)?) {
-                Some(port) => Ok(format!(in alloc; "{port}")?),
-                None => Ok(format!(in alloc; "none")?),
-            };
-        }
-        let port = given.port()?;
-        let found = match call {
-            "holds" => self.range.holds(port),
-            "is_free" => self.range.is_free(port),
-            "owns" => self.range.owns(port),
-            _ => bail!("no call {call}"),
-        };
-        Ok(format!(in alloc; "{found}")?)
-    }
-
-    fn begin(&mut self, given: &mut Given<'_>, owned: bool) -> Result<()> {
-        let lowest = given.port()?;
-        let highest = given.port()?;
-        let range = if owned {
-            Range::new(given.alloc, lowest, highest)?
+    fn take(&mut self, port: Port, case: &mut Case) {
+        if self.range.is_free(port) {
+            self.range.take(port);
         } else {
-            Range::unowned(given.alloc, lowest, highest)?
-        };
-        drop(mem::replace(&mut self.range, range));
-        Ok(())
-    }
-
-    fn take(&mut self, port: Port) -> Result<()> {
-        if !self.range.is_free(port) {
-            bail!("it isn't free");
+            case.refuse("it isn't free");
         }
-        self.range.take(port);
-        Ok(())
     }
 
-    fn put_back(&mut self, port: Port) -> Result<()> {
+    fn put_back(&mut self, port: Port, case: &mut Case) {
         if !self.range.holds(port) || self.range.is_free(port) {
-            bail!("it isn't taken");
+            case.refuse("it isn't taken");
+        } else {
+            self.range.put_back(port);
         }
-        self.range.put_back(port);
-        Ok(())
     }
 
-    fn own(&mut self, port: Port) -> Result<()> {
+    fn own(&mut self, port: Port, case: &mut Case) {
         if !self.range.holds(port) || self.range.owns(port) {
-            bail!("it isn't foreign");
+            case.refuse("it isn't foreign");
+        } else {
+            self.range.own(port);
         }
-        self.range.own(port);
-        Ok(())
     }
 
-    fn disown(&mut self, port: Port) -> Result<()> {
+    fn disown(&mut self, port: Port, case: &mut Case) {
         if !self.range.owns(port) || !self.range.is_free(port) {
-            bail!("it isn't owned and free");
+            case.refuse("it isn't owned and free");
+        } else {
+            self.range.disown(port);
         }
-        self.range.disown(port);
-        Ok(())
+    }
+
+    fn answer(&self, case: &mut Case) {
+        case.back();
+        case.title("", ": ");
+        match case.word() {
+            "free_like" => tell_found(self.range.free_like(parity(case)), case),
+            _ => self.tell(case),
+        }
+        case.end();
+    }
+
+    fn tell(&self, case: &mut Case) {
+        case.back();
+        let told = match case.word() {
+            "holds" => self.range.holds(case.port()),
+            "is_free" => self.range.is_free(case.port()),
+            "owns" => self.range.owns(case.port()),
+            _ => return case.fault(),
+        };
+        case.put(told);
+    }
+}
+
+impl Actor for PortCase {
+    /// A call that gives nothing back prints nothing, but where it is refused.
+    fn act(&mut self, case: &mut Case) {
+        let _part = case.word();
+        match case.word() {
+            "new" => {
+                let made = Range::new(case.alloc, case.port(), case.port());
+                self.begin(made, case);
+            }
+            "unowned" => {
+                let made = Range::unowned(case.alloc, case.port(), case.port());
+                self.begin(made, case);
+            }
+            "take" => self.take(case.port(), case),
+            "put_back" => self.put_back(case.port(), case),
+            "own" => self.own(case.port(), case),
+            "disown" => self.disown(case.port(), case),
+            "reset" => self.range.reset(),
+            _ => self.answer(case),
+        }
     }
 }

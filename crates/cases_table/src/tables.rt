@@ -1,21 +1,19 @@
 //! Lines on one table.
-ghost use Rattle.std.specs.Prelude.{◌≡◌, IfOk};
+ghost use Rattle.std.specs.Prelude.{◌≡◌, IfSome};
 ghost use Rattle.bindings.specs.Ports.{AreBounds};
 
-use crate::beside;
+use crate::listing::{list, tell_found};
 use crate::ports::parity;
 use addresses::Port;
-use anyhow::{Result, bail};
 use bindings::{Entry, Hashers, PortBounds, Table};
-use cases_words::Given;
+use cases_words::{Actor, Case};
 use nat_types::{EntryState, Key};
-use std::alloc::Global;
-use std::fmt::Display;
+use std::alloc::AllocError;
 use std::mem;
 
 /// The table that the lines so far have come to, and the ranges that it was made for.
 #[derive(Drop)]
-pub struct TableCase {
+pub(crate) struct TableCase {
     table: Table,
     zero: PortBounds,
     one: PortBounds,
@@ -23,53 +21,35 @@ pub struct TableCase {
     ghost second: { table.one ≡ one },
 }
 
-/// How many things there are, and which.
-pub fn listed<T: Display>(alloc: Global, things: &[T]) -> Result<String> {
-    let mut out = String::new(alloc);
-    write!(out, "{}", things.len())?;
-    for thing in things.iter() {
-        write!(out, ", {thing}")?;
-    }
-    Ok(out)
-}
-
-fn listed_keys(alloc: Global, keys: &[Key]) -> Result<String> {
-    let mut out = String::new(alloc);
-    write!(out, "{}", keys.len())?;
-    for key in keys.iter() {
-        write!(out, ", {} {}", key.protocol, key.port)?;
-    }
-    Ok(out)
-}
-
 /// An entry, if there is one.
-fn shown(alloc: Global, entry: Option<Entry>) -> Result<String> {
+fn show(entry: Option<Entry>, case: &mut Case) {
     match entry {
-        Some(entry) => Ok(format!(in alloc; "{} {:?}", entry.pair, entry.state)?),
-        None => Ok(format!(in alloc; "none")?),
+        Some(entry) => {
+            case.put(entry.pair);
+            case.show(" ", entry.state);
+        }
+        None => case.put("none"),
     }
 }
 
-/// Whether a pair comes by Install: `installed` or `chosen`.
-fn by_install(given: &mut Given<'_>) -> Result<bool> {
-    match given.word()? {
-        "installed" => Ok(true),
-        "chosen" => Ok(false),
-        word => bail!("no way to come {word}"),
-    }
-}
-
-/// The first and the last port of a range.
-fn bounds(given: &mut Given<'_>) -> Result<PortBounds>
-    ensures { IfOk result AreBounds }
+/// The first and the last port of a range; none where the line is refused.
+fn bounds(case: &mut Case) -> Option<PortBounds>
+    ensures { IfSome result AreBounds }
 {
-    let (lowest, highest) = given.range()?;
-    Ok(PortBounds { lowest, highest })
+    let (lowest, highest) = (case.port(), case.port());
+    if lowest.0 < 1024 || highest.0 < lowest.0 {
+        case.title("", ": refused, no bounds ");
+        case.put(lowest);
+        case.say(" ", highest);
+        case.end();
+        return None;
+    }
+    Some(PortBounds { lowest, highest })
 }
 
 impl TableCase {
     /// The ranges of the sample settings.
-    pub fn sample(alloc: Global) -> Result<TableCase> {
+    pub(crate) fn sample(case: &mut Case) -> Result<TableCase, AllocError> {
         let zero = PortBounds {
             lowest: Port(20000),
             highest: Port(30000),
@@ -78,167 +58,195 @@ impl TableCase {
             lowest: Port(40000),
             highest: Port(50000),
         };
-        TableCase::new(alloc, zero, one)
+        TableCase::new(zero, one, case)
     }
 
     /// An empty table, which owns the first range.
-    fn new(alloc: Global, zero: PortBounds, one: PortBounds) -> Result<TableCase>
+    fn new(zero: PortBounds, one: PortBounds, case: &mut Case) -> Result<TableCase, AllocError>
         requires zero { AreBounds zero }
         requires one { AreBounds one }
     {
-        let table = Table::new(alloc, zero, one, Hashers::fixed())?;
-        let mut case = TableCase { table, zero, one };
-        let owned = case.own_first();
-        let (case, ()) = beside(case, owned)?;
-        Ok(case)
+        let table = Table::new(case.alloc, zero, one, Hashers::fixed())?;
+        let mut made = TableCase { table, zero, one };
+        made.own_first(case);
+        Ok(made)
     }
 
     /// It owns the first range.
-    fn own_first(&mut self) -> Result<()> {
+    fn own_first(&mut self, case: &mut Case) {
         for port in self.zero.lowest.0..=self.zero.highest.0 {
-            self.own(Port(port))?;
+            self.own(Port(port), case);
         }
-        Ok(())
     }
 
-    pub fn answer(&mut self, given: &mut Given<'_>) -> Result<String> {
-        let alloc = given.alloc;
-        match given.word()? {
-            "new" => self.begin(given)?,
-            "own" => self.own(given.port()?)?,
-            "disown" => self.disown(given.port()?)?,
-            "carried" => self.carry(given)?,
-            "renew" => self.table.renew(given.key()?, given.number()?),
-            "renew_all" => self.table.renew_all(given.number()?),
-            "set_state" => self.set_state(given)?,
-            "remove" => self.table.remove(given.key()?),
+    /// The calls that give nothing back print nothing, but where they are refused.
+    fn change(&mut self, case: &mut Case) {
+        case.back();
+        match case.word() {
+            "new" => self.begin(case),
+            "own" => self.own(case.port(), case),
+            "disown" => self.disown(case.port(), case),
+            "carried" => self.carry(case),
+            "renew" => self.table.renew(case.key(), case.number()),
+            "renew_all" => self.table.renew_all(case.number()),
+            "set_state" => self.set_state(case),
+            "remove" => self.table.remove(case.key()),
             "revive" => self.table.revive(),
             "clear" => self.table.clear(),
             "own_all" => self.table.own_all(),
-            "add" => return self.add(given),
-            call => return self.asked(call, given),
-        }
-        Ok(String::new(alloc))
-    }
-
-    fn asked(&mut self, call: &str, given: &mut Given<'_>) -> Result<String> {
-        let alloc = given.alloc;
-        match call {
-            "free_like" => self.chosen(given),
-            "pair_of_port" => shown(alloc, self.table.pair_of_port(given.key()?)),
-            "port_of" => shown(alloc, self.table.port_of(given.endpoint()?)),
-            "first_entry" => shown(alloc, self.table.entry_after(None)),
-            "entry_after" => shown(alloc, self.table.entry_after(Some(given.key()?))),
-            "owned" => listed(alloc, self.table.owned()?.as_slice()),
-            "first_run" => self.run(given),
-            "len" => Ok(format!(in alloc; "{}", self.table.len())?),
-            "pairs_of" => Ok(format!(in alloc; "{}", self.table.pairs_of(given.ip()?))?),
-            "idle_keys" => self.idle_keys(given),
-            "pairs" => listed(alloc, self.table.pairs()?.as_slice()),
-            "translating" => listed(alloc, self.table.translating()?.as_slice()),
-            _ => self.told(call, given),
+            _ => self.ask(case),
         }
     }
 
-    fn told(&self, call: &str, given: &mut Given<'_>) -> Result<String> {
-        let told = match call {
-            "owns" => self.table.owns(given.port()?),
-            "idle" => self.table.idle(given.key()?, given.number()?),
-            "unused" => self.table.unused(given.key()?),
-            "is_vacant" => self.table.is_vacant(given.port()?),
-            "is_spare" => self.table.is_spare(given.port()?),
-            _ => bail!("no call {call}"),
+    fn ask(&mut self, case: &mut Case) {
+        case.title("", ": ");
+        self.answer(case);
+        case.end();
+    }
+
+    fn answer(&mut self, case: &mut Case) {
+        case.back();
+        match case.word() {
+            "pair_of_port" => show(self.table.pair_of_port(case.key()), case),
+            "port_of" => show(self.table.port_of(case.endpoint()), case),
+            "first_entry" => show(self.table.entry_after(None), case),
+            "entry_after" => show(self.table.entry_after(Some(case.key())), case),
+            "owned" => list(self.table.owned(), case),
+            "pairs" => list(self.table.pairs(), case),
+            "translating" => list(self.table.translating(), case),
+            "idle_keys" => self.tell_idle(case),
+            "free_like" => self.choose(case),
+            "first_run" => self.tell_run(case),
+            _ => self.tell(case),
+        }
+    }
+
+    fn tell(&self, case: &mut Case) {
+        case.back();
+        let told = match case.word() {
+            "owns" => self.table.owns(case.port()),
+            "idle" => self.table.idle(case.key(), case.number()),
+            "unused" => self.table.unused(case.key()),
+            "is_vacant" => self.table.is_vacant(case.port()),
+            "is_spare" => self.table.is_spare(case.port()),
+            _ => return self.count(case),
         };
-        Ok(format!(in given.alloc; "{told}")?)
+        case.put(told);
     }
 
-    fn begin(&mut self, given: &mut Given<'_>) -> Result<()> {
-        let zero = bounds(given)?;
-        let one = bounds(given)?;
-        let new = TableCase::new(given.alloc, zero, one)?;
-        drop(mem::replace(self, new));
-        Ok(())
+    fn count(&self, case: &mut Case) {
+        case.back();
+        match case.word() {
+            "len" => case.put(self.table.len()),
+            "pairs_of" => {
+                let count = self.table.pairs_of(case.ip());
+                case.put(count);
+            }
+            _ => case.fault(),
+        }
     }
 
-    fn own(&mut self, port: Port) -> Result<()> {
+    fn begin(&mut self, case: &mut Case) {
+        let Some(zero) = bounds(case) else {
+            return;
+        };
+        let Some(one) = bounds(case) else {
+            return;
+        };
+        match TableCase::new(zero, one, case) {
+            Ok(new) => drop(mem::replace(self, new)),
+            Err(_) => case.fault(),
+        }
+    }
+
+    fn own(&mut self, port: Port, case: &mut Case) {
         if !self.zero.holds(port) && !self.one.holds(port) {
-            bail!("it lies in no range");
+            case.refuse("it lies in no range");
+        } else if self.table.owns(port) {
+            case.refuse("it is owned");
+        } else {
+            self.table.own(port);
         }
-        if self.table.owns(port) {
-            bail!("it is owned");
-        }
-        self.table.own(port);
-        Ok(())
     }
 
-    fn disown(&mut self, port: Port) -> Result<()> {
+    fn disown(&mut self, port: Port, case: &mut Case) {
         if !self.table.owns(port) {
-            bail!("it isn't owned");
+            case.refuse("it isn't owned");
+        } else if !self.table.is_vacant(port) {
+            case.refuse("it has an entry");
+        } else {
+            self.table.disown(port);
         }
-        if !self.table.is_vacant(port) {
-            bail!("it has an entry");
+    }
+
+    /// A pair comes by Install, `installed`, or by this gateway's choice, `chosen`.
+    fn add(&mut self, case: &mut Case) {
+        let (pair, state) = (case.pair(), case.state());
+        let by_install = case.is_first("installed", "chosen");
+        let now = case.number();
+        if self.table.ready(&[pair.endpoint]).is_err() {
+            return case.fault();
         }
-        self.table.disown(port);
-        Ok(())
+        match self.table.add(pair, state, by_install, now) {
+            Ok(()) => case.title("", ": added\n"),
+            Err(fault) => case.refuse(fault),
+        }
     }
 
-    fn add(&mut self, given: &mut Given<'_>) -> Result<String> {
-        let pair = given.pair()?;
-        let state = given.state()?;
-        let by_install = by_install(given)?;
-        let now = given.number()?;
-        self.table.ready(&[pair.endpoint])?;
-        self.table.add(pair, state, by_install, now)?;
-        Ok(format!(in given.alloc; "added")?)
+    fn carry(&mut self, case: &mut Case) {
+        let (key, remote) = (case.key(), case.remote());
+        let (way, flags) = (case.way(), case.flags());
+        self.table.carried(key, remote, way, flags, case.number());
     }
 
-    fn carry(&mut self, given: &mut Given<'_>) -> Result<()> {
-        let key = given.key()?;
-        let remote = given.remote()?;
-        let way = given.way()?;
-        let flags = given.flags()?;
-        let now = given.number()?;
-        self.table.carried(key, remote, way, flags, now);
-        Ok(())
-    }
-
-    fn set_state(&mut self, given: &mut Given<'_>) -> Result<()> {
-        let key = given.key()?;
-        let state = given.state()?;
+    fn set_state(&mut self, case: &mut Case) {
+        let (key, state) = (case.key(), case.state());
         match self.table.pair_of_port(key) {
-            Some(entry) if entry.state == EntryState::Doomed => bail!("it is Doomed"),
+            Some(entry) if entry.state == EntryState::Doomed => case.refuse("it is Doomed"),
             _ => self.table.set_state(key, state),
         }
-        Ok(())
     }
 
-    fn chosen(&self, given: &mut Given<'_>) -> Result<String> {
-        let protocol = given.protocol()?;
-        let parity = parity(given)?;
-        match self.table.free_like(protocol, parity) {
-            Some(port) => Ok(format!(in given.alloc; "{port}")?),
-            None => Ok(format!(in given.alloc; "none")?),
-        }
+    fn choose(&self, case: &mut Case) {
+        let (protocol, parity) = (case.protocol(), parity(case));
+        tell_found(self.table.free_like(protocol, parity), case);
     }
 
     /// The first run of owned ports from one on.
-    fn run(&self, given: &mut Given<'_>) -> Result<String> {
-        match self.table.first_run(given.port()?) {
-            Some(run) => Ok(format!(in given.alloc; "{} to {}", run.lowest, run.highest)?),
-            None => Ok(format!(in given.alloc; "none")?),
+    fn tell_run(&self, case: &mut Case) {
+        match self.table.first_run(case.port()) {
+            Some(run) => {
+                case.put(run.lowest);
+                case.say(" to ", run.highest);
+            }
+            None => case.put("none"),
         }
     }
 
     /// How many keys are idle and may be let go by a gateway that is alone, or paired; and which.
-    fn idle_keys(&mut self, given: &mut Given<'_>) -> Result<String> {
-        let lone = match given.word()? {
-            "alone" => true,
-            "paired" => false,
-            stage => bail!("no stage {stage}"),
-        };
-        let now = given.number()?;
-        let mut keys = Vec::new(given.alloc);
-        self.table.idle_keys(lone, now, &mut keys)?;
-        listed_keys(given.alloc, keys.as_slice())
+    fn tell_idle(&mut self, case: &mut Case) {
+        let is_alone = case.is_first("alone", "paired");
+        let now = case.number();
+        let mut keys = Vec::new(case.alloc);
+        case.keep(self.table.idle_keys(is_alone, now, &mut keys));
+        tell_keys(keys.as_slice(), case);
+    }
+}
+
+fn tell_keys(keys: &[Key], case: &mut Case) {
+    case.put(keys.len());
+    for key in keys {
+        case.say(", ", key.protocol);
+        case.say(" ", key.port);
+    }
+}
+
+impl Actor for TableCase {
+    fn act(&mut self, case: &mut Case) {
+        let _part = case.word();
+        match case.word() {
+            "add" => self.add(case),
+            _ => self.change(case),
+        }
     }
 }

@@ -1,66 +1,72 @@
 //! Lines on the due moments of slots.
 ghost use Rattle.std.specs.Prelude.{◌≡◌, length};
 
-use crate::tables::listed;
-use anyhow::{Result, bail};
-use cases_words::Given;
-use std::alloc::Global;
+use crate::listing::list_all;
+use cases_words::{Actor, Case};
+use std::alloc::{AllocError, Global};
 use std::mem;
 use timers::Timers;
 
 /// Slots that the lines so far have set, and how many there are.
 #[derive(Drop)]
-pub struct TimerCase {
+pub(crate) struct TimerCase {
     timers: Timers,
     count: usize,
     ghost sized: { length timers ≡ count },
 }
 
 impl TimerCase {
-    pub fn new(alloc: Global, count: usize) -> Result<TimerCase> {
+    pub(crate) fn new(alloc: Global, count: usize) -> Result<TimerCase, AllocError> {
         let timers = Timers::with_capacity(alloc, count)?;
         Ok(TimerCase { timers, count })
     }
 
-    pub fn answer(&mut self, given: &mut Given<'_>) -> Result<String> {
-        let alloc = given.alloc;
-        match given.word()? {
-            "new" => self.begin(given)?,
-            "set" => self.set(given.count()?, given.number()?)?,
-            "clear" => self.clear(given.count()?)?,
-            "due" => return self.due(alloc, given.number()?),
-            call => bail!("no call {call}"),
+    fn begin(&mut self, case: &mut Case) {
+        match TimerCase::new(case.alloc, case.count()) {
+            Ok(new) => drop(mem::replace(self, new)),
+            Err(_) => case.fault(),
         }
-        Ok(String::new(alloc))
     }
 
-    fn begin(&mut self, given: &mut Given<'_>) -> Result<()> {
-        let new = TimerCase::new(given.alloc, given.count()?)?;
-        drop(mem::replace(self, new));
-        Ok(())
-    }
-
-    fn set(&mut self, slot: usize, due: u64) -> Result<()> {
+    fn set(&mut self, case: &mut Case) {
+        let (slot, due) = (case.count(), case.number());
         if slot >= self.count {
-            bail!("no such slot");
+            case.refuse("no such slot");
+        } else {
+            self.timers.set(slot, due);
         }
-        self.timers.set(slot, due);
-        Ok(())
     }
 
-    fn clear(&mut self, slot: usize) -> Result<()> {
+    fn clear(&mut self, case: &mut Case) {
+        let slot = case.count();
         if slot >= self.count {
-            bail!("no such slot");
+            case.refuse("no such slot");
+        } else {
+            self.timers.clear(slot);
         }
-        self.timers.clear(slot);
-        Ok(())
     }
 
     /// How many slots were due, and which, in order, since `due` gives them in any.
-    fn due(&mut self, alloc: Global, now: u64) -> Result<String> {
-        let mut slots = Vec::new(alloc);
-        self.timers.due(now, &mut slots)?;
+    fn tell_due(&mut self, case: &mut Case) {
+        case.title("", ": ");
+        let now = case.number();
+        let mut slots = Vec::new(case.alloc);
+        case.keep(self.timers.due(now, &mut slots));
         slots.sort_unstable();
-        listed(alloc, slots.as_slice())
+        list_all(slots.as_slice(), case);
+        case.end();
+    }
+}
+
+impl Actor for TimerCase {
+    fn act(&mut self, case: &mut Case) {
+        let _part = case.word();
+        match case.word() {
+            "new" => self.begin(case),
+            "set" => self.set(case),
+            "clear" => self.clear(case),
+            "due" => self.tell_due(case),
+            _ => case.fault(),
+        }
     }
 }

@@ -107,11 +107,13 @@ impl Case {
     pub fn rest(&mut self) -> String {
         let mut rest = String::new(self.alloc);
         let mut written = Ok(());
+        let mut is_first = true;
         for word in self.line.split(self.mark).skip(self.next) {
-            if !rest.is_empty() {
+            if !is_first {
                 written = written.and(rest.push(self.mark));
             }
             written = written.and(rest.push_str(word));
+            is_first = false;
         }
         self.keep(written);
         self.next = usize::MAX;

@@ -2,9 +2,6 @@
 #![tactic(auto)]
 
 mod case;
-mod given;
-mod items;
-mod lines;
 mod pairs;
 mod playing;
 mod printing;
@@ -13,6 +10,4 @@ mod records;
 mod tables;
 
 pub use case::Case;
-pub use given::Given;
-pub use lines::{is_silent, number, octets, words_of};
 pub use playing::{Actor, beside, play};

@@ -1,6 +1,6 @@
 //! Does what the lines of a file say.
 
-use crate::{Case, is_silent};
+use crate::Case;
 use anyhow::{Result, bail};
 use std::fs;
 use std::rt::Files;
@@ -52,4 +52,9 @@ fn play_lines<A: Actor>(text: &str, actor: &mut A, case: &mut Case) -> Result<()
         }
     }
     Ok(())
+}
+
+/// A line that says nothing.
+fn is_silent(line: &str) -> bool {
+    line.is_empty() || line.starts_with("#")
 }

@@ -70,6 +70,13 @@ impl Case {
         self.say("refused, ", fault);
     }
 
+    /// The whole line, and why it is refused.
+    pub fn refuse<D: Display + Drop>(&mut self, fault: D) {
+        self.title("", ": ");
+        self.refused(fault);
+        self.end();
+    }
+
     /// The whole line, between two texts.
     pub fn title(&mut self, before: &str, behind: &str) {
         let line = self.line.as_str();

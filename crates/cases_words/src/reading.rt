@@ -5,7 +5,7 @@ use crate::Case;
 use crate::tables::{GATEWAYS, PROTOCOLS, SIDES, STATES};
 use addresses::{Ip, Mac, Port, Protocol};
 use hex::{FromHex, FromHexError};
-use nat_types::{EntryState, GatewayId, Key, Pair, Side};
+use nat_types::{EntryState, GatewayId, Side};
 use std::alloc::Global;
 use std::net::Ipv4Addr;
 
@@ -85,20 +85,6 @@ impl Case {
     pub fn ip(&mut self) -> Ip {
         let read = self.word().parse::<Ipv4Addr>().ok();
         Ip(self.or(read, Ipv4Addr::UNSPECIFIED).to_bits())
-    }
-
-    /// As `udp 20000`: protocol and outside port.
-    pub fn key(&mut self) -> Key {
-        let protocol = self.protocol();
-        let port = self.port();
-        Key { protocol, port }
-    }
-
-    /// As `udp 20000 192.168.1.10 5000`: protocol, outside port, inside address and inside port.
-    pub fn pair(&mut self) -> Pair {
-        let key = self.key();
-        let address = self.ip();
-        Pair::new(key, address, self.port())
     }
 
     /// The state of an entry, by its name.

@@ -1,111 +1,98 @@
 //! The audit of a script's world: whether its trace and tables are those of a pair that keeps its promises.
 
-use anyhow::Result;
-use faults::job_of;
+use cases_words::Case;
+use faults::{Fault, Job, job_of};
 use frame_sim::{AuditFault, World, audit};
-use nat_types::{GatewayId, Note, Pair, WorldEvent};
+use nat_types::{GatewayId, NoMemory, WorldEvent};
 use settings::Settings;
 use std::alloc::Global;
-use std::io::Write;
 
 /// Runs a script, and prints what is wrong once it is run, or that nothing is.
-pub(crate) fn after_all<O: Write>(
-    alloc: Global,
-    settings: &str,
-    script: &str,
-    output: &mut O,
-) -> Result<()> {
-    let job = job_of(alloc, settings, script)?;
-    match fault_after(alloc, &job.settings, job.events.as_slice())? {
-        None => writeln!(output, "audit passed")?,
-        Some(fault) => writeln!(output, "audit: {fault}")?,
+pub(crate) fn after_all(settings: &str, script: &str, case: &mut Case) {
+    match read(case.alloc, settings, script) {
+        Ok(job) => {
+            tell_after(&job.settings, job.events.as_slice(), case);
+            drop(job);
+        }
+        Err(_) => case.fault(),
     }
-    Ok(())
 }
 
 /// Runs a script event by event, and prints how many events it has, or the first one after which something is wrong.
-pub(crate) fn after_each<O: Write>(
-    alloc: Global,
-    settings: &str,
-    script: &str,
-    output: &mut O,
-) -> Result<()> {
-    let job = job_of(alloc, settings, script)?;
-    let events = job.events.as_slice();
-    match first_fault(alloc, &job.settings, events)? {
-        None => writeln!(output, "audit passed {}", events.len())?,
-        Some((number, fault)) => writeln!(output, "audit after event {number}: {fault}")?,
+pub(crate) fn after_each(settings: &str, script: &str, case: &mut Case) {
+    match read(case.alloc, settings, script) {
+        Ok(job) => {
+            tell_first(&job.settings, job.events.as_slice(), case);
+            drop(job);
+        }
+        Err(_) => case.fault(),
     }
-    Ok(())
 }
 
-/// What is wrong once these events have happened to a new world.
-fn fault_after(
-    alloc: Global,
-    settings: &Settings,
-    events: &[WorldEvent],
-) -> Result<Option<AuditFault>> {
-    let mut world = World::founded(alloc, settings)?;
-    let fault = fault_behind(alloc, &mut world, events);
-    world.end();
-    fault
+/// The job of two texts, of which nothing is said, so that what a caller has to show stays small.
+fn read(alloc: Global, settings: &str, script: &str) -> Result<Job, Fault> {
+    job_of(alloc, settings, script)
+}
+
+/// A new world, of which nothing is said either.
+fn founded(alloc: Global, settings: &Settings) -> Result<World<'_>, NoMemory> {
+    World::founded(alloc, settings)
+}
+
+/// Prints what is wrong once these events have happened to a new world.
+fn tell_after(settings: &Settings, events: &[WorldEvent], case: &mut Case) {
+    match founded(case.alloc, settings) {
+        Ok(mut world) => {
+            run_on(&mut world, events, case);
+            match fault_in(&world, case) {
+                Some(fault) => case.say("audit: ", fault),
+                None => case.put("audit passed"),
+            }
+            case.end();
+            world.end();
+        }
+        Err(_) => case.fault(),
+    }
+}
+
+/// Prints the first event after which something is wrong with a new world.
+fn tell_first(settings: &Settings, events: &[WorldEvent], case: &mut Case) {
+    match founded(case.alloc, settings) {
+        Ok(mut world) => {
+            tell_first_on(&mut world, events, case);
+            case.end();
+            world.end();
+        }
+        Err(_) => case.fault(),
+    }
 }
 
 /// The number of the first event, from 1, after which something is wrong, and what it is.
-fn first_fault(
-    alloc: Global,
-    settings: &Settings,
-    events: &[WorldEvent],
-) -> Result<Option<(usize, AuditFault)>> {
-    let mut world = World::founded(alloc, settings)?;
-    let fault = first_fault_on(alloc, &mut world, events);
-    world.end();
-    fault
-}
-
-/// The same, of a world that is there.
-fn first_fault_on(
-    alloc: Global,
-    world: &mut World<'_>,
-    events: &[WorldEvent],
-) -> Result<Option<(usize, AuditFault)>> {
+fn tell_first_on(world: &mut World<'_>, events: &[WorldEvent], case: &mut Case) {
     for (above, event) in events.chunks(1).enumerate() {
-        if let Some(fault) = fault_behind(alloc, world, event)? {
-            return Ok(Some((above.saturating_add(1), fault)));
+        run_on(world, event, case);
+        if let Some(fault) = fault_in(world, case) {
+            case.say("audit after event ", above.saturating_add(1));
+            return case.say(": ", fault);
         }
     }
-    Ok(None)
+    case.say("audit passed ", events.len());
 }
 
-/// What is wrong once these events have happened to a world, too.
-fn fault_behind(
-    alloc: Global,
-    world: &mut World<'_>,
-    events: &[WorldEvent],
-) -> Result<Option<AuditFault>> {
-    run_on(world, events)?;
-    fault_in(alloc, world)
-}
-
-/// Runs events on a world. It says nothing of it, so that what a caller has to show stays small.
-fn run_on(world: &mut World<'_>, events: &[WorldEvent]) -> Result<()> {
-    world.run(events)?;
-    Ok(())
+/// Runs events on a world. It says nothing of it.
+fn run_on(world: &mut World<'_>, events: &[WorldEvent], case: &mut Case) {
+    case.keep(world.run(events));
 }
 
 /// What is wrong with a world's trace and tables.
-fn fault_in(alloc: Global, world: &World<'_>) -> Result<Option<AuditFault>> {
-    let zero = table_of(world, GatewayId::Zero)?;
-    let one = table_of(world, GatewayId::One)?;
-    Ok(judged(alloc, world.trace(), zero.as_slice(), one.as_slice()))
-}
-
-/// The pairs that a gateway holds.
-fn table_of(world: &World<'_>, id: GatewayId) -> Result<Vec<Pair>> {
-    Ok(world.table(id)?)
-}
-
-/// What is wrong with a trace and two tables.
-fn judged(alloc: Global, trace: &[Note], zero: &[Pair], one: &[Pair]) -> Option<AuditFault> {
-    audit(alloc, trace, zero, one).err()
+fn fault_in(world: &World<'_>, case: &mut Case) -> Option<AuditFault> {
+    match (world.table(GatewayId::Zero), world.table(GatewayId::One)) {
+        (Ok(zero), Ok(one)) => {
+            audit(case.alloc, world.trace(), zero.as_slice(), one.as_slice()).err()
+        }
+        _ => {
+            case.fault();
+            None
+        }
+    }
 }

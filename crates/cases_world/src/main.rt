@@ -6,19 +6,12 @@ mod narrow;
 mod rows;
 
 use anyhow::Result;
-use std::fs;
-use std::io::{self, BufWriter, Write};
+use cases_words::{Case, play};
+use rows::Rows;
 
 fn main(rt: HostRuntime) -> Result<()> {
-    let rows = fs::read_to_string(&rt, "rows.list")?;
-    let mut output = BufWriter::new(rt.alloc(), io::writer(&rt))?;
-    for row in rows.lines() {
-        if row.is_empty() || row.starts_with("#") {
-            continue;
-        }
-        writeln!(output, "== {row}")?;
-        rows::print(&rt, row, &mut output)?;
-    }
-    output.flush()?;
-    Ok(())
+    let mut case = Case::new(rt.alloc());
+    let played = play(&rt, "rows.list", Rows::new(rt), &mut case);
+    case.flush(&rt);
+    played
 }

@@ -3,12 +3,12 @@
 use std::io::{self, ErrorKind, Write};
 
 #[derive(Drop)]
-pub struct Narrow {
+pub(crate) struct Narrow {
     room: usize,
 }
 
 impl Narrow {
-    pub fn new(room: usize) -> Narrow {
+    pub(crate) fn new(room: usize) -> Narrow {
         Narrow { room }
     }
 }

@@ -2,113 +2,166 @@
 
 use crate::audits::{after_all, after_each};
 use crate::narrow::Narrow;
-use anyhow::{Context, Result, bail};
+use anyhow::Result;
+use cases_words::{Actor, Case};
 use faults::text_of;
 use simulation::simulate;
-use std::alloc::Global;
-use std::io::Write;
-use std::rt::Files;
+use std::alloc::{AllocError, Global};
 
-/// Prints what the run of a line prints, with the settings of S.toml where it names no others.
-///
+#[derive(Drop)]
+pub(crate) struct Rows {
+    rt: HostRuntime,
+}
+
+impl Rows {
+    pub(crate) fn new(rt: HostRuntime) -> Rows {
+        Rows { rt }
+    }
+}
+
+impl Actor for Rows {
+    /// Prints what the run of a line prints, with the settings of S.toml where it names no others.
+    ///
+    /// - `line TEXT` runs a script of that one line, `times COUNT TEXT` one of so many
+    /// - `settings TEXT` runs an empty script with this text for the settings
+    /// - `room COUNT TEXT` runs a script of one line, whose output has room for so many bytes
+    /// - `file NAME` reads a script's file
+    /// - all else runs a script's file (`scripted`)
+    fn act(&mut self, case: &mut Case) {
+        case.title("== ", "\n");
+        match case.word() {
+            "line" => {
+                let script = case.rest();
+                simulated(sample(&self.rt, case).as_str(), script.as_str(), case);
+            }
+            "settings" => simulated(case.rest().as_str(), "", case),
+            "times" => repeated(&self.rt, case),
+            "room" => crowded(&self.rt, case),
+            "file" => opened(&self.rt, case),
+            _ => scripted(&self.rt, case),
+        }
+    }
+}
+
+/// The text of the file of a name and a kind.
+fn text_at(rt: &HostRuntime, name: &str, kind: &str) -> Result<String> {
+    let path = format!(in rt.alloc(); "{name}.{kind}")?;
+    Ok(text_of(rt, path.as_str())?)
+}
+
+/// The settings' text.
+fn sample(rt: &HostRuntime, case: &mut Case) -> String {
+    let read = text_at(rt, "S", "toml");
+    case.or_empty(read)
+}
+
 /// - `script NAME` runs the file NAME.script, and audits its trace; `with NAME` does so with the settings of NAME.toml
 /// - `each NAME` runs NAME.script event by event, and audits the trace after each; it prints how many there were, or the
 ///   first one after which the audit fails; `each-with NAME` does so with the settings of NAME.toml
 /// - `fault NAME` runs a file that isn't read as a script
-/// - `line TEXT` runs a script of that one line, `times COUNT TEXT` one of so many
-/// - `settings TEXT` runs an empty script with this text for the settings
-/// - `room COUNT TEXT` runs a script of one line, whose output has room for so many bytes
-/// - `file NAME` reads a script's file
-pub fn print<R: Files + AllocGlobal, O: Write>(rt: &R, row: &str, output: &mut O) -> Result<()> {
-    let (alloc, (verb, rest)) = (rt.alloc(), row.split_once(' ').context("no verb")?);
-    match verb {
-        "line" => simulated(alloc, sample(rt)?.as_str(), rest, output),
-        "settings" => simulated(alloc, rest, "", output),
-        "times" => repeated(rt, rest, output),
-        "room" => crowded(rt, rest, output),
-        "file" => opened(rt, rest, output),
-        _ => scripted(rt, verb, rest, output),
+fn scripted(rt: &HostRuntime, case: &mut Case) {
+    case.back();
+    let verb = case.name();
+    let name = case.name();
+    let read = text_at(rt, name.as_str(), "script");
+    let script = case.or_empty(read);
+    let has_own = verb.as_str().ends_with("with");
+    let read = text_at(rt, if has_own { name.as_str() } else { "S" }, "toml");
+    let settings = case.or_empty(read);
+    match verb.as_str() {
+        "script" | "with" => audited(settings.as_str(), script.as_str(), case),
+        "each" | "each-with" => after_each(settings.as_str(), script.as_str(), case),
+        "fault" => simulated(settings.as_str(), script.as_str(), case),
+        _ => case.fault(),
     }
 }
 
-/// The settings' text.
-fn sample<R: Files + AllocGlobal>(rt: &R) -> Result<String> {
-    Ok(text_of(rt, "S.toml")?)
-}
-
-/// The text of a script's own settings.
-fn own<R: Files + AllocGlobal>(rt: &R, name: &str) -> Result<String> {
-    let file = format!(in rt.alloc(); "{name}.toml")?;
-    Ok(text_of(rt, file.as_str())?)
-}
-
-/// The lines whose last word is the name of a script's file.
-fn scripted<R: Files + AllocGlobal, O: Write>(
-    rt: &R,
-    verb: &str,
-    name: &str,
-    output: &mut O,
-) -> Result<()> {
-    let alloc = rt.alloc();
-    let text = text_of(rt, format!(in alloc; "{name}.script")?.as_str())?;
-    let script = text.as_str();
-    match verb {
-        "script" => audited(alloc, sample(rt)?.as_str(), script, output),
-        "with" => audited(alloc, own(rt, name)?.as_str(), script, output),
-        "each" => after_each(alloc, sample(rt)?.as_str(), script, output),
-        "each-with" => after_each(alloc, own(rt, name)?.as_str(), script, output),
-        "fault" => simulated(alloc, sample(rt)?.as_str(), script, output),
-        _ => bail!("no verb {verb}"),
-    }
+/// The status of a script. What a caller has to show stays small where this says nothing of it.
+fn status_of(
+    alloc: Global,
+    settings: &str,
+    script: &str,
+    output: &mut Vec<u8>,
+    errors: &mut Vec<u8>,
+) -> u8 {
+    simulate(alloc, settings, script, output, errors)
 }
 
 /// Output, faults and status of a script.
-fn simulated<O: Write>(alloc: Global, settings: &str, script: &str, output: &mut O) -> Result<()> {
-    let mut errors = Vec::new(alloc);
-    let status = simulate(alloc, settings, script, output, &mut errors);
-    output.write_all(errors.as_slice())?;
-    writeln!(output, "status {status}")?;
-    Ok(())
+fn simulated(settings: &str, script: &str, case: &mut Case) {
+    let mut errors = Vec::new(case.alloc);
+    let status = status_of(case.alloc, settings, script, &mut case.out, &mut errors);
+    tell(status, errors.as_slice(), case);
+}
+
+fn tell(status: u8, errors: &[u8], case: &mut Case) {
+    case.text(errors);
+    case.say("status ", status);
+    case.end();
 }
 
 /// Output and status of a script, and whether the trace and the tables of its run are those of a pair that keeps its
 /// promises.
-fn audited<O: Write>(alloc: Global, settings: &str, script: &str, output: &mut O) -> Result<()> {
-    simulated(alloc, settings, script, output)?;
-    after_all(alloc, settings, script, output)
+fn audited(settings: &str, script: &str, case: &mut Case) {
+    simulated(settings, script, case);
+    after_all(settings, script, case);
 }
 
 /// A script of the same line many times.
-fn repeated<R: Files + AllocGlobal, O: Write>(rt: &R, rest: &str, output: &mut O) -> Result<()> {
-    let (count, line) = rest.split_once(' ').context("no count")?;
-    let mut script = String::new(rt.alloc());
-    for _ in 0..count.parse::<u32>()? {
+fn repeated(rt: &HostRuntime, case: &mut Case) {
+    let count = case.times();
+    let line = case.rest();
+    let made = lines_of(case.alloc, line.as_str(), count);
+    let script = case.or_empty(made);
+    simulated(sample(rt, case).as_str(), script.as_str(), case);
+}
+
+fn lines_of(alloc: Global, line: &str, count: u32) -> Result<String, AllocError> {
+    let mut script = String::new(alloc);
+    for _ in 0..count {
         script.push_str(line)?;
-        script.push_str("\n")?;
+        script.push('\n')?;
     }
-    simulated(rt.alloc(), sample(rt)?.as_str(), script.as_str(), output)
+    Ok(script)
 }
 
 /// A script whose output is refused once so many bytes are written.
-fn crowded<R: Files + AllocGlobal, O: Write>(rt: &R, rest: &str, output: &mut O) -> Result<()> {
-    let (room, script) = rest.split_once(' ').context("no room")?;
-    let (alloc, settings) = (rt.alloc(), sample(rt)?);
-    let mut errors = Vec::new(alloc);
-    let mut narrow = Narrow::new(room.parse::<usize>()?);
-    let status = simulate(alloc, settings.as_str(), script, &mut narrow, &mut errors);
-    output.write_all(errors.as_slice())?;
-    writeln!(output, "status {status}")?;
-    Ok(())
+fn crowded(rt: &HostRuntime, case: &mut Case) {
+    let mut narrow = Narrow::new(case.count());
+    let script = case.rest();
+    let settings = sample(rt, case);
+    let mut errors = Vec::new(case.alloc);
+    let status = narrow_status(
+        case.alloc,
+        settings.as_str(),
+        script.as_str(),
+        &mut narrow,
+        &mut errors,
+    );
+    tell(status, errors.as_slice(), case);
+}
+
+fn narrow_status(
+    alloc: Global,
+    settings: &str,
+    script: &str,
+    narrow: &mut Narrow,
+    errors: &mut Vec<u8>,
+) -> u8 {
+    simulate(alloc, settings, script, narrow, errors)
 }
 
 /// A script's file that may not be one.
-fn opened<R: Files + AllocGlobal, O: Write>(rt: &R, name: &str, output: &mut O) -> Result<()> {
-    match text_of(rt, name) {
-        Ok(text) => writeln!(output, "{} bytes", text.len())?,
+fn opened(rt: &HostRuntime, case: &mut Case) {
+    match text_of(rt, case.word()) {
+        Ok(text) => {
+            case.put(text.len());
+            case.put(" bytes\n");
+        }
         Err(fault) => {
-            let status = fault.tell(output);
-            writeln!(output, "status {status}")?;
+            let status = fault.tell(&mut case.out);
+            case.say("status ", status);
+            case.end();
         }
     }
-    Ok(())
 }

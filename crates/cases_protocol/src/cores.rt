@@ -1,0 +1,116 @@
+//! One gateway's side of the binding protocol: what each line answers, pushes and notes, or why it is
+//! refused. A line has a call and what is given to it.
+
+use crate::batches::bounds;
+use crate::side::Side;
+use crate::telling::{begin_part, end_parts, refuse, tell_endpoint};
+use cases_words::{Actor, Case};
+use nat_types::GatewayId;
+use std::alloc::Global;
+
+/// The core of the last line `core`. A list has it, or none: what lies in one is let go by one call.
+#[derive(Drop)]
+pub(crate) struct Cores {
+    sides: Vec<Side>,
+}
+
+impl Cores {
+    pub(crate) fn none(alloc: Global) -> Cores {
+        Cores {
+            sides: Vec::new(alloc),
+        }
+    }
+
+    /// A new core, in place of the one before: as `0 founder 20000 20003 40000 40003 200 2`: who it is, how it begins, both
+    /// ranges, the link's places, and the most pairs that an inside address may have, if there is a limit.
+    fn begin(&mut self, case: &mut Case) {
+        let id = case.gateway();
+        let is_founder = case.is_first("founder", "unsynced");
+        let zero = bounds(case);
+        let one = bounds(case);
+        let capacity = case.count();
+        let Some(limit) = limit_in(case) else {
+            return;
+        };
+        if is_founder && id == GatewayId::One {
+            return refuse("no beginning founder", case);
+        }
+        let side = Side::new(case.alloc, id, is_founder, zero, one, capacity, limit);
+        self.put(side, case);
+    }
+
+    fn put(&mut self, side: Option<Side>, case: &mut Case) {
+        self.sides.clear();
+        match side {
+            Some(side) => case.keep(self.sides.push(side)),
+            None => case.fault(),
+        }
+    }
+}
+
+impl Actor for Cores {
+    fn act(&mut self, case: &mut Case) {
+        case.title("", ":");
+        match case.word() {
+            "core" => self.begin(case),
+            _ => match self.sides.first_mut() {
+                Some(side) => call(side, case),
+                None => case.fault(),
+            },
+        }
+        end_parts(case);
+    }
+}
+
+/// The most pairs that an inside address may have, where one more word is left; none where the line is refused.
+fn limit_in(case: &mut Case) -> Option<Option<u16>> {
+    if case.left() == 0 {
+        return Some(None);
+    }
+    match u16::try_from(case.number()) {
+        Ok(limit) => Some(Some(limit)),
+        Err(_) => {
+            refuse("a limit has 16 bits", case);
+            None
+        }
+    }
+}
+
+/// What a call of a core answers.
+fn call(side: &mut Side, case: &mut Case) {
+    case.back();
+    match case.word() {
+        "at" => side.set_clock(case),
+        "want" => side.want(case.endpoint(), case),
+        "take" => side.take(&case.record(), case),
+        "tick" => tick(side, case),
+        "carried" => side.carried(case),
+        "inbound" => inbound(side, case),
+        "hear" => side.hear_again(case),
+        "restart" => restart(side, case),
+        "off" => side.peer_off(case.number(), case),
+        "table" => side.tell(case),
+        _ => case.fault(),
+    }
+}
+
+fn tick(side: &mut Side, case: &mut Case) {
+    side.set_clock(case);
+    side.tick(case);
+}
+
+fn inbound(side: &Side, case: &mut Case) {
+    match side.inbound(case.key()) {
+        Some(endpoint) => tell_endpoint("to ", endpoint, case),
+        None => begin_part("none", case),
+    }
+}
+
+/// As `restart 2 accept udp 20000`: the boot, and at most one record that comes with it.
+fn restart(side: &mut Side, case: &mut Case) {
+    let boot = case.number();
+    if case.left() == 0 {
+        return side.restart(boot, None, case);
+    }
+    side.restart(boot, Some(&case.record()), case);
+}

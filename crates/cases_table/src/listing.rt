@@ -1,0 +1,28 @@
+//! What is printed of many things, and of one that may not be there.
+
+use cases_words::Case;
+use std::fmt::Display;
+
+/// How many things were found, and which.
+pub(crate) fn list<T: Copy + Display + Drop, E: Drop>(found: Result<Vec<T>, E>, case: &mut Case) {
+    match found {
+        Ok(things) => list_all(things.as_slice(), case),
+        Err(_) => case.fault(),
+    }
+}
+
+/// How many things there are, and which.
+pub(crate) fn list_all<T: Copy + Display + Drop>(things: &[T], case: &mut Case) {
+    case.put(things.len());
+    for thing in things {
+        case.say(", ", *thing);
+    }
+}
+
+/// A thing, or `none`.
+pub(crate) fn tell_found<T: Copy + Display + Drop>(found: Option<T>, case: &mut Case) {
+    match found {
+        Some(thing) => case.put(thing),
+        None => case.put("none"),
+    }
+}

@@ -1,0 +1,94 @@
+//! What the words of a line about a box's records stand for.
+
+use cases_words::Case;
+use journal::{Cause, Entry, Format, Origin, Role};
+use packet_rules::Reason;
+
+/// The reasons, in the order of their numbers.
+const REASONS: [Reason; 20] = [
+    Reason::ShortFrame,
+    Reason::NotMine,
+    Reason::BadHeader,
+    Reason::BadLength,
+    Reason::BadHeaderSum,
+    Reason::Fragment,
+    Reason::TtlOver,
+    Reason::NotUdpTcp,
+    Reason::BadTransport,
+    Reason::BadArp,
+    Reason::BadAdvert,
+    Reason::NotUp,
+    Reason::NoBinding,
+    Reason::NoPort,
+    Reason::CannotWait,
+    Reason::BadDatagram,
+    Reason::OldWord,
+    Reason::HostLimit,
+    Reason::TooLong,
+    Reason::TooMany,
+];
+
+const FORMATS: [(&str, Format); 2] = [("text", Format::Text), ("pairs", Format::Pairs)];
+
+const ORIGINS: [(&str, Origin); 4] = [
+    ("inside", Origin::Inside),
+    ("outside", Origin::Outside),
+    ("link", Origin::Link),
+    ("box", Origin::Own),
+];
+
+const ROLES: [(&str, Role); 3] = [
+    ("Initialize", Role::Initialize),
+    ("Backup", Role::Backup),
+    ("Active", Role::Active),
+];
+
+pub(crate) fn format_in(case: &mut Case) -> Format {
+    case.pick(&FORMATS, Format::Text)
+}
+
+pub(crate) fn origin_in(case: &mut Case) -> Origin {
+    case.pick(&ORIGINS, Origin::Own)
+}
+
+/// A reason by its number, or want of memory by `NoMemory`.
+pub(crate) fn cause_in(case: &mut Case) -> Cause {
+    let read = cause_of(case.word());
+    case.or(read, Cause::NoMemory)
+}
+
+fn cause_of(word: &str) -> Option<Cause> {
+    if word == "NoMemory" {
+        return Some(Cause::NoMemory);
+    }
+    let number = word.parse::<u8>().ok()?;
+    for reason in REASONS {
+        if reason.number() == number {
+            return Some(Cause::Dropped(reason));
+        }
+    }
+    None
+}
+
+/// A change of a box.
+pub(crate) fn entry_in(case: &mut Case) -> Entry {
+    match case.word() {
+        "role" => Entry::Role(case.side(), case.pick(&ROLES, Role::Initialize)),
+        "away" => Entry::Away,
+        "back" => Entry::Back,
+        "synced" => Entry::Synced,
+        "unsynced" => Entry::Unsynced,
+        "stopped" => Entry::Stopped,
+        "boot" => Entry::Boot(case.number()),
+        "peer-boot" => Entry::PeerBoot(case.number()),
+        "peer-heard" => Entry::PeerHeard,
+        "peer-silent" => Entry::PeerSilent,
+        "fails" => Entry::Fails(origin_in(case)),
+        "works" => Entry::Works(origin_in(case)),
+        "too-long" => Entry::TooLong(origin_in(case)),
+        _ => {
+            case.fault();
+            Entry::Away
+        }
+    }
+}
