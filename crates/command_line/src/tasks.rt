@@ -91,6 +91,8 @@ fn gate(alloc: Global, matches: &ArgMatches<'_>) -> Result<Task, LineFault>
     ensures ok { IfOk result (IsTask (codes "gate") (rows_of (found_of matches.now))) }
     ensures sound { OnOk result (¬ (AreWrong (rows_of (found_of matches.now)) FoundNeedsIdZero)) }
     ensures err { IfErr result (RefusesAs FoundNeedsIdZero (rows_of (found_of matches.now))) }
+    ensures wrong { AreWrong (rows_of (found_of matches.now)) FoundNeedsIdZero
+        → result ≡ Err (faults.Values FoundNeedsIdZero) }
 {
     let id = values::gateway(matches);
     let found = values::flag(matches, "found");
