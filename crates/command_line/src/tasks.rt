@@ -136,6 +136,8 @@ fn status(alloc: Global, matches: &ArgMatches<'_>) -> Result<Task, LineFault>
     ensures ok { IfOk result (IsTask (codes "status") (rows_of (found_of matches.now))) }
     ensures sound { OnOk result (¬ (AreWrong (rows_of (found_of matches.now)) NoStatus)) }
     ensures err { IfErr result (RefusesAs NoStatus (rows_of (found_of matches.now))) }
+    ensures wrong { AreWrong (rows_of (found_of matches.now)) NoStatus
+        → result ≡ Err (faults.Values NoStatus) }
 {
     let id = values::gateway(matches);
     let Some(form) = filters::form(matches) else {
@@ -161,6 +163,8 @@ fn pairs(alloc: Global, matches: &ArgMatches<'_>) -> Result<Task, LineFault>
     ensures ok { IfOk result (IsTask (codes "pairs") (rows_of (found_of matches.now))) }
     ensures sound { OnOk result (¬ (AreWrong (rows_of (found_of matches.now)) NoFilter)) }
     ensures err { IfErr result (RefusesAs NoFilter (rows_of (found_of matches.now))) }
+    ensures wrong { AreWrong (rows_of (found_of matches.now)) NoFilter
+        → result ≡ Err (faults.Values NoFilter) }
 {
     let id = values::gateway(matches);
     let Some(protocol) = filters::protocol(matches) else {
@@ -213,6 +217,8 @@ fn side(alloc: Global, matches: &ArgMatches<'_>) -> Result<Task, LineFault>
     ensures ok { IfOk result (IsTask (codes "side") (rows_of (found_of matches.now))) }
     ensures sound { OnOk result (¬ (AreWrong (rows_of (found_of matches.now)) NoSide)) }
     ensures err { IfErr result (RefusesAs NoSide (rows_of (found_of matches.now))) }
+    ensures wrong { AreWrong (rows_of (found_of matches.now)) NoSide
+        → result ≡ Err (faults.Values NoSide) }
 {
     let id = values::gateway(matches);
     let Some(side) = values::side(matches) else {
