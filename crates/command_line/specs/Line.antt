@@ -3,7 +3,6 @@ use Rattle.std.specs.Prelude.{◌≡◌, ℕ, pos, true, List, [], ◌∷◌, co
 use Rattle.clap.specs.Kinds.{IsAmong, Kinds}
 use Rattle.clap.specs.Words.{App, Row, Rule, Text, fault_of, new_app, new_rule, subcommand_of, with_rule, with_subcommand}
 use Rattle.clap.specs.declared.builder.action.ArgAction.TheVariants.{Set, SetTrue}
-use Rattle.clap.specs.declared.builder.value_parser.ValueParser.{ValueParser}
 use Rattle.clap.specs.declared.builder.value_parser.ValueParser.TheVariants.{Signed, Unsigned}
 use Rattle.clap.specs.declared.error.kind.ErrorKind.TheVariants.{DisplayVersion}
 
@@ -19,13 +18,9 @@ file_rule name = record (word_rule name) { required = true }
 abbrev pub text_rule : List ℕ → Rule
 text_rule name = record (word_rule name) { long = Some name }
 
--- `--NAME TEXT`, which may be left out, and which has to pass a parser
-abbrev pub parsed_rule : List ℕ → ValueParser → Rule
-parsed_rule name parser = record (text_rule name) { parser = Some parser }
-
 -- `--id`, 0 or 1, which may be left out
 abbrev pub id_rule_if : Rule
-id_rule_if = parsed_rule (codes "id") (Signed (pos 0) (pos 1))
+id_rule_if = record (text_rule (codes "id")) { parser = Some (Signed (pos 0) (pos 1)) }
 
 -- `--id`, which has to be there
 abbrev pub id_rule : Rule
@@ -33,11 +28,11 @@ id_rule = record id_rule_if { required = true }
 
 -- `--rounds`, from 0 to 4294967295
 abbrev pub rounds_rule : Rule
-rounds_rule = parsed_rule (codes "rounds") (Signed (pos 0) (pos 4294967295))
+rounds_rule = record (text_rule (codes "rounds")) { parser = Some (Signed (pos 0) (pos 4294967295)) }
 
 -- `--NAME N`, from one number to another
 abbrev pub number_rule : List ℕ → ℕ → ℕ → Rule
-number_rule name least most = parsed_rule name (Unsigned least most)
+number_rule name least most = record (text_rule name) { parser = Some (Unsigned least most) }
 
 -- `--NAME`, a flag
 abbrev pub flag_rule : List ℕ → Rule

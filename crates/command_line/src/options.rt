@@ -1,7 +1,7 @@
 //! The options and words that the commands take.
 ghost use Rattle.std.specs.Prelude.{◌≡◌, false, Some};
 ghost use Rattle.clap.specs.Words.{rule_of};
-ghost use Rattle.command_line.specs.Line.{word_rule, file_rule, id_rule_if, parsed_rule, flag_rule, text_rule, way_rule};
+ghost use Rattle.command_line.specs.Line.{word_rule, file_rule, id_rule, id_rule_if, rounds_rule, number_rule, flag_rule, text_rule, way_rule};
 ghost use Rattle.command_line.specs.Arguments.{rule_for};
 
 use clap::builder::ValueParser;
@@ -49,12 +49,10 @@ impl<'a> Argument<'a> {
             Form::Text => text(alloc, name, help),
             Form::Way => way(alloc, name, help),
             Form::Flag => flag(alloc, name, help),
-            Form::Number(least, most) => {
-                parsed(alloc, name, ValueParser::Unsigned(least, most), help)
-            }
-            Form::Id => id_if(alloc, help).required(true),
+            Form::Number(least, most) => number(alloc, name, least, most, help),
+            Form::Id => id(alloc, help),
             Form::IdIf => id_if(alloc, help),
-            Form::Rounds => parsed(alloc, "rounds", ValueParser::Signed(0, 4_294_967_295), help),
+            Form::Rounds => rounds(alloc, help),
         }
     }
 }
@@ -77,22 +75,40 @@ fn file<'a>(alloc: Global, name: &'a str, help: &'a str) -> Arg<'a>
     word(alloc, name, help).required(true)
 }
 
-/// `--NAME TEXT`, which may be left out, and which has to pass a parser.
-fn parsed<'a>(alloc: Global, name: &'a str, parser: ValueParser<'a>, help: &'a str) -> Arg<'a>
-    ensures rule { rule_of result ≡ parsed_rule name.entry.now parser.entry }
-    ensures local { result.global ≡ false }
-    ensures help { result.help ≡ Some help.entry }
-{
-    text(alloc, name, help).value_parser(parser)
-}
-
 /// `--id`, 0 or 1, which may be left out.
 fn id_if<'a>(alloc: Global, help: &'a str) -> Arg<'a>
     ensures rule { rule_of result ≡ id_rule_if }
     ensures local { result.global ≡ false }
     ensures help { result.help ≡ Some help.entry }
 {
-    parsed(alloc, "id", ValueParser::Signed(0, 1), help)
+    text(alloc, "id", help).value_parser(ValueParser::Signed(0, 1))
+}
+
+/// `--id`, 0 or 1.
+fn id<'a>(alloc: Global, help: &'a str) -> Arg<'a>
+    ensures rule { rule_of result ≡ id_rule }
+    ensures local { result.global ≡ false }
+    ensures help { result.help ≡ Some help.entry }
+{
+    id_if(alloc, help).required(true)
+}
+
+/// `--rounds`, from 0 to 4294967295.
+fn rounds<'a>(alloc: Global, help: &'a str) -> Arg<'a>
+    ensures rule { rule_of result ≡ rounds_rule }
+    ensures local { result.global ≡ false }
+    ensures help { result.help ≡ Some help.entry }
+{
+    text(alloc, "rounds", help).value_parser(ValueParser::Signed(0, 4_294_967_295))
+}
+
+/// `--NAME N`, from one number to another.
+fn number<'a>(alloc: Global, name: &'a str, least: u64, most: u64, help: &'a str) -> Arg<'a>
+    ensures rule { rule_of result ≡ number_rule name.entry.now least most }
+    ensures local { result.global ≡ false }
+    ensures help { result.help ≡ Some help.entry }
+{
+    text(alloc, name, help).value_parser(ValueParser::Unsigned(least, most))
 }
 
 /// `--NAME`, a flag.

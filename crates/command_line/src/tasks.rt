@@ -3,7 +3,7 @@ ghost use Rattle.std.specs.Prelude.{◌≡◌, ◌⊎◌, codes, string_bytes, m
 ghost use Rattle.clap.specs.Words.{found_of, rows_of, subcommand_rows_of};
 ghost use Rattle.command_line.specs.Line.{AskVersion, Takes, entered_by};
 ghost use Rattle.command_line.specs.Values.{HasId, IsId};
-ghost use Rattle.command_line.specs.Tasks.{AreFiles, AreWays, AreWrong, Asks, Enters, FoundsAtZero, HasNumbers, IsAnswer, IsEnteredFaulty, IsFaulty, IsGate, IsTask, Numbered, Refuses, RefusesAs, RefusesEntered, RefusesValues, RefusesWords, is_named, wants_id};
+ghost use Rattle.command_line.specs.Tasks.{AreFiles, AreWays, AreWrong, Asks, Enters, FoundsAtZero, HasNumbers, IsAnswer, IsEnteredFaulty, IsFaulty, IsGate, IsTask, Numbered, Refuses, RefusesAs, RefusesEntered, RefusesValues, RefusesWords, is_named, is_plain, wants_id};
 ghost use Rattle.command_line.specs.declared.faults.LineFault.TheVariants as faults;
 ghost use Rattle.command_line.specs.declared.faults.ValueFault.{ValueFault as Why};
 ghost use Rattle.command_line.specs.declared.faults.ValueFault.TheVariants.{FoundNeedsIdZero, NoFilter, NoSide, NoStatus};
@@ -91,6 +91,8 @@ fn gate(alloc: Global, matches: &ArgMatches<'_>) -> Result<Task, LineFault>
     ensures ok { IfOk result (IsTask (codes "gate") (rows_of (found_of matches.now))) }
     ensures sound { OnOk result (¬ (AreWrong (rows_of (found_of matches.now)) FoundNeedsIdZero)) }
     ensures err { IfErr result (RefusesAs FoundNeedsIdZero (rows_of (found_of matches.now))) }
+    ensures wrong { AreWrong (rows_of (found_of matches.now)) FoundNeedsIdZero
+        → result ≡ Err (faults.Values FoundNeedsIdZero) }
 {
     let id = values::gateway(matches);
     let found = values::flag(matches, "found");
@@ -134,6 +136,8 @@ fn status(alloc: Global, matches: &ArgMatches<'_>) -> Result<Task, LineFault>
     ensures ok { IfOk result (IsTask (codes "status") (rows_of (found_of matches.now))) }
     ensures sound { OnOk result (¬ (AreWrong (rows_of (found_of matches.now)) NoStatus)) }
     ensures err { IfErr result (RefusesAs NoStatus (rows_of (found_of matches.now))) }
+    ensures wrong { AreWrong (rows_of (found_of matches.now)) NoStatus
+        → result ≡ Err (faults.Values NoStatus) }
 {
     let id = values::gateway(matches);
     let Some(form) = filters::form(matches) else {
@@ -159,6 +163,8 @@ fn pairs(alloc: Global, matches: &ArgMatches<'_>) -> Result<Task, LineFault>
     ensures ok { IfOk result (IsTask (codes "pairs") (rows_of (found_of matches.now))) }
     ensures sound { OnOk result (¬ (AreWrong (rows_of (found_of matches.now)) NoFilter)) }
     ensures err { IfErr result (RefusesAs NoFilter (rows_of (found_of matches.now))) }
+    ensures wrong { AreWrong (rows_of (found_of matches.now)) NoFilter
+        → result ≡ Err (faults.Values NoFilter) }
 {
     let id = values::gateway(matches);
     let Some(protocol) = filters::protocol(matches) else {
@@ -211,6 +217,8 @@ fn side(alloc: Global, matches: &ArgMatches<'_>) -> Result<Task, LineFault>
     ensures ok { IfOk result (IsTask (codes "side") (rows_of (found_of matches.now))) }
     ensures sound { OnOk result (¬ (AreWrong (rows_of (found_of matches.now)) NoSide)) }
     ensures err { IfErr result (RefusesAs NoSide (rows_of (found_of matches.now))) }
+    ensures wrong { AreWrong (rows_of (found_of matches.now)) NoSide
+        → result ≡ Err (faults.Values NoSide) }
 {
     let id = values::gateway(matches);
     let Some(side) = values::side(matches) else {
@@ -260,6 +268,24 @@ fn entered<'m, 'a>(matches: &'m ArgMatches<'a>) -> Option<(&'a str, &'m ArgMatch
     matches.subcommand()
 }
 
+/// The task of a command whose values always go together.
+fn plain(alloc: Global, name: &str, matches: &ArgMatches<'_>) -> Result<Task, AllocError>
+    requires plain { is_plain name.now ≡ true }
+    requires numbers { HasNumbers (rows_of (found_of matches.now)) }
+    requires id { wants_id name.now ≡ true → HasId (rows_of (found_of matches.now)) }
+    ensures { IfOk result (IsTask name.now (rows_of (found_of matches.now))) }
+{
+    match name {
+        "init" => init(alloc, matches),
+        "check" => check(alloc, matches),
+        "stop" => stop(alloc, matches),
+        "peer-off" => peer_off(alloc, matches),
+        "sim" => sim(alloc, matches),
+        "loop" => repeat(alloc, matches),
+        _ => unreachable!(),
+    }
+}
+
 fn named(alloc: Global, name: &str, matches: &ArgMatches<'_>) -> Result<Task, LineFault>
     requires named { is_named name.now ≡ true }
     requires numbers { HasNumbers (rows_of (found_of matches.now)) }
@@ -270,17 +296,11 @@ fn named(alloc: Global, name: &str, matches: &ArgMatches<'_>) -> Result<Task, Li
     ensures err { IfErr result (RefusesValues name.now (rows_of (found_of matches.now))) }
 {
     match name {
-        "init" => Ok(init(alloc, matches)?),
-        "check" => Ok(check(alloc, matches)?),
         "gate" => gate(alloc, matches),
         "status" => status(alloc, matches),
         "pairs" => pairs(alloc, matches),
-        "stop" => Ok(stop(alloc, matches)?),
-        "peer-off" => Ok(peer_off(alloc, matches)?),
         "side" => side(alloc, matches),
-        "sim" => Ok(sim(alloc, matches)?),
-        "loop" => Ok(repeat(alloc, matches)?),
-        _ => unreachable!(),
+        _ => Ok(plain(alloc, name, matches)?),
     }
 }
 

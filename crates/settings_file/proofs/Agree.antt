@@ -6,8 +6,10 @@ use Rattle.settings_file.specs.declared.faults.ValueFault.{ValueFault}
 use Rattle.settings_file.specs.declared.faults.ValueFault.TheVariants as values
 use Rattle.settings_file.specs.declared.values.Values.{Values}
 use Rattle.settings_file.specs.Assembled.{AreValues, IsAssembled, TellsValues, overlap_of, same_ids_of}
-use Rattle.settings_file.specs.Faults.{TellsCantWork, TellsFirst, TellsMissing, TellsUnknown, told}
+use Rattle.settings_file.specs.Faults.{IsOfToml, TellsCantWork, TellsFirst, TellsMissing, TellsUnknown, told}
 use Rattle.toml.specs.Data.{Members}
+use Rattle.toml.specs.Errors.{IsMemory}
+use Rattle.toml.specs.declared.de.error.Error.{Error}
 use Rattle.settings.specs.declared.ranges.PortRange.{PortRange}
 use Rattle.settings.specs.declared.gateway_settings.GatewaySettings.{GatewaySettings}
 use Rattle.settings.specs.declared.whole.Settings.{Settings}
@@ -182,3 +184,15 @@ pub cant_of : (t : Members) (s : Settings) (r : Result Settings SettingFault) �
     → IfErr r (TellsCantWork (cant_work s)) → IfErr r (Tells (Some t))
 cant_of t s (Ok x) free values h = tt
 cant_of t s (Err e) free values h = told_cant t s e free values h
+
+-- a text that is no document
+pub told_toml : (document : Option Members) (e : Error) (f : SettingFault) → IsOfToml e f → ((IsMemory e → ⊥) → document ≡ None)
+    → Tells document f
+told_toml document e (faults.NotToml) h none = none h
+told_toml document e (faults.UnknownKey p) h none = absurd h
+told_toml document e (faults.Missing k) h none = absurd h
+told_toml document e (faults.BadValue k) h none = absurd h
+told_toml document e (faults.RangesOverlap) h none = absurd h
+told_toml document e (faults.SameIds) h none = absurd h
+told_toml document e (faults.CantWork k) h none = absurd h
+told_toml document e (faults.NoMemory) h none = tt

@@ -1,5 +1,7 @@
 -- Which fault is told.
 use Rattle.std.specs.Prelude.{◌≡◌, ℕ, Bool, if◌then◌else◌, List, [], ◌∷◌, ◌++◌, codes, string_bytes, Option, Some, None, Result, MatchResult}
+use Rattle.toml.specs.Errors.{IsMemory}
+use Rattle.toml.specs.declared.de.error.Error.{Error}
 use Rattle.settings_file.specs.declared.keys.Section.{Section}
 use Rattle.settings_file.specs.declared.keys.Name.{Name}
 use Rattle.settings_file.specs.declared.keys.Key.{Key}
@@ -41,6 +43,12 @@ FindsBad bad result = MatchResult result (λ value. bad ≡ None) (TellsFirst ba
 abbrev pub told : ValueFault → SettingFault
 told (BadValue k) = faults.BadValue k
 told NoMemory = faults.NoMemory
+
+-- the fault of an error of TOML's: want of memory just where it is of that
+abbrev pub IsOfToml : Error → SettingFault → Type 0
+IsOfToml error faults.NotToml = ¬ (IsMemory error)
+IsOfToml error faults.NoMemory = IsMemory error
+IsOfToml error _ = ⊥
 
 -- a fault of this key that is missing, if one is
 abbrev pub TellsMissing : Option Key → SettingFault → Type 0

@@ -1,5 +1,6 @@
 //! Looks for all faults of a text.
-ghost use Rattle.std.specs.Prelude.{◌≡◌, ◌↔◌, Ok, Some, IfOk};
+ghost use Rattle.std.specs.Prelude.{◌≡◌, ◌↔◌, Ok, Some, IfOk, OnErr};
+ghost use Rattle.toml.specs.Errors.{IsMemory};
 ghost use Rattle.toml.specs.Parse.{parse_document};
 ghost use Rattle.toml.specs.View.{table_view};
 ghost use Rattle.settings_file.specs.Settings.{Tells};
@@ -15,6 +16,7 @@ use crate::works::all_that_cant;
 use crate::{Look, SettingFault};
 use std::alloc::{AllocError, Global};
 use toml::Table;
+use toml::de::Error;
 
 /// What is seen of a document that holds no settings, for this fault.
 fn seen_of_fault(alloc: Global, document: &Table, fault: &SettingFault) -> Result<Look, AllocError>
@@ -58,12 +60,23 @@ pub fn look(alloc: Global, text: &str) -> Result<Look, AllocError>
     Ok(look)
 }
 
+/// What is seen of a text that is no document: none where memory was refused.
+fn look_of(fault: &Error) -> Result<Look, AllocError>
+    ensures seen { IfOk result (λ look. (look ≡ looks.NotToml) × ¬ (IsMemory fault.now)) }
+    ensures memory { OnErr result (IsMemory fault.now) }
+{
+    if fault.is_memory() {
+        Err(AllocError)
+    } else {
+        Ok(Look::NotToml)
+    }
+}
+
 fn looked(alloc: Global, text: &str) -> Result<Look, AllocError>
     ensures { IfOk result (IsSeen (parse_document text.now)) }
 {
     match toml::table_from_str(alloc, text) {
         Ok(document) => seen(alloc, &document),
-        Err(fault) if fault.is_memory() => Err(AllocError),
-        Err(_) => Ok(Look::NotToml),
+        Err(fault) => look_of(&fault),
     }
 }

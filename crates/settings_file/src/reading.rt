@@ -2,7 +2,7 @@
 ghost use Rattle.std.specs.Prelude.{◌≡◌, Some, None, option_map, string_bytes, IfOk, IfErr, OnOk};
 ghost use Rattle.toml.specs.Parse.{parse_document};
 ghost use Rattle.toml.specs.View.{table_view};
-ghost use Rattle.settings_file.specs.Faults.{TellsCantWork, TellsMissing, TellsUnknown};
+ghost use Rattle.settings_file.specs.Faults.{IsOfToml, TellsCantWork, TellsMissing, TellsUnknown};
 ghost use Rattle.settings_file.specs.Missing.{first_missing};
 ghost use Rattle.settings_file.specs.Unknown.{first_unknown};
 ghost use Rattle.settings_file.specs.Settings.{IsHeld, IsReadFrom, Tells, refusal_of, HoldsValues};
@@ -19,6 +19,7 @@ use crate::works::cant_work;
 use settings::{PortRanges, Settings};
 use std::alloc::Global;
 use toml::Table;
+use toml::de::Error;
 
 /// No key is unknown; else the least of those that are.
 fn none_unknown(least: Option<String>) -> Result<(), SettingFault>
@@ -106,6 +107,17 @@ fn settings_of(alloc: Global, document: &Table) -> Result<Settings, SettingFault
     working(settings)
 }
 
+/// Why a text is no document: it isn't TOML, or memory was refused.
+fn no_document(fault: &Error) -> SettingFault
+    ensures { IsOfToml fault.now result }
+{
+    if fault.is_memory() {
+        SettingFault::NoMemory
+    } else {
+        SettingFault::NotToml
+    }
+}
+
 /// Reads settings from a text in TOML.
 ///
 /// # Errors
@@ -119,7 +131,6 @@ pub fn read(alloc: Global, text: &str) -> Result<Settings, SettingFault>
 {
     match toml::table_from_str(alloc, text) {
         Ok(document) => settings_of(alloc, &document),
-        Err(fault) if fault.is_memory() => Err(SettingFault::NoMemory),
-        Err(_) => Err(SettingFault::NotToml),
+        Err(fault) => Err(no_document(&fault)),
     }
 }
