@@ -5,12 +5,12 @@ ghost use Rattle.command_line.specs.Faults.{line_of};
 
 use clap::error::ErrorKind;
 use std::alloc::AllocError;
-use std::error::Error;
 use std::fmt;
 use std::io::{self, Write};
+use thiserror::Error;
 
 /// What is wrong with the values of a command, each of which `clap` takes.
-#[derive(Clone, Copy)]
+#[derive(Clone, Copy, Error)]
 pub enum ValueFault {
     /// `--found` stands beside `--id 1`: only gateway 0 founds the pair.
     FoundNeedsIdZero,
@@ -58,10 +58,8 @@ impl fmt::Debug for ValueFault {
     }
 }
 
-impl Error for ValueFault {}
-
 /// Why words are no command line of the program.
-#[derive(Drop)]
+#[derive(Drop, Error)]
 pub enum LineFault {
     /// `clap` refuses the words, or they ask for help: its text is what the user is shown.
     Refused(clap::Error),
@@ -90,8 +88,6 @@ impl fmt::Debug for LineFault {
         fmt::Display::fmt(self, f)
     }
 }
-
-impl Error for LineFault {}
 
 impl LineFault {
     ghost use Rattle.std.specs.Prelude.{◌≡◌, IfSome, OnOk};

@@ -1,8 +1,8 @@
 //! Why a text holds no settings.
 use crate::Key;
 use std::alloc::{AllocError, AllocFailed};
-use std::error::Error;
 use std::fmt;
+use thiserror::Error;
 
 /// Why a text holds no settings. Its text is the fault's number, its name and its key, as
 /// `2 Missing outside.router`.
@@ -10,7 +10,7 @@ use std::fmt;
 /// They are looked for in this order: `NotToml`, `UnknownKey`, `Missing`, `BadValue`,
 /// `RangesOverlap`, `SameIds`, `CantWork`; of several missing keys, bad values or keys that can't work
 /// the first in the order of the keys is told.
-#[derive(Drop)]
+#[derive(Drop, Error)]
 pub enum SettingFault {
     /// The text isn't TOML.
     NotToml,
@@ -77,8 +77,6 @@ impl fmt::Debug for SettingFault {
         fmt::Display::fmt(self, f)
     }
 }
-
-impl Error for SettingFault {}
 
 /// Why a value can't be read.
 #[derive(Clone, Copy)]
