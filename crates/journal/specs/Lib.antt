@@ -7,3 +7,4 @@ pub mod Fates
 pub mod Filters
 pub mod Owed
 pub mod Each
+pub mod Lines

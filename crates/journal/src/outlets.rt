@@ -1,5 +1,6 @@
 //! Where lines go.
-ghost use Rattle.std.specs.Prelude.{◌≡◌, true, IsTrue};
+ghost use Rattle.std.specs.Prelude.{◌≡◌, true, None, List, ℕ, Option, IsOk, IsTrue};
+ghost use Rattle.journal.specs.Lines.{AddsLine};
 
 use libc::types::pollfd;
 use std::fmt::Display;
@@ -10,9 +11,13 @@ pub trait Outlet {
     // A write of one line wouldn't wait.
     ghost IsRoomy: { Self → Type 0 };
 
+    /// The bytes of the lines that it was given, where they are known.
+    ghost contents: { Self → Option (List ℕ) } = { λ _. None };
+
     /// Whether a write of one line wouldn't wait. It never waits itself.
     fn has_room(&mut self) -> bool
-        ensures { IsTrue result → IsRoomy self.new };
+        ensures room { IsTrue result → IsRoomy self.new }
+        ensures bytes { contents self.new ≡ contents self.old };
 
     /// Writes a line, and the line's end.
     ///
@@ -20,7 +25,8 @@ pub trait Outlet {
     ///
     /// Those of writing.
     fn write<D: Display + Drop>(&mut self, line: D) -> io::Result<()>
-        requires { IsRoomy self.old };
+        requires { IsRoomy self.old }
+        ensures { IsOk result → AddsLine (contents self.old) (contents self.new) (D.output line) };
 }
 
 /// The standard error: a line of at most 1,024 bytes is one write.

@@ -1,6 +1,7 @@
 //! A sink that never waits.
-ghost use Rattle.std.specs.Prelude.{◌≡◌, ◌<◌, true, [], Some, if◌then◌else◌};
+ghost use Rattle.std.specs.Prelude.{◌≡◌, ◌<◌, true, [], Some, IsTrue, if◌then◌else◌};
 ghost use Rattle.journal.specs.Fates.{all_after, left_after, left_told};
+ghost use Rattle.journal.specs.Lines.{AddsLine};
 ghost use Rattle.journal.specs.declared.sink.Fate.TheVariants as fates;
 
 use crate::lines::{Format, LeftOutLines, Shown};
@@ -89,6 +90,8 @@ impl<O: Outlet> Desk<O> {
 
     /// Writes a line if there is room, and says whether it was written.
     fn put<D: Display + Drop>(&mut self, line: D) -> bool
+        ensures written { IsTrue result → AddsLine (O.contents self.old.outlet)
+            (O.contents self.new.outlet) (D.output line) }
         ensures left { self.new.left_out ≡ self.old.left_out }
         ensures all { self.new.all ≡ self.old.all }
     {
