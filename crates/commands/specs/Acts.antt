@@ -3,8 +3,8 @@ use Rattle.std.specs.Prelude.{Bool, true, false, Some, string_bytes}
 use Rattle.command_line.specs.declared.tasks.Task.{Task}
 use Rattle.command_line.specs.declared.tasks.Task.TheVariants as task
 use Rattle.command_line.specs.declared.words.StatusWords.{StatusWords}
-use Rattle.gate.specs.Deeds.{Does, HasListed, HasReported, HasSaid, HasSynced, HasTaken, made}
-use Rattle.gate.specs.Said.{said_off, said_side, said_stop}
+use Rattle.box_words.specs.Deeds.{Does, HasListed, HasReported, HasSaid, HasSynced, HasTaken, made}
+use Rattle.box_words.specs.Said.{said_off, said_side, said_stop}
 
 -- a box is asked how it stands, or until it is synced
 abbrev pub IsAskedSo : {S : Type 0} → Does S → Bool → StatusWords → S → S → Type 0

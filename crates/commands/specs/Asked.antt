@@ -2,8 +2,8 @@
 use Rattle.std.specs.Prelude.{Bool, true, false}
 use Rattle.command_line.specs.declared.words.Form.{Form as Written}
 use Rattle.command_line.specs.declared.words.Form.TheVariants as written
-use Rattle.gate.specs.declared.asking.Form.{Form}
-use Rattle.gate.specs.declared.asking.Form.TheVariants.{Plain, Json, Prometheus}
+use Rattle.box_words.specs.declared.asking.Form.{Form}
+use Rattle.box_words.specs.declared.asking.Form.TheVariants.{Plain, Json, Prometheus}
 use Rattle.journal.specs.declared.lines.Format.{Format}
 use Rattle.journal.specs.declared.lines.Format.TheVariants.{Text, Pairs}
 

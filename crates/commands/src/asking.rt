@@ -3,13 +3,13 @@ ghost use Rattle.std.specs.Prelude.{◌≡◌, ◌⊎◌, option_map, string_byt
 ghost use Rattle.commands.specs.Acts.{IsAsked};
 ghost use Rattle.commands.specs.Asked.{form_of};
 ghost use Rattle.commands.specs.Ends.{IsChecked};
-ghost use Rattle.gate.specs.Deeds.{HasListed};
+ghost use Rattle.box_words.specs.Deeds.{HasListed};
 
 use crate::commands::text_of;
 use boot_file::Lockable;
+use box_words::{Site, await_synced, pairs, status};
 use checks::{Request, check, compare};
 use command_line::{CheckWords, PairsWords, StatusWords};
-use gate::{Site, await_synced, pairs, status};
 use report_texts::Filter;
 use std::alloc::Global;
 use std::fs::Files;
@@ -87,13 +87,13 @@ fn seconds_of(seconds: Option<u32>) -> u32
 }
 
 /// The form of a report.
-fn form_of(form: command_line::Form) -> gate::Form
+fn form_of(form: command_line::Form) -> box_words::Form
     ensures { result ≡ form_of form }
 {
     match form {
-        command_line::Form::Plain => gate::Form::Plain,
-        command_line::Form::Json => gate::Form::Json,
-        command_line::Form::Prometheus => gate::Form::Prometheus,
+        command_line::Form::Plain => box_words::Form::Plain,
+        command_line::Form::Json => box_words::Form::Json,
+        command_line::Form::Prometheus => box_words::Form::Prometheus,
     }
 }
 

@@ -1,4 +1,3 @@
 mod Beginning
-mod Doing
 mod Refusing
 mod Serving

@@ -1,10 +1,10 @@
 -- Why a start is refused.
 use Rattle.std.proofs.Common.{Result, Ok, Err, IfErr}
 use Rattle.sockets.specs.declared.ways.Ways.{Ways}
-use Rattle.gate.specs.Faults.{IsBeforeBoot, IsOfNoWay, IsOfRun, IsOfStart}
+use Rattle.box_words.specs.Faults.{IsBeforeBoot, IsOfNoWay, IsOfRun, IsOfStart}
 use Rattle.gate.specs.Starts.{AreWays, Refuses}
-use Rattle.gate.specs.declared.refusals.BoxFault.{BoxFault}
-use Rattle.gate.specs.declared.refusals.BoxFault.TheVariants as fault
+use Rattle.box_words.specs.declared.refusals.BoxFault.{BoxFault}
+use Rattle.box_words.specs.declared.refusals.BoxFault.TheVariants as fault
 use Rattle.gate.specs.declared.ways.WayTexts.{WayTexts}
 
 -- a fault of a run is one of a start

@@ -4,8 +4,8 @@ use Rattle.sockets.specs.Ways.{IsWayText, IsNoWayText, Names}
 use Rattle.sockets.specs.declared.ways.Way.{Way}
 use Rattle.sockets.specs.declared.ways.Ways.{Ways}
 use Rattle.gate.specs.declared.ways.WayTexts.{WayTexts}
-use Rattle.gate.specs.declared.refusals.BoxFault.{BoxFault}
-use Rattle.gate.specs.declared.refusals.BoxFault.TheVariants as fault
+use Rattle.box_words.specs.declared.refusals.BoxFault.{BoxFault}
+use Rattle.box_words.specs.declared.refusals.BoxFault.TheVariants as fault
 
 -- each text writes its way
 pub record AreWays (texts : WayTexts) (ways : Ways) : Type 0 where

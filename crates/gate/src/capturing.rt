@@ -1,8 +1,8 @@
 //! The file of a capture.
 ghost use Rattle.std.specs.Prelude.{◌≡◌, IfErr, IfOk, is_some, option_map};
-ghost use Rattle.gate.specs.Faults.{IsOfCapture, IsOfNoWay, IsOfRun};
+ghost use Rattle.box_words.specs.Faults.{IsOfCapture, IsOfNoWay, IsOfRun};
 
-use crate::refusals::{BoxFault, of_capture};
+use box_words::{BoxFault, of_capture};
 use std::alloc::Global;
 use std::fs::{Files, OpenFile};
 use std::io::{Read, Seek, Write};

@@ -3,7 +3,7 @@ ghost use Rattle.std.specs.Prelude.{◌≡◌, MatchOption, IfErr, IfOk};
 ghost use Rattle.sockets.specs.Ways.{IsWayText, IsNoWayText};
 ghost use Rattle.gate.specs.Starts.{AreWays, LackWay};
 
-use crate::refusals::BoxFault;
+use box_words::BoxFault;
 use nat_types::Side;
 use sockets::{Way, Ways};
 

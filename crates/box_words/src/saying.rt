@@ -3,8 +3,8 @@ ghost use Rattle.std.specs.Prelude.{◌≡◌, ◌⊎◌, IfOk, OnOk, Some, opti
 ghost use Rattle.control.specs.Answers.{content_of, heard};
 ghost use Rattle.control.specs.Paths.{IsBeside};
 ghost use Rattle.control.specs.Words.{word_of};
-ghost use Rattle.gate.specs.Deeds.{HasSaid, HasTaken, IsBoxOf};
-ghost use Rattle.gate.specs.Said.{off_bytes, said_off as meaning_off, said_side, said_stop};
+ghost use Rattle.box_words.specs.Deeds.{HasSaid, HasTaken, IsBoxOf};
+ghost use Rattle.box_words.specs.Said.{off_bytes, said_off as meaning_off, said_side, said_stop};
 ghost use Rattle.settings.specs.Parts.{gateway_of};
 
 use crate::asking::asked;
@@ -195,7 +195,7 @@ pub(crate) fn line_to<S: Site>(
 }
 
 /// Where the gateway's control socket lies: beside its boot file.
-pub(crate) fn control_path(
+pub fn control_path(
     alloc: Global,
     settings: &Settings,
     id: GatewayId,

@@ -3,8 +3,8 @@ use Rattle.std.specs.Prelude.{ℕ, Bool, false, List, Option, Some, None}
 use Rattle.nat_types.specs.declared.gateways.Side.{Side as WhichSide}
 use Rattle.control.specs.declared.words.Word.{Word}
 use Rattle.control.specs.declared.words.Word.TheVariants as word
-use Rattle.gate.specs.declared.saying.OffWord.{OffWord}
-use Rattle.gate.specs.declared.saying.OffWord.TheVariants as off
+use Rattle.box_words.specs.declared.saying.OffWord.{OffWord}
+use Rattle.box_words.specs.declared.saying.OffWord.TheVariants as off
 
 -- the bytes of the word that a boot is off
 abbrev pub off_bytes : OffWord → List ℕ

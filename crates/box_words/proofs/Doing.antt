@@ -5,7 +5,7 @@ use Rattle.nat_types.specs.declared.pairs.Key.{Key}
 use Rattle.control.specs.Answers.{Content, heard}
 use Rattle.control.specs.Paths.{IsBeside, Paths}
 use Rattle.control.specs.declared.words.Word.{Word}
-use Rattle.gate.specs.Deeds.{Does, HasPage, HasPages, HasSynced, HasTaken, IsBoxOf, IsSyncedAt, Lists, asked}
+use Rattle.box_words.specs.Deeds.{Does, HasPage, HasPages, HasSynced, HasTaken, IsBoxOf, IsSyncedAt, Lists, asked}
 
 -- one page more
 pub one_page_more : {S : Type 0} (does : Does S) (path : Paths) (next then : Option Key) (before middle after : S)

@@ -2,7 +2,7 @@
 ghost use Rattle.std.specs.Prelude.{◌≡◌, ◌⊎◌, ◌≤◌, IfOk, None, OnOk, take};
 ghost use Rattle.control.specs.Answers.{answer_of};
 ghost use Rattle.control.specs.Words.{word_of};
-ghost use Rattle.gate.specs.Deeds.{HasListed, HasPage, HasPages, HasReported, HasSynced, IsSyncedAt, Lists, Reports, asked as deed_asked, next_of};
+ghost use Rattle.box_words.specs.Deeds.{HasListed, HasPage, HasPages, HasReported, HasSynced, IsSyncedAt, Lists, Reports, asked as deed_asked, next_of};
 
 use crate::refusals::BoxFault;
 use crate::saying::{Line, line_to};
@@ -11,12 +11,11 @@ use control::{Answer, spelled_pairs, spelled_pairs_after, spelled_status};
 use nat_types::{GatewayId, Key};
 use report_texts::{Filter, write_json, write_metrics, write_pairs, write_people};
 use reports::{Page, Report};
-use rounds::{Clockwork, Stopwatch};
 use std::alloc::Global;
 use std::io::{self, Write};
 use std::rt::Clock;
 use std::thread;
-use std::time::Duration;
+use std::time::{Duration, Instant};
 
 /// The bytes of the longest answer.
 const ROOM: usize = 4_096;
@@ -151,10 +150,10 @@ fn awaited_at<R: Clock + AllocGlobal, S: Site>(
 ) -> Result<(), BoxFault>
     ensures { OnOk result (IsSyncedAt S.does line.now.path site.new) }
 {
-    let limit = u64::from(seconds) * 100;
-    let mut clock = Stopwatch::start(rt);
+    let limit = Duration::from_secs(u64::from(seconds));
+    let start = Instant::now(rt).ok();
     for _ in 0..u64::MAX {
-        let is_over = clock.moment() >= limit;
+        let is_over = has_passed(rt, start, limit);
         match synced(rt.alloc(), site, line) {
             Err(fault) if is_over => return Err(fault),
             Err(_) => thread::sleep(rt, Duration::from_millis(PAUSE)),
@@ -162,6 +161,14 @@ fn awaited_at<R: Clock + AllocGlobal, S: Site>(
         }
     }
     Err(BoxFault::NotSynced)
+}
+
+/// Whether so much time has passed since then. Where the clock can't be read nobody waits for it.
+fn has_passed<R: Clock>(rt: &R, start: Option<Instant>, limit: Duration) -> bool {
+    match start.map(|start| start.elapsed(rt)) {
+        Some(Ok(passed)) => limit <= passed,
+        _ => true,
+    }
 }
 
 /// Asks the box at a line's end whether it is synced.

@@ -6,7 +6,7 @@ use std::net::{Ipv4Addr, Net, SocketAddr, SocketAddrV4, UdpSocket};
 
 /// The first of a box's own ends that is refused, of those that its ways need: the link's, the inside's, the outside's. It
 /// is looked for once a box's sockets were refused; where each can be had by itself, there is none.
-pub(crate) fn refused_end<R: Net>(rt: &R, ways: &Ways, ports: Ports) -> Refused {
+pub fn refused_end<R: Net>(rt: &R, ways: &Ways, ports: Ports) -> Refused {
     let needed = [
         own_end(ways.link, ports.link),
         own_end(ways.inside, ports.inside),
@@ -41,7 +41,7 @@ fn address_of(end: End) -> SocketAddr {
 
 /// The end that a box can't have, where that is known.
 #[derive(Clone, Copy, Debug, PartialEq, Eq)]
-pub(crate) struct Refused(Option<End>);
+pub struct Refused(Option<End>);
 
 impl fmt::Display for Refused {
     fn fmt<W: fmt::Write>(&self, f: &mut fmt::Formatter<W>) -> fmt::Result {

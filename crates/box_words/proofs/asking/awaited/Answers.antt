@@ -1,5 +1,5 @@
-use Rattle.gate.proofs.Doing.{reached_synced}
-use Rattle.gate.proofs.asking.awaited.Goals as goal
+use Rattle.box_words.proofs.Doing.{reached_synced}
+use Rattle.box_words.proofs.asking.awaited.Goals as goal
 
 pub returns : goal.returns
 returns g c =

@@ -1,5 +1,5 @@
-use Rattle.gate.proofs.Doing.{reached_taken}
-use Rattle.gate.proofs.saying.said_off.Goals as goal
+use Rattle.box_words.proofs.Doing.{reached_taken}
+use Rattle.box_words.proofs.saying.said_off.Goals as goal
 
 pub returns : goal.returns
 returns g c =

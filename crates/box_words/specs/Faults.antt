@@ -10,8 +10,8 @@ use Rattle.faults.specs.Faults.{IsOfFile}
 use Rattle.faults.specs.declared.faults.Fault.TheVariants.{NoMemory, Setting}
 use Rattle.settings_file.specs.declared.faults.SettingFault.TheVariants.{CantWork}
 use Rattle.settings_file.specs.declared.keys.Key.{Key}
-use Rattle.gate.specs.declared.refusals.BoxFault.{BoxFault}
-use Rattle.gate.specs.declared.refusals.BoxFault.TheVariants as fault
+use Rattle.box_words.specs.declared.refusals.BoxFault.{BoxFault}
+use Rattle.box_words.specs.declared.refusals.BoxFault.TheVariants as fault
 
 -- of a control socket's path
 abbrev pub of_path : PathFault → BoxFault

@@ -1,5 +1,5 @@
 use Rattle.std.proofs.Common.{rules}
-use Rattle.gate.proofs.saying.line_to.Goals as goal
+use Rattle.box_words.proofs.saying.line_to.Goals as goal
 
 pub returns-clause-reached : goal.returns-clause-reached
 returns-clause-reached g c = record {

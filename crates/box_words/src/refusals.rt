@@ -1,7 +1,7 @@
 //! Why a box ends without its work done.
 ghost use Rattle.std.specs.Prelude.{◌≡◌};
 ghost use Rattle.faults.specs.Faults.{IsOfFile};
-ghost use Rattle.gate.specs.Faults.{IsOfCapture, IsOfFilter, IsOfNoWay, IsOfSocket, TellsBootFile};
+ghost use Rattle.box_words.specs.Faults.{IsOfCapture, IsOfFilter, IsOfNoWay, IsOfSocket, TellsBootFile};
 
 use crate::ends::Refused;
 use boot_file::FileFault;
@@ -21,7 +21,7 @@ use thiserror::Error;
 
 /// Why a box doesn't run, or couldn't say that it has ended.
 #[derive(Debug, Drop, Error)]
-pub(crate) enum BoxFault {
+pub enum BoxFault {
     /// The settings can't be had, output isn't written, or memory is refused.
     #[error("{0}")]
     Run(Fault),
@@ -83,7 +83,7 @@ pub(crate) enum BoxFault {
 
 /// Why a box doesn't take the word that a boot of the other is off: by its number and name, and in words.
 #[derive(Clone, Copy, Debug, PartialEq, Eq)]
-pub(crate) struct Explained(pub(crate) PeerOffRefusal);
+pub struct Explained(pub PeerOffRefusal);
 
 impl fmt::Display for Explained {
     fn fmt<W: fmt::Write>(&self, f: &mut fmt::Formatter<W>) -> fmt::Result {
@@ -100,7 +100,7 @@ impl fmt::Display for Explained {
 
 impl BoxFault {
     /// Of what is no filter, or for which memory is refused.
-    pub(crate) fn of_filter(alloc: Global, fault: FilterFault<'_>) -> BoxFault
+    pub fn of_filter(alloc: Global, fault: FilterFault<'_>) -> BoxFault
         ensures { IsOfFilter result }
     {
         match fault {
@@ -113,7 +113,7 @@ impl BoxFault {
     }
 
     /// Nobody hears at the control socket beside this boot file, or it can't be had.
-    pub(crate) fn no_control(alloc: Global, boot_file: &str) -> BoxFault
+    pub fn no_control(alloc: Global, boot_file: &str) -> BoxFault
         ensures kind { IsOfSocket result }
         ensures no_way { IsOfNoWay result }
     {
@@ -124,7 +124,7 @@ impl BoxFault {
     }
 
     /// Of a boot file that can't be had.
-    pub(crate) fn of_boot_file(alloc: Global, path: &str, fault: FileFault) -> BoxFault
+    pub fn of_boot_file(alloc: Global, path: &str, fault: FileFault) -> BoxFault
         ensures told { TellsBootFile fault result }
         ensures no_way { IsOfNoWay result }
     {
@@ -140,7 +140,7 @@ impl BoxFault {
     }
 
     /// Of the file of a capture that can't be opened, or has something that is none.
-    pub(crate) fn no_capture(alloc: Global, path: &str, error: &io::Error) -> BoxFault
+    pub fn no_capture(alloc: Global, path: &str, error: &io::Error) -> BoxFault
         ensures kind { IsOfCapture result }
         ensures no_way { IsOfNoWay result }
     {
@@ -149,7 +149,7 @@ impl BoxFault {
 
     /// Tells of the fault on a line behind `natpair: `, and gives its exit status. Where even that
     /// can't be written, the status alone tells.
-    pub(crate) fn tell<E: Write>(self, errors: &mut E) -> u8
+    pub fn tell<E: Write>(self, errors: &mut E) -> u8
         ensures { result ≡ 1 }
     {
         let _ = writeln!(errors, "natpair: {self}");
@@ -158,7 +158,7 @@ impl BoxFault {
 }
 
 /// Why a capture can't be begun in the file at a path.
-pub(crate) fn of_capture(alloc: Global, path: &str, error: &io::Error) -> Fault
+pub fn of_capture(alloc: Global, path: &str, error: &io::Error) -> Fault
     ensures { IsOfFile result }
 {
     match error.kind() {
@@ -170,7 +170,7 @@ pub(crate) fn of_capture(alloc: Global, path: &str, error: &io::Error) -> Fault
 
 impl From<Fault> for BoxFault {
     ghost use Rattle.std.specs.Prelude.{◌≡◌};
-    ghost use Rattle.gate.specs.declared.refusals.BoxFault.TheVariants as faults;
+    ghost use Rattle.box_words.specs.declared.refusals.BoxFault.TheVariants as faults;
 
     ghost from_gives = { λ fault gives. gives ≡ faults.Run fault };
 
@@ -182,7 +182,7 @@ impl From<Fault> for BoxFault {
 impl From<SettingFault> for BoxFault {
     ghost use Rattle.std.specs.Prelude.{◌≡◌};
     ghost use Rattle.faults.specs.Faults.{of_setting};
-    ghost use Rattle.gate.specs.declared.refusals.BoxFault.TheVariants as faults;
+    ghost use Rattle.box_words.specs.declared.refusals.BoxFault.TheVariants as faults;
 
     ghost from_gives = { λ fault gives. gives ≡ faults.Run (of_setting fault) };
 
@@ -193,7 +193,7 @@ impl From<SettingFault> for BoxFault {
 
 impl From<NoDescriptor> for BoxFault {
     ghost use Rattle.std.specs.Prelude.{◌≡◌};
-    ghost use Rattle.gate.specs.declared.refusals.BoxFault.TheVariants as faults;
+    ghost use Rattle.box_words.specs.declared.refusals.BoxFault.TheVariants as faults;
 
     ghost from_gives = { λ fault gives. gives ≡ faults.NoDescriptor fault };
 
@@ -204,7 +204,7 @@ impl From<NoDescriptor> for BoxFault {
 
 impl From<PathFault> for BoxFault {
     ghost use Rattle.std.specs.Prelude.{◌≡◌};
-    ghost use Rattle.gate.specs.Faults.{of_path};
+    ghost use Rattle.box_words.specs.Faults.{of_path};
 
     ghost from_gives = { λ fault gives. gives ≡ of_path fault };
 
@@ -218,7 +218,7 @@ impl From<PathFault> for BoxFault {
 
 impl From<BootFault> for BoxFault {
     ghost use Rattle.std.specs.Prelude.{◌≡◌};
-    ghost use Rattle.gate.specs.Faults.{of_boot};
+    ghost use Rattle.box_words.specs.Faults.{of_boot};
 
     ghost from_gives = { λ fault gives. gives ≡ of_boot fault };
 
@@ -234,7 +234,7 @@ impl From<BootFault> for BoxFault {
 
 impl From<NotOpen> for BoxFault {
     ghost use Rattle.std.specs.Prelude.{◌≡◌};
-    ghost use Rattle.gate.specs.declared.refusals.BoxFault.TheVariants as faults;
+    ghost use Rattle.box_words.specs.declared.refusals.BoxFault.TheVariants as faults;
 
     ghost from_gives = { λ fault gives. gives ≡ faults.NotOpen fault };
 
@@ -245,7 +245,7 @@ impl From<NotOpen> for BoxFault {
 
 impl From<ReadFault> for BoxFault {
     ghost use Rattle.std.specs.Prelude.{◌≡◌};
-    ghost use Rattle.gate.specs.declared.refusals.BoxFault.TheVariants as faults;
+    ghost use Rattle.box_words.specs.declared.refusals.BoxFault.TheVariants as faults;
 
     ghost from_gives = { λ fault gives. gives ≡ faults.NoReport fault };
 
@@ -257,7 +257,7 @@ impl From<ReadFault> for BoxFault {
 impl From<AllocError> for BoxFault {
     ghost use Rattle.std.specs.Prelude.{◌≡◌};
     ghost use Rattle.faults.specs.declared.faults.Fault.TheVariants as reasons;
-    ghost use Rattle.gate.specs.declared.refusals.BoxFault.TheVariants as faults;
+    ghost use Rattle.box_words.specs.declared.refusals.BoxFault.TheVariants as faults;
 
     ghost from_gives = { λ _ gives. gives ≡ faults.Run reasons.NoMemory };
 
@@ -269,7 +269,7 @@ impl From<AllocError> for BoxFault {
 impl From<NoMemory> for BoxFault {
     ghost use Rattle.std.specs.Prelude.{◌≡◌};
     ghost use Rattle.faults.specs.declared.faults.Fault.TheVariants as reasons;
-    ghost use Rattle.gate.specs.declared.refusals.BoxFault.TheVariants as faults;
+    ghost use Rattle.box_words.specs.declared.refusals.BoxFault.TheVariants as faults;
 
     ghost from_gives = { λ _ gives. gives ≡ faults.Run reasons.NoMemory };
 
@@ -281,7 +281,7 @@ impl From<NoMemory> for BoxFault {
 impl From<io::Error> for BoxFault {
     ghost use Rattle.std.specs.Prelude.{◌≡◌};
     ghost use Rattle.faults.specs.declared.faults.Fault.TheVariants as reasons;
-    ghost use Rattle.gate.specs.declared.refusals.BoxFault.TheVariants as faults;
+    ghost use Rattle.box_words.specs.declared.refusals.BoxFault.TheVariants as faults;
 
     ghost from_gives = { λ _ gives. gives ≡ faults.Run reasons.NotWritten };
 

@@ -2,7 +2,7 @@
 ghost use Rattle.std.specs.Prelude.{◌≤◌, IfOk, OnOk, length, string_bytes, take};
 ghost use Rattle.control.specs.Answers.{answer_of};
 ghost use Rattle.control.specs.Words.{word_of};
-ghost use Rattle.gate.specs.Deeds.{Deed, asked, made, read, said};
+ghost use Rattle.box_words.specs.Deeds.{Deed, asked, made, read, said};
 
 use boot_file::{Blocks, FileFault};
 use control::{ControlPath, NoSocket};

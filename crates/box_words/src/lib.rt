@@ -1,0 +1,14 @@
+//! What an operator says to a running box, and asks of it; and why what is done at a box ends early.
+#![tactic(auto)]
+
+mod asking;
+mod ends;
+mod refusals;
+mod saying;
+mod sites;
+
+pub use asking::{Form, await_synced, pairs, status};
+pub use ends::{Refused, refused_end};
+pub use refusals::{BoxFault, Explained, of_capture};
+pub use saying::{control_path, peer_off, side, stop};
+pub use sites::{Machine, Site};
