@@ -1,5 +1,7 @@
 //! The files in which captures are begun.
-ghost use Rattle.std.specs.Prelude.{◌≡◌, ◌≤◌, ◌↔◌, None, true, take, length, option_map, IfOk, IfSome, OnErr, OnOk};
+ghost use Rattle.std.specs.Prelude.{◌≡◌, ◌≤◌, ◌<◌, ◌↔◌, None, true, take, length, not, option_map, is_err, IfErr, IfOk, IfSome, OnErr, OnOk};
+ghost use Rattle.std.specs.Io.KnownBytes.{Consumes, IsAtEnd};
+ghost use Rattle.std.specs.IoError.{error_kind};
 ghost use Rattle.captures.specs.Files.{Held, emptied, is_free, may_begin};
 
 use std::fs::{self, Files, OpenFile, OpenOptions};
@@ -66,7 +68,10 @@ impl<F: Read + Seek + OpenFile> Opened for F {
 
 /// Fills the room as far as a file goes, and says how far.
 fn fill<F: Read>(file: &mut F, room: &mut [u8; FRONT]) -> io::Result<usize>
-    ensures { IfOk result (λ count. count ≤ 4) }
+    ensures within { IfOk result (λ count. count ≤ 4) }
+    ensures came { IfOk result (λ count. Consumes (F.remaining file.old)
+        (F.remaining file.new) (take count room.new)) }
+    ensures all { IfOk result (λ count. count < 4 → IsAtEnd (F.remaining file.new)) }
 {
     let mut filled = 0;
     while filled < FRONT {
@@ -129,11 +134,8 @@ impl<F: Opened + Drop> Vacant<F> {
         ensures same { F.honest file → IfOk result (λ vacant. F.held vacant ≡ F.held file) }
         ensures honesty { IfOk result (λ vacant. F.honest file ↔ F.honest vacant) }
     {
-        if is_free(&mut file)? {
-            Ok(Vacant { file })
-        } else {
-            Err(io::Error::from(ErrorKind::AlreadyExists))
-        }
+        let free = is_free(&mut file)?;
+        vacant(file, free)
     }
 
     /// The same without what it had.
@@ -147,6 +149,23 @@ impl<F: Opened + Drop> Vacant<F> {
         let Vacant { mut file } = self;
         file.empty()?;
         Ok(file)
+    }
+}
+
+/// A file in which a capture may be begun, or not.
+///
+/// # Errors
+///
+/// `AlreadyExists` where it may not.
+fn vacant<F: Drop>(file: F, free: bool) -> io::Result<Vacant<F>>
+    ensures file { IfOk result (λ vacant. vacant ≡ file) }
+    ensures free { is_err result ≡ not free }
+    ensures exists { IfErr result (λ error. error_kind error ≡ ErrorKind.AlreadyExists) }
+{
+    if free {
+        Ok(Vacant { file })
+    } else {
+        Err(io::Error::from(ErrorKind::AlreadyExists))
     }
 }
 

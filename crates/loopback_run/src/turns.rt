@@ -10,6 +10,8 @@ ghost use Rattle.loopback_run.specs.Runs.{HasTurned, TakesTurns};
 ghost use Rattle.loopback_run.specs.Texts.{counts_then, turn_lines};
 ghost use Rattle.loopback_run.specs.Turns.{HasSent, TakesTurn, handed, is_lost, is_refusal, of_port};
 ghost use Rattle.loopback_run.specs.Loops.{IsLoop, LoopsScript, TellsLoop};
+ghost use Rattle.frame_sim.specs.World.{founding};
+ghost use Rattle.loopback_run.specs.Tapes.{AreTaped, IsTapedLoop, TapesTurn};
 ghost use Rattle.loopback_run.specs.Stops.{FailsScript, HaveBegun, HoldJob, Leaves, Stops, StopsLoop, Untouched};
 
 use faults::{Fault, job_of};
@@ -155,6 +157,8 @@ pub fn play<P: Channel, T: Tape, O: Write>(
         (λ fault. (fault ≡ faults.NotWritten) ⊎ (fault ≡ faults.NoMemory)) }
     ensures stops { IfErr result (StopsLoop P.passes O.contents settings.now events.now
         passage.old passage.new output.old output.new) }
+    ensures taped { OnOk result (IsTapedLoop P.passes T.takes (founding settings.now)
+        passage.old tape.old events.now passage.new tape.new) }
 {
     match World::founded(alloc, settings) {
         Ok(mut world) => {
@@ -182,6 +186,8 @@ fn played<P: Channel, T: Tape, O: Write>(
         (λ fault. (fault ≡ faults.NotWritten) ⊎ (fault ≡ faults.NoMemory)) }
     ensures stops { IfErr result (Stops P.passes world.old passage.old events.now passage.new
         (O.contents output.old) (O.contents output.new)) }
+    ensures taped { OnOk result (AreTaped P.passes T.takes world.old passage.old tape.old
+        events.now world.new passage.new tape.new) }
 {
     let refused = turned(alloc, world, events, passage, tape, output)?;
     world.tables(output)?;
@@ -202,6 +208,8 @@ fn turned<P: Channel, T: Tape, O: Write>(
         passage.new (O.contents output.old) (O.contents output.new)) }
     ensures begun { OnErr result (HaveBegun P.passes world.old passage.old events.now
         passage.new (O.contents output.old) (O.contents output.new)) }
+    ensures taped { OnOk result (AreTaped P.passes T.takes world.old passage.old tape.old
+        events.now world.new passage.new tape.new) }
 {
     let mut printer = Printer::new();
     let mut refused = false;
@@ -244,7 +252,9 @@ fn take_down<T: Tape>(
     world: &World<'_>,
     event: &WorldEvent,
     step: &Option<Step>,
-) -> io::Result<()> {
+) -> io::Result<()>
+    ensures { OnOk result (TapesTurn T.takes tape.old world.now event.now step.now tape.new) }
+{
     match step {
         Some(step) => tape.take(world, event, step),
         None => Ok(()),

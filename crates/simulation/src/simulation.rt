@@ -1,5 +1,5 @@
 //! A script's run: its events on a new world, their steps and the tables at its end printed.
-ghost use Rattle.std.specs.Prelude.{◌≡◌, ◌⊎◌, None, IfOk, IfErr, OnOk, OnErr, IsSome};
+ghost use Rattle.std.specs.Prelude.{◌≡◌, ◌⊎◌, None, IfOk, IfErr, OnOk, OnErr, IsSome, length};
 ghost use Rattle.frame_sim.specs.Runs.{AreSteps};
 ghost use Rattle.faults.specs.Faults.{status_of};
 ghost use Rattle.scripts.specs.Script.{first_bad_line};
@@ -11,6 +11,7 @@ ghost use Rattle.frame_sim.specs.World.{founding};
 ghost use Rattle.simulation.specs.Status.{RunsScript};
 ghost use Rattle.simulation.specs.Tapes.{IsTapedRun, TapesScript, TapesSteps};
 ghost use Rattle.simulation.specs.Texts.{run_lines};
+ghost use Rattle.simulation.specs.Watched.{IsToldAll};
 ghost use Rattle.simulation.specs.Stops.{Begins, BeginsScript};
 ghost use Rattle.faults.specs.declared.faults.Fault.TheVariants as faults;
 
@@ -127,6 +128,8 @@ pub fn play<P: Progress, T: Tape, O: Write>(
     ensures status { IfOk result (λ status. (status ≡ 0) ⊎ (status ≡ 3)) }
     ensures fault { IfErr result
         (λ fault. (fault ≡ faults.NotWritten) ⊎ (fault ≡ faults.NoMemory)) }
+    ensures told { IfOk result
+        (λ _. IsToldAll P.hears (length events.now) progress.old progress.new) }
 {
     match World::founded(alloc, settings) {
         Ok(mut world) => {
@@ -155,6 +158,8 @@ fn played<P: Progress, T: Tape, O: Write>(
     ensures status { IfOk result (λ status. (status ≡ 0) ⊎ (status ≡ 3)) }
     ensures fault { IfErr result
         (λ fault. (fault ≡ faults.NotWritten) ⊎ (fault ≡ faults.NoMemory)) }
+    ensures told { IfOk result
+        (λ _. IsToldAll P.hears (length events.now) progress.old progress.new) }
 {
     let steps = steps_of(alloc, world, events, progress)?;
     take_down(tape, world, events, steps.as_slice())?;
@@ -209,7 +214,9 @@ fn steps_of<P: Progress>(
     events: &[WorldEvent],
     progress: &mut P,
 ) -> Result<Vec<Step>, NoMemory>
-    ensures { IfOk result (λ steps. AreSteps world.old events.now steps.items world.new) }
+    ensures steps { IfOk result (λ steps. AreSteps world.old events.now steps.items world.new) }
+    ensures told { IfOk result
+        (λ _. IsToldAll P.hears (length events.now) progress.old progress.new) }
 {
     let mut steps = Vec::with_capacity(alloc, events.len())?;
     let mut rest = events;
