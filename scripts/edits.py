@@ -4,6 +4,8 @@
     scripts/edits.py refused CRATE[/EDIT]..     whether the prover refuses those of wrong-bodies/, which no gate tries
     scripts/edits.py clauses CRATE[/EDIT]..     which clause refuses it: the gate says only that something does
     scripts/edits.py behaviour CRATE[/EDIT]..   the first line that a program of cases prints otherwise
+    scripts/edits.py gate LOG                   what the gate said of each, from its output in a file: the table of
+                                                docs/WRONG_BODIES.md
     scripts/edits.py list                       the edits, a line each
 
 The gate tries crates/CRATE/must-fail/*.edit. A crate's first edit costs a whole check of it, so the other wrong bodies
@@ -178,11 +180,47 @@ def change(top, edit):
         file.write_text(right, encoding="utf-8")
 
 
+FUNCTION = re.compile(r"^\s*(?:pub(?:\([a-z]+\))? )?(?:const )?fn (\w+)")
+SAID = re.compile(r"must-fail (\w+)/([\w.-]+)\.edit: (.*)")
+
+
+def function_at(top, crate, file, line):
+    """The function of a crate that begins at a line of a file, behind its attributes there, or that holds the line."""
+    lines = (top / "crates" / crate / file).read_text(encoding="utf-8").splitlines()
+    is_head = FUNCTION.match(lines[line - 1]) or lines[line - 1].lstrip().startswith(("///", "#["))
+    looked = lines[line - 1:] if is_head else reversed(lines[:line])
+    found = next((it for it in map(FUNCTION.match, looked) if it), None)
+    return found[1] if found else "?"
+
+
+def goal(top, crate, said):
+    """The function and the goal at which an edit is refused, by what the gate says; or that a proof's text refuses it."""
+    found = re.search(r"note: (src/\S+?):(\d+):\d+: .*?\(`([^`]+)`\)", said)
+    if found:
+        return f"`{function_at(top, crate, found[1], int(found[2]))}`: `{found[3]}`"
+    found = re.search(r"proofs/(\S+?)/\w+\.antt:\d+:\d+: error: `([^`]+)`", said)
+    if found:
+        return f"`{found[1].split('/')[-1]}`: `{found[2]}`, in the proof's text"
+    return "in a proof's text, which names what the edit takes away" if "refused" in said else "NOT REFUSED"
+
+
+def told_by_gate(top, log):
+    """A line of a table for each edit that the gate tried. Gives the status: 1 where one isn't refused, or none was tried."""
+    said = sorted(SAID.findall(log))
+    rows = [(name, crate, goal(top, crate, words)) for crate, name, words in said]
+    print("\n".join(f"| `{name}` | `{crate}` | {where} |" for name, crate, where in rows))
+    return int(not rows or any(where == "NOT REFUSED" for _, _, where in rows))
+
+
 def main():
     parser = argparse.ArgumentParser(description=__doc__, formatter_class=argparse.RawDescriptionHelpFormatter)
-    parser.add_argument("part", choices=("refused", "clauses", "behaviour", "list"))
+    parser.add_argument("part", choices=("refused", "clauses", "behaviour", "gate", "list"))
     parser.add_argument("wanted", nargs="*", metavar="CRATE[/EDIT]")
     words = parser.parse_args()
+    if words.part == "gate":
+        if len(words.wanted) != 1:
+            parser.error("gate takes one file, the gate's output")
+        return told_by_gate(TOP, pathlib.Path(words.wanted[0]).read_text(encoding="utf-8", errors="replace"))
     found = edits_of(TOP, words.wanted)
     if words.part == "list" or not found:
         print("\n".join(f"{it.crate}/{it.name}" for it in found))
