@@ -1,5 +1,5 @@
 //! The lines of pairs.
-ghost use Rattle.std.specs.Prelude.{◌≡◌, OnOk, flat_map};
+ghost use Rattle.std.specs.Prelude.{◌≡◌, OnOk, false, flat_map};
 ghost use Rattle.std.specs.Io.KnownBytes.{Appends};
 ghost use Rattle.report_texts.specs.Pairs.{entry_line, wanted_line};
 ghost use Rattle.report_texts.specs.Wanted.{passes, wants_address, wants_port, wants_protocol, wants_state};
@@ -104,7 +104,8 @@ fn write_entries<O: Write>(output: &mut O, entries: &[Entry], filter: &Filter) -
 
 /// Writes the line of an entry, if it is wanted.
 fn write_pair<O: Write>(output: &mut O, entry: &Entry, filter: &Filter) -> io::Result<()>
-    ensures { OnOk result (Appends (O.contents output.old) (O.contents output.new)
+    ensures unwanted { passes filter.now entry.now ≡ false → output.new ≡ output.old }
+    ensures line { OnOk result (Appends (O.contents output.old) (O.contents output.new)
         (wanted_line filter.now entry.now)) }
 {
     if filter.passes(entry) {
