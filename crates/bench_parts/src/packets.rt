@@ -1,17 +1,16 @@
-//! `bench_wire COUNT`: what it costs to parse a packet and send it on outward, over COUNT of each
-//! kind. Without a count it does nothing.
-#![tactic(auto)]
+//! What it costs to parse a packet and send it on outward.
 
 ghost use Rattle.std.specs.Prelude.{IsTrue};
 ghost use Rattle.icmp.specs.Query.{IsTranslatable};
 ghost use Rattle.ipv4.specs.Header.{IsIpv4};
 
+use crate::clock::each;
 use addresses::{Ip, Port, Protocol};
 use icmp::Kind;
 use ipv4::{Ipv4View, Transport};
-use std::rt::{Clock, Env};
+use std::io;
+use std::rt::Clock;
 use std::time::Instant;
-use std::{env, io};
 use sums::sum;
 
 /// The longest packet of an Ethernet frame.
@@ -104,7 +103,7 @@ fn is_sent_anew(packet: &mut [u8; LONGEST], fresh: &[u8; LONGEST], size: usize) 
 
 /// Nanoseconds for each of so many packets, rounded down, among them the copy of the bytes that a
 /// translation changes.
-fn measure(rt: &impl Clock, protocol: Protocol, size: u16, count: u32) -> io::Result<(u128, u32)> {
+fn cost_of(rt: &impl Clock, protocol: Protocol, size: u16, count: u32) -> io::Result<(u128, u32)> {
     let fresh = packet_of(protocol, size);
     let mut packet = fresh;
     let mut sent = 0u32;
@@ -114,11 +113,11 @@ fn measure(rt: &impl Clock, protocol: Protocol, size: u16, count: u32) -> io::Re
             sent = sent.saturating_add(1);
         }
     }
-    let spent = start.elapsed(rt)?.as_nanos();
-    Ok((spent / u128::from(count.max(1)), sent))
+    Ok((each(rt, start, count)?, sent))
 }
 
-fn report<R: Print + Clock>(rt: &R, count: u32) -> io::Result<()> {
+/// Prints what each kind of packet costs, over so many.
+pub fn measure<R: Print + Clock>(rt: &R, count: u32) -> io::Result<()> {
     for (protocol, size) in [
         (Protocol::Udp, 44),
         (Protocol::Udp, 1500),
@@ -127,17 +126,8 @@ fn report<R: Print + Clock>(rt: &R, count: u32) -> io::Result<()> {
         (Protocol::Icmp, 44),
         (Protocol::Icmp, 1500),
     ] {
-        let (each, sent) = measure(rt, protocol, size, count)?;
+        let (each, sent) = cost_of(rt, protocol, size, count)?;
         println!(rt; "{protocol} {size} bytes: {each} ns a packet, {sent} of {count} sent")?;
-    }
-    Ok(())
-}
-
-fn main(rt: HostRuntime) -> io::Result<()> {
-    if let Some(word) = env::args(&rt)?.nth(1) {
-        if let Ok(count) = word.parse::<u32>() {
-            report(&rt, count)?;
-        }
     }
     Ok(())
 }

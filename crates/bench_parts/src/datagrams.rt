@@ -1,14 +1,13 @@
-//! `bench_link COUNT`: what datagrams of the link cost to make, to read and to take, over COUNT of each, and what it
-//! costs to push and to drain a whole batch. Without a count it does nothing.
-#![tactic(auto)]
+//! What datagrams of the link cost to make, to read and to take, and what it costs to push and to drain a whole batch.
 
+use crate::clock::each;
 use addresses::{Port, Protocol};
 use link::{Link, parse, write};
 use nat_types::{GatewayId, Key, Record};
 use std::alloc::AllocError;
-use std::rt::{Clock, Env};
+use std::io;
+use std::rt::Clock;
 use std::time::Instant;
-use std::{env, io};
 
 /// The places of a gateway's link where both ranges have 20,000 ports.
 const CAPACITY: usize = 160_066;
@@ -20,11 +19,6 @@ const ENTRY: Record = Record::Accept(Key {
     protocol: Protocol::Udp,
     port: Port(20000),
 });
-
-/// Nanoseconds for each of so many, rounded down.
-fn each(rt: &impl Clock, start: Instant, count: u32) -> io::Result<u128> {
-    Ok(start.elapsed(rt)?.as_nanos() / u128::from(count.max(1)))
-}
 
 /// Writes the datagram that is due on this tick, and nothing where none is.
 fn send(link: &mut Link, now: u64, out: &mut Vec<u8>) -> Result<(), AllocError> {
@@ -114,7 +108,8 @@ fn draining<R: Clock>(
     Ok((start.elapsed(rt)?.as_nanos() / 1000, drained))
 }
 
-fn measure<R: Print + AllocGlobal + Clock>(rt: &R, count: u32) -> io::Result<()> {
+/// Prints what each of them costs, over so many.
+pub fn measure<R: Print + AllocGlobal + Clock>(rt: &R, count: u32) -> io::Result<()> {
     let mut zero = Link::new(rt.alloc(), GatewayId::Zero, 1, CAPACITY)?;
     let mut one = Link::new(rt.alloc(), GatewayId::One, 1, CAPACITY)?;
     let mut bytes = Vec::new(rt.alloc());
@@ -133,13 +128,4 @@ fn measure<R: Print + AllocGlobal + Clock>(rt: &R, count: u32) -> io::Result<()>
     println!(rt; "drained: {drained} us for {records} records")?;
     let again = taking(rt, &mut one, bytes.as_slice(), count)?;
     println!(rt; "the last again: {again} ns")
-}
-
-fn main(rt: HostRuntime) -> io::Result<()> {
-    if let Some(word) = env::args(&rt)?.nth(1) {
-        if let Ok(count) = word.parse::<u32>() {
-            measure(&rt, count)?;
-        }
-    }
-    Ok(())
 }

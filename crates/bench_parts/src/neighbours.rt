@@ -1,11 +1,11 @@
-//! `bench_arp COUNT`: what a renewal, a stranger and a look-up cost in a full cache, over COUNT of each. Without a count it does nothing.
-#![tactic(auto)]
+//! What a renewal, a stranger and a look-up cost in a full cache.
 
+use crate::clock::each;
 use addresses::{Ip, Mac};
 use arp::Cache;
-use std::rt::{Clock, Env};
+use std::io;
+use std::rt::Clock;
 use std::time::Instant;
-use std::{env, io};
 
 /// The entries that a cache has room for.
 const FULL: u32 = 1024;
@@ -24,12 +24,8 @@ fn mac() -> Mac {
     Mac([2, 0, 0, 0, 0, 1])
 }
 
-/// Nanoseconds for each of so many, rounded down.
-fn each(rt: &impl Clock, start: Instant, count: u32) -> io::Result<u128> {
-    Ok(start.elapsed(rt)?.as_nanos() / u128::from(count.max(1)))
-}
-
-fn measure<R: Print + AllocGlobal + Clock>(rt: &R, count: u32) -> io::Result<()> {
+/// Prints what each of them costs, over so many.
+pub fn measure<R: Print + AllocGlobal + Clock>(rt: &R, count: u32) -> io::Result<()> {
     let mut cache = Cache::new(rt.alloc(), &[])?;
     let start = Instant::now(rt)?;
     for number in 0..count {
@@ -55,13 +51,4 @@ fn measure<R: Print + AllocGlobal + Clock>(rt: &R, count: u32) -> io::Result<()>
     println!(rt;
         "{renewal} ns a renewal, {learn} ns a stranger, {look_up} ns a look-up, {known} of {count} known"
     )
-}
-
-fn main(rt: HostRuntime) -> io::Result<()> {
-    if let Some(word) = env::args(&rt)?.nth(1) {
-        if let Ok(count) = word.parse::<u32>() {
-            measure(&rt, count)?;
-        }
-    }
-    Ok(())
 }
