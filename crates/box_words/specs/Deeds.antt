@@ -1,5 +1,7 @@
 -- What an operator's command does at a site.
-use Rattle.std.specs.Prelude.{◌≡◌, ℕ, List, [], ◌∷◌, Option, Some, None, true, Ok, string_bytes, if◌then◌else◌}
+use Rattle.std.specs.Prelude.{◌≡◌, ◌++◌, ℕ, List, [], ◌∷◌, Option, Some, None, true, Ok, string_bytes, if◌then◌else◌}
+use Rattle.std.specs.Io.KnownBytes.{Appends}
+use Rattle.std.specs.List.{flat_map}
 use Rattle.toml.specs.Parse.{parse_document}
 use Rattle.nat_types.specs.declared.gateways.GatewayId.{GatewayId}
 use Rattle.nat_types.specs.declared.pairs.Key.{Key}
@@ -14,6 +16,13 @@ use Rattle.reports.specs.Formats.{reading}
 use Rattle.reports.specs.Pages.{Page, last_of}
 use Rattle.reports.specs.Reports.{page as page_format, report as report_format}
 use Rattle.reports.specs.declared.reports.Report.{Report}
+use Rattle.report_texts.specs.Json.{json_text}
+use Rattle.report_texts.specs.Metrics.{metrics_text}
+use Rattle.report_texts.specs.Pairs.{wanted_line}
+use Rattle.report_texts.specs.People.{people_text}
+use Rattle.report_texts.specs.declared.pairs.Filter.{Filter}
+use Rattle.box_words.specs.declared.asking.Form.{Form}
+use Rattle.box_words.specs.declared.asking.Form.TheVariants as form
 
 -- a file was read, which has this text; a boot file was made; a box that is reached so was said this word, and heard it; or was
 -- said it, and gave this answer. What was said, or answered, may be none
@@ -67,13 +76,20 @@ pub record Lists {S : Type 0} (does : Does S) (path : Paths) (behind : Option Ke
   pub reads : reading page_format bytes ≡ Ok page
   pub answered : does before (asked path (Some (Pairs behind)) (Some (page_of bytes))) after
 
--- just that box was asked how it stands, and answered by a report; and nothing else was done
-pub record HasReported {S : Type 0} (does : Does S) (settings : List ℕ) (id : GatewayId) (before after : S) : Type 0 where
+-- a report in a form
+abbrev pub text_of : Form → Report → List ℕ
+text_of form.Plain report = people_text report
+text_of form.Json report = json_text report
+text_of form.Prometheus report = metrics_text report
+
+-- just that box was asked how it stands, and answered by a report; and nothing else was done. The report was written in this form
+pub record HasReported {S : Type 0} (does : Does S) (settings : List ℕ) (id : GatewayId) (form : Form) (old new : Option (List ℕ)) (before after : S) : Type 0 where
   pub path : Paths
   pub between : S
   pub reached : IsReached does settings id path before between
   pub report : Report
   pub reports : Reports does path report between after
+  pub written : Appends old new (text_of form report)
 
 -- at last a box was asked how it stands, and answered that it is synced
 pub record IsSyncedAt {S : Type 0} (does : Does S) (path : Paths) (after : S) : Type 0 where
@@ -104,22 +120,33 @@ AreListed does path [] before after = after ≡ before
 AreListed {S = S} does path (page ∷ earlier) before after =
     (middle : S) × (AreListed does path earlier before middle × Lists does path (next_behind earlier) page middle after)
 
--- a box was asked for a page behind a key, or the first one, behind which the next one begins at this key
-pub record HasPage {S : Type 0} (does : Does S) (path : Paths) (behind next : Option Key) (before after : S) : Type 0 where
+-- the lines of a page's pairs that pass a filter
+abbrev pub page_lines : Filter → Page → List ℕ
+page_lines filter page = flat_map (wanted_line filter) page.entries
+
+-- the lines of these pages, the newest of which comes first: they stand in the order of the pages
+abbrev pub lines_of : Filter → List Page → List ℕ
+lines_of filter [] = []
+lines_of filter (page ∷ earlier) = lines_of filter earlier ++ page_lines filter page
+
+-- a box was asked for a page behind a key, or the first one, behind which the next one begins at this key; its lines were written
+pub record HasPage {S : Type 0} (does : Does S) (path : Paths) (behind next : Option Key) (filter : Filter) (old new : Option (List ℕ)) (before after : S) : Type 0 where
   pub page : Page
   pub lists : Lists does path behind page before after
   pub goes_on : next_of page ≡ next
+  pub written : Appends old new (page_lines filter page)
 
--- so far: some pages, behind which the next one begins at this key
-pub record HasPages {S : Type 0} (does : Does S) (path : Paths) (next : Option Key) (before after : S) : Type 0 where
+-- so far: some pages, behind which the next one begins at this key; their lines were written
+pub record HasPages {S : Type 0} (does : Does S) (path : Paths) (next : Option Key) (filter : Filter) (old new : Option (List ℕ)) (before after : S) : Type 0 where
   pub newest : Page
   pub earlier : List Page
   pub listed : AreListed does path (newest ∷ earlier) before after
   pub goes_on : next_of newest ≡ next
+  pub written : Appends old new (lines_of filter (newest ∷ earlier))
 
--- just that box was asked for its pages until none followed; and nothing else was done
-pub record HasListed {S : Type 0} (does : Does S) (settings : List ℕ) (id : GatewayId) (before after : S) : Type 0 where
+-- just that box was asked for its pages until none followed; and nothing else was done. The lines of the pairs that pass were written
+pub record HasListed {S : Type 0} (does : Does S) (settings : List ℕ) (id : GatewayId) (filter : Filter) (old new : Option (List ℕ)) (before after : S) : Type 0 where
   pub path : Paths
   pub between : S
   pub reached : IsReached does settings id path before between
-  pub pages : HasPages does path None between after
+  pub pages : HasPages does path None filter old new between after

@@ -1,12 +1,15 @@
 -- The faults of a box, as those of its parts are told.
-use Rattle.std.specs.Prelude.{◌≡◌}
+use Rattle.std.specs.Prelude.{◌≡◌, ℕ, List, Option, None, Some}
+use Rattle.std.specs.declared.io.ErrorKind.{ErrorKind}
 use Rattle.boot_store.specs.declared.faults.BootFault.{BootFault}
 use Rattle.boot_store.specs.declared.faults.BootFault.TheVariants as boot
 use Rattle.boot_file.specs.declared.faults.FileFault.{FileFault}
 use Rattle.boot_file.specs.declared.faults.FileFault.TheVariants as file
 use Rattle.control.specs.declared.paths.PathFault.{PathFault}
 use Rattle.control.specs.declared.paths.PathFault.TheVariants as path
-use Rattle.faults.specs.Faults.{IsOfFile}
+use Rattle.faults.specs.Faults.{IsOfFile, Tells}
+use Rattle.faults.specs.declared.files.Refusal.{Refusal}
+use Rattle.faults.specs.declared.files.Refusal.TheVariants.{Exists, NoFile, NotWritten}
 use Rattle.faults.specs.declared.faults.Fault.TheVariants.{NoMemory, Setting}
 use Rattle.settings_file.specs.declared.faults.SettingFault.TheVariants.{CantWork}
 use Rattle.settings_file.specs.declared.keys.Key.{Key}
@@ -25,19 +28,20 @@ of_boot boot.Damaged = fault.Damaged
 of_boot boot.BootsUsedUp = fault.BootsUsedUp
 of_boot boot.FoundTwice = fault.FoundTwice
 
--- it is of a file, or of memory
-abbrev pub IsOfPath : BoxFault → Type 0
-IsOfPath (fault.Run why) = IsOfFile why
-IsOfPath other = ⊥
+-- just this is told of the file at this path; or there is no memory to tell it
+abbrev pub TellsFile : Refusal → List ℕ → Option ErrorKind → BoxFault → Type 0
+TellsFile refusal path cause (fault.Run why) = Tells refusal path cause why
+TellsFile refusal path cause other = ⊥
 
--- of a boot file that can't be had: another process has it, it can't be locked, or there is no memory; else of that file
-abbrev pub TellsBootFile : FileFault → BoxFault → Type 0
-TellsBootFile file.InUse why = why ≡ fault.InUse
-TellsBootFile file.NotLocked why = why ≡ fault.Device
-TellsBootFile file.NoMemory why = why ≡ fault.Run NoMemory
-TellsBootFile (file.NoFile cause) why = IsOfPath why
-TellsBootFile file.Exists why = IsOfPath why
-TellsBootFile file.NotWritten why = IsOfPath why
+-- of the boot file at this path, which can't be had: another process has it, it can't be locked, or there is no memory; else just that
+-- is told of the file
+abbrev pub TellsBootFile : List ℕ → FileFault → BoxFault → Type 0
+TellsBootFile path file.InUse why = why ≡ fault.InUse
+TellsBootFile path file.NotLocked why = why ≡ fault.Device
+TellsBootFile path file.NoMemory why = why ≡ fault.Run NoMemory
+TellsBootFile path (file.NoFile cause) why = TellsFile NoFile path (Some cause) why
+TellsBootFile path file.Exists why = TellsFile Exists path None why
+TellsBootFile path file.NotWritten why = TellsFile NotWritten path None why
 
 -- it is of the file of a capture, in which none was begun yet
 abbrev pub IsOfCapture : BoxFault → Type 0

@@ -1,3 +1,4 @@
 pub mod Faults
 pub mod Said
 pub mod Deeds
+pub mod Ends

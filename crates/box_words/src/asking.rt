@@ -1,8 +1,12 @@
 //! What an operator asks of a running box.
-ghost use Rattle.std.specs.Prelude.{◌≡◌, ◌⊎◌, ◌≤◌, IfOk, None, OnOk, take};
+ghost use Rattle.std.specs.Prelude.{◌≡◌, ◌⊎◌, ◌≤◌, ◌*◌, IfOk, None, OnOk, take};
+ghost use Rattle.std.specs.Io.KnownBytes.{Appends};
+ghost use Rattle.std.specs.Duration.{as_nanos};
 ghost use Rattle.control.specs.Answers.{answer_of};
 ghost use Rattle.control.specs.Words.{word_of};
-ghost use Rattle.box_words.specs.Deeds.{HasListed, HasPage, HasPages, HasReported, HasSynced, IsSyncedAt, Lists, Reports, asked as deed_asked, next_of};
+ghost use Rattle.box_words.specs.Deeds.{HasListed, HasPage, HasPages, HasReported, HasSynced};
+ghost use Rattle.box_words.specs.Deeds.{IsSyncedAt, Lists, Reports, asked as deed_asked};
+ghost use Rattle.box_words.specs.Deeds.{next_of, text_of};
 
 use crate::refusals::BoxFault;
 use crate::saying::{Line, line_to};
@@ -44,7 +48,8 @@ pub fn status<S: Site, O: Write, E: Write>(
     errors: &mut E,
 ) -> u8
     ensures status { (result ≡ 0) ⊎ (result ≡ 1) }
-    ensures reported { result ≡ 0 → HasReported S.does settings.now id site.old site.new }
+    ensures reported { result ≡ 0 → HasReported S.does settings.now id form (O.contents output.old)
+        (O.contents output.new) site.old site.new }
 {
     match written(alloc, site, settings, id, form, output) {
         Ok(()) => 0,
@@ -60,7 +65,8 @@ fn written<S: Site, O: Write>(
     form: Form,
     output: &mut O,
 ) -> Result<(), BoxFault>
-    ensures { OnOk result (HasReported S.does settings.now id site.old site.new) }
+    ensures { OnOk result (HasReported S.does settings.now id form (O.contents output.old)
+        (O.contents output.new) site.old site.new) }
 {
     let line = line_to(alloc, site, settings, id)?;
     let report = reported(alloc, site, &line)?;
@@ -69,12 +75,23 @@ fn written<S: Site, O: Write>(
 }
 
 /// Writes a report in a form.
-fn write_report<O: Write>(output: &mut O, form: Form, report: &Report) -> io::Result<()> {
+fn put_report<O: Write>(output: &mut O, form: Form, report: &Report) -> io::Result<()>
+    ensures { OnOk result (Appends (O.contents output.old) (O.contents output.new)
+        (text_of form report.now)) }
+{
     match form {
-        Form::Plain => write_people(output, report)?,
-        Form::Json => write_json(output, report)?,
-        Form::Prometheus => write_metrics(output, report)?,
+        Form::Plain => write_people(output, report),
+        Form::Json => write_json(output, report),
+        Form::Prometheus => write_metrics(output, report),
     }
+}
+
+/// The same, to its end.
+fn write_report<O: Write>(output: &mut O, form: Form, report: &Report) -> io::Result<()>
+    ensures { OnOk result (Appends (O.contents output.old) (O.contents output.new)
+        (text_of form report.now)) }
+{
+    put_report(output, form, report)?;
     output.flush()
 }
 
@@ -150,7 +167,7 @@ fn awaited_at<R: Clock + AllocGlobal, S: Site>(
 ) -> Result<(), BoxFault>
     ensures { OnOk result (IsSyncedAt S.does line.now.path site.new) }
 {
-    let limit = Duration::from_secs(u64::from(seconds));
+    let limit = limit_of(seconds);
     let start = Instant::now(rt).ok();
     for _ in 0..u64::MAX {
         let is_over = has_passed(rt, start, limit);
@@ -161,6 +178,13 @@ fn awaited_at<R: Clock + AllocGlobal, S: Site>(
         }
     }
     Err(BoxFault::NotSynced)
+}
+
+/// How long a box is waited for.
+fn limit_of(seconds: u32) -> Duration
+    ensures { as_nanos result ≡ seconds * 1_000_000_000 }
+{
+    Duration::from_secs(u64::from(seconds))
 }
 
 /// Whether so much time has passed since then. Where the clock can't be read nobody waits for it.
@@ -195,7 +219,8 @@ pub fn pairs<S: Site, O: Write, E: Write>(
     errors: &mut E,
 ) -> u8
     ensures status { (result ≡ 0) ⊎ (result ≡ 1) }
-    ensures listed { result ≡ 0 → HasListed S.does settings.now id site.old site.new }
+    ensures listed { result ≡ 0 → HasListed S.does settings.now id filter.now (O.contents output.old)
+        (O.contents output.new) site.old site.new }
 {
     match listed(alloc, site, settings, id, filter, output) {
         Ok(()) => 0,
@@ -211,7 +236,8 @@ fn listed<S: Site, O: Write>(
     filter: &Filter,
     output: &mut O,
 ) -> Result<(), BoxFault>
-    ensures { OnOk result (HasListed S.does settings.now id site.old site.new) }
+    ensures { OnOk result (HasListed S.does settings.now id filter.now (O.contents output.old)
+        (O.contents output.new) site.old site.new) }
 {
     let line = line_to(alloc, site, settings, id)?;
     listed_at(alloc, site, &line, filter, output)?;
@@ -227,7 +253,8 @@ fn listed_at<S: Site, O: Write>(
     filter: &Filter,
     output: &mut O,
 ) -> Result<(), BoxFault>
-    ensures { OnOk result (HasPages S.does line.now.path None site.old site.new) }
+    ensures { OnOk result (HasPages S.does line.now.path None filter.now (O.contents output.old)
+        (O.contents output.new) site.old site.new) }
 {
     let mut next = written_page(alloc, site, line, None, filter, output)?;
     for _ in 0..u64::MAX {
@@ -248,7 +275,8 @@ fn written_page<S: Site, O: Write>(
     filter: &Filter,
     output: &mut O,
 ) -> Result<Option<Key>, BoxFault>
-    ensures { IfOk result (λ next. HasPage S.does line.now.path behind next site.old site.new) }
+    ensures { IfOk result (λ next. HasPage S.does line.now.path behind next filter.now
+        (O.contents output.old) (O.contents output.new) site.old site.new) }
 {
     let page = page_behind(alloc, site, line, behind)?;
     write_pairs(output, &page, filter)?;

@@ -9,6 +9,6 @@ mod sites;
 
 pub use asking::{Form, await_synced, pairs, status};
 pub use ends::{Refused, refused_end};
-pub use refusals::{BoxFault, Explained, of_capture};
+pub use refusals::{BoxFault, Explained};
 pub use saying::{control_path, peer_off, side, stop};
 pub use sites::{Machine, Site};

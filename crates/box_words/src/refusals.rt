@@ -1,6 +1,5 @@
 //! Why a box ends without its work done.
 ghost use Rattle.std.specs.Prelude.{◌≡◌};
-ghost use Rattle.faults.specs.Faults.{IsOfFile};
 ghost use Rattle.box_words.specs.Faults.{IsOfCapture, IsOfFilter, IsOfNoWay, IsOfSocket, TellsBootFile};
 
 use crate::ends::Refused;
@@ -15,7 +14,7 @@ use settings_file::SettingFault;
 use sockets::NoDescriptor;
 use std::alloc::{AllocError, Global};
 use std::fmt;
-use std::io::{self, ErrorKind, Write};
+use std::io::{self, Write};
 use supervision::NotOpen;
 use thiserror::Error;
 
@@ -125,7 +124,7 @@ impl BoxFault {
 
     /// Of a boot file that can't be had.
     pub fn of_boot_file(alloc: Global, path: &str, fault: FileFault) -> BoxFault
-        ensures told { TellsBootFile fault result }
+        ensures told { TellsBootFile path.now fault result }
         ensures no_way { IsOfNoWay result }
     {
         let (refusal, cause) = match fault {
@@ -144,7 +143,7 @@ impl BoxFault {
         ensures kind { IsOfCapture result }
         ensures no_way { IsOfNoWay result }
     {
-        BoxFault::NoCapture(of_capture(alloc, path, error))
+        BoxFault::NoCapture(Fault::of_capture(alloc, path, error))
     }
 
     /// Tells of the fault on a line behind `natpair: `, and gives its exit status. Where even that
@@ -154,17 +153,6 @@ impl BoxFault {
     {
         let _ = writeln!(errors, "natpair: {self}");
         1
-    }
-}
-
-/// Why a capture can't be begun in the file at a path.
-pub fn of_capture(alloc: Global, path: &str, error: &io::Error) -> Fault
-    ensures { IsOfFile result }
-{
-    match error.kind() {
-        ErrorKind::OutOfMemory => Fault::NoMemory,
-        ErrorKind::AlreadyExists => Fault::of_file(alloc, Refusal::Exists, path, None),
-        cause => Fault::of_file(alloc, Refusal::NotWritten, path, Some(cause)),
     }
 }
 

@@ -1,9 +1,9 @@
 //! A line of the list: which script is run, and through what.
 
+use crate::files::text_at;
 use crate::memory::Memory;
 use anyhow::Result;
 use cases_words::{Actor, Case};
-use faults::text_of;
 use loopback::{Channel, Loopback};
 use loopback_run::run_loop;
 use simulation::simulate;
@@ -61,11 +61,6 @@ fn texts_of(rt: &HostRuntime, settings: &str, script: &str) -> Result<(String, S
     let settings = text_at(rt, settings, "toml")?;
     let script = text_at(rt, script, "script")?;
     Ok((settings, script))
-}
-
-fn text_at(rt: &HostRuntime, name: &str, kind: &str) -> Result<String> {
-    let path = format!(in rt.alloc(); "{name}.{kind}")?;
-    Ok(text_of(rt, path.as_str())?)
 }
 
 fn run<P: Channel>(settings: &str, script: &str, passage: &mut P, case: &mut Case) {

@@ -1,5 +1,6 @@
 //! Lines of words, done as `natpair` would: what each prints, its faults and its status.
 
+use crate::rows::tell;
 use crate::{files, listening};
 use anyhow::{Context, Result};
 use cases_words::{Actor, Case};
@@ -77,9 +78,7 @@ fn acted_on(rt: &HostRuntime, line: &str, case: &mut Case) {
         Ok(words) => {
             let mut errors = Vec::new(case.alloc);
             let status = status_of(rt, words.as_slice(), &mut case.out, &mut errors);
-            case.text(errors.as_slice());
-            case.say("status ", status);
-            case.end();
+            tell(status, errors.as_slice(), case);
         }
         Err(_) => case.fault(),
     }

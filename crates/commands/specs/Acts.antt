@@ -1,31 +1,36 @@
 -- What a task that is done has done at a site.
-use Rattle.std.specs.Prelude.{Bool, true, false, Some, string_bytes}
+use Rattle.std.specs.Prelude.{ℕ, List, Option, Bool, true, false, Some, string_bytes}
 use Rattle.command_line.specs.declared.tasks.Task.{Task}
 use Rattle.command_line.specs.declared.tasks.Task.TheVariants as task
 use Rattle.command_line.specs.declared.words.StatusWords.{StatusWords}
 use Rattle.box_words.specs.Deeds.{Does, HasListed, HasReported, HasSaid, HasSynced, HasTaken, made}
 use Rattle.box_words.specs.Said.{said_off, said_side, said_stop}
+use Rattle.commands.specs.Asked.{filter_of, form_of}
 
--- a box is asked how it stands, or until it is synced
-abbrev pub IsAskedSo : {S : Type 0} → Does S → Bool → StatusWords → S → S → Type 0
-IsAskedSo does true words before after = HasSynced does (string_bytes words.settings) words.id before after
-IsAskedSo does false words before after = HasReported does (string_bytes words.settings) words.id before after
+-- a box is asked how it stands, and its report written, or until it is synced
+abbrev pub IsAskedSo : {S : Type 0} → Does S → Bool → StatusWords → Option (List ℕ) → Option (List ℕ) → S → S → Type 0
+IsAskedSo does true words old new before after = HasSynced does (string_bytes words.settings) words.id before after
+IsAskedSo does false words old new before after =
+    HasReported does (string_bytes words.settings) words.id (form_of words.form) old new before after
 
-abbrev pub IsAsked : {S : Type 0} → Does S → StatusWords → S → S → Type 0
-IsAsked does words before after = IsAskedSo does words.until_synced words before after
+abbrev pub IsAsked : {S : Type 0} → Does S → StatusWords → Option (List ℕ) → Option (List ℕ) → S → S → Type 0
+IsAsked does words old new before after = IsAskedSo does words.until_synced words old new before after
 
 -- Just the boot file that is named was made; or the settings that are named were read, and then just the box that is named was said
--- just what the words say, and heard it, or took it; or was asked, and answered. Other tasks do nothing of this.
-abbrev pub Acts : {S : Type 0} → Does S → Task → S → S → Type 0
-Acts does (task.Init file) before after = does before (made (string_bytes file)) after
-Acts does (task.Status words) before after = IsAsked does words before after
-Acts does (task.Pairs words) before after = HasListed does (string_bytes words.settings) words.id before after
-Acts does (task.Stop settings id) before after = HasSaid does (string_bytes settings) id (Some said_stop) before after
-Acts does (task.PeerOff words) before after =
+-- just what the words say, and heard it, or took it; or was asked, and answered, and its answer was written. Other tasks do nothing
+-- of this.
+abbrev pub Acts : {S : Type 0} → Does S → Task → Option (List ℕ) → Option (List ℕ) → S → S → Type 0
+Acts does (task.Init file) old new before after = does before (made (string_bytes file)) after
+Acts does (task.Status words) old new before after = IsAsked does words old new before after
+Acts does (task.Pairs words) old new before after =
+    HasListed does (string_bytes words.settings) words.id (filter_of words) old new before after
+Acts does (task.Stop settings id) old new before after = HasSaid does (string_bytes settings) id (Some said_stop) before after
+Acts does (task.PeerOff words) old new before after =
     HasTaken does (string_bytes words.settings) words.id (Some (said_off words.boot words.force)) before after
-Acts does (task.Side settings id side up) before after = HasSaid does (string_bytes settings) id (Some (said_side side up)) before after
-Acts does (task.Check words) before after = Unit {0}
-Acts does (task.Gate words) before after = Unit {0}
-Acts does (task.Sim files) before after = Unit {0}
-Acts does (task.Loop files) before after = Unit {0}
-Acts does task.Version before after = Unit {0}
+Acts does (task.Side settings id side up) old new before after =
+    HasSaid does (string_bytes settings) id (Some (said_side side up)) before after
+Acts does (task.Check words) old new before after = Unit {0}
+Acts does (task.Gate words) old new before after = Unit {0}
+Acts does (task.Sim files) old new before after = Unit {0}
+Acts does (task.Loop files) old new before after = Unit {0}
+Acts does task.Version old new before after = Unit {0}

@@ -4,6 +4,8 @@ use Rattle.command_line.specs.declared.words.Form.{Form as Written}
 use Rattle.command_line.specs.declared.words.Form.TheVariants as written
 use Rattle.box_words.specs.declared.asking.Form.{Form}
 use Rattle.box_words.specs.declared.asking.Form.TheVariants.{Plain, Json, Prometheus}
+use Rattle.command_line.specs.declared.words.PairsWords.{PairsWords}
+use Rattle.report_texts.specs.declared.pairs.Filter.{Filter}
 use Rattle.journal.specs.declared.lines.Format.{Format}
 use Rattle.journal.specs.declared.lines.Format.TheVariants.{Text, Pairs}
 
@@ -17,3 +19,7 @@ abbrev pub form_of : Written → Form
 form_of written.Plain = Plain
 form_of written.Json = Json
 form_of written.Prometheus = Prometheus
+
+-- which pairs are listed
+abbrev pub filter_of : PairsWords → Filter
+filter_of words = record { protocol = words.protocol; address = words.address; port = words.port; state = words.state }

@@ -1,7 +1,7 @@
 //! What is asked of settings, and of a running gateway.
 ghost use Rattle.std.specs.Prelude.{◌≡◌, ◌⊎◌, option_map, string_bytes, unwrap_or};
 ghost use Rattle.commands.specs.Acts.{IsAsked};
-ghost use Rattle.commands.specs.Asked.{form_of};
+ghost use Rattle.commands.specs.Asked.{filter_of, form_of};
 ghost use Rattle.commands.specs.Ends.{IsChecked};
 ghost use Rattle.box_words.specs.Deeds.{HasListed};
 
@@ -67,7 +67,8 @@ pub(crate) fn state_of<R: Clock + AllocGlobal, S: Site, O: Write, E: Write>(
     errors: &mut E,
 ) -> u8
     ensures status { (result ≡ 0) ⊎ (result ≡ 1) }
-    ensures asked { result ≡ 0 → IsAsked S.does words.now site.old site.new }
+    ensures asked { result ≡ 0 → IsAsked S.does words.now (O.contents output.old)
+        (O.contents output.new) site.old site.new }
 {
     let settings = words.settings.as_str();
     if words.until_synced {
@@ -107,7 +108,8 @@ pub(crate) fn pairs_of<S: Site, O: Write, E: Write>(
 ) -> u8
     ensures status { (result ≡ 0) ⊎ (result ≡ 1) }
     ensures listed { result ≡ 0
-        → HasListed S.does (string_bytes words.now.settings) words.now.id site.old site.new }
+        → HasListed S.does (string_bytes words.now.settings) words.now.id (filter_of words.now)
+        (O.contents output.old) (O.contents output.new) site.old site.new }
 {
     let (settings, filter) = (words.settings.as_str(), filter_of(words));
     pairs(alloc, site, settings, words.id, &filter, output, errors)
@@ -115,10 +117,7 @@ pub(crate) fn pairs_of<S: Site, O: Write, E: Write>(
 
 /// Which pairs these words ask for.
 fn filter_of(words: &PairsWords) -> Filter
-    ensures protocol { result.protocol ≡ words.now.protocol }
-    ensures address { result.address ≡ words.now.address }
-    ensures port { result.port ≡ words.now.port }
-    ensures state { result.state ≡ words.now.state }
+    ensures { result ≡ filter_of words.now }
 {
     Filter {
         protocol: words.protocol,

@@ -3,11 +3,11 @@ ghost use Rattle.std.specs.Prelude.{◌≡◌, ◌⊎◌, is_err, true, Ok, IfEr
 ghost use Rattle.faults.specs.Faults.{status_of};
 
 use captures::{Reader, open};
-use faults::{Fault, Job, Refusal};
+use faults::{Fault, Job};
 use recording::Capture;
 use std::alloc::Global;
 use std::fs::Files;
-use std::io::{self, BufWriter, ErrorKind, Write};
+use std::io::{self, BufWriter, Write};
 
 /// Begins a capture of a job in the file at a path: the job's texts are read by then. One that is there loses what it has,
 /// where that is a capture. The reader of a named pipe is waited for.
@@ -28,12 +28,7 @@ pub(crate) fn capture_at<R: Files + AllocGlobal>(
 pub(crate) fn unmade<E: Write>(alloc: Global, error: &io::Error, path: &str, errors: &mut E) -> u8
     ensures { result ≡ 1 }
 {
-    let fault = match error.kind() {
-        ErrorKind::OutOfMemory => Fault::NoMemory,
-        ErrorKind::AlreadyExists => Fault::of_file(alloc, Refusal::Exists, path, None),
-        cause => Fault::of_file(alloc, Refusal::NotWritten, path, Some(cause)),
-    };
-    fault.tell(errors)
+    Fault::of_capture(alloc, path, error).tell(errors)
 }
 
 /// The exit status of a run, whose fault is told: that its capture couldn't be written comes before others.

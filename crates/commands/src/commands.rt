@@ -69,7 +69,8 @@ where
     ensures status { (result ≡ 0) ⊎ ((result ≡ 1) ⊎ (result ≡ 3)) }
     ensures done { (result ≡ 0) ⊎ (result ≡ 3)
         → Ends (O.contents output.old) (O.contents output.new) task.now result }
-    ensures acts { result ≡ 0 → Acts S.does task.now site.old site.new }
+    ensures acts { result ≡ 0 → Acts S.does task.now (O.contents output.old)
+        (O.contents output.new) site.old site.new }
 {
     match task {
         Task::Init(file) => init(rt.alloc(), site, file.as_str(), errors),

@@ -1,7 +1,10 @@
 -- The faults of the program, and what leads to each.
-use Rattle.std.specs.Prelude.{ℕ}
+use Rattle.std.specs.Prelude.{◌≡◌, ℕ, List, Option, string_bytes}
+use Rattle.std.specs.declared.io.ErrorKind.{ErrorKind}
 use Rattle.faults.specs.declared.faults.Fault.{Fault}
 use Rattle.faults.specs.declared.faults.Fault.TheVariants.{Words, Setting, BadLine, File, NotWritten, NotText, NoSocket, NoMemory}
+use Rattle.faults.specs.declared.files.FileFault.{FileFault}
+use Rattle.faults.specs.declared.files.Refusal.{Refusal}
 use Rattle.faults.specs.declared.prints.PrintFault.{PrintFault}
 use Rattle.faults.specs.declared.prints.PrintFault.TheVariants as prints
 use Rattle.scripts.specs.declared.faults.ScriptFault.{ScriptFault}
@@ -25,6 +28,18 @@ abbrev pub IsOfFile : Fault → Type 0
 IsOfFile (File fault) = Unit {0}
 IsOfFile NoMemory = Unit {0}
 IsOfFile other = ⊥
+
+-- just this of the file at this path
+pub record IsAbout (refusal : Refusal) (path : List ℕ) (cause : Option ErrorKind) (fault : FileFault) : Type 0 where
+  pub is_refusal : fault.refusal ≡ refusal
+  pub is_path : string_bytes fault.path ≡ path
+  pub is_cause : fault.cause ≡ cause
+
+-- just this is told of the file at this path; or there is no memory to tell it
+abbrev pub Tells : Refusal → List ℕ → Option ErrorKind → Fault → Type 0
+Tells refusal path cause (File fault) = IsAbout refusal path cause fault
+Tells refusal path cause NoMemory = Unit {0}
+Tells refusal path cause other = ⊥
 
 -- the fault of a run that isn't printed
 abbrev pub of_print : PrintFault → Fault

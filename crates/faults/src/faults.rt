@@ -38,9 +38,10 @@ pub enum Fault {
 }
 
 impl Fault {
-    ghost use Rattle.std.specs.Prelude.{◌≡◌, ◌≢◌};
+    ghost use Rattle.std.specs.Prelude.{◌≡◌, ◌≢◌, None, Some};
     ghost use Rattle.std.specs.IoError.{error_kind};
-    ghost use Rattle.faults.specs.Faults.{IsOfFile, status_of};
+    ghost use Rattle.faults.specs.Faults.{IsOfFile, Tells, status_of};
+    ghost use Rattle.faults.specs.declared.files.Refusal.TheVariants as refusals;
     ghost use Rattle.faults.specs.declared.faults.Fault.TheVariants as faults;
 
     /// The exit status that the fault leads to.
@@ -75,6 +76,7 @@ impl Fault {
 
     /// The fault of the file at a path; `NoMemory` where the path can't be kept.
     pub fn of_file(alloc: Global, refusal: Refusal, path: &str, cause: Option<ErrorKind>) -> Fault
+        ensures told { Tells refusal path.now cause result }
         ensures file { IsOfFile result }
         ensures status { status_of result ≡ 1 }
     {
@@ -87,12 +89,32 @@ impl Fault {
     /// The fault of the file at a path that couldn't be read.
     pub fn of_reading(alloc: Global, path: &str, error: &io::Error) -> Fault
         ensures memory { error_kind error.now ≡ ErrorKind.OutOfMemory → result ≡ faults.NoMemory }
+        ensures told { error_kind error.now ≢ ErrorKind.OutOfMemory
+            → Tells refusals.NoFile path.now (Some (error_kind error.now)) result }
         ensures file { IsOfFile result }
         ensures status { status_of result ≡ 1 }
     {
         match error.kind() {
             ErrorKind::OutOfMemory => Fault::NoMemory,
             cause => Fault::of_file(alloc, Refusal::NoFile, path, Some(cause)),
+        }
+    }
+
+    /// The fault of a capture that can't be begun or written in the file at a path.
+    pub fn of_capture(alloc: Global, path: &str, error: &io::Error) -> Fault
+        ensures memory { error_kind error.now ≡ ErrorKind.OutOfMemory → result ≡ faults.NoMemory }
+        ensures exists { error_kind error.now ≡ ErrorKind.AlreadyExists
+            → Tells refusals.Exists path.now None result }
+        ensures told { error_kind error.now ≢ ErrorKind.OutOfMemory
+            → error_kind error.now ≢ ErrorKind.AlreadyExists
+            → Tells refusals.NotWritten path.now (Some (error_kind error.now)) result }
+        ensures file { IsOfFile result }
+        ensures status { status_of result ≡ 1 }
+    {
+        match error.kind() {
+            ErrorKind::OutOfMemory => Fault::NoMemory,
+            ErrorKind::AlreadyExists => Fault::of_file(alloc, Refusal::Exists, path, None),
+            cause => Fault::of_file(alloc, Refusal::NotWritten, path, Some(cause)),
         }
     }
 }

@@ -1,4 +1,6 @@
 //! A file that isn't had as it was wanted.
+ghost use Rattle.std.specs.Prelude.{IfOk};
+ghost use Rattle.faults.specs.Faults.{IsAbout};
 
 use std::alloc::{AllocError, Global};
 use std::fmt;
@@ -34,7 +36,9 @@ impl FileFault {
         refusal: Refusal,
         path: &str,
         cause: Option<ErrorKind>,
-    ) -> Result<FileFault, AllocError> {
+    ) -> Result<FileFault, AllocError>
+        ensures { IfOk result (λ fault. IsAbout refusal path.now cause fault) }
+    {
         let path = String::from_str(alloc, path)?;
         Ok(FileFault {
             refusal,

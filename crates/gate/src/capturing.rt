@@ -2,7 +2,8 @@
 ghost use Rattle.std.specs.Prelude.{◌≡◌, IfErr, IfOk, is_some, option_map};
 ghost use Rattle.box_words.specs.Faults.{IsOfCapture, IsOfNoWay, IsOfRun};
 
-use box_words::{BoxFault, of_capture};
+use box_words::BoxFault;
+use faults::Fault;
 use std::alloc::Global;
 use std::fs::{Files, OpenFile};
 use std::io::{Read, Seek, Write};
@@ -44,7 +45,7 @@ impl<F: Read + Write + Seek + OpenFile + AsRawFd + Drop> CaptureAt<'_, F> {
         let CaptureAt { path, file } = self;
         match tap::begin(alloc, file) {
             Ok(reel) => Ok(reel),
-            Err(error) => Err(BoxFault::Run(of_capture(alloc, path, &error))),
+            Err(error) => Err(BoxFault::Run(Fault::of_capture(alloc, path, &error))),
         }
     }
 }

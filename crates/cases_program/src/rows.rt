@@ -1,8 +1,8 @@
 //! A line of the list: which script is run, and on what.
 
 use crate::audits::{after_all, after_each};
+use crate::files::text_at;
 use crate::narrow::Narrow;
-use anyhow::Result;
 use cases_words::{Actor, Case};
 use faults::text_of;
 use simulation::simulate;
@@ -20,7 +20,7 @@ impl Rows {
 }
 
 impl Actor for Rows {
-    /// Prints what the run of a line prints, with the settings of S.toml where it names no others.
+    /// Prints what the run of a line prints, with the settings of rows.toml where it names no others.
     ///
     /// - `line TEXT` runs a script of that one line, `times COUNT TEXT` one of so many
     /// - `settings TEXT` runs an empty script with this text for the settings
@@ -43,15 +43,9 @@ impl Actor for Rows {
     }
 }
 
-/// The text of the file of a name and a kind.
-fn text_at(rt: &HostRuntime, name: &str, kind: &str) -> Result<String> {
-    let path = format!(in rt.alloc(); "{name}.{kind}")?;
-    Ok(text_of(rt, path.as_str())?)
-}
-
 /// The settings' text.
 fn sample(rt: &HostRuntime, case: &mut Case) -> String {
-    let read = text_at(rt, "S", "toml");
+    let read = text_at(rt, "rows", "toml");
     case.or_empty(read)
 }
 
@@ -66,7 +60,7 @@ fn scripted(rt: &HostRuntime, case: &mut Case) {
     let read = text_at(rt, name.as_str(), "script");
     let script = case.or_empty(read);
     let has_own = verb.as_str().ends_with("with");
-    let read = text_at(rt, if has_own { name.as_str() } else { "S" }, "toml");
+    let read = text_at(rt, if has_own { name.as_str() } else { "rows" }, "toml");
     let settings = case.or_empty(read);
     match verb.as_str() {
         "script" | "with" => audited(settings.as_str(), script.as_str(), case),
@@ -94,7 +88,8 @@ fn simulated(settings: &str, script: &str, case: &mut Case) {
     tell(status, errors.as_slice(), case);
 }
 
-fn tell(status: u8, errors: &[u8], case: &mut Case) {
+/// What is told of faults, and the status.
+pub(crate) fn tell(status: u8, errors: &[u8], case: &mut Case) {
     case.text(errors);
     case.say("status ", status);
     case.end();
