@@ -1,5 +1,5 @@
 // A boot file and its folder as the disk of boot_store.
-ghost use Rattle.std.specs.Prelude.{◌≡◌, ◌+◌, ◌≤◌, ◌↔◌, ◌++◌, ◌∷◌, [], take, IfErr, IfOk, IfSome, OnErr, OnOk};
+ghost use Rattle.std.specs.Prelude.{◌≡◌, ◌+◌, ◌≤◌, ◌↔◌, ◌++◌, ◌∷◌, [], None, take, IfErr, IfOk, IfSome, OnErr, OnOk};
 ghost use Rattle.boot_store.specs.Moment.{StillKept, bytes_of, synced};
 ghost use Rattle.boot_file.specs.Locks.{IsLockFault};
 
@@ -81,6 +81,8 @@ impl<F: Blocks + Drop> Disk for FileDisk<F> {
 
     ghost failures = { λ d. d.failures };
 
+    ghost refusals = { λ d. F.refusals d.file };
+
     ghost named = { λ d. F.named d.file };
 
     ghost honest = { λ d. F.honest d.file };
@@ -121,6 +123,9 @@ fn sync_both<F: Blocks>(file: &mut F, folder: &F) -> io::Result<()>
         → F.past file.new ≡ F.past file.old ++ F.now file.old ∷ [] }
     ensures name { F.honest file.old → F.named file.old → F.named file.new }
     ensures honesty { F.honest file.old ↔ F.honest file.new }
+    ensures taken { F.honest file.old → OnOk result (F.refusals file.new ≡ F.refusals file.old) }
+    ensures refused { F.honest file.old
+        → OnErr result (F.refusals file.new ≡ F.refusals file.old + 1) }
 {
     file.sync()?;
     file.sync_name(folder)?;
@@ -136,6 +141,10 @@ fn fill<F: Blocks>(file: &mut F, room: &mut [u8; 32]) -> Option<usize>
     ensures passes { F.honest file.old → F.past file.new ≡ F.past file.old }
     ensures name { F.honest file.old → F.named file.old → F.named file.new }
     ensures honesty { F.honest file.old ↔ F.honest file.new }
+    ensures taken { F.honest file.old
+        → IfSome result (λ _. F.refusals file.new ≡ F.refusals file.old) }
+    ensures refused { F.honest file.old → result ≡ None
+        → F.refusals file.new ≡ F.refusals file.old + 1 }
 {
     let mut filled = 0;
     while filled < LENGTH {

@@ -1,5 +1,5 @@
 // A new boot file's bytes.
-ghost use Rattle.std.specs.Prelude.{◌≡◌, ◌++◌, ◌∷◌, [], ◌↔◌, IfErr, OnOk};
+ghost use Rattle.std.specs.Prelude.{◌≡◌, ◌++◌, ◌∷◌, [], ◌↔◌, IfErr, IfOk, OnOk};
 ghost use Rattle.boot_store.specs.Crash.{LeavesNumber, zero_past};
 ghost use Rattle.boot_store.specs.Moment.{synced, written};
 ghost use Rattle.boot_store.specs.BootFile.{zero_file};
@@ -8,17 +8,18 @@ ghost use Rattle.boot_file.specs.Locks.{IsOfMaking};
 use crate::FileFault;
 use boot_store::{Disk, init, zero_file};
 
-/// Writes a new boot file, and reads it back.
+/// Writes a new boot file, and reads it back. The answer is what was read.
 ///
 /// # Errors
 /// NotWritten, also where other bytes are read than were written.
-pub(crate) fn written<D: Disk>(disk: &mut D) -> Result<(), FileFault>
+pub(crate) fn written<D: Disk>(disk: &mut D) -> Result<[u8; 32], FileFault>
     ensures zero { D.honest disk.old → OnOk result (LeavesNumber 0 (D.now disk.new)) }
     ensures read_back { D.honest disk.old → OnOk result (D.past disk.new
         ≡ D.past disk.old ++ zero_past (D.now disk.old)
         ++ synced (written 0 zero_file (D.now disk.old)) ∷ []) }
     ensures honesty { D.honest disk.old ↔ D.honest disk.new }
     ensures ok { OnOk result (D.failures disk.new ≡ D.failures disk.old) }
+    ensures compared { IfOk result (λ room. room ≡ zero_file) }
     ensures err { IfErr result IsOfMaking }
 {
     let Ok(()) = init(disk) else {
@@ -26,7 +27,7 @@ pub(crate) fn written<D: Disk>(disk: &mut D) -> Result<(), FileFault>
     };
     let mut room = [0; 32];
     match disk.read(&mut room) {
-        Ok(32) if room == zero_file() => Ok(()),
+        Ok(32) if room == zero_file() => Ok(room),
         _ => Err(FileFault::NotWritten),
     }
 }

@@ -1,7 +1,11 @@
 // Where a boot file lies.
-ghost use Rattle.std.specs.Prelude.{◌≡◌, IfErr, IfOk};
+ghost use Rattle.std.specs.Prelude.{◌≡◌, ◌≢◌, false, true, IfErr, IfOk};
+ghost use Rattle.std.specs.Fs.{asks_create, asks_create_new, asks_read, asks_truncate, asks_write};
+ghost use Rattle.std.specs.IoError.{error_kind};
 ghost use Rattle.boot_store.specs.Crash.{LeavesNumber};
+ghost use Rattle.boot_file.specs.Folders.{IsFolderOf};
 ghost use Rattle.boot_file.specs.Locks.{IsOfMaking, IsOfOpening};
+ghost use Rattle.boot_file.specs.declared.faults.FileFault.TheVariants as faults;
 
 use crate::founding::written;
 use crate::{Blocks, FileDisk, FileFault, Lockable};
@@ -14,16 +18,19 @@ use std::os::unix::fs::OpenOptionsExt;
 const MODE: u32 = 0o600;
 
 /// The folder that has a path's name.
-fn folder_of(path: &str) -> &str {
+fn folder_of(path: &str) -> &str
+    ensures { IsFolderOf path.now result.now }
+{
     match path.rsplit_once('/') {
         None => ".",
-        Some(("", _)) => "/",
-        Some((folder, _)) => folder,
+        Some((front, _)) if front.is_empty() => "/",
+        Some((front, _)) => front,
     }
 }
 
 /// Why a file or its folder isn't opened.
 fn not_opened(error: io::Error) -> FileFault
+    ensures cause { result ≡ faults.NoFile (error_kind error) }
     ensures opening { IsOfOpening result }
     ensures making { IsOfMaking result }
 {
@@ -32,12 +39,39 @@ fn not_opened(error: io::Error) -> FileFault
 
 /// Why a file isn't put in its place.
 fn not_placed(error: io::Error) -> FileFault
-    ensures { IsOfMaking result }
+    ensures exists { error_kind error ≡ ErrorKind.AlreadyExists → result ≡ faults.Exists }
+    ensures not_written { error_kind error ≢ ErrorKind.AlreadyExists → result ≡ faults.NotWritten }
+    ensures making { IsOfMaking result }
 {
     match error.kind() {
         ErrorKind::AlreadyExists => FileFault::Exists,
         _ => FileFault::NotWritten,
     }
+}
+
+/// How a boot file is opened that is there: it isn't made, and keeps what it has.
+fn as_it_is() -> OpenOptions
+    ensures reads { asks_read result ≡ true }
+    ensures writes { asks_write result ≡ true }
+    ensures makes_none { asks_create result ≡ false }
+    ensures makes_no_new { asks_create_new result ≡ false }
+    ensures empties_none { asks_truncate result ≡ false }
+{
+    let mut options = OpenOptions::new();
+    options.read(true).write(true);
+    options
+}
+
+/// How a boot file is made: what is there is refused.
+fn anew() -> OpenOptions
+    ensures reads { asks_read result ≡ true }
+    ensures writes { asks_write result ≡ true }
+    ensures makes_new { asks_create_new result ≡ true }
+{
+    let mut options = OpenOptions::new();
+    options.mode(MODE);
+    options.read(true).write(true).create_new(true);
+    options
 }
 
 /// Makes a boot file of number 0, on which a gateway can be founded, with mode 0600, whole or not at all: it is written,
@@ -87,13 +121,7 @@ where
     ensures err { IfErr result IsOfMaking }
 {
     let _is_gone = rt.remove_file(other);
-    let file = OpenOptions::new()
-        .read(true)
-        .write(true)
-        .create_new(true)
-        .mode(MODE)
-        .open(rt, other)
-        .map_err(not_opened)?;
+    let file = anew().open(rt, other).map_err(not_opened)?;
     let mut disk = FileDisk::new(file, folder);
     written(&mut disk)?;
     rt.hard_link(other, path).map_err(not_placed)?;
@@ -119,10 +147,6 @@ where
     ensures err { IfErr result IsOfOpening }
 {
     let folder = File::open(rt, folder_of(path)).map_err(not_opened)?;
-    let file = OpenOptions::new()
-        .read(true)
-        .write(true)
-        .open(rt, path)
-        .map_err(not_opened)?;
+    let file = as_it_is().open(rt, path).map_err(not_opened)?;
     FileDisk::locked(file, folder)
 }

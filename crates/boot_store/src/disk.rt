@@ -28,8 +28,8 @@ pub struct DeviceFault;
 
 /// The disk of a boot file of 32 bytes.
 ///
-/// What is said of its bytes and of crashes is said of an honest disk alone; a disk may claim that
-/// it isn't one.
+/// What is said of its bytes, of crashes and of why a call fails is said of an honest disk alone; a
+/// disk may claim that it isn't one.
 pub trait Disk {
     /// The file at this moment.
     ghost now: { Self → Moment };
@@ -40,6 +40,9 @@ pub trait Disk {
 
     /// How often a call has failed.
     ghost failures: { Self → ℕ };
+
+    /// How often the device itself has refused a call, or done less of it than it was asked for.
+    ghost refusals: { Self → ℕ };
 
     /// Its name outlasts a crash.
     ghost named: { Self → Type 0 };
@@ -61,7 +64,10 @@ pub trait Disk {
         ensures name { honest self.old → named self.old → named self.new }
         ensures honesty { honest self.old ↔ honest self.new }
         ensures ok { OnOk result (failures self.new ≡ failures self.old) }
-        ensures failed { OnErr result (failures self.new ≡ failures self.old + 1) };
+        ensures failed { OnErr result (failures self.new ≡ failures self.old + 1) }
+        ensures taken { honest self.old → OnOk result (refusals self.new ≡ refusals self.old) }
+        ensures refused { honest self.old
+            → OnErr result (refusals self.new ≡ refusals self.old + 1) };
 
     /// Writes bytes from a place on. Where it fails, any bytes may stand there.
     fn write_at(&mut self, at: usize, bytes: &[u8]) -> Result<(), DeviceFault>
@@ -76,7 +82,10 @@ pub trait Disk {
         ensures name { honest self.old → named self.old → named self.new }
         ensures honesty { honest self.old ↔ honest self.new }
         ensures ok { OnOk result (failures self.new ≡ failures self.old) }
-        ensures failed { OnErr result (failures self.new ≡ failures self.old + 1) };
+        ensures failed { OnErr result (failures self.new ≡ failures self.old + 1) }
+        ensures taken { honest self.old → OnOk result (refusals self.new ≡ refusals self.old) }
+        ensures refused { honest self.old
+            → OnErr result (refusals self.new ≡ refusals self.old + 1) };
 
     /// Makes the bytes written since the last sync outlast a crash, and the file's name. Where it
     /// fails they may be lost.
@@ -90,5 +99,8 @@ pub trait Disk {
         ensures name { honest self.old → named self.old → named self.new }
         ensures honesty { honest self.old ↔ honest self.new }
         ensures ok { OnOk result (failures self.new ≡ failures self.old) }
-        ensures failed { OnErr result (failures self.new ≡ failures self.old + 1) };
+        ensures failed { OnErr result (failures self.new ≡ failures self.old + 1) }
+        ensures taken { honest self.old → OnOk result (refusals self.new ≡ refusals self.old) }
+        ensures refused { honest self.old
+            → OnErr result (refusals self.new ≡ refusals self.old + 1) };
 }

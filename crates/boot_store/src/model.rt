@@ -148,6 +148,8 @@ impl Disk for ModelDisk {
 
     ghost failures = { λ d. d.failures };
 
+    ghost refusals = { λ d. d.failures };
+
     ghost named = { λ _. Unit {0} };
 
     ghost honest = { λ _. Unit {0} };

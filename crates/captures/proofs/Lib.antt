@@ -1,2 +1,3 @@
 mod Writing
 mod Lengths
+mod Rooms

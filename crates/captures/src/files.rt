@@ -1,5 +1,7 @@
 //! The files in which captures are begun.
-ghost use Rattle.std.specs.Prelude.{◌≡◌, ◌≤◌, ◌↔◌, None, true, take, length, option_map, IfOk, IfSome, OnErr, OnOk};
+ghost use Rattle.std.specs.Prelude.{◌≡◌, ◌≤◌, ◌<◌, ◌↔◌, None, true, take, length, option_map, IfErr, IfOk, IfSome, IsOk, OnErr, OnOk};
+ghost use Rattle.std.specs.Io.KnownBytes.{Consumes, IsAtEnd};
+ghost use Rattle.std.specs.IoError.{error_kind};
 ghost use Rattle.captures.specs.Files.{Held, emptied, is_free, may_begin};
 
 use std::fs::{self, Files, OpenFile, OpenOptions};
@@ -18,6 +20,9 @@ pub trait Opened {
     /// What it has.
     ghost held: { Self → Held };
 
+    /// The system lets its front be read.
+    ghost readable: { Self → Type 0 };
+
     /// Whether it does what the clauses say of an honest file.
     ghost honest: { Self → Type 0 };
 
@@ -28,6 +33,7 @@ pub trait Opened {
         ensures front { honest self.old → IfOk result (λ found.
             option_map (λ count. take count room.new) found ≡ option_map (take 4) (held self.old)) }
         ensures same { honest self.old → held self.new ≡ held self.old }
+        ensures read { honest self.old → readable self.old → IsOk result }
         ensures honesty { honest self.old ↔ honest self.new };
 
     /// Lets go all that a regular file has.
@@ -44,6 +50,8 @@ pub trait Opened {
 /// No clause can say what the system's files do, so they claim nothing.
 impl<F: Read + Seek + OpenFile> Opened for F {
     ghost held = { λ _. None };
+
+    ghost readable = { λ _. ⊥ };
 
     ghost honest = { λ _. ⊥ };
 
@@ -66,7 +74,10 @@ impl<F: Read + Seek + OpenFile> Opened for F {
 
 /// Fills the room as far as a file goes, and says how far.
 fn fill<F: Read>(file: &mut F, room: &mut [u8; FRONT]) -> io::Result<usize>
-    ensures { IfOk result (λ count. count ≤ 4) }
+    ensures within { IfOk result (λ count. count ≤ 4) }
+    ensures bytes { IfOk result (λ count. Consumes (F.remaining file.old) (F.remaining file.new)
+        (take count room.new)) }
+    ensures end { IfOk result (λ count. count < 4 → IsAtEnd (F.remaining file.new)) }
 {
     let mut filled = 0;
     while filled < FRONT {
@@ -86,6 +97,7 @@ fn fill<F: Read>(file: &mut F, room: &mut [u8; FRONT]) -> io::Result<usize>
 fn is_free<F: Opened>(file: &mut F) -> io::Result<bool>
     ensures free { F.honest file.old → IfOk result (λ free. free ≡ is_free (F.held file.old)) }
     ensures same { F.honest file.old → F.held file.new ≡ F.held file.old }
+    ensures read { F.honest file.old → F.readable file.old → IsOk result }
     ensures honesty { F.honest file.old ↔ F.honest file.new }
 {
     let mut room = [0; FRONT];
@@ -118,21 +130,37 @@ impl<F> Model for Vacant<F> {
     ghost view = { λ vacant. vacant.file };
 }
 
+/// A file in which no capture may be begun, and why.
+#[derive(Drop)]
+pub struct Refused<F> {
+    pub file: F,
+    pub error: io::Error,
+}
+
 impl<F: Opened + Drop> Vacant<F> {
     /// A file that was looked at.
     ///
     /// # Errors
     ///
-    /// `AlreadyExists` where it is a regular file that has something, and no capture; where it can't be read.
-    pub fn of(mut file: F) -> io::Result<Vacant<F>>
+    /// `AlreadyExists` where it is a regular file that has something, and no capture; where it can't be read. It still has
+    /// what it had.
+    pub fn of(mut file: F) -> Result<Vacant<F>, Refused<F>>
         ensures free { F.honest file → IfOk result (λ vacant. is_free (F.held vacant) ≡ true) }
         ensures same { F.honest file → IfOk result (λ vacant. F.held vacant ≡ F.held file) }
         ensures honesty { IfOk result (λ vacant. F.honest file ↔ F.honest vacant) }
+        ensures kept { F.honest file → IfErr result (λ refused. F.held refused.file ≡ F.held file) }
+        ensures taken { F.honest file → F.readable file → is_free (F.held file) ≡ true
+            → IsOk result }
+        ensures exists { F.honest file → F.readable file
+            → IfErr result (λ refused. error_kind refused.error ≡ ErrorKind.AlreadyExists) }
     {
-        if is_free(&mut file)? {
-            Ok(Vacant { file })
-        } else {
-            Err(io::Error::from(ErrorKind::AlreadyExists))
+        match is_free(&mut file) {
+            Ok(true) => Ok(Vacant { file }),
+            Ok(false) => Err(Refused {
+                file,
+                error: io::Error::from(ErrorKind::AlreadyExists),
+            }),
+            Err(error) => Err(Refused { file, error }),
         }
     }
 
@@ -171,7 +199,7 @@ pub fn open<R: Files>(rt: &R, path: &str, reader: Reader) -> io::Result<Vacant<R
         .create(true)
         .mode(MODE)
         .open(rt, path)?;
-    Vacant::of(file)
+    Vacant::of(file).map_err(|refused| refused.error)
 }
 
 /// Whether a path is that of a regular file, or of none yet.

@@ -2,7 +2,7 @@
 ghost use Rattle.std.specs.Prelude.{◌≡◌, ◌⊎◌, ◌+◌, ◌≤◌, length, take, drop, IsTrue};
 
 use boot_file::Blocks;
-use boot_store::{Disk, ModelDisk, Trouble};
+use boot_store::{Disk, Failures, ModelDisk, Trouble};
 use std::io::{self, ErrorKind};
 
 /// A file of 32 bytes that does what blocks may do, and goes wrong as it is told.
@@ -17,6 +17,8 @@ pub struct MemoryBlocks {
     is_short: bool,
     /// The folder can't be synced.
     is_stuck: bool,
+    /// How often its name couldn't be kept.
+    unnamed: Failures,
 }
 
 impl MemoryBlocks {
@@ -28,6 +30,7 @@ impl MemoryBlocks {
             most: 32,
             is_short: false,
             is_stuck: false,
+            unnamed: Failures::none(),
         }
     }
 
@@ -93,6 +96,8 @@ impl Blocks for MemoryBlocks {
 
     ghost named = { λ b. IsTrue b.named };
 
+    ghost refusals = { λ b. ⟦<ModelDisk as Disk>⟧.refusals b.disk + b.unnamed };
+
     ghost honest = { λ _. Unit {0} };
 
     fn read_at(&mut self, at: usize, room: &mut [u8]) -> io::Result<usize> {
@@ -117,6 +122,7 @@ impl Blocks for MemoryBlocks {
 
     fn sync_name(&mut self, folder: &Self) -> io::Result<()> {
         if folder.is_stuck {
+            self.unnamed.count();
             return Err(ErrorKind::Other.into());
         }
         self.named = true;

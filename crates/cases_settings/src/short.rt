@@ -14,6 +14,8 @@ impl Disk for Short {
 
     ghost failures = { λ _. 0 };
 
+    ghost refusals = { λ _. 0 };
+
     ghost named = { λ _. ⊥ };
 
     ghost honest = { λ _. ⊥ };

@@ -27,7 +27,10 @@ impl<'a, R: Clock, E: Write> Meter<'a, R, E> {
     }
 }
 
+/// When a line is written is the system's clock's to say, so of what is told nothing is claimed.
 impl<R: Clock, E: Write> Progress for Meter<'_, R, E> {
+    ghost hears = { λ _ _ _ _. Unit {0} };
+
     fn reached(&mut self, taken: usize, all: usize) {
         let moment = self.clock.moment();
         if moment < self.next {

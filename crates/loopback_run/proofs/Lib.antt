@@ -2,3 +2,4 @@ mod Turning
 mod Looping
 mod Telling
 mod Stopping
+mod Taping

@@ -3,3 +3,4 @@ pub mod Texts
 pub mod Runs
 pub mod Loops
 pub mod Stops
+pub mod Tapes

@@ -10,6 +10,7 @@ ghost use Rattle.loopback_run.specs.Runs.{HasTurned, TakesTurns};
 ghost use Rattle.loopback_run.specs.Texts.{counts_then, turn_lines};
 ghost use Rattle.loopback_run.specs.Turns.{HasSent, TakesTurn, handed, is_lost, is_refusal, of_port};
 ghost use Rattle.loopback_run.specs.Loops.{IsLoop, LoopsScript, TellsLoop};
+ghost use Rattle.loopback_run.specs.Tapes.{AreTaped, IsTapedLoop, TapesScript, TapesTurn};
 ghost use Rattle.loopback_run.specs.Stops.{FailsScript, HaveBegun, HoldJob, Leaves, Stops, StopsLoop, Untouched};
 
 use faults::{Fault, job_of};
@@ -105,6 +106,8 @@ pub fn loop_captured<P: Channel, T: Tape, O: Write>(
         script.now passage.old passage.new output.old output.new) }
     ensures untouched { (HoldJob settings.now script.now → ⊥)
         → Untouched passage.old passage.new output.old output.new }
+    ensures taped { OnOk result (TapesScript P.opens P.passes T.takes settings.now script.now
+        passage.old passage.new tape.old tape.new) }
 {
     let job = job_of(alloc, settings, script)?;
     if let Some(key) = port_clash_of_both(&job.settings) {
@@ -154,6 +157,8 @@ pub fn play<P: Channel, T: Tape, O: Write>(
         (λ fault. (fault ≡ faults.NotWritten) ⊎ (fault ≡ faults.NoMemory)) }
     ensures stops { IfErr result (StopsLoop P.passes O.contents settings.now events.now
         passage.old passage.new output.old output.new) }
+    ensures taped { OnOk result (IsTapedLoop P.passes T.takes settings.now events.now
+        passage.old passage.new tape.old tape.new) }
 {
     match World::founded(alloc, settings) {
         Ok(mut world) => {
@@ -181,6 +186,8 @@ fn played<P: Channel, T: Tape, O: Write>(
         (λ fault. (fault ≡ faults.NotWritten) ⊎ (fault ≡ faults.NoMemory)) }
     ensures stops { IfErr result (Stops P.passes world.old passage.old events.now passage.new
         (O.contents output.old) (O.contents output.new)) }
+    ensures taped { OnOk result (AreTaped P.passes T.takes world.old passage.old tape.old
+        events.now world.new passage.new tape.new) }
 {
     let refused = turned(alloc, world, events, passage, tape, output)?;
     world.tables(output)?;
@@ -201,6 +208,8 @@ fn turned<P: Channel, T: Tape, O: Write>(
         passage.new (O.contents output.old) (O.contents output.new)) }
     ensures begun { OnErr result (HaveBegun P.passes world.old passage.old events.now
         passage.new (O.contents output.old) (O.contents output.new)) }
+    ensures taped { OnOk result (AreTaped P.passes T.takes world.old passage.old tape.old
+        events.now world.new passage.new tape.new) }
 {
     let mut printer = Printer::new();
     let mut refused = false;
@@ -243,7 +252,9 @@ fn take_down<T: Tape>(
     world: &World<'_>,
     event: &WorldEvent,
     step: &Option<Step>,
-) -> io::Result<()> {
+) -> io::Result<()>
+    ensures { OnOk result (TapesTurn T.takes tape.old world.now event.now step.now tape.new) }
+{
     match step {
         Some(step) => tape.take(world, event, step),
         None => Ok(()),

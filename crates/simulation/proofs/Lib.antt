@@ -1,2 +1,3 @@
 mod Playing
 mod Taking
+mod Telling

@@ -1,5 +1,5 @@
 -- A run on a new world.
-use Rattle.std.proofs.Common.{◌≡◌, ◌⊎◌, inl, inr, ◌++◌, ◌∙◌, ℕ, List, [], ◌∷◌, Option, IfOk, OnErr, Result, Ok, Err, take, drop, ap, sym, subst, refl}
+use Rattle.std.proofs.Common.{◌≡◌, ◌⊎◌, inl, inr, ◌++◌, ◌∙◌, ℕ, List, [], ◌∷◌, Option, IfOk, OnErr, OnOk, Result, Ok, Err, take, drop, ap, sym, subst, refl}
 use Rattle.std.proofs.lemmas.List.{append_assoc, append-nil, take-append-drop}
 use Rattle.settings.specs.declared.whole.Settings.{Settings}
 use Rattle.frame_sim.specs.declared.events.Step.{Step}
@@ -18,6 +18,11 @@ use Rattle.simulation.specs.Tapes.{IsTapedRun, TapesSteps}
 pub in_ok : {E : Type 0} {P Q : ℕ → Type 0} (r : Result ℕ E) → ((n : ℕ) → P n → Q n) → IfOk r P → IfOk r Q
 in_ok (Ok n) f h = f n h
 in_ok (Err e) f h = tt
+
+-- what holds after a success holds by what follows from it
+pub when_done : {X E A B : Type 0} (r : Result X E) → (A → B) → OnOk r A → OnOk r B
+when_done (Ok x) f h = f h
+when_done (Err e) f h = tt
 
 run_from : {T : Type 0} (takes : TakesOn T) (settings : Settings) (w : World) (events : List WorldEvent) (w2 : World) (t t2 : T) (o o2 : Option (List ℕ)) (status : ℕ)
     → IsNew settings w → TapesSteps takes w events w2 t t2 o o2 status → IsTapedRun takes settings events t t2 o o2 status

@@ -2,3 +2,4 @@ pub mod Texts
 pub mod Status
 pub mod Stops
 pub mod Tapes
+pub mod Watched

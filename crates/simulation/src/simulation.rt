@@ -1,5 +1,5 @@
 //! A script's run: its events on a new world, their steps and the tables at its end printed.
-ghost use Rattle.std.specs.Prelude.{◌≡◌, ◌⊎◌, None, IfOk, IfErr, OnOk, OnErr, IsSome};
+ghost use Rattle.std.specs.Prelude.{◌≡◌, ◌⊎◌, None, IfOk, IfErr, OnOk, OnErr, IsSome, length};
 ghost use Rattle.frame_sim.specs.Runs.{AreSteps};
 ghost use Rattle.faults.specs.Faults.{status_of};
 ghost use Rattle.scripts.specs.Script.{first_bad_line};
@@ -11,6 +11,7 @@ ghost use Rattle.frame_sim.specs.World.{founding};
 ghost use Rattle.simulation.specs.Status.{RunsScript};
 ghost use Rattle.simulation.specs.Tapes.{IsTapedRun, TapesScript, TapesSteps};
 ghost use Rattle.simulation.specs.Texts.{run_lines};
+ghost use Rattle.simulation.specs.Watched.{IsToldAll, WatchesScript};
 ghost use Rattle.simulation.specs.Stops.{Begins, BeginsScript};
 ghost use Rattle.faults.specs.declared.faults.Fault.TheVariants as faults;
 
@@ -68,6 +69,8 @@ pub fn simulate_watched<P: Progress, O: Write>(
     ensures begun { OnErr result (BeginsScript settings.now script.now (O.contents output.old)
         (O.contents output.new)) }
     ensures status { IfOk result (λ status. (status ≡ 0) ⊎ (status ≡ 3)) }
+    ensures watched { OnOk result
+        (WatchesScript P.hears settings.now script.now progress.old progress.new) }
 {
     simulate_captured(alloc, settings, script, progress, &mut Untaped, output)
 }
@@ -93,6 +96,8 @@ pub fn simulate_captured<P: Progress, T: Tape, O: Write>(
     ensures begun { OnErr result (BeginsScript settings.now script.now (O.contents output.old)
         (O.contents output.new)) }
     ensures status { IfOk result (λ status. (status ≡ 0) ⊎ (status ≡ 3)) }
+    ensures watched { OnOk result
+        (WatchesScript P.hears settings.now script.now progress.old progress.new) }
 {
     let job = job_of(alloc, settings, script)?;
     play(
@@ -126,6 +131,8 @@ pub fn play<P: Progress, T: Tape, O: Write>(
     ensures status { IfOk result (λ status. (status ≡ 0) ⊎ (status ≡ 3)) }
     ensures fault { IfErr result
         (λ fault. (fault ≡ faults.NotWritten) ⊎ (fault ≡ faults.NoMemory)) }
+    ensures watched { OnOk result
+        (IsToldAll P.hears (length events.now) progress.old progress.new) }
 {
     match World::founded(alloc, settings) {
         Ok(mut world) => {
@@ -154,6 +161,8 @@ fn played<P: Progress, T: Tape, O: Write>(
     ensures status { IfOk result (λ status. (status ≡ 0) ⊎ (status ≡ 3)) }
     ensures fault { IfErr result
         (λ fault. (fault ≡ faults.NotWritten) ⊎ (fault ≡ faults.NoMemory)) }
+    ensures watched { OnOk result
+        (IsToldAll P.hears (length events.now) progress.old progress.new) }
 {
     let steps = steps_of(alloc, world, events, progress)?;
     take_down(tape, world, events, steps.as_slice())?;
@@ -208,7 +217,9 @@ fn steps_of<P: Progress>(
     events: &[WorldEvent],
     progress: &mut P,
 ) -> Result<Vec<Step>, NoMemory>
-    ensures { IfOk result (λ steps. AreSteps world.old events.now steps.items world.new) }
+    ensures steps { IfOk result (λ steps. AreSteps world.old events.now steps.items world.new) }
+    ensures watched { OnOk result
+        (IsToldAll P.hears (length events.now) progress.old progress.new) }
 {
     let mut steps = Vec::with_capacity(alloc, events.len())?;
     let mut rest = events;

@@ -34,5 +34,6 @@ loop-filled-preserved g c =
       same = λ h. c.read_at.ensures.same (loop.honesty.0 h) ∙ loop.same h;
       passes = λ h. c.read_at.ensures.passes (loop.honesty.0 h) ∙ loop.passes h;
       name = λ h named. c.read_at.ensures.name (loop.honesty.0 h) (loop.name h named);
+      taken = λ h. c.in-Ok.ensures.taken (loop.honesty.0 h) ∙ loop.taken h;
       honesty = (λ h. c.read_at.ensures.honesty.0 (loop.honesty.0 h), λ h. loop.honesty.1 (c.read_at.ensures.honesty.1 h));
     }

@@ -10,6 +10,7 @@ invariant-loop-filled g l = record {
   same : g.F.Blocks.honest l.fn.file → g.F.Blocks.now l.file ≡ g.F.Blocks.now l.fn.file;
   passes : g.F.Blocks.honest l.fn.file → g.F.Blocks.past l.file ≡ g.F.Blocks.past l.fn.file;
   name : g.F.Blocks.honest l.fn.file → g.F.Blocks.named l.fn.file → g.F.Blocks.named l.file;
+  taken : g.F.Blocks.honest l.fn.file → g.F.Blocks.refusals l.file ≡ g.F.Blocks.refusals l.fn.file;
   honesty : g.F.Blocks.honest l.fn.file ↔ g.F.Blocks.honest l.file;
 }
 

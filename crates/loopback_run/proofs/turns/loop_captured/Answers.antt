@@ -4,6 +4,8 @@ use Rattle.loopback_run.specs.Loops.{IsLoop}
 use Rattle.loopback_run.specs.Stops.{StopsLoop}
 use Rattle.loopback_run.proofs.Looping.{in_ok}
 use Rattle.loopback_run.proofs.Stopping.{in_err, leaves_refused, leaves_stopped}
+use Rattle.loopback_run.specs.Tapes.{IsTapedLoop}
+use Rattle.loopback_run.proofs.Taping.{when_done}
 use Rattle.loopback_run.proofs.Telling.{told_port}
 use Rattle.loopback_run.proofs.turns.loop_captured.Goals as goal
 
@@ -51,3 +53,12 @@ returns-in-Ok-clause-leaves g c = in_err c.play.result (λ e h. leaves_stopped _
 pub returns-in-Ok-clause-untouched : goal.returns-in-Ok-clause-untouched
 returns-in-Ok-clause-untouched g c none =
     absurd (none (record { job = c.in_ok-job.job; is = c.in_ok-job.ensures.job; good = c.in_ok-job.ensures.good }))
+
+pub returns-in-Ok-clause-taped : goal.returns-in-Ok-clause-taped
+returns-in-Ok-clause-taped g c = when_done c.play.result (λ h. record {
+  job = c.in_ok-job.job;
+  is = c.in_ok-job.ensures.job;
+  open_passage = c.open.new.self;
+  opened = c.in-Ok.ensures.opens;
+  taped = subst (λ (es : List WorldEvent). IsTapedLoop g.P.Channel.passes g.T.Tape.takes c.in_ok-job.job.settings es c.open.new.self c.play.new.passage c.args.tape.now c.play.new.tape) c.as_slice.ensures.value h;
+}) c.play.ensures.taped

@@ -18,7 +18,7 @@ pub returns-in_err-print-clause-begun : goal.returns-in_err-print-clause-begun
 returns-in_err-print-clause-begun g c = on_err c.from_residual-in_err-print.result (inr (record {
   steps = c.in_ok-steps.steps.items;
   last = c.steps_of.new.world;
-  answers = c.in_ok-steps.ensures;
+  answers = c.in_ok-steps.ensures.steps;
   begun = subst (λ (ss : List Step). IsBegun (g.O.Write.contents c.args.output.now) (g.O.Write.contents c.print.new.output) (run_lines c.args.events.now ss c.steps_of.new.world)) c.as_slice-2.ensures.value c.in_err-print.ensures;
 }))
 
@@ -26,7 +26,7 @@ pub returns-clause-run : goal.returns-clause-run
 returns-clause-run g c = record {
   run = record {
     steps = c.in_ok-steps.steps.items;
-    answers = c.in_ok-steps.ensures;
+    answers = c.in_ok-steps.ensures.steps;
     refusals = c.status_of.ensures ∙ ap (λ xs. run_status xs) c.as_slice-3.ensures.value;
   };
   taken = subst (λ (ss : List Step). AreTaken g.T.Tape.takes c.steps_of.new.world c.args.tape.now c.args.events.now ss c.take_down.new.tape) c.as_slice.ensures.value c.in_ok-take_down.ensures;

@@ -1,0 +1,64 @@
+-- Who watches a run is told how far it is.
+use Rattle.std.proofs.Common.{◌≡◌, ◌∙◌, ◌<◌, ◌+◌, ◌*◌, ◌-◌, ℕ, min, List, [], ◌∷◌, ◌++◌, length, suc, take, drop, ap, refl, subst, arith, length-append}
+use Rattle.std.proofs.lemmas.List.{length-drop, length-take}
+use Rattle.frame_sim.specs.declared.events.Step.{Step}
+use Rattle.nat_types.specs.declared.events.WorldEvent.{WorldEvent}
+use Rattle.frame_sim.specs.Runs.{AreSteps}
+use Rattle.frame_sim.specs.World.{World}
+use Rattle.simulation.specs.Watched.{Hears, IsTold, IsToldAll}
+
+-- there are as many steps as events
+pub as-many : (w w2 : World) (es : List WorldEvent) (ss : List Step) → AreSteps w es ss w2 → length ss ≡ length es
+as-many w w2 [] [] h = refl
+as-many w w2 [] (s ∷ ss) h = absurd h
+as-many w w2 (e ∷ es) [] h = absurd h
+as-many w w2 (e ∷ es) (s ∷ ss) h = ap suc (as-many h.0 w2 es ss h.2)
+
+-- so often it was told, while so many were left and so many are done
+pub record IsToldSoFar {P : Type 0} (hears : Hears P) (all left done : ℕ) (p p2 : P) : Type 0 where
+  pub times : ℕ
+  pub told : IsTold hears all times p p2
+  pub whole : done + left ≡ all
+  pub done_is : done ≡ min (64 * times) all
+  pub no_more : 64 * times < all + 64
+
+pub told-none : {P : Type 0} (hears : Hears P) (all left done : ℕ) (p : P) → left ≡ all → done ≡ 0 → IsToldSoFar hears all left done p p
+told-none hears all left done p is none = record {
+  times = 0;
+  told = refl;
+  whole = omega arith;
+  done_is = omega arith;
+  no_more = omega arith;
+}
+
+pub told-more : {P : Type 0} (hears : Hears P) (all left done left2 done2 next : ℕ) (p p2 p3 : P) → IsToldSoFar hears all left done p p2
+    → 0 < left → hears p2 done all p3 → next ≡ min left 64 → left2 ≡ left - next → done2 ≡ done + next → IsToldSoFar hears all left2 done2 p p3
+told-more hears all left done left2 done2 next p p2 p3 h some now is rest more =
+    let at : done ≡ 64 * h.times = omega (arith, h.whole, h.done_is) in
+    record {
+      times = suc h.times;
+      told = (p2, (h.told, subst (λ (n : ℕ). hears p2 n all p3) at now));
+      whole = omega (arith, h.whole);
+      done_is = omega (arith, h.whole, h.done_is);
+      no_more = omega (arith, h.whole, h.done_is);
+    }
+
+-- the next few of the rest
+pub told-next : {P : Type 0} (hears : Hears P) (all n taken whole : ℕ) (rest next others : List WorldEvent) (ss more ss2 : List Step) (w w2 : World) (p p2 p3 : P)
+    → IsToldSoFar hears all (length rest) (length ss) p p2 → 0 < length rest → hears p2 taken whole p3 → taken ≡ length ss → whole ≡ all → n ≡ min (length rest) 64
+    → next ≡ take n rest → others ≡ drop n rest → AreSteps w next more w2 → ss2 ≡ ss ++ more → IsToldSoFar hears all (length others) (length ss2) p p3
+told-next hears all n taken whole rest next others ss more ss2 w w2 p p2 p3 h some now is all_is few front back steps all_steps =
+    let heard = subst (λ (k : ℕ). hears p2 k all p3) is (subst (λ (k : ℕ). hears p2 taken k p3) all_is now) in
+    let left : length others ≡ length rest - n = ap (λ (l : List WorldEvent). length l) back ∙ length-drop n rest in
+    let size : length next ≡ min n (length rest) = ap (λ (l : List WorldEvent). length l) front ∙ length-take n rest in
+    let many : length ss2 ≡ length ss + length more = ap (λ (l : List Step). length l) all_steps ∙ length-append ss more in
+    let same = as-many w w2 next more steps in
+    told-more hears all (length rest) (length ss) (length others) (length ss2) n p p2 p3 h some heard few left (omega (arith, many, same, size, few))
+
+pub told-all : {P : Type 0} (hears : Hears P) (all left done : ℕ) (p p2 : P) → IsToldSoFar hears all left done p p2 → left ≡ 0 → IsToldAll hears all p p2
+told-all hears all left done p p2 h none = record {
+  times = h.times;
+  told = h.told;
+  all_taken = omega (arith, h.whole, h.done_is);
+  no_more = h.no_more;
+}
