@@ -1,8 +1,9 @@
 //! Scripts that are run, and captured where that is asked for.
-ghost use Rattle.std.specs.Prelude.{◌≡◌, ◌⊎◌, IfErr, IfOk, Ok, OnOk};
+ghost use Rattle.std.specs.Prelude.{◌≡◌, ◌⊎◌, IfErr, IfOk, None, Ok, OnOk};
 ghost use Rattle.faults.specs.Faults.{status_of};
 ghost use Rattle.faults.specs.Jobs.{IsJobOf};
 ghost use Rattle.loopback_run.specs.Loops.{IsLoop};
+ghost use Rattle.settings_file.specs.Clashes.{clash_of_both};
 ghost use Rattle.simulation.specs.Status.{RunsScript};
 ghost use Rattle.simulation.specs.Tapes.{IsTapedRun};
 ghost use Rattle.commands.specs.Ends.{HasLoop, HasRun};
@@ -213,6 +214,7 @@ fn opened<P: Channel>(
     passage: &mut P,
 ) -> Result<Job, Fault>
     ensures job { IfOk result (IsJobOf settings.now script.now) }
+    ensures apart { IfOk result (λ job. clash_of_both job.settings ≡ None) }
     ensures opened { IfOk result (λ job. P.opens passage.old job.settings passage.new) }
     ensures known { IfErr result (λ fault. status_of fault ≡ 1) }
 {
@@ -223,6 +225,7 @@ fn opened<P: Channel>(
 
 /// Has a passage take the ports of settings, in which none may stand twice.
 fn take_ports<P: Channel>(passage: &mut P, settings: &Settings) -> Result<(), Fault>
+    ensures apart { OnOk result (clash_of_both settings.now ≡ None) }
     ensures opened { OnOk result (P.opens passage.old settings.now passage.new) }
     ensures known { IfErr result (λ fault. status_of fault ≡ 1) }
 {
