@@ -6,4 +6,5 @@ mod Loops
 mod Numbers
 mod Runs
 mod Stored
+mod Torn
 pub mod Offered

@@ -1,6 +1,8 @@
 //! A disk in memory, which stops, tears writes and fails as it is told.
-ghost use Rattle.std.specs.Prelude.{◌≡◌, ◌+◌, []};
+ghost use Rattle.std.specs.Prelude.{◌≡◌, ◌≢◌, ◌<◌, ◌≤◌, ◌+◌, [], length};
 ghost use Rattle.boot_store.specs.Moment.{MayLeave, bytes_of, left_by_crash};
+ghost use Rattle.boot_store.specs.Plans.{any_of, good_calls_of, trouble_of};
+ghost use Rattle.boot_store.specs.Troubles.{fate_of, trouble_left, written_as};
 
 use crate::cells::{crash_cells, lose_cells, read_cells, show_cells, sync_cells, write_cells};
 use crate::pasts::Past;
@@ -46,6 +48,7 @@ impl ModelDisk {
         ensures now { ⟦<ModelDisk as Disk>⟧.now result ≡ left_by_crash file.now }
         ensures past { ⟦<ModelDisk as Disk>⟧.past result ≡ [] }
         ensures failures { ⟦<ModelDisk as Disk>⟧.failures result ≡ 0 }
+        ensures calm { trouble_of result ≡ Trouble.None }
     {
         let mut cells = [Cell {
             byte: 0,
@@ -73,6 +76,9 @@ impl ModelDisk {
             ≡ ⟦<ModelDisk as Disk>⟧.past self.old }
         ensures failures { ⟦<ModelDisk as Disk>⟧.failures self.new
             ≡ ⟦<ModelDisk as Disk>⟧.failures self.old }
+        ensures good_calls { good_calls_of self.new ≡ good_calls }
+        ensures trouble { trouble_of self.new ≡ trouble }
+        ensures any { any_of self.new ≡ any.now }
     {
         self.good_calls = good_calls;
         self.trouble = trouble;
@@ -92,6 +98,7 @@ impl ModelDisk {
             ≡ ⟦<ModelDisk as Disk>⟧.past self.old }
         ensures failures { ⟦<ModelDisk as Disk>⟧.failures self.new
             ≡ ⟦<ModelDisk as Disk>⟧.failures self.old }
+        ensures calm { trouble_of self.new ≡ Trouble.None }
     {
         crash_cells(&mut self.cells, any);
         self.trouble = Trouble::None;
@@ -108,6 +115,10 @@ impl ModelDisk {
 
     /// What becomes of the next call.
     fn fate(&mut self) -> Fate
+        ensures fate { result ≡ fate_of self.old.good_calls self.old.trouble }
+        ensures left { self.new.trouble ≡ trouble_left self.old.good_calls self.old.trouble }
+        ensures counted { 0 < self.old.good_calls → self.old.trouble ≢ Trouble.None
+            → self.new.good_calls + 1 ≡ self.old.good_calls }
         ensures cells { self.new.cells ≡ self.old.cells }
         ensures any { self.new.any ≡ self.old.any }
         ensures past { self.new.past ≡ self.old.past }
@@ -116,6 +127,27 @@ impl ModelDisk {
         let (fate, good_calls, trouble) = next_fate(self.good_calls, self.trouble);
         self.good_calls = good_calls;
         self.trouble = trouble;
+        fate
+    }
+
+    /// What becomes of a write, which is done as far as that.
+    fn write(&mut self, at: usize, bytes: &[u8]) -> Fate
+        requires within { at + length bytes.now ≤ 32 }
+        ensures fate { result ≡ fate_of self.old.good_calls self.old.trouble }
+        ensures cells { self.new.cells
+            ≡ written_as result at bytes.now self.old.any self.old.cells }
+        ensures past { self.new.past ≡ self.old.past }
+        ensures failures { self.new.failures ≡ self.old.failures }
+    {
+        let fate = self.fate();
+        match fate {
+            Fate::Done => write_cells(&mut self.cells, at, bytes),
+            Fate::Torn => {
+                let any = self.any;
+                write_cells(&mut self.cells, at, &any[at..at + bytes.len()]);
+            }
+            Fate::Undone => {}
+        }
         fate
     }
 
@@ -131,7 +163,11 @@ impl ModelDisk {
 }
 
 /// What becomes of the next call, and the good calls and the trouble that are left.
-fn next_fate(good_calls: u64, trouble: Trouble) -> (Fate, u64, Trouble) {
+fn next_fate(good_calls: u64, trouble: Trouble) -> (Fate, u64, Trouble)
+    ensures fate { result.0 ≡ fate_of good_calls trouble }
+    ensures left { result.2 ≡ trouble_left good_calls trouble }
+    ensures counted { 0 < good_calls → trouble ≢ Trouble.None → result.1 + 1 ≡ good_calls }
+{
     match trouble {
         Trouble::None => (Fate::Done, good_calls, trouble),
         _ if good_calls > 0 => (Fate::Done, good_calls - 1, trouble),
@@ -169,19 +205,13 @@ impl Disk for ModelDisk {
         self.past.keep(&self.cells);
         let file = self.bytes();
         let end = at + bytes.len();
-        let any = self.any;
         let mut within = self.cells;
         write_cells(&mut within, at, &file[at..end]);
         self.past.keep(&within);
-        match self.fate() {
-            Fate::Done => {
-                write_cells(&mut self.cells, at, bytes);
-                return Ok(());
-            }
-            Fate::Torn => write_cells(&mut self.cells, at, &any[at..end]),
-            Fate::Undone => {}
+        match self.write(at, bytes) {
+            Fate::Done => Ok(()),
+            Fate::Torn | Fate::Undone => Err(self.failed()),
         }
-        Err(self.failed())
     }
 
     fn sync(&mut self) -> Result<(), DeviceFault> {

@@ -1,0 +1,35 @@
+-- What goes wrong with a modelled disk.
+use Rattle.std.specs.Prelude.{ℕ, ◌==◌, List, length, take, drop, if◌then◌else◌}
+use Rattle.boot_store.specs.declared.model.Fate.{Fate}
+use Rattle.boot_store.specs.declared.model.Fate.TheVariants.{Done, Torn, Undone}
+use Rattle.boot_store.specs.declared.model.Trouble.{Trouble}
+use Rattle.boot_store.specs.declared.model.Trouble.TheVariants.{None, FailsOnce, StopsBefore, StopsWithin}
+use Rattle.boot_store.specs.Moment.{Moment, written}
+
+-- what becomes of the call at which trouble comes
+abbrev pub fate_at : Trouble → Fate
+fate_at None = Done
+fate_at FailsOnce = Torn
+fate_at StopsWithin = Torn
+fate_at StopsBefore = Undone
+
+-- what goes wrong from then on: a disk fails once, and one that has stopped does no call more
+abbrev pub trouble_after : Trouble → Trouble
+trouble_after None = None
+trouble_after FailsOnce = None
+trouble_after StopsWithin = StopsBefore
+trouble_after StopsBefore = StopsBefore
+
+-- what becomes of the next call, where so many are good before trouble comes
+abbrev pub fate_of : ℕ → Trouble → Fate
+fate_of good_calls trouble = if good_calls == 0 then fate_at trouble else Done
+
+-- and what is to go wrong then
+abbrev pub trouble_left : ℕ → Trouble → Trouble
+trouble_left good_calls trouble = if good_calls == 0 then trouble_after trouble else trouble
+
+-- after a write there; one that is torn leaves the bytes of `any` at its place
+abbrev pub written_as : Fate → ℕ → List ℕ → List ℕ → Moment → Moment
+written_as Done at bytes any moment = written at bytes moment
+written_as Torn at bytes any moment = written at (take (length bytes) (drop at any)) moment
+written_as Undone at bytes any moment = moment
