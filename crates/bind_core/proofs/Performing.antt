@@ -10,7 +10,7 @@ use Rattle.nat_types.specs.declared.notes.Note.{Note}
 use Rattle.nat_types.specs.declared.notes.NoteKind.{NoteKind}
 use Rattle.link.specs.Link.{Link, with_fed, with_promised}
 use Rattle.std.proofs.Common.{length}
-use Rattle.std.proofs.lemmas.List.{take-append-drop}
+use Rattle.std.proofs.lemmas.List.{append-nil, take-append-drop}
 use Rattle.spec_pair.specs.Box.{Letter}
 use Rattle.spec_binding.specs.Machine.{Works}
 use Rattle.nat_types.specs.declared.gateways.GatewayId.{GatewayId}
@@ -50,9 +50,9 @@ use Rattle.bindings.specs.Runs.{own_in}
 use Rattle.std.proofs.Common.{true, false, cond, [], ◌∷◌, ◌++◌, map, take, drop}
 use Rattle.bind_core.specs.Changes.{table_book, table_after, wants_after, ready_after, adds, IsBetween, IsSteady}
 use Rattle.bind_core.specs.declared.deeds.Bounds.{Bounds}
-use Rattle.spec_binding.specs.Ledgers.{Ledger, alone_ledger, ledger_after, lives_after, lives_loaded, rests_for, taken_ledger}
+use Rattle.spec_binding.specs.Ledgers.{Ledger, alone_ledger, ledger_after, lives_after, lives_loaded, rests_for, restarted_ledger, taken_ledger}
 use Rattle.bind_core.specs.Cores.{Core, book_of, core_after, ledger_of, is_whole, revived_with, what_loaded}
-use Rattle.bind_core.specs.View.{IsStored, core_of}
+use Rattle.bind_core.specs.View.{core_of}
 use Rattle.bind_core.specs.declared.cores.Core.TheInside.{Inside}
 use Rattle.bind_core.proofs.Porting.{gained-rest}
 
@@ -285,15 +285,29 @@ pub load-noted : (b : Book) (r : Record) (l : Load) (what : Option NoteKind) (no
 load-noted b r l what now ns ns2 ok is noted =
     noted ∙ ap (λ (w : Option NoteKind). ns ++ noted_by b.id now w) (is ∙ load-what r l ∙ sym (ap (load_what r) ok))
 
--- a record out of its place changes nothing
+refused-what : (r : Record) → load_what r None ≡ None
+refused-what (rec.Install p) = refl
+refused-what (rec.Accept k) = refl
+refused-what (rec.Refuse k) = refl
+refused-what (rec.Ask k) = refl
+refused-what (rec.Yes k) = refl
+refused-what (rec.No k) = refl
+refused-what rec.Begin = refl
+refused-what (rec.Put p) = refl
+refused-what rec.Done = refl
+refused-what rec.Want = refl
+refused-what (rec.Grant g) = refl
+refused-what (rec.Owner first last) = refl
+
+-- a record out of its place changes nothing, and nothing is noted
+pub refused-noted : (b : Book) (r : Record) (now : ℕ) (ns : List Note) → loaded (load_of b) r ≡ None → ns ≡ ns ++ noted_by b.id now (unsynced_what b r)
+refused-noted b r now ns refused = sym (ap (λ (w : Option NoteKind). ns ++ noted_by b.id now w) (ap (load_what r) refused ∙ refused-what r) ∙ append-nil ns)
+
 pub refused-book : (i : Inside) (r : Record) (t2 : Table) (p2 : Progress) → loaded (load_of (book_of (core_of i))) r ≡ None → t2 ≡ i.table → p2 ≡ i.loading → book_of (core_of (record i { table = t2; loading = p2 })) ≡ unsynced_after (book_of (core_of i)) r
 refused-book i r t2 p2 refused table loading =
     ap (λ (t : Table). book_of (core_of (record i { table = t; loading = p2 }))) table
     ∙ ap (λ (p : Progress). book_of (core_of (record i { loading = p }))) loading
     ∙ sym (ap (load_taken (book_of (core_of i)) r) refused)
-
-pub refused-stored : (i : Inside) (t2 : Table) (p2 : Progress) → t2 ≡ i.table → p2 ≡ i.loading → IsStored i → IsStored (record i { table = t2; loading = p2 })
-refused-stored i t2 p2 table loading is = rw (table, loading) is
 
 pub whole-stage : (s : Stage) (whole whole2 : Bool) → whole ≡ whole2 → (let x : Stage = cond whole Paired s in x) ≡ cond whole2 Paired s
 whole-stage s whole whole2 same = ap (λ (t : Bool). let x : Stage = cond t Paired s in x) same
@@ -350,6 +364,18 @@ restarted-synced b h = ap (λ (t : Bool). let x : Book = cond t (record (revived
 
 pub restarted-bare : (b : Book) → is_synced b.stage ≡ false → restarted b ≡ empty_book b.id b.zero b.one b.limit
 restarted-bare b h = ap (λ (t : Bool). let x : Book = cond t (record (revived b) { stage = Paired; coming = restart_batch b }) (empty_book b.id b.zero b.one b.limit) in x) h
+
+pub restarted-ledger : (c c2 : Core) → is_synced c.stage ≡ true → book_of c2 ≡ restarted (book_of c) → c2.table.lives ≡ lives_of_pairs c.table.entries c.table.lives → ledger_of c2 ≡ restarted_ledger (ledger_of c)
+restarted-ledger c c2 h book lives =
+    ap (λ (b : Book). let l : Ledger = record { book = b; lives = c2.table.lives } in l) book
+    ∙ ap (λ (ls : List Activity). let l : Ledger = record { book = restarted (book_of c); lives = ls } in l)
+    (lives ∙ sym (ap (λ (t : Bool). let ls : List Activity = cond t (lives_of_pairs c.table.entries c.table.lives) [] in ls) h))
+
+pub bare-ledger : (c c2 : Core) → is_synced c.stage ≡ false → book_of c2 ≡ restarted (book_of c) → c2.table.lives ≡ [] → ledger_of c2 ≡ restarted_ledger (ledger_of c)
+bare-ledger c c2 h book lives =
+    ap (λ (b : Book). let l : Ledger = record { book = b; lives = c2.table.lives } in l) book
+    ∙ ap (λ (ls : List Activity). let l : Ledger = record { book = restarted (book_of c); lives = ls } in l)
+    (lives ∙ sym (ap (λ (t : Bool). let ls : List Activity = cond t (lives_of_pairs c.table.entries c.table.lives) [] in ls) h))
 
 pub forgotten : (c : Core) (t2 : Table) (p : Progress) (zero one : PortBounds) → t2 ≡ record c.table { entries = []; lives = []; owned = [] } → c.table.zero ≡ zero → c.table.one ≡ one → p ≡ progress.fresh zero one
     → (let b : Book = record { id = c.id; zero = t2.zero; one = t2.one; limit = c.limit; stage = Unsynced; begun = p.begun; named = p.named; entries = t2.entries; owned = t2.owned; wants = false; coming = [] } in b) ≡ empty_book c.id c.table.zero c.table.one c.limit
