@@ -1,5 +1,5 @@
 -- What a change needs of a table, and what it makes of the lives.
-use Rattle.std.proofs.Common.{◌≡◌, ℕ, Bool, true, false, cond, Option, Some, None, List, refl, sym, ap, subst, ◌∙◌}
+use Rattle.std.proofs.Common.{◌≡◌, ℕ, ◌-◌, Bool, true, false, cond, Option, Some, None, List, refl, sym, ap, subst, ◌∙◌}
 use Rattle.std.specs.Option.{option_map}
 use Rattle.std.specs.List.{insert}
 use Rattle.nat_types.specs.declared.pairs.EntryState.{EntryState}
@@ -90,3 +90,16 @@ yielded-distinct es q keys = keys-map (λ x. cond (has_key q x) (entry_in Doomed
 pub turned-life : (p : Pair) (q : Key) (s : EntryState) (t t1 t2 : Table) (l : Activity) → t1 ≡ with_entry_state t q s → t2.lives ≡ insert t1.lives (place_in p t1.entries) l → t2.lives ≡ insert t.lives (place_in p t.entries) l
 turned-life p q s t t1 t2 l made is =
     is ∙ ap (λ (u : Table). insert u.lives (place_in p u.entries) l) made ∙ ap (λ (n : ℕ). insert t.lives n l) (turned-place p q s t.entries)
+
+-- ---- a table whose entries and lives are known
+
+pub made-table : (t t2 : Table) {es : List Entry} {ls : List Activity} → t2 ≡ record t { entries = t2.entries; lives = t2.lives } → t2.entries ≡ es → t2.lives ≡ ls → t2 ≡ record t { entries = es; lives = ls }
+made-table t t2 {es} {ls} same entries lives =
+    same ∙ ap (λ (z : List Entry). let u : Table = record t { entries = z; lives = t2.lives } in u) entries
+    ∙ ap (λ (z : List Activity). let u : Table = record t { entries = es; lives = z } in u) lives
+
+-- and one place less is ready
+pub added-table : (t t2 : Table) {es : List Entry} {ls : List Activity} → t2 ≡ record t { entries = t2.entries; lives = t2.lives; ready = t.ready - 1 } → t2.entries ≡ es → t2.lives ≡ ls → t2 ≡ record t { entries = es; lives = ls; ready = t.ready - 1 }
+added-table t t2 {es} {ls} same entries lives =
+    same ∙ ap (λ (z : List Entry). let u : Table = record t { entries = z; lives = t2.lives; ready = t.ready - 1 } in u) entries
+    ∙ ap (λ (z : List Activity). let u : Table = record t { entries = es; lives = z; ready = t.ready - 1 } in u) lives

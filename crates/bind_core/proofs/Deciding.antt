@@ -1,5 +1,5 @@
 -- What the rows of wishes and of idle pairs ask of a core.
-use Rattle.std.proofs.Common.{◌≡◌, ℕ, ◌<◌, Bool, true, false, cond, not, is_some, Option, Some, None, refl, sym, ap, ◌∙◌, arith}
+use Rattle.std.proofs.Common.{◌≡◌, ℕ, ◌<◌, Bool, true, false, cond, not, ◌&&◌, is_some, Option, Some, None, refl, sym, ap, subst, ◌∙◌, arith}
 use Rattle.std.proofs.lemmas.Bool.{and_parts, ltb-false}
 use Rattle.addresses.specs.declared.transport.Port.{Port}
 use Rattle.nat_types.specs.declared.pairs.Endpoint.{Endpoint}
@@ -8,11 +8,12 @@ use Rattle.nat_types.specs.declared.pairs.EntryState.TheVariants as state
 use Rattle.nat_types.specs.declared.pairs.Key.{Key}
 use Rattle.nat_types.specs.declared.pairs.Pair.{Pair}
 use Rattle.nat_types.specs.declared.notes.NoteKind.TheVariants as happens
+use Rattle.nat_types.specs.declared.records.Record.{Record}
 use Rattle.nat_types.specs.declared.records.Record.TheVariants as rec
 use Rattle.bindings.specs.declared.entries.Entry.{Entry}
 use Rattle.bindings.specs.Entries.{slot_of, entry_of, entry_in}
 use Rattle.bindings.proofs.Offered.{slot-key}
-use Rattle.link.specs.Link.{Link, free_places}
+use Rattle.link.specs.Link.{Link, free_places, needs_answer}
 use Rattle.resync.specs.Batch.{is_settled}
 use Rattle.spec_binding.specs.declared.setups.Stage.{Stage}
 use Rattle.spec_binding.specs.declared.setups.Stage.TheVariants.{Paired}
@@ -21,9 +22,10 @@ use Rattle.spec_binding.specs.declared.changes.Transition.{Transition}
 use Rattle.spec_binding.specs.declared.changes.PortRequest.{PortRequest}
 use Rattle.spec_binding.specs.declared.changes.Want.TheVariants as want
 use Rattle.spec_binding.specs.Books.{Book, IsBook, is_synced, is_lone, is_promised}
-use Rattle.spec_binding.specs.Rows.{row, quiet, wish, wish_of, wish_by, known_wish, new_wish, new_pair, none_row, may_want, port_for, is_at_limit, idle_row, release_row, released_row, is_full}
+use Rattle.spec_binding.specs.Rows.{row, quiet, wish, wish_of, wish_by, known_wish, new_wish, new_pair, none_row, may_want, port_for, is_at_limit, idle_row, release_row, released_row, row_of, synced_row, taken_answer, is_full}
 use Rattle.bind_core.specs.Changes.{IsSteady, adds}
 use Rattle.spec_binding.specs.Ledgers.{may_ask, is_heard}
+use Rattle.bind_core.proofs.Performing.{taken-answer}
 
 known-steady : (b : Book) (p : Pair) (s : EntryState) → IsSteady b (known_wish p s).row.change
 known-steady b p state.Pending = tt
@@ -63,6 +65,54 @@ wish-steady b full e is promised = at (is_synced b.stage) (entry_of b.entries e)
     at true None = unknown (is_at_limit b e.address)
     at false o = tt
 
+-- ---- where the link is full nothing is pushed
+
+known-mute : (p : Pair) (s : EntryState) → (known_wish p s).row.answer ≡ None
+known-mute p state.Pending = refl
+known-mute p state.Doomed = refl
+known-mute p state.Live = refl
+known-mute p state.Closing = refl
+known-mute p state.Held = refl
+
+none-mute : (b : Book) → (none_row b true).answer ≡ None
+none-mute b = at (is_lone b.stage) b.wants
+  where
+    at : (lone wants : Bool) → (let r : Transition = cond (not lone && (not wants && false)) (row change.Want (Some rec.Want) None) quiet in r).answer ≡ None
+    at true wants = refl
+    at false true = refl
+    at false false = refl
+
+new-mute : (b : Book) (e : Endpoint) (o : Option Port) → (new_wish b true e o).row.answer ≡ None
+new-mute b e None = none-mute b
+new-mute b e (Some port) = at (is_lone b.stage)
+  where
+    at : (lone : Bool) → (let w : PortRequest = cond lone (wish (want.Port port) (row (change.Add (entry_in state.Live (new_pair e port))) None (Some (happens.Retaken (new_pair e port))))) (wish want.NotNow quiet) in w.row).answer ≡ None
+    at true = refl
+    at false = refl
+
+by-mute : (b : Book) (e : Endpoint) (o : Option Entry) → (wish_by b true e o).row.answer ≡ None
+by-mute b e (Some x) = known-mute x.pair x.state
+by-mute b e None = at (is_at_limit b e.address)
+  where
+    at : (limited : Bool) → (let w : PortRequest = cond limited (wish want.HostLimit quiet) (new_wish b true e (port_for b e)) in w.row).answer ≡ None
+    at true = refl
+    at false = new-mute b e (port_for b e)
+
+pub wish-mute : (b : Book) (e : Endpoint) → (wish_of b true e).row.answer ≡ None
+wish-mute b e = at (is_synced b.stage)
+  where
+    at : (synced : Bool) → (let w : PortRequest = cond synced (wish_by b true e (entry_of b.entries e)) (wish want.NotNow quiet) in w.row).answer ≡ None
+    at true = by-mute b e (entry_of b.entries e)
+    at false = refl
+
+-- elsewhere there is a place
+pub wish-places : (b : Book) (l : Link) (e : Endpoint) → is_some (wish_of b (is_full l) e).row.answer ≡ true → 0 < free_places l
+wish-places b l e = at (is_full l) refl
+  where
+    at : (full : Bool) → is_full l ≡ full → is_some (wish_of b full e).row.answer ≡ true → 0 < free_places l
+    at true is answers = let silent : is_some (wish_of b true e).row.answer ≡ false = ap is_some (wish-mute b e) in cc
+    at false is answers = let room = ltb-false (free_places l) 65 is in omega (arith, room)
+
 -- ---- idle pairs
 
 -- a lone row drops; another one turns what was Live
@@ -101,6 +151,10 @@ idle-adds b ask k = at (is_synced b.stage) (slot_of b.entries k)
     at true None = refl
     at true (Some x) = released-adds (is_lone b.stage) ask x.pair x.state
 
+-- so it needs no room in the table
+pub idle-ready : (b : Book) (ask : Bool) (k : Key) (ready : ℕ) → adds (idle_row b ask k).change ≡ true → 0 < ready
+idle-ready b ask k ready h = let no = idle-adds b ask k in cc
+
 released-asks : (lone ask : Bool) (p : Pair) (s : EntryState) → is_some (released_row lone ask p s).answer ≡ true → ask ≡ true
 released-asks lone ask p state.Pending h = cc
 released-asks lone ask p state.Doomed h = cc
@@ -129,3 +183,18 @@ idle-places b now e k h =
     not-true : (t : Bool) → not t ≡ true → t ≡ false
     not-true true h = cc
     not-true false h = refl
+
+-- ---- a record at a synced gateway
+
+-- while its batch is promised, it changes nothing
+pub row-steady : (b : Book) (rests : Bool) (r : Record) → is_promised b ≡ true → IsSteady b (row_of b rests r).change
+row-steady b rests r promised = subst (λ (t : Bool). IsSteady b (let x : Transition = cond t quiet (synced_row b rests r) in x).change) (sym promised) tt
+
+-- there is a place for its answer, where there is one for a record that needs an answer
+pub row-places : (b : Book) (rests : Bool) (r : Record) (places : ℕ) → (needs_answer r ≡ false → taken_answer b rests r ≡ None) → is_synced b.stage ≡ true → (needs_answer r ≡ true → 0 < places)
+    → is_some (row_of b rests r).answer ≡ true → 0 < places
+row-places b rests r places mute synced room answers = at (needs_answer r) refl
+  where
+    at : (t : Bool) → needs_answer r ≡ t → 0 < places
+    at true needs = room needs
+    at false none = let silent : is_some (row_of b rests r).answer ≡ false = ap is_some (sym (taken-answer b rests r synced) ∙ mute none) in cc

@@ -7,9 +7,10 @@ use Rattle.resync.specs.declared.cursor.Cursor.{Cursor}
 use Rattle.resync.specs.declared.cursor.Cursor.TheVariants.{Over}
 use Rattle.bind_core.proofs.Steady.{SteadyLaws, still-coming, none-coming}
 use Rattle.nat_types.specs.declared.notes.Note.{Note}
+use Rattle.nat_types.specs.declared.notes.NoteKind.{NoteKind}
 use Rattle.link.specs.Link.{Link, with_fed, with_promised}
 use Rattle.std.proofs.Common.{length}
-use Rattle.std.proofs.lemmas.List.{take-append-drop}
+use Rattle.std.proofs.lemmas.List.{append-nil, take-append-drop}
 use Rattle.spec_pair.specs.Box.{Letter}
 use Rattle.spec_binding.specs.Machine.{Works}
 use Rattle.nat_types.specs.declared.gateways.GatewayId.{GatewayId}
@@ -23,6 +24,7 @@ use Rattle.std.proofs.lemmas.List.{length-map}
 use Rattle.bindings.specs.Entries.{slot_of, is_pair}
 use Rattle.nat_types.specs.declared.pairs.EntryState.{EntryState}
 use Rattle.nat_types.specs.declared.pairs.EntryState.TheVariants as state
+use Rattle.nat_types.specs.declared.pairs.Endpoint.{Endpoint}
 use Rattle.nat_types.specs.declared.pairs.Key.{Key}
 use Rattle.nat_types.specs.declared.pairs.Pair.{Pair}
 use Rattle.port_range.specs.Ports.{is_listed}
@@ -35,20 +37,23 @@ use Rattle.spec_binding.specs.declared.changes.Change.{Change}
 use Rattle.spec_binding.specs.declared.changes.Change.TheVariants.{Keep, Add, Turn, Renew, Drop, Yield, Want, Give, Gain}
 use Rattle.spec_binding.specs.declared.changes.Transition.{Transition}
 use Rattle.spec_binding.specs.Books.{Book, IsBook, is_any, is_promised, is_synced, load_of, empty_book}
-use Rattle.spec_binding.specs.Rows.{after, changed, with_gained, is_gained, numbers_of, row_of, carry_row, use_row, used_row, quiet, answered, taken_book, taken_answer, unsynced_after, load_taken, stage_after}
+use Rattle.spec_binding.specs.Rows.{after, changed, with_gained, is_gained, numbers_of, row_of, carry_row, use_row, used_row, quiet, answered, taken_book, taken_answer, taken_ended, taken_what, unsynced_after, unsynced_what, load_taken, load_what, noted_by, stage_after}
+use Rattle.spec_binding.specs.WellFormed.{Fits, HasPair}
 use Rattle.spec_binding.specs.declared.setups.Stage.{Stage}
 use Rattle.spec_binding.specs.declared.setups.Stage.TheVariants.{Lone, Paired, Unsynced}
 use Rattle.nat_types.specs.declared.records.Record.TheVariants as rec
 use Rattle.bindings.specs.declared.entries.PortBounds.{PortBounds}
-use Rattle.resync.specs.Loading.{Progress, loaded}
+use Rattle.resync.specs.Loading.{Load, Progress, loaded}
 use Rattle.resync.specs.Loading as progress
 use Rattle.std.proofs.Common.{Option, Some, None}
 use Rattle.bindings.specs.Runs.{own_in}
 use Rattle.std.proofs.Common.{true, false, cond, [], ◌∷◌, ◌++◌, map, take, drop}
 use Rattle.bind_core.specs.Changes.{table_book, table_after, wants_after, ready_after, adds, IsBetween, IsSteady}
 use Rattle.bind_core.specs.declared.deeds.Bounds.{Bounds}
-use Rattle.spec_binding.specs.Ledgers.{Ledger, alone_ledger, ledger_after, lives_after, lives_loaded, rests_for, taken_ledger}
-use Rattle.bind_core.specs.Cores.{Core, book_of, core_after, ledger_of, is_whole, revived_with}
+use Rattle.spec_binding.specs.Ledgers.{Ledger, alone_ledger, ledger_after, lives_after, lives_loaded, rests_for, restarted_ledger, taken_ledger}
+use Rattle.bind_core.specs.Cores.{Core, book_of, core_after, ledger_of, is_whole, revived_with, what_loaded}
+use Rattle.bind_core.specs.View.{core_of}
+use Rattle.bind_core.specs.declared.cores.Core.TheInside.{Inside}
 use Rattle.bind_core.proofs.Porting.{gained-rest}
 
 -- what is gained hangs on the ranges, the entries and the owned ports alone
@@ -147,6 +152,20 @@ pub coming-after : (laws : SteadyLaws) (cursor : Cursor) (now : ℕ) (ch : Chang
 coming-after laws cursor now ch c t2 keys are is same =
     ap (coming cursor) same ∙ still-coming laws cursor now ch c.table keys (λ h. steady-table c ch (is (ap is_any are ∙ h))) ∙ sym are
 
+has-pair : (c : Core) (k : Key) → HasPair (book_of c) k → HasPair (table_book c.table) k
+has-pair c k is = record { entry = is.entry; found = is.found; pair = is.pair }
+
+pub fits-table : (c : Core) (ch : Change) → Fits (book_of c) ch → Fits (table_book c.table) ch
+fits-table c Keep is = tt
+fits-table c (Add e) is = record { key = is.key; endpoint = is.endpoint; within = is.within; formed = is.formed }
+fits-table c (Turn k s) is = has-pair c k is
+fits-table c (Renew k) is = has-pair c k is
+fits-table c (Drop k) is = tt
+fits-table c (Yield q p) is = record { entry = is.entry; found = is.found; pair = is.pair; endpoint = is.endpoint; key = is.key; within = is.within; formed = is.formed }
+fits-table c Want is = refl
+fits-table c (Give g) is = record { most = is.most; distinct = is.distinct; spare = is.spare; formed = is.formed }
+fits-table c (Gain g) is = tt
+
 pub kept-after : (now : ℕ) (c : Core) (r : Transition) (c2 : Core) → c2 ≡ core_after now c r → IsBook (after (book_of c) r) → IsBook (book_of c2)
 kept-after now c r c2 same kept = subst (λ (k : Core). IsBook (book_of k)) (sym same) (subst IsBook (sym (book-after now c r)) kept)
 
@@ -163,6 +182,18 @@ taken-book b rests r h = ap (λ (t : Bool). let x : Book = cond t (after b (row_
 
 pub taken-answer : (b : Book) (rests : Bool) (r : Record) → is_synced b.stage ≡ true → taken_answer b rests r ≡ (row_of b rests r).answer
 taken-answer b rests r h = ap (λ (t : Bool). let x : Option Record = cond t (row_of b rests r).answer None in x) h
+
+pub taken-what : (b : Book) (rests : Bool) (r : Record) → is_synced b.stage ≡ true → taken_what b rests r ≡ (row_of b rests r).what
+taken-what b rests r h = ap (λ (t : Bool). let x : Option NoteKind = cond t (row_of b rests r).what (unsynced_what b r) in x) h
+
+pub taken-ended : (b : Book) (rests : Bool) (r : Record) → is_synced b.stage ≡ true → taken_ended b rests r ≡ (row_of b rests r).ended
+taken-ended b rests r h = ap (λ (t : Bool). let x : Option Endpoint = cond t (row_of b rests r).ended None in x) h
+
+pub loaded-what : (b : Book) (rests : Bool) (r : Record) → is_synced b.stage ≡ false → taken_what b rests r ≡ unsynced_what b r
+loaded-what b rests r h = ap (λ (t : Bool). let x : Option NoteKind = cond t (row_of b rests r).what (unsynced_what b r) in x) h
+
+pub loaded-ended : (b : Book) (rests : Bool) (r : Record) → is_synced b.stage ≡ false → taken_ended b rests r ≡ None
+loaded-ended b rests r h = ap (λ (t : Bool). let x : Option Endpoint = cond t (row_of b rests r).ended None in x) h
 
 pub loaded-book : (b : Book) (rests : Bool) (r : Record) → is_synced b.stage ≡ false → taken_book b rests r ≡ unsynced_after b r
 loaded-book b rests r h = ap (λ (t : Bool). let x : Book = cond t (after b (row_of b rests r)) (unsynced_after b r) in x) h
@@ -235,6 +266,49 @@ load-comes c cursor t2 h is are = none-coming cursor c.table t2 (λ any. unpaire
 pub load-kept : (b : Book) (r : Record) → is_synced b.stage ≡ false → IsBook (taken_book b false r) → IsBook (unsynced_after b r)
 load-kept b r h is = subst IsBook (loaded-book b false r h) is
 
+-- what is noted of a record in its place
+load-what : (r : Record) (l : Load) → what_loaded r ≡ load_what r (Some l)
+load-what (rec.Install p) l = refl
+load-what (rec.Accept k) l = refl
+load-what (rec.Refuse k) l = refl
+load-what (rec.Ask k) l = refl
+load-what (rec.Yes k) l = refl
+load-what (rec.No k) l = refl
+load-what rec.Begin l = refl
+load-what (rec.Put p) l = refl
+load-what rec.Done l = refl
+load-what rec.Want l = refl
+load-what (rec.Grant g) l = refl
+load-what (rec.Owner first last) l = refl
+
+pub load-noted : (b : Book) (r : Record) (l : Load) (what : Option NoteKind) (now : ℕ) (ns ns2 : List Note) → loaded (load_of b) r ≡ Some l → what ≡ what_loaded r → ns2 ≡ ns ++ noted_by b.id now what → ns2 ≡ ns ++ noted_by b.id now (unsynced_what b r)
+load-noted b r l what now ns ns2 ok is noted =
+    noted ∙ ap (λ (w : Option NoteKind). ns ++ noted_by b.id now w) (is ∙ load-what r l ∙ sym (ap (load_what r) ok))
+
+refused-what : (r : Record) → load_what r None ≡ None
+refused-what (rec.Install p) = refl
+refused-what (rec.Accept k) = refl
+refused-what (rec.Refuse k) = refl
+refused-what (rec.Ask k) = refl
+refused-what (rec.Yes k) = refl
+refused-what (rec.No k) = refl
+refused-what rec.Begin = refl
+refused-what (rec.Put p) = refl
+refused-what rec.Done = refl
+refused-what rec.Want = refl
+refused-what (rec.Grant g) = refl
+refused-what (rec.Owner first last) = refl
+
+-- a record out of its place changes nothing, and nothing is noted
+pub refused-noted : (b : Book) (r : Record) (now : ℕ) (ns : List Note) → loaded (load_of b) r ≡ None → ns ≡ ns ++ noted_by b.id now (unsynced_what b r)
+refused-noted b r now ns refused = sym (ap (λ (w : Option NoteKind). ns ++ noted_by b.id now w) (ap (load_what r) refused ∙ refused-what r) ∙ append-nil ns)
+
+pub refused-book : (i : Inside) (r : Record) (t2 : Table) (p2 : Progress) → loaded (load_of (book_of (core_of i))) r ≡ None → t2 ≡ i.table → p2 ≡ i.loading → book_of (core_of (record i { table = t2; loading = p2 })) ≡ unsynced_after (book_of (core_of i)) r
+refused-book i r t2 p2 refused table loading =
+    ap (λ (t : Table). book_of (core_of (record i { table = t; loading = p2 }))) table
+    ∙ ap (λ (p : Progress). book_of (core_of (record i { loading = p }))) loading
+    ∙ sym (ap (load_taken (book_of (core_of i)) r) refused)
+
 pub whole-stage : (s : Stage) (whole whole2 : Bool) → whole ≡ whole2 → (let x : Stage = cond whole Paired s in x) ≡ cond whole2 Paired s
 whole-stage s whole whole2 same = ap (λ (t : Bool). let x : Stage = cond t Paired s in x) same
 
@@ -242,6 +316,9 @@ whole-stage s whole whole2 same = ap (λ (t : Bool). let x : Stage = cond t Pair
 
 pub drawn-first : (out out2 more : List Record) → out ≡ [] → out2 ≡ out ++ more → out2 ≡ more
 drawn-first out out2 more none drawn = drawn ∙ ap (λ (z : List Record). z ++ more) none
+
+pub drawn-split : (n : ℕ) (batch out out2 : List Record) {left : List Record} → out ≡ [] → out2 ≡ out ++ take n batch → left ≡ drop n batch → batch ≡ out2 ++ left
+drawn-split n batch out out2 {left} none drawn rest = sym (ap (λ (z : List Record). z ++ left) (drawn-first out out2 (take n batch) none drawn) ∙ ap (λ (z : List Record). take n batch ++ z) rest ∙ take-append-drop n batch)
 
 pub fed-works : (now : ℕ) (c : Core) (rest records : List Record) (e e2 : Link) (n : ℕ) (h : List Record) (k : ℕ) → records ≡ take k c.coming → rest ≡ drop k c.coming → e2 ≡ with_fed e records
     → (c.coming ≡ records ++ rest → Works now [] [] (book_of c) e n (record (book_of c) { coming = rest }) (with_fed e records) n [] h)
@@ -287,6 +364,18 @@ restarted-synced b h = ap (λ (t : Bool). let x : Book = cond t (record (revived
 
 pub restarted-bare : (b : Book) → is_synced b.stage ≡ false → restarted b ≡ empty_book b.id b.zero b.one b.limit
 restarted-bare b h = ap (λ (t : Bool). let x : Book = cond t (record (revived b) { stage = Paired; coming = restart_batch b }) (empty_book b.id b.zero b.one b.limit) in x) h
+
+pub restarted-ledger : (c c2 : Core) → is_synced c.stage ≡ true → book_of c2 ≡ restarted (book_of c) → c2.table.lives ≡ lives_of_pairs c.table.entries c.table.lives → ledger_of c2 ≡ restarted_ledger (ledger_of c)
+restarted-ledger c c2 h book lives =
+    ap (λ (b : Book). let l : Ledger = record { book = b; lives = c2.table.lives } in l) book
+    ∙ ap (λ (ls : List Activity). let l : Ledger = record { book = restarted (book_of c); lives = ls } in l)
+    (lives ∙ sym (ap (λ (t : Bool). let ls : List Activity = cond t (lives_of_pairs c.table.entries c.table.lives) [] in ls) h))
+
+pub bare-ledger : (c c2 : Core) → is_synced c.stage ≡ false → book_of c2 ≡ restarted (book_of c) → c2.table.lives ≡ [] → ledger_of c2 ≡ restarted_ledger (ledger_of c)
+bare-ledger c c2 h book lives =
+    ap (λ (b : Book). let l : Ledger = record { book = b; lives = c2.table.lives } in l) book
+    ∙ ap (λ (ls : List Activity). let l : Ledger = record { book = restarted (book_of c); lives = ls } in l)
+    (lives ∙ sym (ap (λ (t : Bool). let ls : List Activity = cond t (lives_of_pairs c.table.entries c.table.lives) [] in ls) h))
 
 pub forgotten : (c : Core) (t2 : Table) (p : Progress) (zero one : PortBounds) → t2 ≡ record c.table { entries = []; lives = []; owned = [] } → c.table.zero ≡ zero → c.table.one ≡ one → p ≡ progress.fresh zero one
     → (let b : Book = record { id = c.id; zero = t2.zero; one = t2.one; limit = c.limit; stage = Unsynced; begun = p.begun; named = p.named; entries = t2.entries; owned = t2.owned; wants = false; coming = [] } in b) ≡ empty_book c.id c.table.zero c.table.one c.limit

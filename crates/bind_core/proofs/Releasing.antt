@@ -61,11 +61,15 @@ one-more now i keys d l e ns l2 e2 ns2 h is =
       notes = ap (λ (z : List Key). ns ++ (let_go now z l e).notes) here ∙ parts.2 ∙ ap (λ (n : ℕ). ns2 ++ (let_go now (drop n keys) l2 e2).notes) next;
     }
 
-pub all-done : (i : ℕ) (keys : List Key) → length keys ≤ i → drop i keys ≡ []
+all-done : (i : ℕ) (keys : List Key) → length keys ≤ i → drop i keys ≡ []
 all-done zero [] h = refl
 all-done (suc i) [] h = refl
 all-done zero (k ∷ ks) h = absurd (omega (arith, h))
 all-done (suc i) (k ∷ ks) h = all-done i ks (omega (arith, h))
+
+-- behind the last key
+pub gone : (now i : ℕ) (keys : List Key) (l : Ledger) (e : Link) → length keys ≤ i → let_go now (drop i keys) l e ≡ record { ledger = l; link = e; notes = [] }
+gone now i keys l e past = ap (λ (ks : List Key). let_go now ks l e) (all-done i keys past)
 
 pub one-more-at : (now : ℕ) (i : ℕ) (keys : List Key) (k : Key) (l : Ledger) (e : Link) (ns : List Note) (l2 : Ledger) (e2 : Link) (ns2 : List Note) → slice_get keys i ≡ Some k → IsReleased now k l e ns l2 e2 ns2 → IsOneMore now i keys l e ns l2 e2 ns2
 one-more-at now i keys k l e ns l2 e2 ns2 h is =

@@ -28,7 +28,7 @@ use nat_types::{Endpoint, Key, Note, Record};
 use resync::Cursor;
 use spec_binding::{
     Stage, Want, answers_fit, books_keep, idle_works, record_works, restart_works, rows_fit,
-    wish_works, word_works, works_join, works_nothing,
+    rows_leave, wish_works, word_works, works_join, works_nothing,
 };
 use std::alloc::AllocError;
 
@@ -192,6 +192,7 @@ impl Core {
     {
         self.recall();
         rows_fit();
+        rows_leave();
         answers_fit();
         books_keep();
         let row = self.row_for(entry, now);

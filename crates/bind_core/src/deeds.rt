@@ -155,7 +155,7 @@ pub(crate) fn count_keys(zero: PortBounds, one: PortBounds) -> usize
 }
 
 /// The ports of gateway 0 and of gateway 1.
-#[derive(Clone, Copy, Debug, PartialEq, Eq)]
+#[derive(Clone, Copy)]
 pub(crate) struct Bounds {
     pub zero: PortBounds,
     pub one: PortBounds,

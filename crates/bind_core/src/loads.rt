@@ -7,7 +7,7 @@ use nat_types::{NoteKind, Record};
 use spec_binding::Stage;
 
 /// Whether the table is whole, and what is noted.
-#[derive(Clone, Copy, Debug, PartialEq, Eq)]
+#[derive(Clone, Copy)]
 pub(crate) struct Loads {
     pub is_whole: bool,
     pub what: Option<NoteKind>,

@@ -19,6 +19,7 @@ ghost use Rattle.forwarder.specs.Room.{HasRoomFor, Spends, frames_alone};
 
 use crate::Forwarder;
 use crate::outgoing::OwnAnswer;
+use crate::takings::{bytes_of, side_of};
 use addresses::{Ip, Mac};
 use nat_types::{NoMemory, Side};
 use output::OutputBuffer;
@@ -229,10 +230,11 @@ impl Forwarder {
         ensures link { self.new.link ≡ self.old.link }
         ensures spends { Spends (frames_alone 2) self.old page.old self.new page.new }
     {
-        let side = packet.side;
+        let side = side_of(&packet);
+        let bytes = bytes_of(&packet);
         match self.plan_reply(side, echo) {
             Ok(Reply::Send { next }) => {
-                self.reply(page, side, &packet.bytes, echo.source, next);
+                self.reply(page, side, bytes, echo.source, next);
                 self.kept.reuse(packet);
             }
             Ok(Reply::Ask { hop }) => {
@@ -240,7 +242,7 @@ impl Forwarder {
                 self.ask_for_reply(page, side, hop, copy);
             }
             Ok(Reply::AskAgain { hop }) => self.ask_again(page, side, hop),
-            Err(reason) => self.refuse_whole(page, side, side, &packet.bytes, reason),
+            Err(reason) => self.refuse_whole(page, side, side, bytes, reason),
         }
     }
 }

@@ -1,5 +1,6 @@
 //! What is said of a packet that is dropped (RFC 792; RFC 1812, sections 4.3.2 and 5.3.1).
-ghost use Rattle.std.specs.Prelude.{◌≡◌, ◌≢◌, ◌≤◌, ◌+◌, true};
+ghost use Rattle.std.specs.Prelude.{◌≡◌, ◌≢◌, ◌≤◌, ◌+◌, true, length};
+ghost use Rattle.frames.specs.Frame.{frame_of};
 ghost use Rattle.interfaces.specs.Stations.{with_complaint};
 ghost use Rattle.interfaces.specs.Tallies.{may_complain};
 ghost use Rattle.packet_rules.specs.Asked.{IsWhole};
@@ -20,12 +21,20 @@ use nat_types::Side;
 use output::OutputBuffer;
 use packet_rules::{Complaint, Reason, complaint_of, next_hop_back};
 
+/// What stands behind a frame's header.
+fn body_of(bytes: &[u8]) -> &[u8]
+    requires { 14 ≤ length bytes.now }
+    ensures { result.now ≡ (frame_of bytes.now).body }
+{
+    &bytes[14..]
+}
+
 /// Who sent the packet of a frame of which it is known that it has one.
 fn sender_of(bytes: &[u8]) -> Ip
     requires { IsWhole bytes.now }
     ensures { result ≡ sender_in bytes.now }
 {
-    match Ipv4View::parse(&bytes[14..]) {
+    match Ipv4View::parse(body_of(bytes)) {
         Ok(packet) => packet.source(),
         Err(_fault) => unreachable!(),
     }

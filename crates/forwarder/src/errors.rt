@@ -16,6 +16,7 @@ ghost use Rattle.forwarder.specs.Room.{HasRoomFor, Spends, frames_alone};
 use crate::Forwarder;
 use crate::outgoing::PassedFrame;
 use crate::plans::{if_fits, pair_of};
+use crate::takings::{bytes_of, side_of};
 use addresses::{Ip, Mac};
 use icmp::{ErrorFlow, ErrorPacket};
 use nat_types::{NoMemory, Pair, Side};
@@ -213,9 +214,9 @@ impl Forwarder {
         ensures link { self.new.link ≡ self.old.link }
         ensures spends { Spends (frames_alone 2) self.old page.old self.new page.new }
     {
-        match self.plan_error(packet.side, reading) {
+        match self.plan_error(side_of(&packet), reading) {
             Ok(Plan::Send { by, next }) => {
-                self.pass(page, &packet.bytes, reading, by, next);
+                self.pass(page, bytes_of(&packet), reading, by, next);
                 self.kept.reuse(packet);
             }
             Ok(Plan::Ask { by, hop }) => {

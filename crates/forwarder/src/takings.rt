@@ -30,6 +30,22 @@ fn recall_source(bytes: &[u8], packet: Packet)
     let _ = packet.flow.source_port.0;
 }
 
+/// Where a kept packet came in.
+#[inline(always)]
+pub(crate) fn side_of(packet: &HeldPacket) -> Side
+    ensures { result ≡ packet.now.side }
+{
+    packet.side
+}
+
+/// The frame of a kept packet, as it came.
+#[inline(always)]
+pub(crate) fn bytes_of(packet: &HeldPacket) -> &[u8]
+    ensures { result.now ≡ packet.now.bytes }
+{
+    &packet.bytes
+}
+
 impl Forwarder {
     /// Takes a packet: it goes on, waits, or is dropped. One that has to wait is copied. An `Err`
     /// stands for a refused copy of such a one; nothing has changed then.
@@ -95,11 +111,11 @@ impl Forwarder {
         ensures spends { Spends a_packet self.old page.old self.new page.new }
         ensures places { LeavesPlaces self.old self.new }
     {
-        recall_source(&packet.bytes, reading);
+        recall_source(bytes_of(&packet), reading);
         let flow = reading.flow;
-        match self.plan(packet.side, reading) {
+        match self.plan(side_of(&packet), reading) {
             Ok(Plan::Send { by, next }) => {
-                self.send(page, &packet.bytes, reading, by, next);
+                self.send(page, bytes_of(&packet), reading, by, next);
                 self.kept.reuse(packet);
             }
             Ok(Plan::Ask { by, hop }) => {
@@ -112,7 +128,9 @@ impl Forwarder {
                 let copy = packet.again(self.moment, WaitsFor::Pair(endpoint));
                 self.wait(page, flow, copy);
             }
-            Err(reason) => self.refuse(page, packet.side, &packet.bytes, flow, reason),
+            Err(reason) => {
+                self.refuse(page, side_of(&packet), bytes_of(&packet), flow, reason);
+            }
         }
     }
 
@@ -124,13 +142,15 @@ impl Forwarder {
         ensures spends { Spends a_packet self.old page.old self.new page.new }
         ensures places { LeavesPlaces self.old self.new }
     {
-        match self.read_frame(packet.side, &packet.bytes) {
+        match self.read_frame(side_of(&packet), bytes_of(&packet)) {
             Ok(Reading::Packet(reading)) => self.take_flow_again(page, reading, packet),
             Ok(Reading::Error(reading)) => self.take_error_again(page, reading, packet),
             Ok(Reading::Arp(_)) => {}
             Ok(Reading::Advert(_, _)) => {}
             Ok(Reading::Asked(echo)) => self.take_echo_again(page, echo, packet),
-            Err(reason) => self.refuse_unread(page, packet.side, &packet.bytes, reason),
+            Err(reason) => {
+                self.refuse_unread(page, side_of(&packet), bytes_of(&packet), reason);
+            }
         }
     }
 

@@ -1,12 +1,19 @@
-use Rattle.std.proofs.Common.{◌≡◌, true, refl, subst, sym, ap, ◌∙◌, arith}
+use Rattle.std.proofs.Common.{◌≡◌, ◌<◌, ◌++◌, true, refl, subst, sym, ap, ◌∙◌, arith}
 use Rattle.bindings.specs.Table.{Table}
 use Rattle.spec_binding.specs.Books.{IsBook, is_promised}
-use Rattle.spec_binding.specs.Rows.{after}
-use Rattle.bind_core.specs.Changes.{IsSteady}
-use Rattle.bind_core.specs.Cores.{Core, book_of}
+use Rattle.spec_binding.specs.Rows.{after, noted_by}
+use Rattle.spec_binding.specs.WellFormed.{Fits}
+use Rattle.bind_core.specs.Changes.{IsSteady, LivesOn, adds}
+use Rattle.bind_core.specs.Cores.{Core, book_of, core_after}
 use Rattle.bind_core.specs.View.{core_of}
-use Rattle.bind_core.proofs.Performing.{made-after, kept-after, still-between, coming-after}
+use Rattle.bind_core.proofs.Performing.{made-after, kept-after, still-between, coming-after, fits-table}
 use Rattle.bind_core.proofs.cores.Core.perform.Goals as goal
+
+pub change_table-requires-clause-fits : goal.change_table-requires-clause-fits
+change_table-requires-clause-fits c = fits-table (core_of c.self.inside) c.args.row.change (subst (λ (k : Core). Fits (book_of k) c.args.row.change) (sym c.self.view_is) c.requires.fits)
+
+pub change_table-requires-clause-ready : goal.change_table-requires-clause-ready
+change_table-requires-clause-ready c = subst (λ (k : Core). adds c.args.row.change ≡ true → 0 < k.table.ready) (sym c.self.view_is) c.requires.ready
 
 pub invariant_of-self : goal.invariant_of-self
 invariant_of-self c =
@@ -28,5 +35,12 @@ pub returns-clause-core : goal.returns-clause-core
 returns-clause-core c =
     let steady = subst (λ (k : Core). is_promised (book_of k) ≡ true → IsSteady (book_of k) c.args.row.change) (sym c.self.view_is) c.requires.steady in
     let same = c.change_table.ensures.exact in
-    rw (← c.self.view_is) (made-after c.args.now (core_of c.self.inside) c.args.row c.change_table.new.table c.is_wanting-self-inside.result _ same c.is_wanting-self-inside.ensures
-    (coming-after record { proposed = c.steady_batch_law.ensures.proposed; turned = c.steady_batch_law.ensures.turned } c.self.inside.cursor c.args.now c.args.row.change (core_of c.self.inside) c.change_table.new.table c.self.invariant.book.keys refl steady same))
+    made-after c.args.now (core_of c.self.inside) c.args.row c.change_table.new.table c.is_wanting-self-inside.result _ same c.is_wanting-self-inside.ensures
+    (coming-after record { proposed = c.steady_batch_law.ensures.proposed; turned = c.steady_batch_law.ensures.turned } c.self.inside.cursor c.args.now c.args.row.change (core_of c.self.inside) c.change_table.new.table c.self.invariant.book.keys refl steady same)
+    ∙ ap (λ (k : Core). core_after c.args.now k c.args.row) c.self.view_is
+
+pub returns-clause-pasts : goal.returns-clause-pasts
+returns-clause-pasts c = subst (λ (k : Core). LivesOn c.args.now c.args.row.change k.table c.change_table.new.table) c.self.view_is c.change_table.ensures.lives
+
+pub returns-clause-notes : goal.returns-clause-notes
+returns-clause-notes c = c.tell.ensures.items ∙ ap (λ (k : Core). c.args.notes.now.items ++ noted_by k.id c.args.now c.args.row.what) c.self.view_is

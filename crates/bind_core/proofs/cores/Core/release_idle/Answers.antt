@@ -1,10 +1,11 @@
-use Rattle.std.proofs.Common.{◌≡◌, [], Some, slice_get, length, sym, ap, ◌∙◌, arith}
+use Rattle.std.proofs.Common.{◌≡◌, ◌≤◌, ◌++◌, [], Some, slice_get, length, refl, sym, ap, ◌∙◌, arith}
+use Rattle.std.proofs.lemmas.List.{append-nil}
 use Rattle.bindings.specs.Table.{idle_keys_of}
 use Rattle.spec_binding.specs.Books.{is_lone}
-use Rattle.spec_binding.specs.Ledgers.{Ledger, let_go}
+use Rattle.spec_binding.specs.Ledgers.{Ledger, LetGo, let_go}
 use Rattle.bind_core.specs.Cores.{Core, book_of, ledger_of}
 use Rattle.bind_core.proofs.Performing.{works-as}
-use Rattle.bind_core.proofs.Releasing.{few-idle, one-more-at, all-done, TickLaws, released-works}
+use Rattle.bind_core.proofs.Releasing.{few-idle, one-more-at, gone, TickLaws, released-works}
 use Rattle.bind_core.proofs.cores.Core.release_idle.Goals as goal
 
 pub returns-clause-len : goal.returns-clause-len
@@ -44,14 +45,44 @@ loop-i-preserved c =
       capacity = c.release.ensures.capacity ∙ c.loop-i.invariant.capacity;
     }
 
-pub returns-clause-works : goal.returns-clause-works
-returns-clause-works c = λ h n stands.
+-- nothing has changed yet but the list
+pub loop-i-init : goal.loop-i-init
+loop-i-init c =
     let keys = idle_keys_of c.args.self.now.table (is_lone c.args.self.now.stage) c.args.now in
+    let same = ap ledger_of c.list_idle.ensures in
+    record {
+      ledger = ap (λ (l : Ledger). (let_go c.args.now keys l c.args.link.now).ledger) same;
+      link = ap (λ (l : Ledger). (let_go c.args.now keys l c.args.link.now).link) same;
+      notes = ap (λ (l : Ledger). c.args.notes.now.items ++ (let_go c.args.now keys l c.args.link.now).notes) same;
+      ready = ap (λ (k : Core). k.table.ready) c.list_idle.ensures;
+      idle = ap (λ (k : Core). k.idle) c.list_idle.ensures;
+      len = omega arith;
+      capacity = refl;
+    }
+
+-- no key is left
+none-left : (c : goal.After-loop-i) → length (idle_keys_of c.args.self.now.table (is_lone c.args.self.now.stage) c.args.now) ≤ c.loop-i.i
+none-left c =
     let sizes = ap (λ (k : Core). length k.idle) c.list_idle.ensures in
     let end = c.idle_count-i-end.ensures in
     let past = c.loop-i-test.false in
-    let none = all-done c.loop-i.i keys (omega (arith, sizes, end, past)) in
+    omega (arith, sizes, end, past)
+
+pub returns-clause-ledger : goal.returns-clause-ledger
+returns-clause-ledger c = sym (ap (λ (g : LetGo). g.ledger) (gone c.args.now c.loop-i.i _ (ledger_of c.loop-i.self) c.loop-i.link (none-left c))) ∙ c.loop-i.invariant.ledger
+
+pub returns-clause-link : goal.returns-clause-link
+returns-clause-link c = sym (ap (λ (g : LetGo). g.link) (gone c.args.now c.loop-i.i _ (ledger_of c.loop-i.self) c.loop-i.link (none-left c))) ∙ c.loop-i.invariant.link
+
+pub returns-clause-notes : goal.returns-clause-notes
+returns-clause-notes c =
+    sym (ap (λ (g : LetGo). c.loop-i.notes.items ++ g.notes) (gone c.args.now c.loop-i.i _ (ledger_of c.loop-i.self) c.loop-i.link (none-left c)) ∙ append-nil c.loop-i.notes.items)
+    ∙ c.loop-i.invariant.notes
+
+pub returns-clause-works : goal.returns-clause-works
+returns-clause-works c = λ h n stands.
+    let keys = idle_keys_of c.args.self.now.table (is_lone c.args.self.now.stage) c.args.now in
     let laws : TickLaws = record { idle = c.idle_works.ensures; join = c.works_join.ensures; nothing = c.works_nothing.ensures } in
     works-as c.args.now [] [] (book_of c.args.self.now) c.args.link.now n _ (book_of c.loop-i.self) _ c.loop-i.link n _ h
-    (ap (λ (l : Ledger). l.book) (sym (ap (λ ks. (let_go c.args.now ks (ledger_of c.loop-i.self) c.loop-i.link).ledger) none) ∙ c.loop-i.invariant.ledger)) (sym (ap (λ ks. (let_go c.args.now ks (ledger_of c.loop-i.self) c.loop-i.link).link) none) ∙ c.loop-i.invariant.link)
+    (ap (λ (l : Ledger). l.book) (returns-clause-ledger c)) (returns-clause-link c)
     (released-works laws c.args.now keys (ledger_of c.args.self.now) c.args.link.now n h stands)

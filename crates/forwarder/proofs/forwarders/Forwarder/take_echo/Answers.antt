@@ -1,18 +1,58 @@
-use Rattle.std.proofs.Common.{◌≡◌, List, Result, Ok, ap, sym, ◌∙◌}
-use Rattle.waiting.specs.Packets.{HeldPacket}
-use Rattle.packet_rules.specs.declared.reasons.Reason.{Reason}
-use Rattle.spec_step.specs.declared.plans.Reply.{Reply}
-use Rattle.spec_step.specs.declared.plans.Reply.TheVariants.{Ask}
+use Rattle.std.proofs.Common.{List, Ok, Err, ap, sym, ◌∙◌}
+use Rattle.waiting.specs.Packets.{HeldPacket, has_place}
+use Rattle.spec_step.specs.declared.plans.Reply.TheVariants.{Send, Ask, AskAgain}
 use Rattle.spec_step.specs.Parts.{by_reply}
-use Rattle.forwarder.specs.Forwarder.{scene_on}
-use Rattle.forwarder.proofs.Taking.{echo-taken-as}
+use Rattle.spec_step.specs.Verdict.{outcome_reply}
+use Rattle.forwarder.specs.Forwarder.{scene_on, shown_of}
+use Rattle.forwarder.proofs.Planning.{reply-plan-holds}
+use Rattle.forwarder.proofs.Taking.{echo-taken-as, reply-made}
 use Rattle.forwarder.proofs.forwarders.Forwarder.take_echo.Goals as goal
+
+pub reply-requires-clause-may : goal.reply-requires-clause-may
+reply-requires-clause-may c =
+    let made = reply-made c.in-Ok-Send.is c.in-Ok-Send.field-0-is c.plan_reply.ensures in
+    reply-plan-holds (shown_of c.args.self.now) c.args.side c.args.echo (Ok (Send c.in-Ok-Send.next)) (sym made)
+
+pub ask_for_reply-requires-clause-place : goal.ask_for_reply-requires-clause-place
+ask_for_reply-requires-clause-place c =
+    let made = reply-made c.in-Ok-Ask.is c.in-Ok-Ask.field-0-is c.plan_reply.ensures in
+    ap (λ (k : List HeldPacket). has_place k c.in_ok-copy-in-Ok-Ask.copy.wait) c.in_ok-copy-in-Ok-Ask.ensures.same
+    ∙ ap (λ (w : HeldPacket). has_place c.args.self.now.kept w.wait) c.in_ok-copy-in-Ok-Ask.ensures.packet
+    ∙ reply-plan-holds (shown_of c.args.self.now) c.args.side c.args.echo (Ok (Ask c.in-Ok-Ask.hop)) (sym made)
+
+pub returns-in-Ok-Send-clause-scene : goal.returns-in-Ok-Send-clause-scene
+returns-in-Ok-Send-clause-scene c =
+    let made = reply-made c.in-Ok-Send.is c.in-Ok-Send.field-0-is c.plan_reply.ensures in
+    c.reply.ensures.scene ∙ echo-taken-as (scene_on c.args.self.now c.args.page.now) c.args.side c.args.bytes.now c.args.echo (Ok (Send c.in-Ok-Send.next)) (sym made)
 
 pub returns-in_ok-copy-in-Ok-Ask-clause-scene : goal.returns-in_ok-copy-in-Ok-Ask-clause-scene
 returns-in_ok-copy-in-Ok-Ask-clause-scene c =
     let s = scene_on c.args.self.now c.args.page.now in
-    let made : c.plan_reply.result ≡ Ok (Ask c.in-Ok-Ask.hop) = c.in-Ok-Ask.is ∙ ap (λ (p : Reply). let r : Result Reply Reason = Ok p in r) c.in-Ok-Ask.field-0-is in
+    let made = reply-made c.in-Ok-Ask.is c.in-Ok-Ask.field-0-is c.plan_reply.ensures in
     c.ask_for_reply.ensures.scene c.args.echo.source
     ∙ ap (λ (k : List HeldPacket). by_reply (scene_on (record c.args.self.now { kept = k }) c.args.page.now) c.args.side c.in_ok-copy-in-Ok-Ask.copy.bytes c.args.echo.source (Ask c.in-Ok-Ask.hop)) c.in_ok-copy-in-Ok-Ask.ensures.same
     ∙ ap (λ (w : HeldPacket). by_reply s c.args.side w.bytes c.args.echo.source (Ask c.in-Ok-Ask.hop)) c.in_ok-copy-in-Ok-Ask.ensures.packet
-    ∙ echo-taken-as s c.args.side c.args.bytes.now c.args.echo (Ok (Ask c.in-Ok-Ask.hop)) (sym made ∙ c.plan_reply.ensures)
+    ∙ echo-taken-as s c.args.side c.args.bytes.now c.args.echo (Ok (Ask c.in-Ok-Ask.hop)) (sym made)
+
+pub returns-in-Ok-AskAgain-clause-scene : goal.returns-in-Ok-AskAgain-clause-scene
+returns-in-Ok-AskAgain-clause-scene c =
+    let made = reply-made c.in-Ok-AskAgain.is c.in-Ok-AskAgain.field-0-is c.plan_reply.ensures in
+    c.ask_again.ensures.scene ∙ echo-taken-as (scene_on c.args.self.now c.args.page.now) c.args.side c.args.bytes.now c.args.echo (Ok (AskAgain c.in-Ok-AskAgain.hop)) (sym made)
+
+pub returns-in-Err-clause-scene : goal.returns-in-Err-clause-scene
+returns-in-Err-clause-scene c =
+    c.refuse_whole.ensures.scene ∙ echo-taken-as (scene_on c.args.self.now c.args.page.now) c.args.side c.args.bytes.now c.args.echo (Err c.in-Err.reason) (sym c.in-Err.is ∙ c.plan_reply.ensures)
+
+-- ---- what comes of it
+
+pub returns-in-Ok-Send-clause-outcome : goal.returns-in-Ok-Send-clause-outcome
+returns-in-Ok-Send-clause-outcome c = sym (ap outcome_reply (reply-made c.in-Ok-Send.is c.in-Ok-Send.field-0-is c.plan_reply.ensures))
+
+pub returns-in_ok-copy-in-Ok-Ask-clause-outcome : goal.returns-in_ok-copy-in-Ok-Ask-clause-outcome
+returns-in_ok-copy-in-Ok-Ask-clause-outcome c = sym (ap outcome_reply (reply-made c.in-Ok-Ask.is c.in-Ok-Ask.field-0-is c.plan_reply.ensures))
+
+pub returns-in-Ok-AskAgain-clause-outcome : goal.returns-in-Ok-AskAgain-clause-outcome
+returns-in-Ok-AskAgain-clause-outcome c = sym (ap outcome_reply (reply-made c.in-Ok-AskAgain.is c.in-Ok-AskAgain.field-0-is c.plan_reply.ensures))
+
+pub returns-in-Err-clause-outcome : goal.returns-in-Err-clause-outcome
+returns-in-Err-clause-outcome c = ap outcome_reply (sym c.in-Err.is ∙ c.plan_reply.ensures)

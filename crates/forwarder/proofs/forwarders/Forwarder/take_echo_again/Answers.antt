@@ -1,21 +1,45 @@
-use Rattle.std.proofs.Common.{◌≡◌, Result, Ok, ap, sym, ◌∙◌}
-use Rattle.nat_types.specs.declared.gateways.Side.{Side}
-use Rattle.waiting.specs.Packets.{HeldPacket}
-use Rattle.packet_rules.specs.declared.reasons.Reason.{Reason}
-use Rattle.spec_step.specs.declared.plans.Reply.{Reply}
-use Rattle.spec_step.specs.declared.plans.Reply.TheVariants.{Ask}
+use Rattle.std.proofs.Common.{List, Ok, Err, ap, refl, sym, ◌∙◌}
+use Rattle.waiting.specs.Packets.{HeldPacket, has_place}
+use Rattle.spec_step.specs.declared.plans.Reply.TheVariants.{Send, Ask, AskAgain}
 use Rattle.spec_step.specs.Parts.{by_reply}
-use Rattle.spec_step.specs.Verdict.{reply_to}
 use Rattle.forwarder.specs.Forwarder.{scene_on, shown_of}
-use Rattle.forwarder.proofs.Taking.{echo-taken-as}
+use Rattle.forwarder.proofs.Planning.{reply-plan-holds}
+use Rattle.forwarder.proofs.Taking.{echo-again-as, reply-made}
 use Rattle.forwarder.proofs.forwarders.Forwarder.take_echo_again.Goals as goal
+
+pub reply-requires-clause-may : goal.reply-requires-clause-may
+reply-requires-clause-may c =
+    let made = reply-made c.in-Ok-Send.is c.in-Ok-Send.field-0-is c.plan_reply.ensures in
+    reply-plan-holds (shown_of c.args.self.now) c.side_of-side.result c.args.echo (Ok (Send c.in-Ok-Send.next)) (sym made)
+
+pub ask_for_reply-requires-clause-place : goal.ask_for_reply-requires-clause-place
+ask_for_reply-requires-clause-place c =
+    let made = reply-made c.in-Ok-Ask.is c.in-Ok-Ask.field-0-is c.plan_reply.ensures in
+    ap (λ (w : HeldPacket). has_place c.args.self.now.kept w.wait) c.again-copy.ensures
+    ∙ reply-plan-holds (shown_of c.args.self.now) c.side_of-side.result c.args.echo (Ok (Ask c.in-Ok-Ask.hop)) (sym made)
+
+pub returns-in-Ok-Send-clause-scene : goal.returns-in-Ok-Send-clause-scene
+returns-in-Ok-Send-clause-scene c =
+    let made = reply-made c.in-Ok-Send.is c.in-Ok-Send.field-0-is c.plan_reply.ensures in
+    ap (λ (k : List HeldPacket). scene_on (record c.reply.new.self { kept = k }) c.reply.new.page) c.reuse.ensures.same
+    ∙ c.reply.ensures.scene
+    ∙ echo-again-as (scene_on c.args.self.now c.args.page.now) c.args.packet c.side_of-side.result c.bytes_of-bytes.result.now c.args.echo (Ok (Send c.in-Ok-Send.next)) c.side_of-side.ensures c.bytes_of-bytes.ensures (sym made)
 
 pub returns-in-Ok-Ask-clause-scene : goal.returns-in-Ok-Ask-clause-scene
 returns-in-Ok-Ask-clause-scene c =
     let s = scene_on c.args.self.now c.args.page.now in
-    let made : c.plan_reply.result ≡ Ok (Ask c.in-Ok-Ask.hop) = c.in-Ok-Ask.is ∙ ap (λ (p : Reply). let r : Result Reply Reason = Ok p in r) c.in-Ok-Ask.field-0-is in
-    let side : c.packet.inside.side ≡ c.args.packet.side = ap (λ (w : HeldPacket). w.side) c.packet.view_is in
+    let made = reply-made c.in-Ok-Ask.is c.in-Ok-Ask.field-0-is c.plan_reply.ensures in
     c.ask_for_reply.ensures.scene c.args.echo.source
-    ∙ ap (λ (w : HeldPacket). by_reply s c.packet.inside.side w.bytes c.args.echo.source (Ask c.in-Ok-Ask.hop)) c.again-copy.ensures
-    ∙ ap (λ (x : Side). by_reply s x c.args.packet.bytes c.args.echo.source (Ask c.in-Ok-Ask.hop)) side
-    ∙ echo-taken-as s c.args.packet.side c.args.packet.bytes c.args.echo (Ok (Ask c.in-Ok-Ask.hop)) (sym made ∙ c.plan_reply.ensures ∙ ap (λ (x : Side). reply_to (shown_of c.args.self.now) x c.args.echo) side)
+    ∙ ap (λ (w : HeldPacket). by_reply s c.side_of-side.result w.bytes c.args.echo.source (Ask c.in-Ok-Ask.hop)) c.again-copy.ensures
+    ∙ echo-again-as s c.args.packet c.side_of-side.result c.args.packet.bytes c.args.echo (Ok (Ask c.in-Ok-Ask.hop)) c.side_of-side.ensures refl (sym made)
+
+pub returns-in-Ok-AskAgain-clause-scene : goal.returns-in-Ok-AskAgain-clause-scene
+returns-in-Ok-AskAgain-clause-scene c =
+    let made = reply-made c.in-Ok-AskAgain.is c.in-Ok-AskAgain.field-0-is c.plan_reply.ensures in
+    c.ask_again.ensures.scene
+    ∙ echo-again-as (scene_on c.args.self.now c.args.page.now) c.args.packet c.side_of-side.result c.bytes_of-bytes.result.now c.args.echo (Ok (AskAgain c.in-Ok-AskAgain.hop)) c.side_of-side.ensures c.bytes_of-bytes.ensures (sym made)
+
+pub returns-in-Err-clause-scene : goal.returns-in-Err-clause-scene
+returns-in-Err-clause-scene c =
+    c.refuse_whole.ensures.scene
+    ∙ echo-again-as (scene_on c.args.self.now c.args.page.now) c.args.packet c.side_of-side.result c.bytes_of-bytes.result.now c.args.echo (Err c.in-Err.reason) c.side_of-side.ensures c.bytes_of-bytes.ensures (sym c.in-Err.is ∙ c.plan_reply.ensures)

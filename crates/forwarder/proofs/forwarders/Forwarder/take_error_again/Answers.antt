@@ -1,23 +1,20 @@
-use Rattle.std.proofs.Common.{◌≡◌, ℕ, List, Result, Ok, ap, sym, ◌∙◌}
+use Rattle.std.proofs.Common.{List, Ok, Err, ap, refl, sym, ◌∙◌}
 use Rattle.nat_types.specs.declared.gateways.Side.{Side}
 use Rattle.waiting.specs.declared.waits.WaitsFor.TheVariants.{Hop}
 use Rattle.waiting.specs.Packets.{HeldPacket, has_place}
-use Rattle.packet_rules.specs.declared.reasons.Reason.{Reason}
 use Rattle.packet_rules.specs.Networks.{exit_of}
-use Rattle.spec_step.specs.declared.plans.Plan.{Plan}
-use Rattle.spec_step.specs.declared.plans.Plan.TheVariants.{Send, Ask, Wait as WaitFor}
-use Rattle.spec_step.specs.Parts.{by_error_plan}
-use Rattle.spec_step.specs.Verdict.{error_plan, exit_by}
+use Rattle.spec_step.specs.declared.plans.Plan.TheVariants.{Send, Ask, AskAgain, Wait as WaitFor}
+use Rattle.spec_step.specs.Parts.{asked_again, by_error_plan}
 use Rattle.forwarder.specs.Forwarder.{scene_on, shown_of}
 use Rattle.forwarder.proofs.Planning.{error-plan-holds}
-use Rattle.forwarder.proofs.Taking.{error-taken-as}
+use Rattle.forwarder.proofs.Taking.{error-again-as, plan-made}
 use Rattle.forwarder.proofs.forwarders.Forwarder.take_error_again.Goals as goal
 
 pub ask_for_error-requires-clause-place : goal.ask_for_error-requires-clause-place
 ask_for_error-requires-clause-place c =
-    let made : c.plan_error.result ≡ Ok (Ask c.in-Ok-Ask.by c.in-Ok-Ask.hop) = c.in-Ok-Ask.is ∙ ap (λ (p : Plan). let r : Result Plan Reason = Ok p in r) c.in-Ok-Ask.field-0-is in
-    let holds = error-plan-holds (shown_of c.args.self.now) c.packet.inside.side c.args.reading.flow c.args.reading.length (Ok (Ask c.in-Ok-Ask.by c.in-Ok-Ask.hop)) (sym made ∙ c.plan_error.ensures) in
-    let exit : c.exit.result ≡ exit_by c.in-Ok-Ask.by = c.exit.ensures ∙ ap exit_of c.direction.ensures in
+    let made = plan-made c.in-Ok-Ask.is c.in-Ok-Ask.field-0-is c.plan_error.ensures in
+    let holds = error-plan-holds (shown_of c.args.self.now) c.side_of.result c.args.reading.flow c.args.reading.length (Ok (Ask c.in-Ok-Ask.by c.in-Ok-Ask.hop)) (sym made) in
+    let exit = c.exit.ensures ∙ ap exit_of c.direction.ensures in
     ap (λ (w : HeldPacket). has_place c.args.self.now.kept w.wait) c.again-copy.ensures
     ∙ ap (λ (s : Side). has_place c.args.self.now.kept (Hop s c.in-Ok-Ask.hop)) exit
     ∙ holds
@@ -25,16 +22,35 @@ ask_for_error-requires-clause-place c =
 -- no error waits for a pair
 pub unreachable-requires : goal.unreachable-requires
 unreachable-requires c =
-    let made : c.plan_error.result ≡ Ok (WaitFor c.in-Ok-Wait.field-0-0) = c.in-Ok-Wait.is ∙ ap (λ (p : Plan). let r : Result Plan Reason = Ok p in r) c.in-Ok-Wait.field-0-is in
-    error-plan-holds (shown_of c.args.self.now) c.packet.inside.side c.args.reading.flow c.args.reading.length (Ok (WaitFor c.in-Ok-Wait.field-0-0)) (sym made ∙ c.plan_error.ensures)
+    let made = plan-made c.in-Ok-Wait.is c.in-Ok-Wait.field-0-is c.plan_error.ensures in
+    error-plan-holds (shown_of c.args.self.now) c.side_of.result c.args.reading.flow c.args.reading.length (Ok (WaitFor c.in-Ok-Wait.field-0-0)) (sym made)
 
 pub returns-in-Ok-Send-clause-scene : goal.returns-in-Ok-Send-clause-scene
 returns-in-Ok-Send-clause-scene c =
-    let s = scene_on c.args.self.now c.args.page.now in
-    let made : c.plan_error.result ≡ Ok (Send c.in-Ok-Send.by c.in-Ok-Send.next) = c.in-Ok-Send.is ∙ ap (λ (p : Plan). let r : Result Plan Reason = Ok p in r) c.in-Ok-Send.field-0-is in
-    let side : c.packet.inside.side ≡ c.args.packet.side = ap (λ (w : HeldPacket). w.side) c.packet.view_is in
-    let bytes : c.deref.result.now ≡ c.args.packet.bytes = c.deref.ensures.value ∙ ap (λ (w : HeldPacket). w.bytes) c.packet.view_is in
+    let made = plan-made c.in-Ok-Send.is c.in-Ok-Send.field-0-is c.plan_error.ensures in
     ap (λ (k : List HeldPacket). scene_on (record c.pass.new.self { kept = k }) c.pass.new.page) c.reuse.ensures.same
-    ∙ c.pass.ensures.scene c.args.packet.side
-    ∙ ap (λ (bs : List ℕ). by_error_plan s c.args.packet.side bs c.args.reading.flow (Send c.in-Ok-Send.by c.in-Ok-Send.next)) bytes
-    ∙ error-taken-as s c.args.packet.side c.args.packet.bytes c.args.reading (Ok (Send c.in-Ok-Send.by c.in-Ok-Send.next)) c.requires.read (sym made ∙ c.plan_error.ensures ∙ ap (λ (x : Side). error_plan (shown_of c.args.self.now) x c.args.reading.flow c.args.reading.length) side)
+    ∙ c.pass.ensures.scene c.side_of.result
+    ∙ error-again-as (scene_on c.args.self.now c.args.page.now) c.args.packet c.side_of.result c.bytes_of.result.now c.args.reading (Ok (Send c.in-Ok-Send.by c.in-Ok-Send.next)) c.side_of.ensures c.bytes_of.ensures c.requires.read (sym made)
+
+pub returns-in-Ok-Ask-clause-scene : goal.returns-in-Ok-Ask-clause-scene
+returns-in-Ok-Ask-clause-scene c =
+    let s = scene_on c.args.self.now c.args.page.now in
+    let plan = Ask c.in-Ok-Ask.by c.in-Ok-Ask.hop in
+    let made = plan-made c.in-Ok-Ask.is c.in-Ok-Ask.field-0-is c.plan_error.ensures in
+    c.ask_for_error.ensures.scene
+    ∙ ap (λ (w : HeldPacket). by_error_plan s w.side w.bytes c.args.reading.flow plan) c.again-copy.ensures
+    ∙ ap (λ (x : Side). by_error_plan s x c.args.packet.bytes c.args.reading.flow plan) (sym c.side_of.ensures)
+    ∙ error-again-as s c.args.packet c.side_of.result c.args.packet.bytes c.args.reading (Ok plan) c.side_of.ensures refl c.requires.read (sym made)
+
+pub returns-in-Ok-AskAgain-clause-scene : goal.returns-in-Ok-AskAgain-clause-scene
+returns-in-Ok-AskAgain-clause-scene c =
+    let s = scene_on c.args.self.now c.args.page.now in
+    let made = plan-made c.in-Ok-AskAgain.is c.in-Ok-AskAgain.field-0-is c.plan_error.ensures in
+    let exit = c.exit-in-Ok-AskAgain.ensures ∙ ap exit_of c.direction-in-Ok-AskAgain.ensures in
+    c.ask_again.ensures.scene
+    ∙ ap (λ (x : Side). asked_again s x c.in-Ok-AskAgain.hop) exit
+    ∙ error-again-as s c.args.packet c.side_of.result c.args.packet.bytes c.args.reading (Ok (AskAgain c.in-Ok-AskAgain.by c.in-Ok-AskAgain.hop)) c.side_of.ensures refl c.requires.read (sym made)
+
+pub returns-in-Err-clause-scene : goal.returns-in-Err-clause-scene
+returns-in-Err-clause-scene c =
+    error-again-as (scene_on c.args.self.now c.args.page.now) c.args.packet c.side_of.result c.args.packet.bytes c.args.reading (Err c.in-Err.field-0) c.side_of.ensures refl c.requires.read (sym c.in-Err.is ∙ c.plan_error.ensures)

@@ -1,35 +1,33 @@
-use Rattle.std.proofs.Common.{◌≡◌, List, Result, Ok, ap, sym, ◌∙◌}
+use Rattle.std.proofs.Common.{◌≡◌, List, Ok, Err, ap, sym, ◌∙◌}
 use Rattle.nat_types.specs.declared.gateways.Side.{Side}
 use Rattle.nat_types.specs.declared.pairs.Endpoint.{Endpoint}
 use Rattle.waiting.specs.declared.waits.WaitsFor.TheVariants.{Hop}
 use Rattle.waiting.specs.Packets.{HeldPacket, has_place}
-use Rattle.packet_rules.specs.declared.reasons.Reason.{Reason}
 use Rattle.packet_rules.specs.Flows.{source_of}
 use Rattle.packet_rules.specs.Networks.{exit_of}
-use Rattle.spec_step.specs.declared.plans.Plan.{Plan}
-use Rattle.spec_step.specs.declared.plans.Plan.TheVariants.{Send, Ask, Wait as WaitFor}
-use Rattle.spec_step.specs.Parts.{by_plan}
-use Rattle.spec_step.specs.Verdict.{exit_by}
+use Rattle.spec_step.specs.declared.plans.Plan.TheVariants.{Send, Ask, AskAgain, Wait as WaitFor}
+use Rattle.spec_step.specs.Parts.{asked_again, by_plan}
+use Rattle.spec_step.specs.Verdict.{exit_by, outcome_by}
 use Rattle.forwarder.specs.Forwarder.{scene_on, shown_of}
 use Rattle.forwarder.proofs.Planning.{plan-holds}
-use Rattle.forwarder.proofs.Taking.{taken-as}
+use Rattle.forwarder.proofs.Taking.{plan-made, taken-as}
 use Rattle.forwarder.proofs.forwarders.Forwarder.take_packet.Goals as goal
 
 pub send-requires-clause-own : goal.send-requires-clause-own
 send-requires-clause-own c =
-    let made : c.plan.result ≡ Ok (Send c.in-Ok-Send.by c.in-Ok-Send.next) = c.in-Ok-Send.is ∙ ap (λ (p : Plan). let r : Result Plan Reason = Ok p in r) c.in-Ok-Send.field-0-is in
-    plan-holds (shown_of c.args.self.now) c.args.side c.args.packet.flow c.args.packet.length (Ok (Send c.in-Ok-Send.by c.in-Ok-Send.next)) (sym made ∙ c.plan.ensures)
+    let made = plan-made c.in-Ok-Send.is c.in-Ok-Send.field-0-is c.plan.ensures in
+    plan-holds (shown_of c.args.self.now) c.args.side c.args.packet.flow c.args.packet.length (Ok (Send c.in-Ok-Send.by c.in-Ok-Send.next)) (sym made)
 
 pub ask-requires-clause-own : goal.ask-requires-clause-own
 ask-requires-clause-own c =
-    let made : c.plan.result ≡ Ok (Ask c.in-Ok-Ask.by c.in-Ok-Ask.hop) = c.in-Ok-Ask.is ∙ ap (λ (p : Plan). let r : Result Plan Reason = Ok p in r) c.in-Ok-Ask.field-0-is in
-    let holds = plan-holds (shown_of c.args.self.now) c.args.side c.args.packet.flow c.args.packet.length (Ok (Ask c.in-Ok-Ask.by c.in-Ok-Ask.hop)) (sym made ∙ c.plan.ensures) in
+    let made = plan-made c.in-Ok-Ask.is c.in-Ok-Ask.field-0-is c.plan.ensures in
+    let holds = plan-holds (shown_of c.args.self.now) c.args.side c.args.packet.flow c.args.packet.length (Ok (Ask c.in-Ok-Ask.by c.in-Ok-Ask.hop)) (sym made) in
     holds.0
 
 pub ask-requires-clause-place : goal.ask-requires-clause-place
 ask-requires-clause-place c =
-    let made : c.plan.result ≡ Ok (Ask c.in-Ok-Ask.by c.in-Ok-Ask.hop) = c.in-Ok-Ask.is ∙ ap (λ (p : Plan). let r : Result Plan Reason = Ok p in r) c.in-Ok-Ask.field-0-is in
-    let holds = plan-holds (shown_of c.args.self.now) c.args.side c.args.packet.flow c.args.packet.length (Ok (Ask c.in-Ok-Ask.by c.in-Ok-Ask.hop)) (sym made ∙ c.plan.ensures) in
+    let made = plan-made c.in-Ok-Ask.is c.in-Ok-Ask.field-0-is c.plan.ensures in
+    let holds = plan-holds (shown_of c.args.self.now) c.args.side c.args.packet.flow c.args.packet.length (Ok (Ask c.in-Ok-Ask.by c.in-Ok-Ask.hop)) (sym made) in
     let exit : c.exit.result ≡ exit_by c.in-Ok-Ask.by = c.exit.ensures ∙ ap exit_of c.direction.ensures in
     ap (λ (k : List HeldPacket). has_place k c.in_ok-copy-in-Ok-Ask.copy.wait) c.in_ok-copy-in-Ok-Ask.ensures.same
     ∙ ap (λ (w : HeldPacket). has_place c.args.self.now.kept w.wait) c.in_ok-copy-in-Ok-Ask.ensures.packet
@@ -38,24 +36,64 @@ ask-requires-clause-place c =
 
 pub wait-requires-clause-place : goal.wait-requires-clause-place
 wait-requires-clause-place c =
-    let made : c.plan.result ≡ Ok (WaitFor c.in-Ok-Wait.endpoint) = c.in-Ok-Wait.is ∙ ap (λ (p : Plan). let r : Result Plan Reason = Ok p in r) c.in-Ok-Wait.field-0-is in
-    let holds = plan-holds (shown_of c.args.self.now) c.args.side c.args.packet.flow c.args.packet.length (Ok (WaitFor c.in-Ok-Wait.endpoint)) (sym made ∙ c.plan.ensures) in
+    let made = plan-made c.in-Ok-Wait.is c.in-Ok-Wait.field-0-is c.plan.ensures in
+    let holds = plan-holds (shown_of c.args.self.now) c.args.side c.args.packet.flow c.args.packet.length (Ok (WaitFor c.in-Ok-Wait.endpoint)) (sym made) in
     ap (λ (k : List HeldPacket). has_place k c.in_ok-copy-in-Ok-Wait.copy.wait) c.in_ok-copy-in-Ok-Wait.ensures.same
     ∙ ap (λ (w : HeldPacket). has_place c.args.self.now.kept w.wait) c.in_ok-copy-in-Ok-Wait.ensures.packet ∙ holds.0
 
 pub returns-in-Ok-Send-clause-scene : goal.returns-in-Ok-Send-clause-scene
 returns-in-Ok-Send-clause-scene c =
-    let made : c.plan.result ≡ Ok (Send c.in-Ok-Send.by c.in-Ok-Send.next) = c.in-Ok-Send.is ∙ ap (λ (p : Plan). let r : Result Plan Reason = Ok p in r) c.in-Ok-Send.field-0-is in
-    c.send.ensures.scene c.args.side ∙ taken-as (scene_on c.args.self.now c.args.page.now) c.args.side c.args.bytes.now c.args.packet (Ok (Send c.in-Ok-Send.by c.in-Ok-Send.next)) c.requires.read (sym made ∙ c.plan.ensures)
+    let made = plan-made c.in-Ok-Send.is c.in-Ok-Send.field-0-is c.plan.ensures in
+    c.send.ensures.scene c.args.side ∙ taken-as (scene_on c.args.self.now c.args.page.now) c.args.side c.args.bytes.now c.args.packet (Ok (Send c.in-Ok-Send.by c.in-Ok-Send.next)) c.requires.read (sym made)
 
 pub returns-in_ok-copy-in-Ok-Wait-clause-scene : goal.returns-in_ok-copy-in-Ok-Wait-clause-scene
 returns-in_ok-copy-in-Ok-Wait-clause-scene c =
     let s = scene_on c.args.self.now c.args.page.now in
     let e = c.in-Ok-Wait.endpoint in
-    let made : c.plan.result ≡ Ok (WaitFor e) = c.in-Ok-Wait.is ∙ ap (λ (p : Plan). let r : Result Plan Reason = Ok p in r) c.in-Ok-Wait.field-0-is in
-    let holds = plan-holds (shown_of c.args.self.now) c.args.side c.args.packet.flow c.args.packet.length (Ok (WaitFor e)) (sym made ∙ c.plan.ensures) in
+    let made = plan-made c.in-Ok-Wait.is c.in-Ok-Wait.field-0-is c.plan.ensures in
+    let holds = plan-holds (shown_of c.args.self.now) c.args.side c.args.packet.flow c.args.packet.length (Ok (WaitFor e)) (sym made) in
     c.wait.ensures.scene
     ∙ ap (λ (k : List HeldPacket). (let w = c.in_ok-copy-in-Ok-Wait.copy in by_plan (scene_on (record c.args.self.now { kept = k }) c.args.page.now) w.side w.bytes c.args.packet.flow (WaitFor (source_of c.args.packet.flow)))) c.in_ok-copy-in-Ok-Wait.ensures.same
     ∙ ap (λ (w : HeldPacket). by_plan s w.side w.bytes c.args.packet.flow (WaitFor (source_of c.args.packet.flow))) c.in_ok-copy-in-Ok-Wait.ensures.packet
     ∙ ap (λ (x : Endpoint). by_plan s c.args.side c.args.bytes.now c.args.packet.flow (WaitFor x)) (sym holds.1)
-    ∙ taken-as s c.args.side c.args.bytes.now c.args.packet (Ok (WaitFor e)) c.requires.read (sym made ∙ c.plan.ensures)
+    ∙ taken-as s c.args.side c.args.bytes.now c.args.packet (Ok (WaitFor e)) c.requires.read (sym made)
+
+pub returns-in_ok-copy-in-Ok-Ask-clause-scene : goal.returns-in_ok-copy-in-Ok-Ask-clause-scene
+returns-in_ok-copy-in-Ok-Ask-clause-scene c =
+    let s = scene_on c.args.self.now c.args.page.now in
+    let plan = Ask c.in-Ok-Ask.by c.in-Ok-Ask.hop in
+    let made = plan-made c.in-Ok-Ask.is c.in-Ok-Ask.field-0-is c.plan.ensures in
+    c.ask.ensures.scene
+    ∙ ap (λ (k : List HeldPacket). (let w = c.in_ok-copy-in-Ok-Ask.copy in by_plan (scene_on (record c.args.self.now { kept = k }) c.args.page.now) w.side w.bytes c.args.packet.flow plan)) c.in_ok-copy-in-Ok-Ask.ensures.same
+    ∙ ap (λ (w : HeldPacket). by_plan s w.side w.bytes c.args.packet.flow plan) c.in_ok-copy-in-Ok-Ask.ensures.packet
+    ∙ taken-as s c.args.side c.args.bytes.now c.args.packet (Ok plan) c.requires.read (sym made)
+
+pub returns-in-Ok-AskAgain-clause-scene : goal.returns-in-Ok-AskAgain-clause-scene
+returns-in-Ok-AskAgain-clause-scene c =
+    let s = scene_on c.args.self.now c.args.page.now in
+    let made = plan-made c.in-Ok-AskAgain.is c.in-Ok-AskAgain.field-0-is c.plan.ensures in
+    let exit = c.exit-in-Ok-AskAgain.ensures ∙ ap exit_of c.direction-in-Ok-AskAgain.ensures in
+    c.ask_again.ensures.scene
+    ∙ ap (λ (x : Side). asked_again s x c.in-Ok-AskAgain.hop) exit
+    ∙ taken-as s c.args.side c.args.bytes.now c.args.packet (Ok (AskAgain c.in-Ok-AskAgain.by c.in-Ok-AskAgain.hop)) c.requires.read (sym made)
+
+pub returns-in-Err-clause-scene : goal.returns-in-Err-clause-scene
+returns-in-Err-clause-scene c =
+    c.refuse.ensures.scene ∙ taken-as (scene_on c.args.self.now c.args.page.now) c.args.side c.args.bytes.now c.args.packet (Err c.in-Err.reason) c.requires.read (sym c.in-Err.is ∙ c.plan.ensures)
+
+-- ---- what comes of it
+
+pub returns-in-Ok-Send-clause-outcome : goal.returns-in-Ok-Send-clause-outcome
+returns-in-Ok-Send-clause-outcome c = sym (ap outcome_by (plan-made c.in-Ok-Send.is c.in-Ok-Send.field-0-is c.plan.ensures))
+
+pub returns-in_ok-copy-in-Ok-Ask-clause-outcome : goal.returns-in_ok-copy-in-Ok-Ask-clause-outcome
+returns-in_ok-copy-in-Ok-Ask-clause-outcome c = sym (ap outcome_by (plan-made c.in-Ok-Ask.is c.in-Ok-Ask.field-0-is c.plan.ensures))
+
+pub returns-in-Ok-AskAgain-clause-outcome : goal.returns-in-Ok-AskAgain-clause-outcome
+returns-in-Ok-AskAgain-clause-outcome c = sym (ap outcome_by (plan-made c.in-Ok-AskAgain.is c.in-Ok-AskAgain.field-0-is c.plan.ensures))
+
+pub returns-in_ok-copy-in-Ok-Wait-clause-outcome : goal.returns-in_ok-copy-in-Ok-Wait-clause-outcome
+returns-in_ok-copy-in-Ok-Wait-clause-outcome c = sym (ap outcome_by (plan-made c.in-Ok-Wait.is c.in-Ok-Wait.field-0-is c.plan.ensures))
+
+pub returns-in-Err-clause-outcome : goal.returns-in-Err-clause-outcome
+returns-in-Err-clause-outcome c = ap outcome_by (sym c.in-Err.is ∙ c.plan.ensures)
