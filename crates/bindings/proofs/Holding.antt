@@ -1,5 +1,5 @@
 -- What a table keeps, after each change.
-use Rattle.std.proofs.Common.{◌≡◌, ℕ, zero, suc, ◌<◌, ◌≤◌, Bool, true, false, cond, ◌||◌, not, is_none, nat_le, nat_lt, Option, Some, None, List, [], ◌∷◌, length, get_or, refl, sym, ap, ◌∙◌, arith}
+use Rattle.std.proofs.Common.{◌≡◌, ℕ, zero, suc, ◌<◌, ◌≤◌, Bool, true, false, cond, ◌&&◌, ◌||◌, not, is_none, nat_le, nat_lt, Option, Some, None, List, [], ◌∷◌, length, get_or, refl, sym, ap, ◌∙◌, arith}
 use Rattle.std.specs.List.{insert}
 use Rattle.std.specs.Option.{option_map}
 use Rattle.std.proofs.lemmas.Bool.{and_parts, and_from, le-leb, leb-true, ltb-true, ltb-false}
@@ -17,7 +17,7 @@ use Rattle.bindings.specs.declared.entries.PortBounds.{PortBounds}
 use Rattle.bindings.specs.declared.ports.Ports.{Ports}
 use Rattle.bindings.specs.Entries.{is_pair, has_key, slot_of}
 use Rattle.bindings.specs.Lists.{place_in, put_in, without, with_state}
-use Rattle.bindings.specs.Ports.{range_of, is_free_at, AreAlike, AreFree, SameBounds, SameOwned, SameFree, in_bounds, in_either, lowest_of, highest_of}
+use Rattle.bindings.specs.Ports.{range_of, is_free_at, AreAlike, AreFree, SameBounds, SameOwned, SameFree, in_bounds, in_either, lowest_of, highest_of, key_count}
 use Rattle.bindings.specs.Revivals.{woken_entry, revived_entries, lives_of_pairs}
 use Rattle.bindings.specs.Lives.{lives_without}
 use Rattle.bindings.specs.Table.{IsTable, IsStored}
@@ -35,6 +35,27 @@ length-insert [] zero y = refl
 length-insert [] (suc n) y = refl
 length-insert (x ∷ xs) zero y = refl
 length-insert (x ∷ xs) (suc n) y = ap suc (length-insert xs n y)
+
+and-true : (b : Bool) → (b && true) ≡ b
+and-true true = refl
+and-true false = refl
+
+-- nothing is stored, and nothing is owned
+pub stored-none : (es : List Entry) (ls : List Activity) (ports : Ports) (low high : PortBounds) (first last cap places : ℕ) → es ≡ [] → ls ≡ [] → first ≡ lowest_of low high → last ≡ highest_of low high → cap ≡ key_count low high → places ≡ cap
+    → AreAlike first last ports → ((q : Key) → is_free_at ports q ≡ is_within first last q.port.0) → ((port : ℕ) → is_listed port ports.tcp.owned ≡ false) → IsStored es ls ports low high cap places
+stored-none es ls ports low high first last cap places none nobody f l room fits alike free owned =
+    rw (none, nobody) (record {
+      order = tt;
+      keys = tt;
+      endpoints = tt;
+      alike = refl;
+      within = omega arith;
+      room = room;
+      fits = omega (arith, fits);
+      same = rw (← f, ← l) alike;
+      free = λ q. rw (← f, ← l) (free q ∙ sym (and-true (is_within first last q.port.0)));
+      owned = λ port there. absurd (let none : is_listed port ports.tcp.owned ≡ false = owned port in cc);
+    })
 
 -- one more entry
 pub stored-put : (es : List Entry) (ls : List Activity) (ports ports2 : Ports) (low high : PortBounds) (cap places : ℕ) (e : Entry) (l : Activity) → IsStored es ls ports low high cap places → IsWelcome cap es e → ((q : Key) → is_free_at ports2 q ≡ cond (same_key e.pair.key q) false (is_free_at ports q)) → SameBounds ports ports2 → SameOwned ports ports2 → IsStored (put_in e es) (insert ls (place_in e.pair es) l) ports2 low high cap places

@@ -29,6 +29,10 @@ translates Live = true
 translates Closing = false
 translates Held = true
 
+-- the pairs that are listed: those that translate, or all but Doomed ones
+abbrev pub is_listed : Bool → EntryState → Bool
+is_listed translating state = (if translating then translates state else is_pair state)
+
 -- the entry has the key
 abbrev pub has_key : Key → Entry → Bool
 has_key key e = same_key e.pair.key key

@@ -7,6 +7,7 @@ ghost use Rattle.bindings.specs.Revivals.{woken};
 
 use addresses::Port;
 use nat_types::{Endpoint, EntryState, Key, Pair};
+use std::fmt;
 use thiserror::Error;
 
 /// A pair, and where it stands.
@@ -35,12 +36,19 @@ impl PortBounds {
 /// Why an entry can't come into the table.
 #[derive(Clone, Copy, Debug, PartialEq, Eq, Error)]
 pub enum TableFault {
-    #[error("the table is full")]
     Full,
-    #[error("the port has an entry")]
     PortTaken,
-    #[error("the endpoint has a pair")]
     EndpointTaken,
+}
+
+impl fmt::Display for TableFault {
+    fn fmt<W: fmt::Write>(&self, f: &mut fmt::Formatter<W>) -> fmt::Result {
+        f.write_str(match self {
+            TableFault::Full => "the table is full",
+            TableFault::PortTaken => "the port has an entry",
+            TableFault::EndpointTaken => "the endpoint has a pair",
+        })
+    }
 }
 
 pub(crate) fn is_pair_state(state: EntryState) -> bool

@@ -1,5 +1,5 @@
 //! The free and owned ports of a table, for each protocol.
-ghost use Rattle.std.specs.Prelude.{◌≡◌, ℕ, [], true, false, IfOk, IfSome, IfNone, if◌then◌else◌, ◌&&◌, ◌||◌, ◌==◌, ◌+◌, ◌*◌, ◌<◌, ◌≤◌, nat_lt, map};
+ghost use Rattle.std.specs.Prelude.{◌≡◌, ℕ, [], true, false, IfOk, IfSome, IfNone, if◌then◌else◌, ◌&&◌, ◌||◌, ◌==◌, ◌+◌, ◌*◌, ◌<◌, ◌≤◌};
 ghost use Rattle.addresses.specs.declared.transport.Protocol.{Protocol as Transport};
 ghost use Rattle.nat_types.specs.declared.pairs.Key.{Key as OutsidePort};
 ghost use Rattle.nat_types.specs.Same.{same_key};
@@ -7,10 +7,9 @@ ghost use Rattle.port_range.specs.Ports.{is_bad, is_within, is_free, is_owned, I
 ghost use Rattle.port_range.specs.Searches.{IsLastBelow};
 ghost use Rattle.port_range.specs.Words.{is_set};
 ghost use Rattle.bindings.specs.Ports.{range_of, is_free_at, is_spare_in, in_bounds, in_either, lowest_of, highest_of, AreAlike, SameBounds, SameOwned, SameFree};
-ghost use Rattle.bindings.specs.Runs.{own_in, without_port, all_ports, first_run, port_at};
+ghost use Rattle.bindings.specs.Runs.{own_in, without_port, all_ports};
 
 use crate::PortBounds;
-use crate::runs::{find_run, list_owned};
 use addresses::{Parity, Port, Protocol};
 use nat_types::Key;
 use port_range::{Range, RangeFault, highest_below};
@@ -24,30 +23,26 @@ pub(crate) struct Ports {
     pub udp: Range,
 }
 
-fn lower(a: Port, b: Port) -> Port
-    ensures { result.0 ≡ (if nat_lt a.0 b.0 then a.0 else b.0) }
-{
-    if a.0 < b.0 { a } else { b }
-}
-
-fn higher(a: Port, b: Port) -> Port
-    ensures { result.0 ≡ (if nat_lt a.0 b.0 then b.0 else a.0) }
-{
-    if a.0 < b.0 { b } else { a }
-}
-
 /// The lowest port of two ranges.
 pub(crate) fn lowest_port(zero: PortBounds, one: PortBounds) -> Port
     ensures { result.0 ≡ lowest_of zero one }
 {
-    lower(zero.lowest, one.lowest)
+    if zero.lowest.0 < one.lowest.0 {
+        zero.lowest
+    } else {
+        one.lowest
+    }
 }
 
 /// The highest port of two ranges.
 pub(crate) fn highest_port(zero: PortBounds, one: PortBounds) -> Port
     ensures { result.0 ≡ highest_of zero one }
 {
-    higher(zero.highest, one.highest)
+    if zero.highest.0 < one.highest.0 {
+        one.highest
+    } else {
+        zero.highest
+    }
 }
 
 fn unowned(alloc: Global, lowest: Port, highest: Port) -> Result<Range, AllocError>
@@ -104,8 +99,15 @@ impl Ports {
         ensures list { IfOk result (λ p. p.tcp.owned ≡ []) }
     {
         let icmp = unowned(alloc, lowest, highest)?;
-        let tcp = unowned(alloc, lowest, highest)?;
-        let udp = unowned(alloc, lowest, highest)?;
+        let Ok(tcp) = unowned(alloc, lowest, highest) else {
+            drop(icmp);
+            return Err(AllocError);
+        };
+        let Ok(udp) = unowned(alloc, lowest, highest) else {
+            drop(icmp);
+            drop(tcp);
+            return Err(AllocError);
+        };
         Ok(Ports { icmp, tcp, udp })
     }
 
@@ -229,13 +231,6 @@ impl Ports {
         self.tcp.recall();
     }
 
-    /// Reminds the prover of what each range keeps; it does nothing when it runs.
-    pub(crate) fn recall(&self)
-        ensures { IsRange self.now.tcp }
-    {
-        self.tcp.recall();
-    }
-
     /// Of 64 ports, the first of which is 64 times a number, those that are owned, and free for each protocol, as bits.
     fn spare_word(&self, index: usize) -> u64
         requires { index < 1024 }
@@ -263,34 +258,6 @@ impl Ports {
             rest = index * 64;
         }
         None
-    }
-
-    /// The first unbroken run of the owned ports from one on.
-    pub(crate) fn first_run(&self, from: Port, highest: Port) -> Option<PortBounds>
-        requires { self.now.tcp.highest ≡ highest.0 }
-        ensures { result ≡ first_run from.0 self.now.tcp.owned }
-    {
-        find_run(&self.tcp, from, highest)
-    }
-
-    /// The owned ports, rising.
-    pub(crate) fn owned(
-        &self,
-        alloc: Global,
-        lowest: Port,
-        highest: Port,
-    ) -> Result<Vec<Port>, AllocError>
-        requires lowest { self.now.tcp.lowest ≡ lowest.0 }
-        requires highest { self.now.tcp.highest ≡ highest.0 }
-        ensures { IfOk result (λ v. v.items ≡ map port_at self.now.tcp.owned) }
-    {
-        list_owned(alloc, &self.tcp, lowest, highest)
-    }
-
-    pub(crate) fn owns(&self, port: Port) -> bool
-        ensures { result ≡ is_owned self.now.tcp port.0 }
-    {
-        self.tcp.owns(port)
     }
 
     fn range(&self, protocol: Protocol) -> &Range

@@ -1,6 +1,6 @@
 //! Passes over the entries of a store, and questions about them.
 ghost use Rattle.std.specs.Prelude.{◌≡◌, ◌+◌, ◌≤◌, ◌++◌, [], ◌∷◌, if◌then◌else◌, count_by, vec_len, vec_capacity, IfOk, OnOk};
-ghost use Rattle.bindings.specs.Entries.{is_pair, translates, entry_in, refusal_of, pairs_in};
+ghost use Rattle.bindings.specs.Entries.{is_listed, entry_in, refusal_of, pairs_in};
 ghost use Rattle.bindings.specs.Dues.{idle_among, is_idle_key};
 ghost use Rattle.bindings.specs.Ports.{is_free_in, is_vacant};
 
@@ -58,31 +58,30 @@ fn push_if(pairs: &mut Vec<Pair>, passes: bool, pair: Pair) -> Result<(), AllocE
     Ok(())
 }
 
-/// The pairs but Doomed ones, in order.
-pub(crate) fn list_pairs(alloc: Global, store: &Store) -> Result<Vec<Pair>, AllocError>
-    ensures { IfOk result (λ v. v.items ≡ pairs_in is_pair store.now.entries) }
+fn is_listed_state(translating: bool, state: EntryState) -> bool
+    ensures { result ≡ is_listed translating state }
 {
-    store.recall();
-    let mut pairs = Vec::new(alloc);
-    let mut last = None;
-    while let Some(entry) = store.entry_after(last) {
-        let Entry { pair, state } = entry;
-        push_if(&mut pairs, is_pair_state(state), pair)?;
-        last = Some(key_of(pair));
+    if translating {
+        is_translating(state)
+    } else {
+        is_pair_state(state)
     }
-    Ok(pairs)
 }
 
-/// The pairs that translate, in order.
-pub(crate) fn list_translating(alloc: Global, store: &Store) -> Result<Vec<Pair>, AllocError>
-    ensures { IfOk result (λ v. v.items ≡ pairs_in translates store.now.entries) }
+/// The pairs that translate, or all but Doomed ones, in order.
+pub(crate) fn list_pairs(
+    alloc: Global,
+    store: &Store,
+    translating: bool,
+) -> Result<Vec<Pair>, AllocError>
+    ensures { IfOk result (λ v. v.items ≡ pairs_in (is_listed translating) store.now.entries) }
 {
     store.recall();
     let mut pairs = Vec::new(alloc);
     let mut last = None;
     while let Some(entry) = store.entry_after(last) {
         let Entry { pair, state } = entry;
-        push_if(&mut pairs, is_translating(state), pair)?;
+        push_if(&mut pairs, is_listed_state(translating, state), pair)?;
         last = Some(key_of(pair));
     }
     Ok(pairs)
@@ -103,9 +102,13 @@ pub(crate) fn count_idle(store: &Store, keys: &[Key], lone: bool, now: u64) -> u
     ensures { result
         ≡ count_by (is_idle_key lone now store.now.entries store.now.lives) keys.now }
 {
-    keys.iter()
-        .filter(|key| is_idle_entry(store, **key, lone, now))
-        .count()
+    let mut count = 0;
+    for key in keys.iter() {
+        if is_idle_entry(store, *key, lone, now) {
+            count += 1;
+        }
+    }
+    count
 }
 
 /// Lists those of the keys whose entries are idle and may be let go.

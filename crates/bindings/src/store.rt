@@ -326,9 +326,16 @@ impl Store {
         ensures hashers { IfOk result (λ s. s.hashers ≡ hashers) }
     {
         let slots = PortSlots::new(alloc, room)?;
+        let Ok(dues) = Dues::new(alloc, slots.limit()) else {
+            drop(slots);
+            return Err(AllocError);
+        };
+        let Ok(found) = Vec::with_capacity(alloc, slots.limit()) else {
+            drop(slots);
+            drop(dues);
+            return Err(AllocError);
+        };
         let index = EndpointIndex::new(alloc, hashers);
-        let dues = Dues::new(alloc, slots.limit())?;
-        let found = Vec::with_capacity(alloc, slots.limit())?;
         Ok(Store {
             slots,
             index,

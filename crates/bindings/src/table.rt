@@ -22,7 +22,8 @@ ghost use Rattle.activity.specs.Lives.{life_begun, life_carried, life_renewed};
 use crate::entries::key_of;
 use crate::ports::{Ports, highest_port, lowest_port};
 use crate::revivals::{drop_doomed, renew_all, wake};
-use crate::rows::{count_idle, is_vacant_port, list_idle, list_pairs, list_translating, refusal};
+use crate::rows::{count_idle, is_vacant_port, list_idle, list_pairs, refusal};
+use crate::runs::{find_run, list_owned};
 use crate::store::Store;
 use crate::{Entry, PortBounds, TableFault};
 use activity::{Activity, Packet, Remote, Way};
@@ -94,7 +95,10 @@ impl Table {
     {
         let capacity = 3 * (port_count(zero) + port_count(one));
         let ports = Ports::new(alloc, lowest_port(zero, one), highest_port(zero, one))?;
-        let store = Store::new(alloc, capacity, hashers)?;
+        let Ok(store) = Store::new(alloc, capacity, hashers) else {
+            drop(ports);
+            return Err(AllocError);
+        };
         Ok(Table {
             alloc,
             store,
@@ -110,7 +114,7 @@ impl Table {
     pub fn recall(&self)
         ensures { IsTable self.now }
     {
-        self.ports.recall();
+        self.ports.tcp.recall();
     }
 
     /// The entry of an outside port, whatever its state.
@@ -275,14 +279,14 @@ impl Table {
     pub fn pairs(&self) -> Result<Vec<Pair>, AllocError>
         ensures { IfOk result (λ v. v.items ≡ pairs_in is_pair self.now.entries) }
     {
-        list_pairs(self.alloc, &self.store)
+        list_pairs(self.alloc, &self.store, false)
     }
 
     /// The Live and Held pairs, by protocol (icmp first) and port.
     pub fn translating(&self) -> Result<Vec<Pair>, AllocError>
         ensures { IfOk result (λ v. v.items ≡ pairs_in translates self.now.entries) }
     {
-        list_translating(self.alloc, &self.store)
+        list_pairs(self.alloc, &self.store, true)
     }
 
     /// The lowest owned free port with that parity, else the lowest owned free one (RFC 4787, section 4.2.2).
@@ -302,7 +306,7 @@ impl Table {
     pub fn owns(&self, port: Port) -> bool
         ensures { result ≡ owns self.now port.0 }
     {
-        self.ports.owns(port)
+        self.ports.tcp.owns(port)
     }
 
     /// The gateway owns a port of the two ranges from now on.
@@ -340,18 +344,16 @@ impl Table {
     pub fn owned(&self) -> Result<Vec<Port>, AllocError>
         ensures { IfOk result (λ v. v.items ≡ map port_at self.now.owned) }
     {
-        let alloc = self.alloc;
         let lowest = lowest_port(self.zero, self.one);
-        self.ports
-            .owned(alloc, lowest, highest_port(self.zero, self.one))
+        let highest = highest_port(self.zero, self.one);
+        list_owned(self.alloc, &self.ports.tcp, lowest, highest)
     }
 
     /// The first unbroken run of the owned ports from one on, to its end. It may go from the one range into the other.
     pub fn first_run(&self, from: Port) -> Option<PortBounds>
         ensures { result ≡ first_run from.0 self.now.owned }
     {
-        self.ports
-            .first_run(from, highest_port(self.zero, self.one))
+        find_run(&self.ports.tcp, from, highest_port(self.zero, self.one))
     }
 
     /// Whether no entry of any protocol has a port.

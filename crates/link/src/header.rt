@@ -37,37 +37,34 @@
 //! 01 11 4e20         Install, of UDP port 20000,
 //! c0a8010a 1388      for 192.168.1.10 port 5000.
 //! ```
-ghost use Rattle.std.specs.Prelude.{◌≡◌, ◌+◌, ◌≤◌, true, length, drop, IfOk, OnOk};
-ghost use Rattle.byteorder.specs.Endian.{big_number};
+ghost use Rattle.std.specs.Prelude.{◌≡◌, ◌+◌, ◌≤◌, ◌++◌, true, length, drop, IfOk, OnOk};
+ghost use Rattle.byteorder.specs.Endian.{big_bytes, big_number};
 ghost use Rattle.link.specs.Grammar.{gateway_number, status_number};
 ghost use Rattle.link.specs.Reading.{Gives, header_at, header, header_spelling};
 ghost use Rattle.link.specs.Reading.{gateway_numbered as gateway_of};
 ghost use Rattle.link.specs.Reading.{is_ours as is_datagram_of_ours};
 ghost use Rattle.link.specs.Reading.{is_sender as names_sender, is_in_range as fields_are_in_range};
 
-use crate::writing::{Part, put};
+use crate::writing::{LONGEST_PART, Part, put};
 use crate::{LinkFault, RECORDS_IN_A_DATAGRAM};
 use byteorder::{BigEndian, ByteOrder};
 use nat_types::GatewayId;
-use std::ops::Range;
 
 /// Where the fields lie.
 mod field {
-    use std::ops::Range;
-
     pub const VERSION: usize = 2;
 
     pub const SENDER: usize = 3;
 
-    pub const BOOT: Range<usize> = 4..12;
+    pub const BOOT: usize = 4;
 
-    pub const RECEIVER_BOOT: Range<usize> = 12..20;
+    pub const RECEIVER_BOOT: usize = 12;
 
     pub const STATUS: usize = 20;
 
-    pub const DELIVERED: Range<usize> = 21..29;
+    pub const DELIVERED: usize = 21;
 
-    pub const FIRST: Range<usize> = 29..37;
+    pub const FIRST: usize = 29;
 
     pub const COUNT: usize = 37;
     /// The bytes of a header.
@@ -127,11 +124,11 @@ fn is_in_range(status: u8, count: u8, first: u64) -> bool
         && first <= NUMBERS_END - u64::from(count)
 }
 
-fn number_in(bytes: &[u8], place: Range<usize>) -> u64
-    requires { place.start + 8 ≤ length bytes.now }
-    ensures { result ≡ big_number 8 (drop place.start bytes.now) }
+fn number_from(bytes: &[u8], start: usize) -> u64
+    requires { start + 8 ≤ length bytes.now }
+    ensures { result ≡ big_number 8 (drop start bytes.now) }
 {
-    BigEndian::read_u64(&bytes[place.start..])
+    BigEndian::read_u64(&bytes[start..])
 }
 
 /// The fields of a header that is there.
@@ -141,11 +138,11 @@ fn fields_of(bytes: &[u8]) -> Header
 {
     Header {
         sender: gateway_numbered(bytes[field::SENDER]),
-        boot: number_in(bytes, field::BOOT),
-        receiver_boot: number_in(bytes, field::RECEIVER_BOOT),
+        boot: number_from(bytes, field::BOOT),
+        receiver_boot: number_from(bytes, field::RECEIVER_BOOT),
         serves: bytes[field::STATUS] == 1,
-        delivered: number_in(bytes, field::DELIVERED),
-        first: number_in(bytes, field::FIRST),
+        delivered: number_from(bytes, field::DELIVERED),
+        first: number_from(bytes, field::FIRST),
         count: bytes[field::COUNT],
     }
 }
@@ -199,16 +196,23 @@ fn status_of(serves: bool) -> u8
     if serves { 1 } else { 0 }
 }
 
+fn put_number(out: &mut Part, number: u64)
+    requires { length out.old.items + 8 ≤ LONGEST_PART }
+    ensures { out.new.items ≡ out.old.items ++ big_bytes 8 number }
+{
+    put(out, &number.to_be_bytes());
+}
+
 /// Writes the header.
 pub(crate) fn put_header(out: &mut Part, header: &Header)
     requires { length out.old.items ≡ 0 }
     ensures { out.new.items ≡ header_spelling header.now }
 {
     put(out, &[b'N', b'P', VERSION, number_of(header.sender)]);
-    put(out, &header.boot.to_be_bytes());
-    put(out, &header.receiver_boot.to_be_bytes());
+    put_number(out, header.boot);
+    put_number(out, header.receiver_boot);
     put(out, &[status_of(header.serves)]);
-    put(out, &header.delivered.to_be_bytes());
-    put(out, &header.first.to_be_bytes());
+    put_number(out, header.delivered);
+    put_number(out, header.first);
     put(out, &[header.count]);
 }

@@ -7,7 +7,7 @@ use Rattle.sums.specs.Sum.{word_sum, ones_sum, checksum_of, IsRight, IsUpdate}
 use Rattle.sums.proofs.Offered.{word_sum-replace}
 use Rattle.ipv4.specs.declared.flows.Flow.{Flow}
 use Rattle.rewrite.specs.Sums.{address_sum, flow_sum, new_identifier}
-use Rattle.rewrite.specs.Translated.{header_unsummed, header_with, tcp_sum, segment_with_ports, moved_sum, with_word, query_identified, query_moved, query_sum, query_with, tcp_checksum, tcp_with}
+use Rattle.rewrite.specs.Translated.{header_unsummed, header_with, tcp_sum, segment_with_ports, moved_sum, with_word, query_identified, query_moved, query_sum, query_with, tcp_checksum, tcp_with, udp_sum, udp_field, udp_checksum, udp_with}
 use Rattle.ipv4.specs.Header.{word_at}
 
 -- the two words of an address, by the four bytes that it is written as
@@ -49,6 +49,31 @@ tcp-rewritten old new s s1 s2 s3 t sum old_fits new_fits long is_source is_desti
     let is_sum : sum ≡ moved_sum t before after = moved_sum-update t (flow_sum old) (flow_sum new) before after sum (tcp_sum-moved old new s old_fits new_fits long is_source is_destination) is_update in
     let is_field : sum ≡ tcp_checksum old new s = is_sum ∙ ap (λ x. moved_sum x before after) is_t in
     tcp-put new s s1 s2 s3 sum long p1 p2 p3 ∙ ap (λ x. with_word 16 x (segment_with_ports new s)) is_field
+
+-- the whole sum of a UDP segment changes by the difference of the flows, too
+udp_sum-moved : (old new : Flow) (segment : List ℕ) → InRange old → InRange new → 8 ≤ length segment → old.source_port.0 ≡ big_number 2 segment → old.destination_port.0 ≡ big_number 2 (drop 2 segment) → udp_sum new (segment_with_ports new segment) + flow_sum old ≡ udp_sum old segment + flow_sum new
+udp_sum-moved old new (a ∷ b ∷ c ∷ d ∷ e ∷ f ∷ g ∷ h ∷ rest) old_fits new_fits long is_source is_destination =
+    let w1 = address_sum-written old.source.0 old_fits.source in
+    let w2 = address_sum-written old.destination.0 old_fits.destination in
+    let w3 = address_sum-written new.source.0 new_fits.source in
+    let w4 = address_sum-written new.destination.0 new_fits.destination in
+    omega (arith, w1, w2, w3, w4)
+udp_sum-moved old new _ old_fits new_fits long is_source is_destination = absurd (omega arith)
+
+-- the ports and a UDP checksum, written one after the other
+udp-put : (new : Flow) (s s1 s2 s3 : List ℕ) (field : ℕ) → 8 ≤ length s → Puts 0 (big_bytes 2 new.source_port.0) s s1 → Puts 2 (big_bytes 2 new.destination_port.0) s1 s2 → Puts 6 (big_bytes 2 field) s2 s3 → s3 ≡ with_word 6 field (segment_with_ports new s)
+udp-put new (a ∷ b ∷ c ∷ d ∷ e ∷ f ∷ g ∷ h ∷ rest) s1 s2 s3 field long p1 p2 p3 =
+    p3 ∙ ap (λ (x : List ℕ). take 6 x ++ big_bytes 2 field ++ drop 8 x) (p2 ∙ ap (λ (x : List ℕ). take 2 x ++ big_bytes 2 new.destination_port.0 ++ drop 4 x) p1)
+udp-put new _ s1 s2 s3 field long p1 p2 p3 = absurd (omega arith)
+
+-- what a rewrite of a UDP segment writes is what the definition asks for
+pub udp-rewritten : (old new : Flow) (s s1 s2 s3 : List ℕ) (t sum field : ℕ) → InRange old → InRange new → 8 ≤ length s → old.source_port.0 ≡ big_number 2 s → old.destination_port.0 ≡ big_number 2 (drop 2 s) → t ≡ word_at 6 s → IsUpdate t (flow_sum old) (flow_sum new) sum → field ≡ udp_field t sum → Puts 0 (big_bytes 2 new.source_port.0) s s1 → Puts 2 (big_bytes 2 new.destination_port.0) s1 s2 → Puts 6 (big_bytes 2 field) s2 s3 → s3 ≡ udp_with old new s
+udp-rewritten old new s s1 s2 s3 t sum field old_fits new_fits long is_source is_destination is_t is_update is_field p1 p2 p3 =
+    let before = udp_sum old s in
+    let after = udp_sum new (segment_with_ports new s) in
+    let is_sum : sum ≡ moved_sum t before after = moved_sum-update t (flow_sum old) (flow_sum new) before after sum (udp_sum-moved old new s old_fits new_fits long is_source is_destination) is_update in
+    let is_checksum : field ≡ udp_checksum old new s = is_field ∙ ap (udp_field t) is_sum ∙ ap (λ x. udp_field x (moved_sum x before after)) is_t in
+    udp-put new s s1 s2 s3 field long p1 p2 p3 ∙ ap (λ x. with_word 6 x (segment_with_ports new s)) is_checksum
 
 -- the identifier and the checksum of a query, written one after the other
 pub query-put : (s s1 s2 : List ℕ) (identifier field : ℕ) → Puts 4 (big_bytes 2 identifier) s s1 → Puts 2 (big_bytes 2 field) s1 s2 → s2 ≡ with_word 2 field (with_word 4 identifier s)

@@ -1,8 +1,9 @@
 -- Words of a packet in its parts, and a packet of its parts.
-use Rattle.std.proofs.Common.{◌≡◌, inl, inr, if◌then◌else◌, ◌==◌, subst, ℕ, ◌+◌, ◌-◌, ◌*◌, ◌≤◌, List, ◌++◌, length, take, drop, slice_index, arith, ap, ap₂, sym, ◌∙◌, append_assoc}
+use Rattle.std.proofs.Common.{◌≡◌, inl, inr, if◌then◌else◌, ◌==◌, subst, ℕ, ◌+◌, ◌-◌, ◌*◌, ◌<◌, ◌≤◌, List, ◌++◌, length, take, drop, slice_index, arith, ap, ap₂, sym, ◌∙◌, append_assoc}
 use Rattle.std.proofs.lemmas.List.{drop-drop, get_or-take, get_or-drop, length-take}
 use Rattle.byteorder.specs.Endian.{big_number}
-use Rattle.ipv4.specs.Header.{word_at, header_of, payload_of}
+use Rattle.sums.specs.Sum.{IsRight}
+use Rattle.ipv4.specs.Header.{IsIpv4, word_at, header_of, payload_of}
 use Rattle.ipv4.specs.declared.flows.Flow.{Flow}
 use Rattle.addresses.specs.declared.transport.Protocol.{Protocol}
 use Rattle.addresses.specs.declared.transport.Protocol.TheVariants.{Icmp, Udp, Tcp}
@@ -76,6 +77,27 @@ some-protocol packet (inr (inl echo)) =
 some-protocol packet (inr (inr reply)) =
     let is : Icmp ≡ protocol_of packet = sym (ap by-number reply.protocol) in
     subst (IsOfSome packet) is (record { shortest_fits = reply.query.long; datagram = λ e. absurd (cc) })
+
+-- the header of a packet is one that can be rewritten
+pub record IsReady (header : List ℕ) : Type 0 where
+  pub long : 20 ≤ length header
+  pub right : IsRight header
+  pub version : 0 < slice_index header 0
+  pub ttl : 0 < slice_index header 8
+
+pub header-ready : (packet front : List ℕ) (h : ℕ) → IsIpv4 packet → 2 ≤ (header_of packet).ttl → h ≡ (header_of packet).header_length → front ≡ take h packet → IsReady front
+header-ready packet front h ip hops is_h is_front =
+    let n = (header_of packet).header_length in
+    let fields = ip.holds_fields in
+    let first = get_or-take n packet 0 0 (omega (arith, fields)) in
+    let eighth = get_or-take n packet 8 0 (omega (arith, fields)) in
+    let is : take n packet ≡ front = ap (λ (k : ℕ). take k packet) (sym is_h) ∙ sym is_front in
+    subst IsReady is (record {
+      long = omega (arith, length-take n packet, fields, ip.holds_header, ip.there);
+      right = ip.sum;
+      version = omega (arith, first, ip.version);
+      ttl = omega (arith, eighth, hops);
+    })
 
 -- two parts rewritten, each by a function of what it was, and the rest
 pub joined-parts : (H : List ℕ → List ℕ) (M : Flow → List ℕ → List ℕ) (a b : List ℕ) (f f' : Flow) (packet rest front : List ℕ) (h h' n n' : ℕ) → h ≡ h' → n ≡ n' → f ≡ f' → front ≡ take h packet → rest ≡ drop h packet → a ≡ H front → b ≡ M f (take n rest) → a ++ (b ++ drop n rest) ≡ H (take h' packet) ++ M f' (take n' (drop h' packet)) ++ drop n' (drop h' packet)

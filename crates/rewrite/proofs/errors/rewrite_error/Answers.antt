@@ -1,10 +1,10 @@
-use Rattle.std.proofs.Common.{◌-◌, ap, ◌∙◌}
+use Rattle.std.proofs.Common.{◌-◌, ◌≤◌, ap, ◌∙◌, arith}
 use Rattle.ipv4.specs.Header.{header_of}
 use Rattle.ipv4.specs.declared.flows.Flow.{Flow}
 use Rattle.icmp.specs.Packet.{error_flow}
 use Rattle.rewrite.specs.Translated.{header_with}
 use Rattle.rewrite.specs.PassedOn.{own_flow, message_with}
-use Rattle.rewrite.proofs.Parts.{joined-parts}
+use Rattle.rewrite.proofs.Parts.{header-ready, joined-parts}
 use Rattle.rewrite.proofs.errors.rewrite_error.Goals as goal
 
 pub returns-clause-ok : goal.returns-clause-ok
@@ -23,3 +23,9 @@ returns-clause-ok c =
     c.split_at_mut-header.ensures.front c.split_at_mut-header.ensures.back
     (c.rewrite_header.ensures ∙ ap (λ (f : Flow). header_with f front) c.own_flow.ensures)
     c.rewrite_message.ensures
+
+pub rewrite_header-requires : goal.rewrite_header-requires
+rewrite_header-requires c =
+    let hops : 2 ≤ (header_of c.args.packet.now).ttl = omega (arith, c.time_to_live.ensures, c.if-time_to_live-lt2.false) in
+    let ready = header-ready c.args.packet.now c.split_at_mut-header.result.0.now c.header_length.result c.requires.ipv4 hops c.header_length.ensures c.split_at_mut-header.ensures.front in
+    record { long = ready.long; right = ready.right; version = ready.version; ttl = ready.ttl }

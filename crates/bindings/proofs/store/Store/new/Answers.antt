@@ -7,8 +7,8 @@ pub invariant_of-result : goal.invariant_of-result
 invariant_of-result c = (
   rw c.in_ok-slots.ensures.rows (none-indexed c.new-index.result c.new-index.ensures.slots c.new-index.ensures.counts),
   record {
-    timed = rw c.in_ok-slots.ensures.rows (none-timed false c.in_ok-dues.dues.moments);
-    count = c.in_ok-dues.ensures.count ∙ c.limit.ensures;
-    room = (let a = c.in_ok-found.ensures.capacity in let b = c.limit-2.ensures in omega (arith, a, b));
+    timed = rw c.in_ok-slots.ensures.rows (none-timed false c.in-Ok.dues.moments);
+    count = c.in-Ok.ensures.count ∙ c.limit.ensures;
+    room = (let a = c.in-Ok-with_capacity.ensures.capacity in let b = c.limit-2.ensures in omega (arith, a, b));
   },
 )
