@@ -1,3 +1,4 @@
 mod Counting
+mod Differing
 mod Numbers
 mod Pairing

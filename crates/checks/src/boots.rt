@@ -80,6 +80,30 @@ fn key_of(id: GatewayId) -> Key
     Key::new(section, Name::BootFile)
 }
 
+/// Says a fault of a boot file.
+fn say_fault<O: Write>(
+    fault: &str,
+    key: Key,
+    output: &mut O,
+    tally: &mut Tally,
+) -> Result<(), Fault>
+    ensures faults { OnOk result (Grows tally.old.faults tally.new.faults 1) }
+    ensures no_fewer { tally.old.faults ≤ tally.new.faults }
+    ensures warnings { tally.new.warnings ≡ tally.old.warnings }
+{
+    writeln!(output, "fault: {fault} {key}")?;
+    tally.fault();
+    Ok(())
+}
+
+/// Says which was the last start, if one was.
+fn say_start<O: Write>(boot: u64, key: Key, output: &mut O) -> io::Result<()> {
+    match boot {
+        0 => writeln!(output, "note: {key}: no start yet"),
+        _ => writeln!(output, "note: {key}: the last start was boot {boot}"),
+    }
+}
+
 /// Says what number a boot file has. It is a fault where no box starts with it.
 fn say_number<O: Write>(
     number: Option<u64>,
@@ -93,18 +117,13 @@ fn say_number<O: Write>(
     ensures warnings { tally.new.warnings ≡ tally.old.warnings }
 {
     match number {
-        None => {
-            writeln!(output, "fault: boot 2 Damaged {key}")?;
-            tally.fault();
+        None => say_fault("boot 2 Damaged", key, output, tally),
+        Some(u64::MAX) => say_fault("boot 3 BootsUsedUp", key, output, tally),
+        Some(number) => {
+            say_start(number, key, output)?;
+            Ok(())
         }
-        Some(u64::MAX) => {
-            writeln!(output, "fault: boot 3 BootsUsedUp {key}")?;
-            tally.fault();
-        }
-        Some(0) => writeln!(output, "note: {key}: no start yet")?,
-        Some(number) => writeln!(output, "note: {key}: the last start was boot {number}")?,
     }
-    Ok(())
 }
 
 /// Whether others than its owner may use a file of this mode: its last six bits are theirs.
@@ -201,11 +220,7 @@ fn say_opened<F: Read + OpenFile + Lockable + Drop, O: Write>(
     ensures warnings { tally.old.warnings ≤ tally.new.warnings }
 {
     match found {
-        Err(_) => {
-            writeln!(output, "fault: file 1 NoFile {key}")?;
-            tally.fault();
-            Ok(())
-        }
+        Err(_) => say_fault("file 1 NoFile", key, output, tally),
         Ok(None) => say_number(None, key, output, tally),
         Ok(Some(mut file)) => {
             say_number(read_number(&mut file), key, output, tally)?;

@@ -1,9 +1,10 @@
 //! In what two settings differ.
-ghost use Rattle.std.specs.Prelude.{◌≡◌, ◌++◌, IfOk, OnOk};
-ghost use Rattle.checks.specs.Differences.{same_range, same_limit, same_neighbour, same_neighbours, same_ports, same_interface, same_router, same_mtu, same_icmp, same_addresses, same_role, same_sockets, same_list, other_in_networks, other_in_gateway, differing, may_differ};
+ghost use Rattle.std.specs.Prelude.{◌≡◌, ◌++◌, IfOk};
+ghost use Rattle.settings_file.specs.declared.keys.Section.TheVariants as sections;
+ghost use Rattle.checks.specs.Differences.{same_range, same_limit, same_neighbour, same_neighbours, same_ports, same_interface, same_router, same_mtu, same_icmp, same_addresses, same_role, same_sockets, same_list, differing, may_differ};
 
 use crate::warnings::same_host;
-use settings::{GatewaySettings, IcmpSettings, InterfaceSettings, Neighbour, PortRange, Settings};
+use settings::{GatewaySettings, Neighbour, PortRange, Settings};
 use settings_file::{Key, Name, Section, add_bad};
 use std::alloc::{AllocError, Global};
 
@@ -45,139 +46,90 @@ fn same_neighbours(one: &[Neighbour], other: &[Neighbour]) -> bool
     rest.is_empty()
 }
 
-fn same_ports(one: &Settings, other: &Settings) -> [(Key, bool); 3]
-    ensures { result ≡ same_ports one.now other.now }
+/// The ports, and the inside network.
+fn same_front(one: &Settings, other: &Settings) -> [(Key, bool); 8]
+    ensures { result ≡ same_ports one.now other.now
+        ++ (same_interface sections.Inside one.now.inside other.now.inside
+        ++ same_mtu sections.Inside one.now.inside other.now.inside) }
 {
+    let (ports, inside) = (Section::Ports, Section::Inside);
+    let same_zero = same_range(one.ports.zero, other.ports.zero);
+    let same_one = same_range(one.ports.one, other.ports.one);
     let limits = same_limit(one.ports.host_limit, other.ports.host_limit);
-    [
-        (
-            Key::new(Section::Ports, Name::Zero),
-            same_range(one.ports.zero, other.ports.zero),
-        ),
-        (
-            Key::new(Section::Ports, Name::One),
-            same_range(one.ports.one, other.ports.one),
-        ),
-        (Key::new(Section::Ports, Name::HostLimit), limits),
-    ]
-}
-
-fn same_interface(
-    section: Section,
-    one: &InterfaceSettings,
-    other: &InterfaceSettings,
-) -> [(Key, bool); 4]
-    ensures { result ≡ same_interface section one.now other.now }
-{
+    let (one, other) = (&one.inside, &other.inside);
+    let same_virtual = one.virtual_ip.0 == other.virtual_ip.0;
+    let same_prefix = one.prefix_length == other.prefix_length;
     let same_number = one.virtual_router == other.virtual_router;
     [
-        (
-            Key::new(section, Name::Virtual),
-            one.virtual_ip.0 == other.virtual_ip.0,
-        ),
-        (
-            Key::new(section, Name::Prefix),
-            one.prefix_length == other.prefix_length,
-        ),
-        (Key::new(section, Name::Vrid), same_number),
-        (Key::new(section, Name::Wire), one.wire == other.wire),
+        (Key::new(ports, Name::Zero), same_zero),
+        (Key::new(ports, Name::One), same_one),
+        (Key::new(ports, Name::HostLimit), limits),
+        (Key::new(inside, Name::Virtual), same_virtual),
+        (Key::new(inside, Name::Prefix), same_prefix),
+        (Key::new(inside, Name::Vrid), same_number),
+        (Key::new(inside, Name::Wire), one.wire == other.wire),
+        (Key::new(inside, Name::Mtu), one.mtu == other.mtu),
     ]
 }
 
-fn same_router(one: &Settings, other: &Settings) -> [(Key, bool); 1]
-    ensures { result ≡ same_router one.now other.now }
+/// The outside network, the router, and what is said by ICMP.
+fn same_behind(one: &Settings, other: &Settings) -> [(Key, bool); 8]
+    ensures { result ≡ same_interface sections.Outside one.now.outside other.now.outside
+        ++ (same_router one.now other.now
+        ++ (same_mtu sections.Outside one.now.outside other.now.outside
+        ++ same_icmp one.now.icmp other.now.icmp)) }
 {
-    let same = one.router.0 == other.router.0;
-    [(Key::new(Section::Outside, Name::Router), same)]
-}
-
-fn same_mtu(
-    section: Section,
-    one: &InterfaceSettings,
-    other: &InterfaceSettings,
-) -> [(Key, bool); 1]
-    ensures { result ≡ same_mtu section one.now other.now }
-{
-    [(Key::new(section, Name::Mtu), one.mtu == other.mtu)]
-}
-
-fn same_icmp(one: IcmpSettings, other: IcmpSettings) -> [(Key, bool); 2]
-    ensures { result ≡ same_icmp one other }
-{
+    let (outside, icmp) = (Section::Outside, Section::Icmp);
+    let same_router = one.router.0 == other.router.0;
+    let same_echo = one.icmp.echo == other.icmp.echo;
+    let same_errors = one.icmp.errors == other.icmp.errors;
+    let (one, other) = (&one.outside, &other.outside);
+    let same_virtual = one.virtual_ip.0 == other.virtual_ip.0;
+    let same_prefix = one.prefix_length == other.prefix_length;
+    let same_number = one.virtual_router == other.virtual_router;
     [
-        (Key::new(Section::Icmp, Name::Echo), one.echo == other.echo),
-        (
-            Key::new(Section::Icmp, Name::Errors),
-            one.errors == other.errors,
-        ),
+        (Key::new(outside, Name::Virtual), same_virtual),
+        (Key::new(outside, Name::Prefix), same_prefix),
+        (Key::new(outside, Name::Vrid), same_number),
+        (Key::new(outside, Name::Wire), one.wire == other.wire),
+        (Key::new(outside, Name::Router), same_router),
+        (Key::new(outside, Name::Mtu), one.mtu == other.mtu),
+        (Key::new(icmp, Name::Echo), same_echo),
+        (Key::new(icmp, Name::Errors), same_errors),
     ]
 }
 
-fn same_addresses(
+/// What stands in a gateway's section.
+fn same_gateway(
     section: Section,
     one: &GatewaySettings,
     other: &GatewaySettings,
-) -> [(Key, bool); 4]
-    ensures { result ≡ same_addresses section one.now other.now }
+) -> [(Key, bool); 11]
+    ensures { result ≡ same_addresses section one.now other.now
+        ++ (same_role section one.now other.now ++ same_sockets section one.now other.now) }
 {
-    [
-        (
-            Key::new(section, Name::InsideIp),
-            one.inside_ip.0 == other.inside_ip.0,
-        ),
-        (
-            Key::new(section, Name::InsideMac),
-            one.inside_mac == other.inside_mac,
-        ),
-        (
-            Key::new(section, Name::OutsideIp),
-            one.outside_ip.0 == other.outside_ip.0,
-        ),
-        (
-            Key::new(section, Name::OutsideMac),
-            one.outside_mac == other.outside_mac,
-        ),
-    ]
-}
-
-fn same_role(section: Section, one: &GatewaySettings, other: &GatewaySettings) -> [(Key, bool); 4]
-    ensures { result ≡ same_role section one.now other.now }
-{
+    let same_inside_ip = one.inside_ip.0 == other.inside_ip.0;
+    let same_inside_mac = one.inside_mac == other.inside_mac;
+    let same_outside_ip = one.outside_ip.0 == other.outside_ip.0;
+    let same_outside_mac = one.outside_mac == other.outside_mac;
+    let same_priority = one.priority == other.priority;
+    let same_interval = one.interval == other.interval;
+    let same_preempt = one.preempt == other.preempt;
     let same_file = one.boot_file.as_str() == other.boot_file.as_str();
+    let same_inside_port = one.inside_port == other.inside_port;
+    let same_outside_port = one.outside_port == other.outside_port;
     [
-        (
-            Key::new(section, Name::Priority),
-            one.priority == other.priority,
-        ),
-        (
-            Key::new(section, Name::Interval),
-            one.interval == other.interval,
-        ),
-        (
-            Key::new(section, Name::Preempt),
-            one.preempt == other.preempt,
-        ),
+        (Key::new(section, Name::InsideIp), same_inside_ip),
+        (Key::new(section, Name::InsideMac), same_inside_mac),
+        (Key::new(section, Name::OutsideIp), same_outside_ip),
+        (Key::new(section, Name::OutsideMac), same_outside_mac),
+        (Key::new(section, Name::Priority), same_priority),
+        (Key::new(section, Name::Interval), same_interval),
+        (Key::new(section, Name::Preempt), same_preempt),
         (Key::new(section, Name::BootFile), same_file),
-    ]
-}
-
-fn same_sockets(
-    section: Section,
-    one: &GatewaySettings,
-    other: &GatewaySettings,
-) -> [(Key, bool); 3]
-    ensures { result ≡ same_sockets section one.now other.now }
-{
-    [
         (Key::new(section, Name::Link), one.link == other.link),
-        (
-            Key::new(section, Name::InsidePort),
-            one.inside_port == other.inside_port,
-        ),
-        (
-            Key::new(section, Name::OutsidePort),
-            one.outside_port == other.outside_port,
-        ),
+        (Key::new(section, Name::InsidePort), same_inside_port),
+        (Key::new(section, Name::OutsidePort), same_outside_port),
     ]
 }
 
@@ -189,43 +141,7 @@ fn same_list(one: &Settings, other: &Settings) -> [(Key, bool); 1]
     [(whole, same)]
 }
 
-fn add_other_in_gateway(
-    section: Section,
-    one: &GatewaySettings,
-    other: &GatewaySettings,
-    found: &mut Vec<Key>,
-) -> Result<(), AllocError>
-    ensures { OnOk result
-        (found.new.items ≡ found.old.items ++ other_in_gateway section one.now other.now) }
-{
-    add_bad(&same_addresses(section, one, other), found)?;
-    add_bad(&same_role(section, one, other), found)?;
-    add_bad(&same_sockets(section, one, other), found)?;
-    Ok(())
-}
-
-fn add_other_in_networks(
-    one: &Settings,
-    other: &Settings,
-    found: &mut Vec<Key>,
-) -> Result<(), AllocError>
-    ensures { OnOk result
-        (found.new.items ≡ found.old.items ++ other_in_networks one.now other.now) }
-{
-    let (inside, outside) = (Section::Inside, Section::Outside);
-    add_bad(&same_interface(inside, &one.inside, &other.inside), found)?;
-    add_bad(&same_mtu(inside, &one.inside, &other.inside), found)?;
-    add_bad(
-        &same_interface(outside, &one.outside, &other.outside),
-        found,
-    )?;
-    add_bad(&same_router(one, other), found)?;
-    add_bad(&same_mtu(outside, &one.outside, &other.outside), found)?;
-    Ok(())
-}
-
 /// The keys in which two settings differ, in the order of the text.
-#[tactic(auto, unfolding(crate::specs::Differences::differing))]
 pub fn differing_keys(
     alloc: Global,
     one: &Settings,
@@ -234,11 +150,12 @@ pub fn differing_keys(
     ensures { IfOk result (λ keys. keys.items ≡ differing one.now other.now) }
 {
     let mut found = Vec::new(alloc);
-    add_bad(&same_ports(one, other), &mut found)?;
-    add_other_in_networks(one, other, &mut found)?;
-    add_bad(&same_icmp(one.icmp, other.icmp), &mut found)?;
-    add_other_in_gateway(Section::GatewayZero, &one.zero, &other.zero, &mut found)?;
-    add_other_in_gateway(Section::GatewayOne, &one.one, &other.one, &mut found)?;
+    add_bad(&same_front(one, other), &mut found)?;
+    add_bad(&same_behind(one, other), &mut found)?;
+    let rows = same_gateway(Section::GatewayZero, &one.zero, &other.zero);
+    add_bad(&rows, &mut found)?;
+    let rows = same_gateway(Section::GatewayOne, &one.one, &other.one);
+    add_bad(&rows, &mut found)?;
     add_bad(&same_list(one, other), &mut found)?;
     Ok(found)
 }

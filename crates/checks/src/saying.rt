@@ -44,15 +44,20 @@ pub(crate) fn fault_count(look: &Look) -> usize
     }
 }
 
+/// Says a fault that is of no key.
+fn say_whole<O: Write>(fault: &str, output: &mut O) -> io::Result<()> {
+    writeln!(output, "fault: settings {fault}")
+}
+
 /// Says each fault of a text.
 pub(crate) fn say_faults<O: Write>(look: &Look, output: &mut O) -> io::Result<()> {
     match look {
-        Look::NotToml => writeln!(output, "fault: settings 1 NotToml"),
+        Look::NotToml => say_whole("1 NotToml", output),
         Look::UnknownKeys(paths) => say_paths(paths.as_slice(), output),
         Look::MissingKeys(keys) => say_keys(keys.as_slice(), "2 Missing", output),
         Look::BadValues(keys) => say_keys(keys.as_slice(), "3 BadValue", output),
-        Look::RangesOverlap => writeln!(output, "fault: settings 4 RangesOverlap"),
-        Look::SameIds => writeln!(output, "fault: settings 5 SameIds"),
+        Look::RangesOverlap => say_whole("4 RangesOverlap", output),
+        Look::SameIds => say_whole("5 SameIds", output),
         Look::Held(_, keys) => say_keys(keys.as_slice(), "7 CantWork", output),
     }
 }

@@ -3,6 +3,7 @@ use Rattle.std.specs.Prelude.{◌≡◌, ℕ, pos, true, List, [], ◌∷◌, co
 use Rattle.clap.specs.Kinds.{IsAmong, Kinds}
 use Rattle.clap.specs.Words.{App, Row, Rule, Text, fault_of, new_app, new_rule, subcommand_of, with_rule, with_subcommand}
 use Rattle.clap.specs.declared.builder.action.ArgAction.TheVariants.{Set, SetTrue}
+use Rattle.clap.specs.declared.builder.value_parser.ValueParser.{ValueParser}
 use Rattle.clap.specs.declared.builder.value_parser.ValueParser.TheVariants.{Signed, Unsigned}
 use Rattle.clap.specs.declared.error.kind.ErrorKind.TheVariants.{DisplayVersion}
 
@@ -17,6 +18,10 @@ file_rule name = record (word_rule name) { required = true }
 -- `--NAME TEXT`, which may be left out
 abbrev pub text_rule : List ℕ → Rule
 text_rule name = record (word_rule name) { long = Some name }
+
+-- the same, where a parser says what the text has to be
+abbrev pub parsed_rule : List ℕ → ValueParser → Rule
+parsed_rule name parser = record (text_rule name) { parser = Some parser }
 
 -- `--id`, 0 or 1, which may be left out
 abbrev pub id_rule_if : Rule

@@ -52,6 +52,187 @@ const CAPTURE: Argument<'static> = Argument(
     "A file for all frames and datagrams, in pcapng, as in --capture day.pcapng",
 );
 
+/// What `init` takes.
+const INIT: [Argument<'static>; 1] = [Argument(
+    Form::File,
+    "FILE",
+    "The boot file to create, as in boot0",
+)];
+
+/// What `check` takes.
+const CHECK: [Argument<'static>; 7] = [
+    SETTINGS,
+    Argument(
+        Form::Word,
+        "OTHER",
+        "Other settings, which they are compared with",
+    ),
+    Argument(
+        Form::IdIf,
+        "id",
+        "Which of the two gateways it is, 0 or 1, as in --id 0",
+    ),
+    Argument(
+        Form::Flag,
+        "strict",
+        "Ends with 1 where there is a warning, too",
+    ),
+    Argument(
+        Form::Text,
+        "inside",
+        "The inside's interface, which is looked at, as in --inside eth1",
+    ),
+    Argument(
+        Form::Text,
+        "outside",
+        "The outside's interface, which is looked at, as in --outside eth2",
+    ),
+    Argument(
+        Form::Text,
+        "link",
+        "This box's address on the link, as in --link 10.0.0.1",
+    ),
+];
+
+/// What `gate` takes.
+const GATE: [Argument<'static>; 13] = [
+    SETTINGS,
+    ID,
+    Argument(
+        Form::Rounds,
+        "rounds",
+        "How many rounds it runs, each waiting at most 10 ms; left out, it runs until told",
+    ),
+    Argument(
+        Form::Flag,
+        "until-eof",
+        "Ends, as told, where its standard input ends",
+    ),
+    Argument(
+        Form::Flag,
+        "found",
+        "Founds the pair: once, at gateway 0, with a new boot file",
+    ),
+    Argument(
+        Form::Way,
+        "inside",
+        "The inside's way, as in --inside descriptor:3",
+    ),
+    Argument(
+        Form::Way,
+        "outside",
+        "The outside's way, as in --outside descriptor:4",
+    ),
+    Argument(
+        Form::Way,
+        "link",
+        "The link's way, as in --link udp:10.1.0.1:7000,10.1.0.2:7000",
+    ),
+    Argument(
+        Form::Flag,
+        "no-track",
+        "Doesn't give way where an interface says that it has no carrier",
+    ),
+    Argument(
+        Form::Text,
+        "log",
+        "Which records it writes to the standard error, as in --log debug",
+    ),
+    Argument(
+        Form::Flag,
+        "log-pairs",
+        "Writes each record as key=value, for programs",
+    ),
+    Argument(
+        Form::Text,
+        "capture",
+        "A file for all that it takes and sends, in pcapng, as in --capture box0.pcapng",
+    ),
+    Argument(
+        Form::Text,
+        "notify",
+        "The service manager's socket, an open descriptor, as in --notify descriptor:6",
+    ),
+];
+
+/// What `status` takes.
+const STATUS: [Argument<'static>; 6] = [
+    SETTINGS,
+    ID,
+    Argument(Form::Flag, "json", "Writes it as JSON"),
+    Argument(
+        Form::Flag,
+        "prometheus",
+        "Writes it as metrics for Prometheus",
+    ),
+    Argument(
+        Form::Text,
+        "until",
+        "Asks again until the gateway is synced, and writes nothing, as in --until synced",
+    ),
+    Argument(
+        Form::Number(0, 4_294_967_295),
+        "seconds",
+        "How long it asks with --until, in seconds; left out, it is 60",
+    ),
+];
+
+/// What `pairs` takes.
+const PAIRS: [Argument<'static>; 6] = [
+    SETTINGS,
+    ID,
+    Argument(
+        Form::Text,
+        "protocol",
+        "Pairs of this protocol: icmp, tcp or udp",
+    ),
+    Argument(
+        Form::Text,
+        "address",
+        "Pairs of this inside address, as in --address 192.168.1.10",
+    ),
+    Argument(
+        Form::Number(1, 65_535),
+        "port",
+        "The pair of this outside port, as in --port 20000",
+    ),
+    Argument(
+        Form::Text,
+        "state",
+        "Pairs in this state: pending, doomed, live, closing or held",
+    ),
+];
+
+/// What `stop` takes.
+const STOP: [Argument<'static>; 2] = [SETTINGS, ID];
+
+/// What `peer-off` takes.
+const PEER_OFF: [Argument<'static>; 4] = [
+    SETTINGS,
+    ID,
+    Argument(
+        Form::Number(0, 18_446_744_073_709_551_615),
+        "boot",
+        "The boot of the peer that has ended, as in --boot 7; left out, the one that it knows",
+    ),
+    Argument(
+        Form::Flag,
+        "force",
+        "Takes a boot above the one that it knows, too",
+    ),
+];
+
+/// What `side` takes.
+const SIDE: [Argument<'static>; 4] = [
+    SETTINGS,
+    ID,
+    Argument(Form::File, "SIDE", "The side, inside or outside"),
+    Argument(Form::File, "STATE", "Whether it can be used, up or down"),
+];
+
+/// What `sim` and `loop` take.
+const RUN: [Argument<'static>; 3] = [SETTINGS, SCRIPT, CAPTURE];
+
 /// A command of a name, with these arguments: what it does, and what stands below its options.
 fn command<'a>(
     alloc: Global,
@@ -77,8 +258,7 @@ fn init<'a>(alloc: Global) -> Result<Command<'a>, AllocError>
 {
     let about = "Creates a boot file; one that exists is left as it is and refused";
     let below = "Example: natpair init boot0";
-    let arguments = [Argument(Form::File, "FILE", "The boot file to create, as in boot0")];
-    command(alloc, "init", about, below, &arguments)
+    command(alloc, "init", about, below, &INIT)
 }
 
 fn check<'a>(alloc: Global) -> Result<Command<'a>, AllocError>
@@ -87,40 +267,7 @@ fn check<'a>(alloc: Global) -> Result<Command<'a>, AllocError>
 {
     let about = "Says each fault and each warning of settings, or where two settings differ";
     let below = "Example: natpair check S.toml --id 0 --strict";
-    let arguments = [
-        SETTINGS,
-        Argument(
-            Form::Word,
-            "OTHER",
-            "Other settings, which they are compared with",
-        ),
-        Argument(
-            Form::IdIf,
-            "id",
-            "Which of the two gateways it is, 0 or 1, as in --id 0",
-        ),
-        Argument(
-            Form::Flag,
-            "strict",
-            "Ends with 1 where there is a warning, too",
-        ),
-        Argument(
-            Form::Text,
-            "inside",
-            "The inside's interface, which is looked at, as in --inside eth1",
-        ),
-        Argument(
-            Form::Text,
-            "outside",
-            "The outside's interface, which is looked at, as in --outside eth2",
-        ),
-        Argument(
-            Form::Text,
-            "link",
-            "This box's address on the link, as in --link 10.0.0.1",
-        ),
-    ];
-    command(alloc, "check", about, below, &arguments)
+    command(alloc, "check", about, below, &CHECK)
 }
 
 fn gate<'a>(alloc: Global) -> Result<Command<'a>, AllocError>
@@ -129,66 +276,7 @@ fn gate<'a>(alloc: Global) -> Result<Command<'a>, AllocError>
 {
     let about = "Runs one gateway: on interfaces, over VXLAN, or on loopback sockets";
     let below = GATE_HELP;
-    let arguments = [
-        SETTINGS,
-        ID,
-        Argument(
-            Form::Rounds,
-            "rounds",
-            "How many rounds it runs, each waiting at most 10 ms; left out, it runs until told",
-        ),
-        Argument(
-            Form::Flag,
-            "until-eof",
-            "Ends, as told, where its standard input ends",
-        ),
-        Argument(
-            Form::Flag,
-            "found",
-            "Founds the pair: once, at gateway 0, with a new boot file",
-        ),
-        Argument(
-            Form::Way,
-            "inside",
-            "The inside's way, as in --inside descriptor:3",
-        ),
-        Argument(
-            Form::Way,
-            "outside",
-            "The outside's way, as in --outside descriptor:4",
-        ),
-        Argument(
-            Form::Way,
-            "link",
-            "The link's way, as in --link udp:10.1.0.1:7000,10.1.0.2:7000",
-        ),
-        Argument(
-            Form::Flag,
-            "no-track",
-            "Doesn't give way where an interface says that it has no carrier",
-        ),
-        Argument(
-            Form::Text,
-            "log",
-            "Which records it writes to the standard error, as in --log debug",
-        ),
-        Argument(
-            Form::Flag,
-            "log-pairs",
-            "Writes each record as key=value, for programs",
-        ),
-        Argument(
-            Form::Text,
-            "capture",
-            "A file for all that it takes and sends, in pcapng, as in --capture box0.pcapng",
-        ),
-        Argument(
-            Form::Text,
-            "notify",
-            "The service manager's socket, an open descriptor, as in --notify descriptor:6",
-        ),
-    ];
-    command(alloc, "gate", about, below, &arguments)
+    command(alloc, "gate", about, below, &GATE)
 }
 
 fn status<'a>(alloc: Global) -> Result<Command<'a>, AllocError>
@@ -197,27 +285,7 @@ fn status<'a>(alloc: Global) -> Result<Command<'a>, AllocError>
 {
     let about = "Writes what a running gateway says of itself";
     let below = "Example: natpair status S.toml --id 0";
-    let arguments = [
-        SETTINGS,
-        ID,
-        Argument(Form::Flag, "json", "Writes it as JSON"),
-        Argument(
-            Form::Flag,
-            "prometheus",
-            "Writes it as metrics for Prometheus",
-        ),
-        Argument(
-            Form::Text,
-            "until",
-            "Asks again until the gateway is synced, and writes nothing, as in --until synced",
-        ),
-        Argument(
-            Form::Number(0, 4_294_967_295),
-            "seconds",
-            "How long it asks with --until, in seconds; left out, it is 60",
-        ),
-    ];
-    command(alloc, "status", about, below, &arguments)
+    command(alloc, "status", about, below, &STATUS)
 }
 
 fn pairs<'a>(alloc: Global) -> Result<Command<'a>, AllocError>
@@ -226,31 +294,7 @@ fn pairs<'a>(alloc: Global) -> Result<Command<'a>, AllocError>
 {
     let about = "Lists the pairs of a running gateway";
     let below = "Example: natpair pairs S.toml --id 0 --protocol tcp";
-    let arguments = [
-        SETTINGS,
-        ID,
-        Argument(
-            Form::Text,
-            "protocol",
-            "Pairs of this protocol: icmp, tcp or udp",
-        ),
-        Argument(
-            Form::Text,
-            "address",
-            "Pairs of this inside address, as in --address 192.168.1.10",
-        ),
-        Argument(
-            Form::Number(1, 65_535),
-            "port",
-            "The pair of this outside port, as in --port 20000",
-        ),
-        Argument(
-            Form::Text,
-            "state",
-            "Pairs in this state: pending, doomed, live, closing or held",
-        ),
-    ];
-    command(alloc, "pairs", about, below, &arguments)
+    command(alloc, "pairs", about, below, &PAIRS)
 }
 
 fn stop<'a>(alloc: Global) -> Result<Command<'a>, AllocError>
@@ -260,8 +304,7 @@ fn stop<'a>(alloc: Global) -> Result<Command<'a>, AllocError>
     let about =
         "Tells a running gateway to end: it resigns on both sides, so that its peer takes over";
     let below = "Example: natpair stop S.toml --id 0";
-    let arguments = [SETTINGS, ID];
-    command(alloc, "stop", about, below, &arguments)
+    command(alloc, "stop", about, below, &STOP)
 }
 
 fn peer_off<'a>(alloc: Global) -> Result<Command<'a>, AllocError>
@@ -270,21 +313,7 @@ fn peer_off<'a>(alloc: Global) -> Result<Command<'a>, AllocError>
 {
     let about = "Tells a running gateway that a boot of its peer has ended for good";
     let below = "Example: natpair peer-off S.toml --id 0 --boot 7";
-    let arguments = [
-        SETTINGS,
-        ID,
-        Argument(
-            Form::Number(0, 18_446_744_073_709_551_615),
-            "boot",
-            "The boot of the peer that has ended, as in --boot 7; left out, the one that it knows",
-        ),
-        Argument(
-            Form::Flag,
-            "force",
-            "Takes a boot above the one that it knows, too",
-        ),
-    ];
-    command(alloc, "peer-off", about, below, &arguments)
+    command(alloc, "peer-off", about, below, &PEER_OFF)
 }
 
 fn side<'a>(alloc: Global) -> Result<Command<'a>, AllocError>
@@ -293,13 +322,7 @@ fn side<'a>(alloc: Global) -> Result<Command<'a>, AllocError>
 {
     let about = "Tells a running gateway that a side can't be used, or can be again";
     let below = "Example: natpair side S.toml --id 0 inside down";
-    let arguments = [
-        SETTINGS,
-        ID,
-        Argument(Form::File, "SIDE", "The side, inside or outside"),
-        Argument(Form::File, "STATE", "Whether it can be used, up or down"),
-    ];
-    command(alloc, "side", about, below, &arguments)
+    command(alloc, "side", about, below, &SIDE)
 }
 
 fn sim<'a>(alloc: Global) -> Result<Command<'a>, AllocError>
@@ -308,8 +331,7 @@ fn sim<'a>(alloc: Global) -> Result<Command<'a>, AllocError>
 {
     let about = "Runs both gateways on the events of a script and prints each step";
     let below = "Example: natpair sim S.toml day.script";
-    let arguments = [SETTINGS, SCRIPT, CAPTURE];
-    command(alloc, "sim", about, below, &arguments)
+    command(alloc, "sim", about, below, &RUN)
 }
 
 fn repeat<'a>(alloc: Global) -> Result<Command<'a>, AllocError>
@@ -319,8 +341,7 @@ fn repeat<'a>(alloc: Global) -> Result<Command<'a>, AllocError>
     let about =
         "Runs a script as sim does, with each frame and datagram sent through a loopback socket";
     let below = "Example: natpair loop S.toml day.script";
-    let arguments = [SETTINGS, SCRIPT, CAPTURE];
-    command(alloc, "loop", about, below, &arguments)
+    command(alloc, "loop", about, below, &RUN)
 }
 
 fn top<'a>(alloc: Global) -> Command<'a>
@@ -339,29 +360,32 @@ fn top<'a>(alloc: Global) -> Command<'a>
 
 /// A command with one more beneath it, which has no global option.
 fn with_command<'a>(
-    line: Result<Command<'a>, AllocError>,
+    line: Command<'a>,
     beneath: Result<Command<'a>, AllocError>,
 ) -> Result<Command<'a>, AllocError>
     requires { IfOk beneath (λ b. (fields_of b).has_globals ≡ false) }
-    ensures { (a b : App) → IfOk line.entry (λ c. app_of c ≡ a)
+    ensures { (a b : App) → app_of line.entry ≡ a
         → IfOk beneath.entry (λ c. app_of c ≡ b)
         → IfOk result (λ c. app_of c ≡ with_subcommand a b.top) }
 {
-    line?.subcommand(beneath?)
+    match beneath {
+        Ok(beneath) => line.subcommand(beneath),
+        Err(fault) => Err(fault),
+    }
 }
 
 /// All commands.
 pub(crate) fn line<'a>(alloc: Global) -> Result<Command<'a>, AllocError>
     ensures { IfOk result (λ c. app_of c ≡ line_app) }
 {
-    let line = with_command(Ok(top(alloc)), init(alloc));
-    let line = with_command(line, check(alloc));
-    let line = with_command(line, gate(alloc));
-    let line = with_command(line, status(alloc));
-    let line = with_command(line, pairs(alloc));
-    let line = with_command(line, stop(alloc));
-    let line = with_command(line, peer_off(alloc));
-    let line = with_command(line, side(alloc));
-    let line = with_command(line, sim(alloc));
+    let line = with_command(top(alloc), init(alloc))?;
+    let line = with_command(line, check(alloc))?;
+    let line = with_command(line, gate(alloc))?;
+    let line = with_command(line, status(alloc))?;
+    let line = with_command(line, pairs(alloc))?;
+    let line = with_command(line, stop(alloc))?;
+    let line = with_command(line, peer_off(alloc))?;
+    let line = with_command(line, side(alloc))?;
+    let line = with_command(line, sim(alloc))?;
     with_command(line, repeat(alloc))
 }

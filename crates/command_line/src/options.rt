@@ -1,7 +1,7 @@
 //! The options and words that the commands take.
 ghost use Rattle.std.specs.Prelude.{◌≡◌, false, Some};
 ghost use Rattle.clap.specs.Words.{rule_of};
-ghost use Rattle.command_line.specs.Line.{word_rule, file_rule, id_rule, id_rule_if, rounds_rule, number_rule, flag_rule, text_rule, way_rule};
+ghost use Rattle.command_line.specs.Line.{word_rule, parsed_rule, flag_rule, text_rule, way_rule};
 ghost use Rattle.command_line.specs.Arguments.{rule_for};
 
 use clap::builder::ValueParser;
@@ -44,15 +44,17 @@ impl<'a> Argument<'a> {
     {
         let Argument(form, name, help) = *self;
         match form {
-            Form::File => file(alloc, name, help),
+            Form::File => word(alloc, name, help).required(true),
             Form::Word => word(alloc, name, help),
             Form::Text => text(alloc, name, help),
             Form::Way => way(alloc, name, help),
             Form::Flag => flag(alloc, name, help),
-            Form::Number(least, most) => number(alloc, name, least, most, help),
-            Form::Id => id(alloc, help),
-            Form::IdIf => id_if(alloc, help),
-            Form::Rounds => rounds(alloc, help),
+            Form::Number(least, most) => {
+                parsed(alloc, name, ValueParser::Unsigned(least, most), help)
+            }
+            Form::Id => parsed(alloc, "id", ValueParser::Signed(0, 1), help).required(true),
+            Form::IdIf => parsed(alloc, "id", ValueParser::Signed(0, 1), help),
+            Form::Rounds => parsed(alloc, "rounds", ValueParser::Signed(0, 4_294_967_295), help),
         }
     }
 }
@@ -66,49 +68,13 @@ fn word<'a>(alloc: Global, name: &'a str, help: &'a str) -> Arg<'a>
     Arg::new(alloc, name).action(ArgAction::Set).help(help)
 }
 
-/// A word that has to stand at its place.
-fn file<'a>(alloc: Global, name: &'a str, help: &'a str) -> Arg<'a>
-    ensures rule { rule_of result ≡ file_rule name.entry.now }
+/// `--NAME VALUE`, which may be left out; what the value has to be says a parser.
+fn parsed<'a>(alloc: Global, name: &'a str, parser: ValueParser<'a>, help: &'a str) -> Arg<'a>
+    ensures rule { rule_of result ≡ parsed_rule name.entry.now parser.entry }
     ensures local { result.global ≡ false }
     ensures help { result.help ≡ Some help.entry }
 {
-    word(alloc, name, help).required(true)
-}
-
-/// `--id`, 0 or 1, which may be left out.
-fn id_if<'a>(alloc: Global, help: &'a str) -> Arg<'a>
-    ensures rule { rule_of result ≡ id_rule_if }
-    ensures local { result.global ≡ false }
-    ensures help { result.help ≡ Some help.entry }
-{
-    text(alloc, "id", help).value_parser(ValueParser::Signed(0, 1))
-}
-
-/// `--id`, 0 or 1.
-fn id<'a>(alloc: Global, help: &'a str) -> Arg<'a>
-    ensures rule { rule_of result ≡ id_rule }
-    ensures local { result.global ≡ false }
-    ensures help { result.help ≡ Some help.entry }
-{
-    id_if(alloc, help).required(true)
-}
-
-/// `--rounds`, from 0 to 4294967295.
-fn rounds<'a>(alloc: Global, help: &'a str) -> Arg<'a>
-    ensures rule { rule_of result ≡ rounds_rule }
-    ensures local { result.global ≡ false }
-    ensures help { result.help ≡ Some help.entry }
-{
-    text(alloc, "rounds", help).value_parser(ValueParser::Signed(0, 4_294_967_295))
-}
-
-/// `--NAME N`, from one number to another.
-fn number<'a>(alloc: Global, name: &'a str, least: u64, most: u64, help: &'a str) -> Arg<'a>
-    ensures rule { rule_of result ≡ number_rule name.entry.now least most }
-    ensures local { result.global ≡ false }
-    ensures help { result.help ≡ Some help.entry }
-{
-    text(alloc, name, help).value_parser(ValueParser::Unsigned(least, most))
+    text(alloc, name, help).value_parser(parser)
 }
 
 /// `--NAME`, a flag.

@@ -1,5 +1,5 @@
 -- Loops that add to a list what each element gives.
-use Rattle.std.proofs.Common.{◌≡◌, ◌∙◌, ◌+◌, ◌<◌, ◌++◌, ◌∷◌, [], ℕ, Bool, true, false, List, length, drop, take, filter, get_or, append_assoc, ap, refl, sym}
+use Rattle.std.proofs.Common.{◌≡◌, ◌∙◌, ◌+◌, ◌<◌, ◌++◌, ◌∷◌, [], ℕ, Bool, true, false, cond, List, length, drop, take, filter, get_or, append_assoc, ap, refl, sym}
 use Rattle.std.proofs.lemmas.List.{drop_more, take_more}
 use Rattle.settings_file.specs.declared.keys.Key.{Key}
 use Rattle.settings_file.specs.Clashes.{PortRow, all_taken, is_taken}
@@ -33,6 +33,31 @@ bad_row row rest bad = rw bad refl
 
 pub good_row : (row : Key × Bool) (rest : List (Key × Bool)) → row.1 ≡ true → all_bad (row ∷ rest) ≡ all_bad rest
 good_row row rest good = rw good refl
+
+-- the bad keys of rows behind others
+pub bad_of_both : (xs ys : List (Key × Bool)) → all_bad (xs ++ ys) ≡ all_bad xs ++ all_bad ys
+bad_of_both [] ys = refl
+bad_of_both (row ∷ rest) ys = go row.1 (bad_of_both rest ys)
+  where
+    go : (b : Bool) → all_bad (rest ++ ys) ≡ all_bad rest ++ all_bad ys
+        → cond b (all_bad (rest ++ ys)) (row.0 ∷ all_bad (rest ++ ys)) ≡ cond b (all_bad rest) (row.0 ∷ all_bad rest) ++ all_bad ys
+    go true same = same
+    go false same = ap (λ ks. row.0 ∷ ks) same
+
+-- the bad keys of rows that are two lists, or three, behind what was found
+pub added : (old new : List Key) (rows xs ys : List (Key × Bool)) → new ≡ old ++ all_bad rows → rows ≡ xs ++ ys
+    → new ≡ old ++ (all_bad xs ++ all_bad ys)
+added old new rows xs ys h is = h ∙ ap (λ ks. old ++ ks) (ap all_bad is ∙ bad_of_both xs ys)
+
+pub added_three : (old new : List Key) (rows xs ys zs : List (Key × Bool)) → new ≡ old ++ all_bad rows → rows ≡ xs ++ (ys ++ zs)
+    → new ≡ old ++ (all_bad xs ++ (all_bad ys ++ all_bad zs))
+added_three old new rows xs ys zs h is =
+    added old new rows xs (ys ++ zs) h is ∙ ap (λ ks. old ++ (all_bad xs ++ ks)) (bad_of_both ys zs)
+
+-- one list of keys behind the other
+pub in_turn : (p i o c zero one n start a b d e all : List Key) → start ≡ [] → a ≡ start ++ (p ++ i) → b ≡ a ++ (o ++ c) → d ≡ b ++ zero
+    → e ≡ d ++ one → all ≡ e ++ n → all ≡ p ++ (i ++ (o ++ (c ++ (zero ++ (one ++ n)))))
+in_turn p i o c zero one n start a b d e all none ha hb hd he h = rw (h, he, hd, hb, ha, none) (simp append_assoc)
 
 -- elements that pass a test, or don't
 pub passes : {X : Type 0} (p : X → Bool) (x : X) (rest : List X) → p x ≡ true → filter p (x ∷ rest) ≡ (x ∷ []) ++ filter p rest

@@ -13,7 +13,7 @@ use crate::faults::ValueFault;
 use crate::{Key, Name, Section, texts};
 use addresses::{Ip, Mac, Port, Prefix};
 use settings::PortRange;
-use std::alloc::{AllocError, Global};
+use std::alloc::Global;
 use toml::{Table, Value};
 
 /// The value at a key of a table.
@@ -160,72 +160,46 @@ pub(crate) fn text<'a>(document: &'a Table, section: Section, name: Name) -> Opt
 
 /// The address at a key, where there is one.
 #[tactic(auto, unfolding(crate::specs::Document::address_at))]
-pub(crate) fn address_found(
-    alloc: Global,
-    document: &Table,
-    section: Section,
-    name: Name,
-) -> Result<Option<Ip>, AllocError>
-    ensures { IfOk result (λ found. option_map (λ ip. ip.0) found
-        ≡ address_at (table_view document.now) section name) }
+pub(crate) fn address_found(document: &Table, section: Section, name: Name) -> Option<Ip>
+    ensures { option_map (λ ip. ip.0) result
+        ≡ address_at (table_view document.now) section name }
 {
     match text(document, section, name) {
-        Some(text) => texts::address_of(alloc, text),
-        None => Ok(None),
+        Some(text) => texts::address_of(text),
+        None => None,
     }
 }
 
 /// The address at a key.
-pub(crate) fn address(
-    alloc: Global,
-    document: &Table,
-    section: Section,
-    name: Name,
-) -> Result<Ip, ValueFault>
+pub(crate) fn address(document: &Table, section: Section, name: Name) -> Result<Ip, Key>
     ensures ok { IfOk result
         (λ ip. address_at (table_view document.now) section name ≡ Some ip.0) }
-    ensures err { IfErr result (TellsFirst (first_bad ((
-      key section name,
-      is_some (address_at (table_view document.now) section name),
-    ) ∷ []))) }
+    ensures err { IfErr result
+        (IsBadAt section name (address_at (table_view document.now) section name)) }
 {
-    let found = address_found(alloc, document, section, name)?;
-    found.ok_or(ValueFault::BadValue(Key::new(section, name)))
+    address_found(document, section, name).ok_or(Key::new(section, name))
 }
 
 /// The Ethernet address at a key, where there is one.
 #[tactic(auto, unfolding(crate::specs::Document::mac_at))]
-pub(crate) fn mac_found(
-    alloc: Global,
-    document: &Table,
-    section: Section,
-    name: Name,
-) -> Result<Option<Mac>, AllocError>
-    ensures { IfOk result (λ found. option_map (λ mac. mac.0) found
-        ≡ mac_at (table_view document.now) section name) }
+pub(crate) fn mac_found(document: &Table, section: Section, name: Name) -> Option<Mac>
+    ensures { option_map (λ mac. mac.0) result
+        ≡ mac_at (table_view document.now) section name }
 {
     match text(document, section, name) {
-        Some(text) => texts::mac_of(alloc, text),
-        None => Ok(None),
+        Some(text) => texts::mac_of(text),
+        None => None,
     }
 }
 
 /// The Ethernet address at a key.
-pub(crate) fn mac(
-    alloc: Global,
-    document: &Table,
-    section: Section,
-    name: Name,
-) -> Result<Mac, ValueFault>
+pub(crate) fn mac(document: &Table, section: Section, name: Name) -> Result<Mac, Key>
     ensures ok { IfOk result
         (λ mac. mac_at (table_view document.now) section name ≡ Some mac.0) }
-    ensures err { IfErr result (TellsFirst (first_bad ((
-      key section name,
-      is_some (mac_at (table_view document.now) section name),
-    ) ∷ []))) }
+    ensures err { IfErr result
+        (IsBadAt section name (mac_at (table_view document.now) section name)) }
 {
-    let found = mac_found(alloc, document, section, name)?;
-    found.ok_or(ValueFault::BadValue(Key::new(section, name)))
+    mac_found(document, section, name).ok_or(Key::new(section, name))
 }
 
 /// The text at a key, copied.
@@ -270,7 +244,6 @@ pub(crate) fn is_host(network: Option<Prefix>, address: Option<Ip>) -> bool
 
 /// The address at a key, which lies in a network.
 pub(crate) fn host(
-    alloc: Global,
     document: &Table,
     section: Section,
     name: Name,
@@ -287,11 +260,9 @@ pub(crate) fn host(
           (address_at (table_view document.now) section name),
     ) ∷ []))) }
 {
-    let ip = address(alloc, document, section, name)?;
-    if is_in(ip, network) {
-        Ok(ip)
-    } else {
-        Err(ValueFault::BadValue(Key::new(section, name)))
+    match address_found(document, section, name) {
+        Some(ip) if is_in(ip, network) => Ok(ip),
+        _ => Err(ValueFault::BadValue(Key::new(section, name))),
     }
 }
 

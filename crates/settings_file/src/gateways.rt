@@ -17,7 +17,6 @@ use toml::Table;
 
 #[tactic(auto, unfolding(crate::specs::Rows::bad_addresses))]
 fn read_addresses(
-    alloc: Global,
     document: &Table,
     section: Section,
     inside: Prefix,
@@ -31,10 +30,10 @@ fn read_addresses(
     ensures bad { FindsBad (bad_addresses (Some (inside.address.0, inside.length))
         (Some (outside.address.0, outside.length)) (table_view document.now) section) result }
 {
-    let inside_ip = fields::host(alloc, document, section, Name::InsideIp, inside)?;
-    let inside_mac = fields::mac(alloc, document, section, Name::InsideMac)?;
-    let outside_ip = fields::host(alloc, document, section, Name::OutsideIp, outside)?;
-    let outside_mac = fields::mac(alloc, document, section, Name::OutsideMac)?;
+    let inside_ip = fields::host(document, section, Name::InsideIp, inside)?;
+    let inside_mac = fields::mac(document, section, Name::InsideMac)?;
+    let outside_ip = fields::host(document, section, Name::OutsideIp, outside)?;
+    let outside_mac = fields::mac(document, section, Name::OutsideMac)?;
     Ok(Addresses {
         inside_ip,
         inside_mac,
@@ -92,7 +91,7 @@ pub(crate) fn gateway(
     ensures bad { FindsBad (bad_gateway (Some (inside.address.0, inside.length))
         (Some (outside.address.0, outside.length)) (table_view document.now) section) result }
 {
-    let addresses = read_addresses(alloc, document, section, inside, outside)?;
+    let addresses = read_addresses(document, section, inside, outside)?;
     let role = read_role(alloc, document, section)?;
     let sockets = read_sockets(document, section)?;
     Ok(GatewaySettings {

@@ -20,8 +20,8 @@ pub(crate) fn read_values(alloc: Global, document: &Table) -> Result<Values, Val
     ensures bad { FindsBad (first_bad_value (table_view document.now)) result }
 {
     let (zero_ports, one_ports, host_limit) = sections::ports(document)?;
-    let inside = sections::inside(alloc, document)?;
-    let (outside, router) = sections::outside(alloc, document, inside.network())?;
+    let inside = sections::inside(document)?;
+    let (outside, router) = sections::outside(document, inside.network())?;
     let icmp = sections::icmp(document)?;
     let inner = inside.network();
     let outer = outside.network();

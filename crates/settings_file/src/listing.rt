@@ -1,12 +1,12 @@
 //! The keys of a document, each with whether its value is good.
-ghost use Rattle.std.specs.Prelude.{◌≡◌, ◌≤◌, ◌++◌, true, is_some, option_map, IfOk, IfSome, OnOk};
+ghost use Rattle.std.specs.Prelude.{◌≡◌, ◌≤◌, ◌++◌, is_some, option_map, IfOk, IfSome};
 ghost use Rattle.std.specs.Option.{ForSome};
 ghost use Rattle.toml.specs.View.{table_view};
 ghost use Rattle.settings_file.specs.declared.keys.Section.TheVariants.{Ports};
 ghost use Rattle.settings_file.specs.declared.keys.Name.TheVariants.{HostLimit};
 ghost use Rattle.settings_file.specs.declared.keys.Name.TheVariants as names;
-ghost use Rattle.settings_file.specs.Document.{network_of_prefix, number_at, number_or, optional_at, flag_or, text_at, address_at, mac_at, range_at, is_apart};
-ghost use Rattle.settings_file.specs.Rows.{port_rows, inside_rows, outside_rows, icmp_rows, address_rows, role_rows, socket_rows, network_at, all_bad_of_gateway};
+ghost use Rattle.settings_file.specs.Document.{network_of_prefix, number_at, number_or, optional_at, flag_or, range_at, is_apart};
+ghost use Rattle.settings_file.specs.Rows.{port_rows, inside_rows, outside_rows, icmp_rows, address_rows, role_rows, socket_rows, network_at};
 ghost use Rattle.settings_file.specs.Listing.{all_bad_values};
 
 use crate::rows::add_bad;
@@ -22,31 +22,6 @@ fn has_number(document: &Table, section: Section, name: Name, low: u16, high: u1
         Ok(_) => true,
         Err(_) => false,
     }
-}
-
-fn has_address(
-    alloc: Global,
-    document: &Table,
-    section: Section,
-    name: Name,
-) -> Result<bool, AllocError>
-    ensures { IfOk result
-        (λ is. is ≡ is_some (address_at (table_view document.now) section name)) }
-{
-    let found = fields::address_found(alloc, document, section, name)?;
-    Ok(found.is_some())
-}
-
-fn has_mac(
-    alloc: Global,
-    document: &Table,
-    section: Section,
-    name: Name,
-) -> Result<bool, AllocError>
-    ensures { IfOk result (λ is. is ≡ is_some (mac_at (table_view document.now) section name)) }
-{
-    let found = fields::mac_found(alloc, document, section, name)?;
-    Ok(found.is_some())
 }
 
 /// Whether a prefix is there that shares no address with the network, where that and its own address are known.
@@ -77,14 +52,13 @@ fn prefix_length(document: &Table, section: Section) -> Option<u8>
 
 /// The network of a side, where its address and prefix are good.
 #[tactic(auto, unfolding(crate::specs::Rows::network_at))]
-fn network(alloc: Global, document: &Table, section: Section) -> Result<Option<Prefix>, AllocError>
-    ensures { IfOk result (λ found. option_map network_of_prefix found
-        ≡ network_at (table_view document.now) section) }
+fn network(document: &Table, section: Section) -> Option<Prefix>
+    ensures { option_map network_of_prefix result ≡ network_at (table_view document.now) section }
 {
-    let address = fields::address_found(alloc, document, section, Name::Virtual)?;
+    let address = fields::address_found(document, section, Name::Virtual);
     match (address, prefix_length(document, section)) {
-        (Some(address), Some(length)) => Ok(Some(Prefix::new(address, length))),
-        (Some(_), None) | (None, _) => Ok(None),
+        (Some(address), Some(length)) => Some(Prefix::new(address, length)),
+        (Some(_), None) | (None, _) => None,
     }
 }
 
@@ -107,22 +81,20 @@ fn has_limit(document: &Table) -> bool
     }
 }
 
-fn has_number_or(document: &Table, section: Section, name: Name, high: u16) -> bool
-    requires { 100 ≤ high }
+fn has_number_or(
+    document: &Table,
+    section: Section,
+    name: Name,
+    default: u16,
+    low: u16,
+    high: u16,
+) -> bool
+    requires low { low ≤ default }
+    requires high { default ≤ high }
     ensures { result
-        ≡ is_some (number_or 100 1 high (table_view document.now) section name) }
+        ≡ is_some (number_or default low high (table_view document.now) section name) }
 {
-    match fields::number_or(document, section, name, 100, 1, high) {
-        Ok(_) => true,
-        Err(_) => false,
-    }
-}
-
-fn has_mtu(document: &Table, section: Section) -> bool
-    ensures { result
-        ≡ is_some (number_or 1500 576 1500 (table_view document.now) section names.Mtu) }
-{
-    match fields::number_or(document, section, Name::Mtu, 1500, 576, 1500) {
+    match fields::number_or(document, section, name, default, low, high) {
         Ok(_) => true,
         Err(_) => false,
     }
@@ -137,189 +109,111 @@ fn has_flag(document: &Table, section: Section, name: Name, default: bool) -> bo
     }
 }
 
-fn has_text(document: &Table, section: Section, name: Name) -> bool
-    ensures { result ≡ is_some (text_at (table_view document.now) section name) }
+/// The ports, and the inside network.
+fn front_rows(document: &Table) -> [(Key, bool); 8]
+    ensures { result
+        ≡ port_rows (table_view document.now) ++ inside_rows (table_view document.now) }
 {
-    fields::text(document, section, name).is_some()
-}
-
-fn port_rows(document: &Table) -> [(Key, bool); 3]
-    ensures { result ≡ port_rows (table_view document.now) }
-{
-    let section = Section::Ports;
+    let (ports, inside) = (Section::Ports, Section::Inside);
+    let has_virtual = fields::address_found(document, inside, Name::Virtual).is_some();
+    let has_prefix = has_number(document, inside, Name::Prefix, 8, 30);
+    let has_vrid = has_number(document, inside, Name::Vrid, 1, 255);
+    let has_wire = has_number(document, inside, Name::Wire, 1, 65535);
+    let has_mtu = has_number_or(document, inside, Name::Mtu, 1500, 576, 1500);
     [
-        (
-            Key::new(section, Name::Zero),
-            has_range(document, Name::Zero),
-        ),
-        (Key::new(section, Name::One), has_range(document, Name::One)),
-        (Key::new(section, Name::HostLimit), has_limit(document)),
+        (Key::new(ports, Name::Zero), has_range(document, Name::Zero)),
+        (Key::new(ports, Name::One), has_range(document, Name::One)),
+        (Key::new(ports, Name::HostLimit), has_limit(document)),
+        (Key::new(inside, Name::Virtual), has_virtual),
+        (Key::new(inside, Name::Prefix), has_prefix),
+        (Key::new(inside, Name::Vrid), has_vrid),
+        (Key::new(inside, Name::Wire), has_wire),
+        (Key::new(inside, Name::Mtu), has_mtu),
     ]
 }
 
-fn inside_rows(alloc: Global, document: &Table) -> Result<[(Key, bool); 5], AllocError>
-    ensures { IfOk result (λ rows. rows ≡ inside_rows (table_view document.now)) }
+/// The outside network, the router, and what is said by ICMP.
+fn behind_rows(document: &Table, network: Option<Prefix>, outer: Option<Prefix>) -> [(Key, bool); 9]
+    ensures { result ≡ outside_rows (option_map network_of_prefix network)
+        (option_map network_of_prefix outer) (table_view document.now)
+        ++ icmp_rows (table_view document.now) }
 {
-    let section = Section::Inside;
-    let has_virtual = has_address(alloc, document, section, Name::Virtual)?;
-    let has_prefix = has_number(document, section, Name::Prefix, 8, 30);
-    let has_vrid = has_number(document, section, Name::Vrid, 1, 255);
-    let has_wire = has_number(document, section, Name::Wire, 1, 65535);
-    Ok([
-        (Key::new(section, Name::Virtual), has_virtual),
-        (Key::new(section, Name::Prefix), has_prefix),
-        (Key::new(section, Name::Vrid), has_vrid),
-        (Key::new(section, Name::Wire), has_wire),
-        (Key::new(section, Name::Mtu), has_mtu(document, section)),
-    ])
-}
-
-fn outside_rows(
-    alloc: Global,
-    document: &Table,
-    inside: Option<Prefix>,
-    outside: Option<Prefix>,
-) -> Result<[(Key, bool); 6], AllocError>
-    ensures { IfOk result (λ rows. rows ≡ outside_rows (option_map network_of_prefix inside)
-        (option_map network_of_prefix outside) (table_view document.now)) }
-{
-    let section = Section::Outside;
-    let address = fields::address_found(alloc, document, section, Name::Virtual)?;
-    let router = fields::address_found(alloc, document, section, Name::Router)?;
-    let has_prefix = is_apart(inside, address, prefix_length(document, section));
-    let has_vrid = has_number(document, section, Name::Vrid, 1, 255);
-    let has_wire = has_number(document, section, Name::Wire, 1, 65535);
-    Ok([
-        (Key::new(section, Name::Virtual), address.is_some()),
-        (Key::new(section, Name::Prefix), has_prefix),
-        (Key::new(section, Name::Vrid), has_vrid),
-        (Key::new(section, Name::Wire), has_wire),
-        (
-            Key::new(section, Name::Router),
-            fields::is_host(outside, router),
-        ),
-        (Key::new(section, Name::Mtu), has_mtu(document, section)),
-    ])
-}
-
-fn icmp_rows(document: &Table) -> [(Key, bool); 3]
-    ensures { result ≡ icmp_rows (table_view document.now) }
-{
-    let section = Section::Icmp;
-    let has_echo = has_flag(document, section, Name::Echo, false);
-    let has_errors = has_flag(document, section, Name::Errors, false);
+    let (outside, icmp) = (Section::Outside, Section::Icmp);
+    let address = fields::address_found(document, outside, Name::Virtual);
+    let router = fields::address_found(document, outside, Name::Router);
+    let has_prefix = is_apart(network, address, prefix_length(document, outside));
+    let has_vrid = has_number(document, outside, Name::Vrid, 1, 255);
+    let has_wire = has_number(document, outside, Name::Wire, 1, 65535);
+    let has_router = fields::is_host(outer, router);
+    let has_mtu = has_number_or(document, outside, Name::Mtu, 1500, 576, 1500);
+    let has_echo = has_flag(document, icmp, Name::Echo, false);
+    let has_errors = has_flag(document, icmp, Name::Errors, false);
     [
-        (Key::whole(section), sections::is_section(document, section)),
-        (Key::new(section, Name::Echo), has_echo),
-        (Key::new(section, Name::Errors), has_errors),
+        (Key::new(outside, Name::Virtual), address.is_some()),
+        (Key::new(outside, Name::Prefix), has_prefix),
+        (Key::new(outside, Name::Vrid), has_vrid),
+        (Key::new(outside, Name::Wire), has_wire),
+        (Key::new(outside, Name::Router), has_router),
+        (Key::new(outside, Name::Mtu), has_mtu),
+        (Key::whole(icmp), sections::is_section(document, icmp)),
+        (Key::new(icmp, Name::Echo), has_echo),
+        (Key::new(icmp, Name::Errors), has_errors),
     ]
 }
 
-fn address_rows(
-    alloc: Global,
+/// What stands in a gateway's section.
+fn gateway_rows(
     document: &Table,
     section: Section,
     inside: Option<Prefix>,
     outside: Option<Prefix>,
-) -> Result<[(Key, bool); 4], AllocError>
-    ensures { IfOk result (λ rows. rows ≡ address_rows (option_map network_of_prefix inside)
-        (option_map network_of_prefix outside) (table_view document.now) section) }
+) -> [(Key, bool); 11]
+    ensures { result ≡ address_rows (option_map network_of_prefix inside)
+        (option_map network_of_prefix outside) (table_view document.now) section
+        ++ (role_rows (table_view document.now) section
+        ++ socket_rows (table_view document.now) section) }
 {
-    let inside_ip = fields::address_found(alloc, document, section, Name::InsideIp)?;
-    let inside_mac = has_mac(alloc, document, section, Name::InsideMac)?;
-    let outside_ip = fields::address_found(alloc, document, section, Name::OutsideIp)?;
-    let outside_mac = has_mac(alloc, document, section, Name::OutsideMac)?;
-    Ok([
-        (
-            Key::new(section, Name::InsideIp),
-            fields::is_host(inside, inside_ip),
-        ),
-        (Key::new(section, Name::InsideMac), inside_mac),
-        (
-            Key::new(section, Name::OutsideIp),
-            fields::is_host(outside, outside_ip),
-        ),
-        (Key::new(section, Name::OutsideMac), outside_mac),
-    ])
-}
-
-fn role_rows(document: &Table, section: Section) -> [(Key, bool); 4]
-    ensures { result ≡ role_rows (table_view document.now) section }
-{
-    let has_priority = has_number_or(document, section, Name::Priority, 254);
-    let has_interval = has_number_or(document, section, Name::Interval, 4095);
+    let inside_ip = fields::address_found(document, section, Name::InsideIp);
+    let inside_mac = fields::mac_found(document, section, Name::InsideMac);
+    let outside_ip = fields::address_found(document, section, Name::OutsideIp);
+    let outside_mac = fields::mac_found(document, section, Name::OutsideMac);
+    let has_inside_ip = fields::is_host(inside, inside_ip);
+    let has_outside_ip = fields::is_host(outside, outside_ip);
+    let has_priority = has_number_or(document, section, Name::Priority, 100, 1, 254);
+    let has_interval = has_number_or(document, section, Name::Interval, 100, 1, 4095);
     let has_preempt = has_flag(document, section, Name::Preempt, true);
-    let has_file = has_text(document, section, Name::BootFile);
+    let has_file = fields::text(document, section, Name::BootFile).is_some();
+    let has_link = has_number(document, section, Name::Link, 1, 65535);
+    let has_inside_port = has_number(document, section, Name::InsidePort, 1, 65535);
+    let has_outside_port = has_number(document, section, Name::OutsidePort, 1, 65535);
     [
+        (Key::new(section, Name::InsideIp), has_inside_ip),
+        (Key::new(section, Name::InsideMac), inside_mac.is_some()),
+        (Key::new(section, Name::OutsideIp), has_outside_ip),
+        (Key::new(section, Name::OutsideMac), outside_mac.is_some()),
         (Key::new(section, Name::Priority), has_priority),
         (Key::new(section, Name::Interval), has_interval),
         (Key::new(section, Name::Preempt), has_preempt),
         (Key::new(section, Name::BootFile), has_file),
-    ]
-}
-
-fn socket_rows(document: &Table, section: Section) -> [(Key, bool); 3]
-    ensures { result ≡ socket_rows (table_view document.now) section }
-{
-    let has_link = has_number(document, section, Name::Link, 1, 65535);
-    let has_inside = has_number(document, section, Name::InsidePort, 1, 65535);
-    let has_outside = has_number(document, section, Name::OutsidePort, 1, 65535);
-    [
         (Key::new(section, Name::Link), has_link),
-        (Key::new(section, Name::InsidePort), has_inside),
-        (Key::new(section, Name::OutsidePort), has_outside),
+        (Key::new(section, Name::InsidePort), has_inside_port),
+        (Key::new(section, Name::OutsidePort), has_outside_port),
     ]
-}
-
-fn add_bad_of_gateway(
-    alloc: Global,
-    document: &Table,
-    section: Section,
-    inside: Option<Prefix>,
-    outside: Option<Prefix>,
-    found: &mut Vec<Key>,
-) -> Result<(), AllocError>
-    ensures { OnOk result (found.new.items ≡ found.old.items
-        ++ all_bad_of_gateway (option_map network_of_prefix inside)
-        (option_map network_of_prefix outside) (table_view document.now) section) }
-{
-    let rows = address_rows(alloc, document, section, inside, outside)?;
-    add_bad(&rows, found)?;
-    add_bad(&role_rows(document, section), found)?;
-    add_bad(&socket_rows(document, section), found)?;
-    Ok(())
 }
 
 /// All keys whose values are bad, in the order of the text.
-#[tactic(auto, unfolding(crate::specs::Listing::all_bad_values))]
 pub(crate) fn all_bad_values(alloc: Global, document: &Table) -> Result<Vec<Key>, AllocError>
     ensures { IfOk result (λ found. found.items ≡ all_bad_values (table_view document.now)) }
 {
-    let inside = network(alloc, document, Section::Inside)?;
-    let outside = network(alloc, document, Section::Outside)?;
+    let inside = network(document, Section::Inside);
+    let outside = network(document, Section::Outside);
     let mut found = Vec::new(alloc);
-    add_bad(&port_rows(document), &mut found)?;
-    let rows = inside_rows(alloc, document)?;
+    add_bad(&front_rows(document), &mut found)?;
+    add_bad(&behind_rows(document, inside, outside), &mut found)?;
+    let rows = gateway_rows(document, Section::GatewayZero, inside, outside);
     add_bad(&rows, &mut found)?;
-    let rows = outside_rows(alloc, document, inside, outside)?;
+    let rows = gateway_rows(document, Section::GatewayOne, inside, outside);
     add_bad(&rows, &mut found)?;
-    add_bad(&icmp_rows(document), &mut found)?;
-    add_bad_of_gateway(
-        alloc,
-        document,
-        Section::GatewayZero,
-        inside,
-        outside,
-        &mut found,
-    )?;
-    add_bad_of_gateway(
-        alloc,
-        document,
-        Section::GatewayOne,
-        inside,
-        outside,
-        &mut found,
-    )?;
-    neighbours::add_bad_neighbours(alloc, document, inside, outside, &mut found)?;
+    neighbours::add_bad_neighbours(document, inside, outside, &mut found)?;
     Ok(found)
 }

@@ -127,37 +127,29 @@ fn side_of(neighbour: &Value) -> Option<Side>
 }
 
 #[tactic(auto, unfolding(crate::specs::Neighbours::ip_of))]
-fn ip_of(alloc: Global, neighbour: &Value) -> Result<Option<Ip>, AllocError>
-    ensures { IfOk result
-        (λ found. option_map (λ ip. ip.0) found ≡ ip_of (view neighbour.now)) }
+fn ip_of(neighbour: &Value) -> Option<Ip>
+    ensures { option_map (λ ip. ip.0) result ≡ ip_of (view neighbour.now) }
 {
     match text(neighbour, Name::Ip) {
-        Some(text) => texts::address_of(alloc, text),
-        None => Ok(None),
+        Some(text) => texts::address_of(text),
+        None => None,
     }
 }
 
 #[tactic(auto, unfolding(crate::specs::Neighbours::mac_at_of))]
-fn mac_at_of(alloc: Global, neighbour: &Value) -> Result<Option<Mac>, AllocError>
-    ensures { IfOk result
-        (λ found. option_map (λ mac. mac.0) found ≡ mac_at_of (view neighbour.now)) }
+fn mac_at_of(neighbour: &Value) -> Option<Mac>
+    ensures { option_map (λ mac. mac.0) result ≡ mac_at_of (view neighbour.now) }
 {
     match text(neighbour, Name::Mac) {
-        Some(text) => texts::mac_of(alloc, text),
-        None => Ok(None),
+        Some(text) => texts::mac_of(text),
+        None => None,
     }
 }
 
 /// The keys of a neighbour, each with whether its value is good.
-fn value_rows(
-    alloc: Global,
-    table: &Value,
-    inside: Option<Prefix>,
-    outside: Option<Prefix>,
-) -> Result<[(Key, bool); 3], AllocError>
-    ensures { IfOk result (λ rows. rows
-        ≡ neighbour_value_rows (option_map network_of_prefix inside)
-        (option_map network_of_prefix outside) (view table.now)) }
+fn value_rows(table: &Value, inside: Option<Prefix>, outside: Option<Prefix>) -> [(Key, bool); 3]
+    ensures { result ≡ neighbour_value_rows (option_map network_of_prefix inside)
+        (option_map network_of_prefix outside) (view table.now) }
 {
     let side = side_of(table);
     let network = match side {
@@ -165,20 +157,16 @@ fn value_rows(
         Some(Side::Outside) => outside,
         None => None,
     };
-    let ip = ip_of(alloc, table)?;
-    let mac = mac_at_of(alloc, table)?;
-    Ok([
+    let has_ip = fields::is_host(network, ip_of(table));
+    let has_mac = mac_at_of(table).is_some();
+    [
         (Key::new(Section::Neighbour, Name::Side), side.is_some()),
-        (
-            Key::new(Section::Neighbour, Name::Ip),
-            fields::is_host(network, ip),
-        ),
-        (Key::new(Section::Neighbour, Name::Mac), mac.is_some()),
-    ])
+        (Key::new(Section::Neighbour, Name::Ip), has_ip),
+        (Key::new(Section::Neighbour, Name::Mac), has_mac),
+    ]
 }
 
 fn add_bad_in(
-    alloc: Global,
     tables: &[Value],
     inside: Option<Prefix>,
     outside: Option<Prefix>,
@@ -189,15 +177,13 @@ fn add_bad_in(
         (option_map network_of_prefix outside)) (map view tables.now)) }
 {
     for table in tables {
-        let rows = value_rows(alloc, table, inside, outside)?;
-        add_bad(&rows, found)?;
+        add_bad(&value_rows(table, inside, outside), found)?;
     }
     Ok(())
 }
 
 /// Adds the keys of the neighbours whose values are bad.
 pub(crate) fn add_bad_neighbours(
-    alloc: Global,
     document: &Table,
     inside: Option<Prefix>,
     outside: Option<Prefix>,
@@ -208,9 +194,7 @@ pub(crate) fn add_bad_neighbours(
         (neighbours_of (table_view document.now))) }
 {
     match tables(document) {
-        Some(tables) if tables.len() <= NEIGHBOURS => {
-            add_bad_in(alloc, tables, inside, outside, found)
-        }
+        Some(tables) if tables.len() <= NEIGHBOURS => { add_bad_in(tables, inside, outside, found) }
         _ => {
             found.push(Key::whole(Section::Neighbour))?;
             Ok(())
@@ -220,12 +204,7 @@ pub(crate) fn add_bad_neighbours(
 
 /// The neighbour that a table says: its address lies in its side's network.
 #[tactic(auto, unfolding(crate::specs::Neighbours::bad_neighbour, crate::specs::Neighbours::neighbour_in))]
-fn neighbour(
-    alloc: Global,
-    table: &Value,
-    inside: Prefix,
-    outside: Prefix,
-) -> Result<Neighbour, ValueFault>
+fn neighbour(table: &Value, inside: Prefix, outside: Prefix) -> Result<Neighbour, ValueFault>
     ensures ok { IfOk result (λ n. neighbour_in (view table.now) ≡ Some n) }
     ensures bad { FindsBad (bad_neighbour (Some (inside.address.0, inside.length))
         (Some (outside.address.0, outside.length)) (view table.now)) result }
@@ -237,16 +216,14 @@ fn neighbour(
         Side::Inside => inside,
         Side::Outside => outside,
     };
-    let Some(ip) = ip_of(alloc, table)? else {
-        return Err(ValueFault::BadValue(Key::new(Section::Neighbour, Name::Ip)));
+    let ip = match ip_of(table) {
+        Some(ip) if fields::is_in(ip, network) => ip,
+        _ => return Err(ValueFault::BadValue(Key::new(Section::Neighbour, Name::Ip))),
     };
-    if !fields::is_in(ip, network) {
-        return Err(ValueFault::BadValue(Key::new(Section::Neighbour, Name::Ip)));
+    match mac_at_of(table) {
+        Some(mac) => Ok(Neighbour { side, ip, mac }),
+        None => Err(ValueFault::BadValue(Key::new(Section::Neighbour, Name::Mac))),
     }
-    let Some(mac) = mac_at_of(alloc, table)? else {
-        return Err(ValueFault::BadValue(Key::new(Section::Neighbour, Name::Mac)));
-    };
-    Ok(Neighbour { side, ip, mac })
 }
 
 fn neighbours_in(
@@ -262,7 +239,7 @@ fn neighbours_in(
 {
     let mut neighbours = Vec::new(alloc);
     for table in tables {
-        let neighbour = neighbour(alloc, table, inside, outside)?;
+        let neighbour = neighbour(table, inside, outside)?;
         neighbours.push(neighbour)?;
     }
     Ok(neighbours)

@@ -13,7 +13,6 @@ use crate::faults::ValueFault;
 use crate::{Key, Name, Section, fields};
 use addresses::{Ip, Prefix};
 use settings::{IcmpSettings, InterfaceSettings, PortRange};
-use std::alloc::Global;
 use toml::Table;
 
 /// The two gateways' port ranges, and the limit of each inside host where there is one.
@@ -33,11 +32,11 @@ pub(crate) fn ports(document: &Table) -> Result<(PortRange, PortRange, Option<u1
 
 /// The inside network.
 #[tactic(auto, unfolding(crate::specs::Rows::bad_inside))]
-pub(crate) fn inside(alloc: Global, document: &Table) -> Result<InterfaceSettings, ValueFault>
+pub(crate) fn inside(document: &Table) -> Result<InterfaceSettings, ValueFault>
     ensures ok { IfOk result (IsInterface (table_view document.now) Inside) }
     ensures bad { FindsBad (bad_inside (table_view document.now)) result }
 {
-    let virtual_ip = fields::address(alloc, document, Section::Inside, Name::Virtual)?;
+    let virtual_ip = fields::address(document, Section::Inside, Name::Virtual)?;
     let prefix_length = fields::number(document, Section::Inside, Name::Prefix, 8, 30)? as u8;
     let virtual_router = fields::number(document, Section::Inside, Name::Vrid, 1, 255)? as u8;
     let wire = fields::number(document, Section::Inside, Name::Wire, 1, 65535)?;
@@ -65,7 +64,6 @@ pub(crate) fn is_apart(network: Prefix, address: Ip, length: u8) -> bool
 /// The outside network, which shares no address with the inside one, and the router, which lies in it.
 #[tactic(auto, unfolding(crate::specs::Rows::bad_outside, crate::specs::Rows::network_at))]
 pub(crate) fn outside(
-    alloc: Global,
     document: &Table,
     inside: Prefix,
 ) -> Result<(InterfaceSettings, Ip), ValueFault>
@@ -77,7 +75,7 @@ pub(crate) fn outside(
     ensures bad { FindsBad (bad_outside (Some (inside.address.0, inside.length))
         (network_at (table_view document.now) Outside) (table_view document.now)) result }
 {
-    let virtual_ip = fields::address(alloc, document, Section::Outside, Name::Virtual)?;
+    let virtual_ip = fields::address(document, Section::Outside, Name::Virtual)?;
     let prefix_length = fields::number(document, Section::Outside, Name::Prefix, 8, 30)? as u8;
     if !is_apart(inside, virtual_ip, prefix_length) {
         return Err(ValueFault::BadValue(Key::new(Section::Outside, Name::Prefix)));
@@ -85,7 +83,7 @@ pub(crate) fn outside(
     let virtual_router = fields::number(document, Section::Outside, Name::Vrid, 1, 255)? as u8;
     let wire = fields::number(document, Section::Outside, Name::Wire, 1, 65535)?;
     let network = Prefix::new(virtual_ip, prefix_length);
-    let router = fields::host(alloc, document, Section::Outside, Name::Router, network)?;
+    let router = fields::host(document, Section::Outside, Name::Router, network)?;
     let mtu = fields::number_or(document, Section::Outside, Name::Mtu, 1500, 576, 1500)?;
     let outside = InterfaceSettings {
         virtual_ip,

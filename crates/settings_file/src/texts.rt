@@ -1,10 +1,8 @@
 //! Addresses as the settings write them.
-ghost use Rattle.std.specs.Prelude.{◌≡◌, ◌<◌, map, option_map, IfOk, IfSome};
-ghost use Rattle.std.specs.List.{slice_split};
+ghost use Rattle.std.specs.Prelude.{◌≡◌, ◌<◌, ◌∷◌, [], None, map, option_map, IfSome};
 ghost use Rattle.settings_file.specs.Texts.{digit_of, nibble_of, two_digits_of, three_digits_of, number_of, joined, octet_of, pair_of, parts_at, address_in, address_of, mac_in, mac_of};
 
 use addresses::{Ip, Mac};
-use std::alloc::{AllocError, Global};
 
 fn digit(byte: u8) -> Option<u16>
     ensures value { result ≡ digit_of byte }
@@ -96,55 +94,93 @@ fn pair(word: &str) -> Option<u8>
     }
 }
 
-/// What stands between the separators.
-fn parts_at(alloc: Global, text: &str, separator: char) -> Result<Vec<&str>, AllocError>
+/// What stands before the first separator, and what stands behind it.
+fn cut(text: &str, separator: char) -> Option<(&str, &str)>
     requires { separator < 128 }
-    ensures { IfOk result (λ v. map (λ part. part.now) v.items ≡ parts_at separator text.now) }
+    ensures some { IfSome result
+        (λ r. parts_at separator text.now ≡ r.0.now ∷ parts_at separator r.1.now) }
+    ensures none { result ≡ None → parts_at separator text.now ≡ text.now ∷ [] }
 {
-    text.split(separator).collect(alloc)
+    text.split_once(separator)
 }
 
-fn address_in(parts: &[&str]) -> Option<Ip>
-    ensures { option_map (λ ip. ip.0) result ≡ address_in (map (λ part. part.now) parts.now) }
+/// The address of four decimal numbers.
+fn address_in(a: &str, b: &str, c: &str, d: &str) -> Option<Ip>
+    ensures { option_map (λ ip. ip.0) result
+        ≡ address_in (a.now ∷ b.now ∷ c.now ∷ d.now ∷ []) }
 {
-    match parts {
-        [a, b, c, d] => match (octet(a), octet(b), octet(c), octet(d)) {
-            (Some(a), Some(b), Some(c), Some(d)) => Some(Ip::new([a, b, c, d])),
-            _ => None,
-        },
-        _ => None,
-    }
-}
-
-fn mac_in(parts: &[&str]) -> Option<Mac>
-    ensures { option_map (λ mac. mac.0) result ≡ mac_in (map (λ part. part.now) parts.now) }
-{
-    match parts {
-        [a, b, c, d, e, f] => match (pair(a), pair(b), pair(c), pair(d), pair(e), pair(f)) {
-            (Some(a), Some(b), Some(c), Some(d), Some(e), Some(f)) => {
-                Some(Mac([a, b, c, d, e, f]))
-            }
-            _ => None,
-        },
-        _ => None,
-    }
+    let Some(a) = octet(a) else { return None };
+    let Some(b) = octet(b) else { return None };
+    let Some(c) = octet(c) else { return None };
+    let Some(d) = octet(d) else { return None };
+    Some(Ip::new([a, b, c, d]))
 }
 
 /// The address that a text writes, as `192.0.2.1`, where it writes one.
-#[tactic(auto, unfolding(crate::specs::Texts::address_of))]
-pub(crate) fn address_of(alloc: Global, text: &str) -> Result<Option<Ip>, AllocError>
-    ensures { IfOk result (λ found. option_map (λ ip. ip.0) found ≡ address_of text.now) }
+#[tactic(auto, using(crate::proofs::Cuts::five_parts), unfolding(crate::specs::Texts::address_of))]
+pub(crate) fn address_of(text: &str) -> Option<Ip>
+    ensures { option_map (λ ip. ip.0) result ≡ address_of text.now }
 {
-    let parts = parts_at(alloc, text, '.')?;
-    Ok(address_in(parts.as_slice()))
+    let Some((a, rest)) = cut(text, '.') else {
+        return None
+    };
+    let Some((b, rest)) = cut(rest, '.') else {
+        return None
+    };
+    let Some((c, rest)) = cut(rest, '.') else {
+        return None
+    };
+    match cut(rest, '.') {
+        Some(_) => None,
+        None => address_in(a, b, c, rest),
+    }
+}
+
+/// The address of six pairs of digits.
+fn mac_in(parts: [&str; 6]) -> Option<Mac>
+    ensures { option_map (λ mac. mac.0) result ≡ mac_in (map (λ part. part.now) parts.entry) }
+{
+    let [a, b, c, d, e, f] = parts;
+    let Some(a) = pair(a) else { return None };
+    let Some(b) = pair(b) else { return None };
+    let Some(c) = pair(c) else { return None };
+    let Some(d) = pair(d) else { return None };
+    let Some(e) = pair(e) else { return None };
+    let Some(f) = pair(f) else { return None };
+    Some(Mac([a, b, c, d, e, f]))
+}
+
+/// The Ethernet address that a text writes with this separator between each two pairs.
+#[tactic(auto, using(crate::proofs::Cuts::seven_parts))]
+fn mac_with(text: &str, separator: char) -> Option<Mac>
+    requires { separator < 128 }
+    ensures { option_map (λ mac. mac.0) result ≡ mac_in (parts_at separator text.now) }
+{
+    let Some((a, rest)) = cut(text, separator) else {
+        return None
+    };
+    let Some((b, rest)) = cut(rest, separator) else {
+        return None
+    };
+    let Some((c, rest)) = cut(rest, separator) else {
+        return None
+    };
+    let Some((d, rest)) = cut(rest, separator) else {
+        return None
+    };
+    let Some((e, rest)) = cut(rest, separator) else {
+        return None
+    };
+    match cut(rest, separator) {
+        Some(_) => None,
+        None => mac_in([a, b, c, d, e, rest]),
+    }
 }
 
 /// The address that a text writes, as `02-00-00-00-01-00` or `02:00:00:00:01:00`, where it writes one.
 #[tactic(auto, unfolding(crate::specs::Texts::mac_of))]
-pub(crate) fn mac_of(alloc: Global, text: &str) -> Result<Option<Mac>, AllocError>
-    ensures { IfOk result (λ found. option_map (λ mac. mac.0) found ≡ mac_of text.now) }
+pub(crate) fn mac_of(text: &str) -> Option<Mac>
+    ensures { option_map (λ mac. mac.0) result ≡ mac_of text.now }
 {
-    let dashed = parts_at(alloc, text, '-')?;
-    let joined = parts_at(alloc, text, ':')?;
-    Ok(mac_in(dashed.as_slice()).or(mac_in(joined.as_slice())))
+    mac_with(text, '-').or(mac_with(text, ':'))
 }

@@ -10,6 +10,6 @@ use Rattle.settings_file.proofs.neighbours.add_bad_in.Goals as goal
 pub loop-table-preserved : goal.loop-table-preserved
 loop-table-preserved c =
     let l = c.loop-table in
-    let added = c.in_ok-add_bad.ensures ∙ ap (λ rows. l.found.items ++ all_bad rows) c.in_ok-rows.ensures in
+    let added = c.in_ok-add_bad.ensures ∙ ap (λ rows. l.found.items ++ all_bad rows) c.value_rows.ensures in
     found_item (λ vs. flat_map (all_bad_of_neighbour (option_map network_of_prefix c.args.inside) (option_map network_of_prefix c.args.outside)) (map view vs))
     _ l.found.items _ _ c.args.tables.now l.table-index c.table-item.result c.table-item.is c.loop-table-test.true added refl l.invariant
