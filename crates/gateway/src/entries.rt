@@ -31,12 +31,9 @@ pub(crate) fn pair_count(packets: &[HeldPacket]) -> usize
         .count()
 }
 
-/// How many packets wait for next hops.
+/// How many packets wait for next hops: all others.
 pub(crate) fn hop_count(packets: &[HeldPacket]) -> usize
     ensures { result ≡ hops_in packets.now }
 {
-    packets
-        .iter()
-        .filter(|packet| !packet.wait.is_for_pair())
-        .count()
+    packets.len() - pair_count(packets)
 }

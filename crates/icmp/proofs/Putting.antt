@@ -1,6 +1,8 @@
 -- Parts that are written one after the other.
 use Rattle.std.proofs.Common.{◌≡◌, ℕ, ◌+◌, List, ◌++◌, length, take, drop, sym, ap, ◌∙◌, arith, append_assoc, length-append}
 use Rattle.std.proofs.lemmas.List.{drop-drop, drop_at, take_at}
+use Rattle.addresses.specs.declared.Ip.{Ip}
+use Rattle.icmp.specs.Own.{own_message, own_packet}
 
 -- a header, then a head, then what is carried, into bytes that begin with the header already
 after-header : (header head out : List ℕ) → length header ≡ 20
@@ -24,3 +26,10 @@ three-parts header head carried out n inner size eight is_n is =
     ∙ (ap (λ (xs : List ℕ). (header ++ head) ++ (carried ++ xs)) left
     ∙ (sym (append_assoc (header ++ head) carried (drop (28 + length carried) out))
     ∙ ap (λ (xs : List ℕ). xs ++ drop (28 + length carried) out) (append_assoc header head carried)))
+
+-- a packet of the box says the same where its parts are the same
+pub same-packet : {service service2 : ℕ} {from from2 to to2 : Ip} {carried carried2 : List ℕ} (kind code first second : ℕ) (rest : List ℕ)
+    → service ≡ service2 → from ≡ from2 → to ≡ to2 → carried ≡ carried2
+    → own_packet service from.0 to.0 (own_message kind code first second carried) ++ rest
+    ≡ own_packet service2 from2.0 to2.0 (own_message kind code first second carried2) ++ rest
+same-packet kind code first second rest service from to carried = cc

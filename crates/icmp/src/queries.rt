@@ -148,7 +148,7 @@ fn no_identifier(message: &[u8]) -> bool
     if message.len() < field::HEADER {
         return true;
     }
-    identifier(message) == Port(0)
+    identifier(message).0 == 0
 }
 
 /// The messages that aren't refused are those of the grammar; and the number that the definitions

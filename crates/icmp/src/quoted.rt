@@ -103,7 +103,7 @@ impl<'a> QuotedView<'a> {
         ensures bytes { result.now ≡ behind self.now.bytes.now }
         ensures long { 8 ≤ length result.now }
     {
-        &self.bytes[self.header_length()..]
+        behind(self.bytes)
     }
 }
 
@@ -119,6 +119,16 @@ fn header_length(bytes: &[u8]) -> usize
     ensures { result ≡ (header_of bytes.now).header_length }
 {
     4 * usize::from(bytes[field::VERSION_AND_LENGTH] % 16)
+}
+
+/// What stands behind the header.
+fn behind(bytes: &[u8]) -> &[u8]
+    requires long { 20 ≤ length bytes.now }
+    requires there { (header_of bytes.now).header_length + 8 ≤ length bytes.now }
+    ensures bytes { result.now ≡ behind bytes.now }
+    ensures long { 8 ≤ length result.now }
+{
+    &bytes[header_length(bytes)..]
 }
 
 fn fragment_offset(bytes: &[u8]) -> u16
@@ -198,7 +208,7 @@ fn no_query(bytes: &[u8]) -> bool
     if protocol(bytes) != PROTOCOL {
         return false;
     }
-    let behind = &bytes[header_length(bytes)..];
+    let behind = behind(bytes);
     !is_begun(Kind::Echo, behind) && !is_begun(Kind::Reply, behind)
 }
 
@@ -208,8 +218,8 @@ fn no_ports(bytes: &[u8]) -> bool
     ensures { result ≡ has_no_ports bytes.now }
 {
     let protocol = translated_protocol(bytes);
-    let behind = &bytes[header_length(bytes)..];
-    source_port(protocol, behind) == Port(0) || destination_port(protocol, behind) == Port(0)
+    let behind = behind(bytes);
+    source_port(protocol, behind).0 == 0 || destination_port(protocol, behind).0 == 0
 }
 
 /// Whether the bytes hold no packet that can be told.
