@@ -1,5 +1,5 @@
 -- One packet that is taken, and what was read of a kept one.
-use Rattle.std.proofs.Common.{◌≡◌, ℕ, ◌<◌, List, Result, Ok, inl, inr, sym, ap, subst, ◌∙◌}
+use Rattle.std.proofs.Common.{◌≡◌, ℕ, ◌<◌, ◌≤◌, ◌+◌, min, arith, List, Result, Ok, inl, inr, sym, ap, subst, ◌∙◌}
 use Rattle.addresses.specs.declared.ethernet.Mac.{Mac}
 use Rattle.addresses.specs.declared.internet.Ip.{Ip}
 use Rattle.nat_types.specs.declared.gateways.Side.{Side}
@@ -24,9 +24,12 @@ use Rattle.spec_step.specs.Parts.{by_plan, by_verdict, carried_all, flags_in, fl
 use Rattle.spec_step.specs.Shown.{GatewayAndOutput}
 use Rattle.spec_step.specs.Verdict.{exit_by, plan_of, error_plan, reading_on, reply_to}
 use Rattle.icmp.specs.declared.packets.ErrorPacket.{ErrorPacket}
+use Rattle.link.specs.Link.{Link, free_places}
+use Rattle.output.specs.declared.pages.Room.{Room}
 use Rattle.output.specs.Output.{Paged}
 use Rattle.forwarder.specs.declared.forwarders.Forwarder.{Forwarder}
 use Rattle.forwarder.specs.Forwarder.{scene_on}
+use Rattle.forwarder.specs.Room.{LeavesPlaces, Needs, Spends, a_packet, a_wish, an_ask, frames_alone, notes_alone}
 
 -- a packet that is translated comes from a port above 0
 pub source-above : (bytes : List ℕ) → IsForwardable bytes → 0 < (flow_in bytes).source_port.0
@@ -129,3 +132,48 @@ sent-as f f1 f2 f3 p p1 p2 p3 p4 side bytes packet by next exit hop read wanted 
     all =
         carried ∙ ap (λ (s : GatewayAndOutput). carried_all s packet.flow packet.flags by) sent
         ∙ ap (λ (x : Packet). carried_all told packet.flow x.flags by) read
+
+-- ---- what is spent of the room
+
+spends-more : (needs more : Needs) (f f2 : Forwarder) (p p2 : Paged) → needs.frames ≤ more.frames → needs.notes ≤ more.notes → needs.pairs ≤ more.pairs → Spends needs f p f2 p2 → Spends more f p f2 p2
+spends-more needs more f f2 p p2 frames notes pairs is =
+    let a = is.frames in
+    let b = is.notes in
+    let c = is.pairs in
+    record { frames = omega arith; datagrams = is.datagrams; notes = omega arith; pairs = omega arith }
+
+pub ask-spends : (f f2 : Forwarder) (p p2 : Paged) → Spends an_ask f p f2 p2 → Spends a_packet f p f2 p2
+ask-spends f f2 p p2 = spends-more an_ask a_packet f f2 p p2 (omega arith) (omega arith) (omega arith)
+
+pub wish-spends : (f f2 : Forwarder) (p p2 : Paged) → Spends a_wish f p f2 p2 → Spends a_packet f p f2 p2
+wish-spends f f2 p p2 = spends-more a_wish a_packet f f2 p p2 (omega arith) (omega arith) (omega arith)
+
+pub request-spends : (f f2 : Forwarder) (p p2 : Paged) → Spends (frames_alone 1) f p f2 p2 → Spends a_packet f p f2 p2
+request-spends f f2 p p2 = spends-more (frames_alone 1) a_packet f f2 p p2 (omega arith) (omega arith) (omega arith)
+
+pub frames-spend : (f f2 : Forwarder) (p p2 : Paged) → Spends (frames_alone 2) f p f2 p2 → Spends a_packet f p f2 p2
+frames-spend f f2 p p2 = spends-more (frames_alone 2) a_packet f f2 p p2 (omega arith) (omega arith) (omega arith)
+
+pub again-spends : (f f2 : Forwarder) (p p2 : Paged) → Spends (frames_alone 1) f p f2 p2 → Spends (frames_alone 2) f p f2 p2
+again-spends f f2 p p2 = spends-more (frames_alone 1) (frames_alone 2) f f2 p p2 (omega arith) (omega arith) (omega arith)
+
+-- a wish, a frame, the use of two pairs and a request
+pub sent-spends : (f f1 f2 f3 : Forwarder) (p p1 p2 p3 p4 : Paged) → Spends a_wish f p f1 p1 → p1.room ≡ record p2.room { frames = p2.room.frames + 1 } → Spends (notes_alone 2) f1 p2 f2 p3 → Spends (frames_alone 1) f2 p3 f3 p4
+    → Spends a_packet f p f3 p4
+sent-spends f f1 f2 f3 p p1 p2 p3 p4 wished framed carried asked =
+    let frames : p1.room.frames ≡ p2.room.frames + 1 = ap (λ (r : Room). r.frames) framed in
+    let notes : p1.room.notes ≡ p2.room.notes = ap (λ (r : Room). r.notes) framed in
+    record {
+      frames = omega arith;
+      datagrams = asked.datagrams ∙ carried.datagrams ∙ sym (ap (λ (r : Room). r.datagrams) framed) ∙ wished.datagrams;
+      notes = omega arith;
+      pairs = omega arith;
+    }
+
+-- nothing more is pushed
+pub kept-places : (f f1 f2 : Forwarder) → f2.link ≡ f1.link → LeavesPlaces f f1 → LeavesPlaces f f2
+kept-places f f1 f2 same places = subst (λ (e : Link). min 64 (free_places f.link) ≤ free_places e) (sym same) places
+
+-- nothing is pushed
+pub same-places : (f f2 : Forwarder) → f2.link ≡ f.link → LeavesPlaces f f2
+same-places f f2 same = subst (λ (e : Link). min 64 (free_places f.link) ≤ free_places e) (sym same) (omega arith)

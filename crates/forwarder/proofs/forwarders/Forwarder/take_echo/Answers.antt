@@ -3,9 +3,10 @@ use Rattle.waiting.specs.Packets.{HeldPacket, has_place}
 use Rattle.spec_step.specs.declared.plans.Reply.TheVariants.{Send, Ask, AskAgain}
 use Rattle.spec_step.specs.Parts.{by_reply}
 use Rattle.spec_step.specs.Verdict.{outcome_reply}
+use Rattle.forwarder.specs.declared.forwarders.Forwarder.{Forwarder}
 use Rattle.forwarder.specs.Forwarder.{scene_on, shown_of}
 use Rattle.forwarder.proofs.Planning.{reply-plan-holds}
-use Rattle.forwarder.proofs.Taking.{echo-taken-as, reply-made}
+use Rattle.forwarder.proofs.Taking.{again-spends, echo-taken-as, reply-made}
 use Rattle.forwarder.proofs.forwarders.Forwarder.take_echo.Goals as goal
 
 pub reply-requires-clause-may : goal.reply-requires-clause-may
@@ -56,3 +57,26 @@ returns-in-Ok-AskAgain-clause-outcome c = sym (ap outcome_reply (reply-made c.in
 
 pub returns-in-Err-clause-outcome : goal.returns-in-Err-clause-outcome
 returns-in-Err-clause-outcome c = ap outcome_reply (sym c.in-Err.is ∙ c.plan_reply.ensures)
+
+-- ---- what it takes
+
+pub returns-in-Ok-Send-clause-link : goal.returns-in-Ok-Send-clause-link
+returns-in-Ok-Send-clause-link c = c.reply.ensures.link
+
+pub returns-in-Ok-Send-clause-spends : goal.returns-in-Ok-Send-clause-spends
+returns-in-Ok-Send-clause-spends c = c.reply.ensures.spends
+
+pub returns-in_ok-copy-in-Ok-Ask-clause-spends : goal.returns-in_ok-copy-in-Ok-Ask-clause-spends
+returns-in_ok-copy-in-Ok-Ask-clause-spends c = again-spends c.args.self.now c.ask_for_reply.new.self c.args.page.now c.ask_for_reply.new.page c.ask_for_reply.ensures.spends
+
+pub returns-in-Ok-AskAgain-clause-link : goal.returns-in-Ok-AskAgain-clause-link
+returns-in-Ok-AskAgain-clause-link c = ap (λ (f : Forwarder). f.link) c.ask_again.ensures.rest
+
+pub returns-in-Ok-AskAgain-clause-spends : goal.returns-in-Ok-AskAgain-clause-spends
+returns-in-Ok-AskAgain-clause-spends c = again-spends c.args.self.now c.ask_again.new.self c.args.page.now c.ask_again.new.page c.ask_again.ensures.spends
+
+pub returns-in-Err-clause-link : goal.returns-in-Err-clause-link
+returns-in-Err-clause-link c = c.refuse_whole.ensures.link
+
+pub returns-in-Err-clause-spends : goal.returns-in-Err-clause-spends
+returns-in-Err-clause-spends c = c.refuse_whole.ensures.spends

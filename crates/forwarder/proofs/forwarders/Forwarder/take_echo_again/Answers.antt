@@ -2,9 +2,10 @@ use Rattle.std.proofs.Common.{List, Ok, Err, ap, refl, sym, ◌∙◌}
 use Rattle.waiting.specs.Packets.{HeldPacket, has_place}
 use Rattle.spec_step.specs.declared.plans.Reply.TheVariants.{Send, Ask, AskAgain}
 use Rattle.spec_step.specs.Parts.{by_reply}
+use Rattle.forwarder.specs.declared.forwarders.Forwarder.{Forwarder}
 use Rattle.forwarder.specs.Forwarder.{scene_on, shown_of}
 use Rattle.forwarder.proofs.Planning.{reply-plan-holds}
-use Rattle.forwarder.proofs.Taking.{echo-again-as, reply-made}
+use Rattle.forwarder.proofs.Taking.{again-spends, echo-again-as, reply-made}
 use Rattle.forwarder.proofs.forwarders.Forwarder.take_echo_again.Goals as goal
 
 pub reply-requires-clause-may : goal.reply-requires-clause-may
@@ -43,3 +44,26 @@ pub returns-in-Err-clause-scene : goal.returns-in-Err-clause-scene
 returns-in-Err-clause-scene c =
     c.refuse_whole.ensures.scene
     ∙ echo-again-as (scene_on c.args.self.now c.args.page.now) c.args.packet c.side_of-side.result c.bytes_of-bytes.result.now c.args.echo (Err c.in-Err.reason) c.side_of-side.ensures c.bytes_of-bytes.ensures (sym c.in-Err.is ∙ c.plan_reply.ensures)
+
+-- ---- what it takes
+
+pub returns-in-Ok-Send-clause-link : goal.returns-in-Ok-Send-clause-link
+returns-in-Ok-Send-clause-link c = c.reply.ensures.link
+
+pub returns-in-Ok-Send-clause-spends : goal.returns-in-Ok-Send-clause-spends
+returns-in-Ok-Send-clause-spends c = c.reply.ensures.spends
+
+pub returns-in-Ok-Ask-clause-spends : goal.returns-in-Ok-Ask-clause-spends
+returns-in-Ok-Ask-clause-spends c = again-spends c.args.self.now c.ask_for_reply.new.self c.args.page.now c.ask_for_reply.new.page c.ask_for_reply.ensures.spends
+
+pub returns-in-Ok-AskAgain-clause-link : goal.returns-in-Ok-AskAgain-clause-link
+returns-in-Ok-AskAgain-clause-link c = ap (λ (f : Forwarder). f.link) c.ask_again.ensures.rest
+
+pub returns-in-Ok-AskAgain-clause-spends : goal.returns-in-Ok-AskAgain-clause-spends
+returns-in-Ok-AskAgain-clause-spends c = again-spends c.args.self.now c.ask_again.new.self c.args.page.now c.ask_again.new.page c.ask_again.ensures.spends
+
+pub returns-in-Err-clause-link : goal.returns-in-Err-clause-link
+returns-in-Err-clause-link c = c.refuse_whole.ensures.link
+
+pub returns-in-Err-clause-spends : goal.returns-in-Err-clause-spends
+returns-in-Err-clause-spends c = c.refuse_whole.ensures.spends

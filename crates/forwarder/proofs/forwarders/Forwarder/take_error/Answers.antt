@@ -6,9 +6,10 @@ use Rattle.packet_rules.specs.Networks.{exit_of}
 use Rattle.spec_step.specs.declared.plans.Plan.TheVariants.{Send, Ask, AskAgain, Wait as WaitFor}
 use Rattle.spec_step.specs.Parts.{asked_again, by_error_plan}
 use Rattle.spec_step.specs.Verdict.{exit_by, outcome_by}
+use Rattle.forwarder.specs.declared.forwarders.Forwarder.{Forwarder}
 use Rattle.forwarder.specs.Forwarder.{scene_on, shown_of}
 use Rattle.forwarder.proofs.Planning.{error-plan-holds}
-use Rattle.forwarder.proofs.Taking.{error-taken-as, plan-made}
+use Rattle.forwarder.proofs.Taking.{again-spends, error-taken-as, plan-made}
 use Rattle.forwarder.proofs.forwarders.Forwarder.take_error.Goals as goal
 
 pub ask_for_error-requires-clause-place : goal.ask_for_error-requires-clause-place
@@ -67,3 +68,20 @@ returns-in-Ok-AskAgain-clause-outcome c = sym (ap outcome_by (plan-made c.in-Ok-
 
 pub returns-in-Err-clause-outcome : goal.returns-in-Err-clause-outcome
 returns-in-Err-clause-outcome c = ap outcome_by (sym c.in-Err.is ∙ c.plan_error.ensures)
+
+-- ---- what it takes
+
+pub returns-in-Ok-Send-clause-link : goal.returns-in-Ok-Send-clause-link
+returns-in-Ok-Send-clause-link c = c.pass.ensures.link
+
+pub returns-in-Ok-Send-clause-spends : goal.returns-in-Ok-Send-clause-spends
+returns-in-Ok-Send-clause-spends c = c.pass.ensures.spends
+
+pub returns-in_ok-copy-in-Ok-Ask-clause-spends : goal.returns-in_ok-copy-in-Ok-Ask-clause-spends
+returns-in_ok-copy-in-Ok-Ask-clause-spends c = c.ask_for_error.ensures.spends
+
+pub returns-in-Ok-AskAgain-clause-link : goal.returns-in-Ok-AskAgain-clause-link
+returns-in-Ok-AskAgain-clause-link c = ap (λ (f : Forwarder). f.link) c.ask_again.ensures.rest
+
+pub returns-in-Ok-AskAgain-clause-spends : goal.returns-in-Ok-AskAgain-clause-spends
+returns-in-Ok-AskAgain-clause-spends c = again-spends c.args.self.now c.ask_again.new.self c.args.page.now c.ask_again.new.page c.ask_again.ensures.spends

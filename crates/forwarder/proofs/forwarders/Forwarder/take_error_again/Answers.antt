@@ -5,9 +5,10 @@ use Rattle.waiting.specs.Packets.{HeldPacket, has_place}
 use Rattle.packet_rules.specs.Networks.{exit_of}
 use Rattle.spec_step.specs.declared.plans.Plan.TheVariants.{Send, Ask, AskAgain, Wait as WaitFor}
 use Rattle.spec_step.specs.Parts.{asked_again, by_error_plan}
+use Rattle.forwarder.specs.declared.forwarders.Forwarder.{Forwarder}
 use Rattle.forwarder.specs.Forwarder.{scene_on, shown_of}
 use Rattle.forwarder.proofs.Planning.{error-plan-holds}
-use Rattle.forwarder.proofs.Taking.{error-again-as, plan-made}
+use Rattle.forwarder.proofs.Taking.{again-spends, error-again-as, plan-made}
 use Rattle.forwarder.proofs.forwarders.Forwarder.take_error_again.Goals as goal
 
 pub ask_for_error-requires-clause-place : goal.ask_for_error-requires-clause-place
@@ -54,3 +55,20 @@ returns-in-Ok-AskAgain-clause-scene c =
 pub returns-in-Err-clause-scene : goal.returns-in-Err-clause-scene
 returns-in-Err-clause-scene c =
     error-again-as (scene_on c.args.self.now c.args.page.now) c.args.packet c.side_of.result c.args.packet.bytes c.args.reading (Err c.in-Err.field-0) c.side_of.ensures refl c.requires.read (sym c.in-Err.is ∙ c.plan_error.ensures)
+
+-- ---- what it takes
+
+pub returns-in-Ok-Send-clause-link : goal.returns-in-Ok-Send-clause-link
+returns-in-Ok-Send-clause-link c = c.pass.ensures.link
+
+pub returns-in-Ok-Send-clause-spends : goal.returns-in-Ok-Send-clause-spends
+returns-in-Ok-Send-clause-spends c = c.pass.ensures.spends
+
+pub returns-in-Ok-Ask-clause-spends : goal.returns-in-Ok-Ask-clause-spends
+returns-in-Ok-Ask-clause-spends c = c.ask_for_error.ensures.spends
+
+pub returns-in-Ok-AskAgain-clause-link : goal.returns-in-Ok-AskAgain-clause-link
+returns-in-Ok-AskAgain-clause-link c = ap (λ (f : Forwarder). f.link) c.ask_again.ensures.rest
+
+pub returns-in-Ok-AskAgain-clause-spends : goal.returns-in-Ok-AskAgain-clause-spends
+returns-in-Ok-AskAgain-clause-spends c = again-spends c.args.self.now c.ask_again.new.self c.args.page.now c.ask_again.new.page c.ask_again.ensures.spends

@@ -7,9 +7,10 @@ use Rattle.packet_rules.specs.Flows.{source_of}
 use Rattle.packet_rules.specs.Networks.{exit_of}
 use Rattle.spec_step.specs.declared.plans.Plan.TheVariants.{Send, Ask, AskAgain, Wait as WaitFor}
 use Rattle.spec_step.specs.Parts.{asked_again, by_plan, by_refusal}
+use Rattle.forwarder.specs.declared.forwarders.Forwarder.{Forwarder}
 use Rattle.forwarder.specs.Forwarder.{scene_on, shown_of}
 use Rattle.forwarder.proofs.Planning.{plan-holds}
-use Rattle.forwarder.proofs.Taking.{again-as, plan-made}
+use Rattle.forwarder.proofs.Taking.{again-as, ask-spends, plan-made, request-spends, same-places, wish-spends}
 use Rattle.forwarder.proofs.forwarders.Forwarder.take_flow_again.Goals as goal
 
 pub send-requires-clause-own : goal.send-requires-clause-own
@@ -82,3 +83,35 @@ returns-in-Err-clause-scene c =
     c.refuse.ensures.scene
     ∙ ap (λ (x : Side). by_refusal s x c.bytes_of-in-Err.result.now c.args.reading.flow c.in-Err.reason) (c.side_of-in-Err.ensures ∙ sym c.side_of.ensures)
     ∙ again-as s c.args.packet c.side_of.result c.bytes_of-in-Err.result.now c.args.reading (Err c.in-Err.reason) c.side_of.ensures c.bytes_of-in-Err.ensures c.requires.read (sym c.in-Err.is ∙ c.plan.ensures)
+
+-- ---- what it takes
+
+pub returns-in-Ok-Send-clause-spends : goal.returns-in-Ok-Send-clause-spends
+returns-in-Ok-Send-clause-spends c = c.send.ensures.spends
+
+pub returns-in-Ok-Send-clause-places : goal.returns-in-Ok-Send-clause-places
+returns-in-Ok-Send-clause-places c = c.send.ensures.places
+
+pub returns-in-Ok-Ask-clause-spends : goal.returns-in-Ok-Ask-clause-spends
+returns-in-Ok-Ask-clause-spends c = ask-spends c.args.self.now c.ask.new.self c.args.page.now c.ask.new.page c.ask.ensures.spends
+
+pub returns-in-Ok-Ask-clause-places : goal.returns-in-Ok-Ask-clause-places
+returns-in-Ok-Ask-clause-places c = c.ask.ensures.places
+
+pub returns-in-Ok-AskAgain-clause-spends : goal.returns-in-Ok-AskAgain-clause-spends
+returns-in-Ok-AskAgain-clause-spends c = request-spends c.args.self.now c.ask_again.new.self c.args.page.now c.ask_again.new.page c.ask_again.ensures.spends
+
+pub returns-in-Ok-AskAgain-clause-places : goal.returns-in-Ok-AskAgain-clause-places
+returns-in-Ok-AskAgain-clause-places c = same-places c.args.self.now c.ask_again.new.self (ap (λ (f : Forwarder). f.link) c.ask_again.ensures.rest)
+
+pub returns-in-Ok-Wait-clause-spends : goal.returns-in-Ok-Wait-clause-spends
+returns-in-Ok-Wait-clause-spends c = wish-spends c.args.self.now c.wait.new.self c.args.page.now c.wait.new.page c.wait.ensures.spends
+
+pub returns-in-Ok-Wait-clause-places : goal.returns-in-Ok-Wait-clause-places
+returns-in-Ok-Wait-clause-places c = c.wait.ensures.places
+
+pub returns-in-Err-clause-spends : goal.returns-in-Err-clause-spends
+returns-in-Err-clause-spends c = c.refuse.ensures.spends
+
+pub returns-in-Err-clause-places : goal.returns-in-Err-clause-places
+returns-in-Err-clause-places c = c.refuse.ensures.places

@@ -8,9 +8,10 @@ use Rattle.packet_rules.specs.Networks.{exit_of}
 use Rattle.spec_step.specs.declared.plans.Plan.TheVariants.{Send, Ask, AskAgain, Wait as WaitFor}
 use Rattle.spec_step.specs.Parts.{asked_again, by_plan}
 use Rattle.spec_step.specs.Verdict.{exit_by, outcome_by}
+use Rattle.forwarder.specs.declared.forwarders.Forwarder.{Forwarder}
 use Rattle.forwarder.specs.Forwarder.{scene_on, shown_of}
 use Rattle.forwarder.proofs.Planning.{plan-holds}
-use Rattle.forwarder.proofs.Taking.{plan-made, taken-as}
+use Rattle.forwarder.proofs.Taking.{ask-spends, plan-made, request-spends, same-places, taken-as, wish-spends}
 use Rattle.forwarder.proofs.forwarders.Forwarder.take_packet.Goals as goal
 
 pub send-requires-clause-own : goal.send-requires-clause-own
@@ -97,3 +98,35 @@ returns-in_ok-copy-in-Ok-Wait-clause-outcome c = sym (ap outcome_by (plan-made c
 
 pub returns-in-Err-clause-outcome : goal.returns-in-Err-clause-outcome
 returns-in-Err-clause-outcome c = ap outcome_by (sym c.in-Err.is ∙ c.plan.ensures)
+
+-- ---- what it takes
+
+pub returns-in-Ok-Send-clause-spends : goal.returns-in-Ok-Send-clause-spends
+returns-in-Ok-Send-clause-spends c = c.send.ensures.spends
+
+pub returns-in-Ok-Send-clause-places : goal.returns-in-Ok-Send-clause-places
+returns-in-Ok-Send-clause-places c = c.send.ensures.places
+
+pub returns-in_ok-copy-in-Ok-Ask-clause-spends : goal.returns-in_ok-copy-in-Ok-Ask-clause-spends
+returns-in_ok-copy-in-Ok-Ask-clause-spends c = ask-spends c.args.self.now c.ask.new.self c.args.page.now c.ask.new.page c.ask.ensures.spends
+
+pub returns-in_ok-copy-in-Ok-Ask-clause-places : goal.returns-in_ok-copy-in-Ok-Ask-clause-places
+returns-in_ok-copy-in-Ok-Ask-clause-places c = c.ask.ensures.places
+
+pub returns-in-Ok-AskAgain-clause-spends : goal.returns-in-Ok-AskAgain-clause-spends
+returns-in-Ok-AskAgain-clause-spends c = request-spends c.args.self.now c.ask_again.new.self c.args.page.now c.ask_again.new.page c.ask_again.ensures.spends
+
+pub returns-in-Ok-AskAgain-clause-places : goal.returns-in-Ok-AskAgain-clause-places
+returns-in-Ok-AskAgain-clause-places c = same-places c.args.self.now c.ask_again.new.self (ap (λ (f : Forwarder). f.link) c.ask_again.ensures.rest)
+
+pub returns-in_ok-copy-in-Ok-Wait-clause-spends : goal.returns-in_ok-copy-in-Ok-Wait-clause-spends
+returns-in_ok-copy-in-Ok-Wait-clause-spends c = wish-spends c.args.self.now c.wait.new.self c.args.page.now c.wait.new.page c.wait.ensures.spends
+
+pub returns-in_ok-copy-in-Ok-Wait-clause-places : goal.returns-in_ok-copy-in-Ok-Wait-clause-places
+returns-in_ok-copy-in-Ok-Wait-clause-places c = c.wait.ensures.places
+
+pub returns-in-Err-clause-spends : goal.returns-in-Err-clause-spends
+returns-in-Err-clause-spends c = c.refuse.ensures.spends
+
+pub returns-in-Err-clause-places : goal.returns-in-Err-clause-places
+returns-in-Err-clause-places c = c.refuse.ensures.places
