@@ -1,6 +1,6 @@
 //! Echos to the gateway itself (RFC 1122, section 3.2.2.6): which packets they are, and the frame that
 //! answers one.
-ghost use Rattle.std.specs.Prelude.{◌≡◌, ◌≤◌, ◌+◌, ◌++◌, length, take, vec_len, vec_capacity};
+ghost use Rattle.std.specs.Prelude.{◌≡◌, ◌≤◌, ◌+◌, ◌++◌, length, take, drop, vec_len, vec_capacity};
 ghost use Rattle.frames.specs.Frame.{frame_of, header_bytes};
 ghost use Rattle.ipv4.specs.Header.{payload_of};
 ghost use Rattle.icmp.specs.Ask.{IsAsk};
@@ -67,12 +67,20 @@ pub(crate) fn asked(packet: &Ipv4View<'_>) -> Asked
     }
 }
 
+/// What stands behind a frame's header.
+fn body_of(bytes: &[u8]) -> &[u8]
+    requires { 14 ≤ length bytes.now }
+    ensures { result.now ≡ drop 14 bytes.now }
+{
+    &bytes[14..]
+}
+
 /// The packet of a frame of which it is known that it has one.
 pub(crate) fn packet_of(bytes: &[u8]) -> Ipv4View<'_>
     requires { IsWhole bytes.now }
     ensures { result.bytes.now ≡ (frame_of bytes.now).body }
 {
-    match Ipv4View::parse(&bytes[14..]) {
+    match Ipv4View::parse(body_of(bytes)) {
         Ok(packet) => packet,
         Err(_fault) => unreachable!(),
     }

@@ -2,50 +2,31 @@
 ghost use Rattle.std.specs.Prelude.{◌≡◌};
 ghost use Rattle.packet_rules.specs.Reasons.{number_of};
 
+use std::fmt;
 use thiserror::Error;
 
 /// Why a frame was dropped.
 #[derive(Clone, Copy, Debug, PartialEq, Eq, Error)]
 pub enum Reason {
-    #[error("the frame is too short or too long")]
     ShortFrame,
-    #[error("the frame isn't for this gateway")]
     NotMine,
-    #[error("no IPv4 header")]
     BadHeader,
-    #[error("the IPv4 total length is wrong")]
     BadLength,
-    #[error("the IPv4 header checksum is wrong")]
     BadHeaderSum,
-    #[error("a fragment")]
     Fragment,
-    #[error("the time to live is over")]
     TtlOver,
-    #[error("neither UDP, TCP, a ping nor an ICMP error")]
     NotUdpTcp,
-    #[error("the UDP, TCP or ICMP header is wrong")]
     BadTransport,
-    #[error("the ARP packet is wrong")]
     BadArp,
-    #[error("the VRRP advertisement is wrong")]
     BadAdvert,
-    #[error("the gateway isn't up")]
     NotUp,
-    #[error("no pair translates the packet")]
     NoBinding,
-    #[error("no port is free")]
     NoPort,
-    #[error("the packet would have to wait and can't")]
     CannotWait,
-    #[error("the link datagram is wrong")]
     BadDatagram,
-    #[error("the operator's word is of a boot below the known one")]
     OldWord,
-    #[error("the host has all the pairs that it may have")]
     HostLimit,
-    #[error("the packet is too long for its side")]
     TooLong,
-    #[error("too many answers in this second")]
     TooMany,
 }
 
@@ -55,5 +36,32 @@ impl Reason {
         ensures { result ≡ number_of self }
     {
         self as u8 + 1
+    }
+}
+
+impl fmt::Display for Reason {
+    fn fmt<W: fmt::Write>(&self, f: &mut fmt::Formatter<W>) -> fmt::Result {
+        f.write_str(match self {
+            Reason::ShortFrame => "the frame is too short or too long",
+            Reason::NotMine => "the frame isn't for this gateway",
+            Reason::BadHeader => "no IPv4 header",
+            Reason::BadLength => "the IPv4 total length is wrong",
+            Reason::BadHeaderSum => "the IPv4 header checksum is wrong",
+            Reason::Fragment => "a fragment",
+            Reason::TtlOver => "the time to live is over",
+            Reason::NotUdpTcp => "neither UDP, TCP, a ping nor an ICMP error",
+            Reason::BadTransport => "the UDP, TCP or ICMP header is wrong",
+            Reason::BadArp => "the ARP packet is wrong",
+            Reason::BadAdvert => "the VRRP advertisement is wrong",
+            Reason::NotUp => "the gateway isn't up",
+            Reason::NoBinding => "no pair translates the packet",
+            Reason::NoPort => "no port is free",
+            Reason::CannotWait => "the packet would have to wait and can't",
+            Reason::BadDatagram => "the link datagram is wrong",
+            Reason::OldWord => "the operator's word is of a boot below the known one",
+            Reason::HostLimit => "the host has all the pairs that it may have",
+            Reason::TooLong => "the packet is too long for its side",
+            Reason::TooMany => "too many answers in this second",
+        })
     }
 }

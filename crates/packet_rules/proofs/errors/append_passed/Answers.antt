@@ -1,21 +1,28 @@
-use Rattle.std.proofs.Common.{◌≡◌, ◌++◌, length, drop, ap, sym, ◌∙◌, arith, rules}
+use Rattle.std.proofs.Common.{◌≡◌, ◌≤◌, ◌++◌, length, drop, ap, arith, rules}
 use Rattle.frames.specs.Frame.{frame_of}
-use Rattle.icmp.specs.Packet.{error_flow}
-use Rattle.ipv4.specs.Header.{header_of}
+use Rattle.icmp.specs.Packet.{IsErrorPacket, error_flow}
+use Rattle.ipv4.specs.Header.{IsIpv4, header_of}
 use Rattle.packet_rules.specs.Flows.{error_flow_in}
 use Rattle.packet_rules.specs.Errors.{passed_by, passed_frame}
 use Rattle.packet_rules.specs.Frames.{sent_header}
-use Rattle.packet_rules.proofs.Cut.{tail_cut, tail_there}
+use Rattle.packet_rules.proofs.Cut.{at_tail, tail_cut, tail_there}
 use Rattle.packet_rules.proofs.errors.append_passed.Goals as goal
 
-pub pass_tail-requires-clause-read : goal.pass_tail-requires-clause-read
+pub pass_tail-requires : goal.pass_tail-requires
 unfolding error_flow_in
-pass_tail-requires-clause-read c =
+pass_tail-requires c =
     let list = c.args.list.now.items in
     let bytes = c.args.bytes.now in
-    let at : c.len-start.result ≡ length list = search rules in
-    let behind : drop c.len-start.result (list ++ bytes) ≡ bytes = tail_there list bytes c.len-start.result at in
-    ap (λ p. p.flow) c.requires.read ∙ sym (ap (λ xs. error_flow (frame_of xs).body) (ap (λ xs. drop c.len-start.result xs) c.append_reserved.ensures.items ∙ behind))
+    let start = c.len-start.result in
+    let at : start ≡ length list = search rules in
+    let items = c.append_reserved.ensures.items in
+    record {
+      whole = omega (arith, c.append_reserved.ensures.len, c.len-start.ensures, c.requires.passable.whole);
+      ipv4 = at_tail (λ xs. IsIpv4 (frame_of xs).body) list bytes _ start at items c.requires.passable.ipv4;
+      error = at_tail (λ xs. IsErrorPacket (frame_of xs).body) list bytes _ start at items c.requires.passable.error;
+      ttl = at_tail (λ xs. 2 ≤ (header_of (frame_of xs).body).ttl) list bytes _ start at items c.requires.passable.ttl;
+      read = at_tail (λ xs. c.args.packet.now.flow ≡ error_flow (frame_of xs).body) list bytes _ start at items (ap (λ p. p.flow) c.requires.read);
+    }
 
 pub returns-clause-items : goal.returns-clause-items
 unfolding passed_frame
