@@ -4,3 +4,4 @@ pub mod Filters
 pub mod Tasks
 pub mod Faults
 pub mod Arguments
+pub mod Entries

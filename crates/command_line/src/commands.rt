@@ -1,8 +1,9 @@
 //! The commands.
 ghost use Rattle.std.specs.Prelude.{◌≡◌, codes, false, IfOk};
-ghost use Rattle.clap.specs.Words.{App, app_of, new_app, with_subcommand};
+ghost use Rattle.clap.specs.Words.{app_of, new_app};
 ghost use Rattle.clap.specs.declared.builder.command.Command.TheViews.{out-Command as fields_of};
 ghost use Rattle.command_line.specs.Arguments.{with_all};
+ghost use Rattle.command_line.specs.Entries.{app_for};
 ghost use Rattle.command_line.specs.Line.{check_app, gate_app, init_app, line_app, loop_app};
 ghost use Rattle.command_line.specs.Line.{pairs_app, peer_off_app, side_app, sim_app, status_app};
 ghost use Rattle.command_line.specs.Line.{stop_app, top_app};
@@ -11,6 +12,35 @@ use crate::VERSION;
 use crate::options::{Argument, Form};
 use clap::Command;
 use std::alloc::{AllocError, Global};
+
+/// Which of the commands it is.
+#[derive(Clone, Copy)]
+pub(crate) enum Entry {
+    Init,
+    Check,
+    Gate,
+    Status,
+    Pairs,
+    Stop,
+    PeerOff,
+    Side,
+    Sim,
+    Loop,
+}
+
+/// All commands, in the order of the help.
+const ENTRIES: [Entry; 10] = [
+    Entry::Init,
+    Entry::Check,
+    Entry::Gate,
+    Entry::Status,
+    Entry::Pairs,
+    Entry::Stop,
+    Entry::PeerOff,
+    Entry::Side,
+    Entry::Sim,
+    Entry::Loop,
+];
 
 /// What stands below the options of `gate`.
 const GATE_HELP: &str = "A way is one of
@@ -358,19 +388,22 @@ fn top<'a>(alloc: Global) -> Command<'a>
         .subcommand_required(true)
 }
 
-/// A command with one more beneath it, which has no global option.
-fn with_command<'a>(
-    line: Command<'a>,
-    beneath: Result<Command<'a>, AllocError>,
-) -> Result<Command<'a>, AllocError>
-    requires { IfOk beneath (λ b. (fields_of b).has_globals ≡ false) }
-    ensures { (a b : App) → app_of line.entry ≡ a
-        → IfOk beneath.entry (λ c. app_of c ≡ b)
-        → IfOk result (λ c. app_of c ≡ with_subcommand a b.top) }
+/// The command of an entry.
+fn command_of<'a>(alloc: Global, entry: Entry) -> Result<Command<'a>, AllocError>
+    ensures app { IfOk result (λ c. app_of c ≡ app_for entry) }
+    ensures local { IfOk result (λ c. (fields_of c).has_globals ≡ false) }
 {
-    match beneath {
-        Ok(beneath) => line.subcommand(beneath),
-        Err(fault) => Err(fault),
+    match entry {
+        Entry::Init => init(alloc),
+        Entry::Check => check(alloc),
+        Entry::Gate => gate(alloc),
+        Entry::Status => status(alloc),
+        Entry::Pairs => pairs(alloc),
+        Entry::Stop => stop(alloc),
+        Entry::PeerOff => peer_off(alloc),
+        Entry::Side => side(alloc),
+        Entry::Sim => sim(alloc),
+        Entry::Loop => repeat(alloc),
     }
 }
 
@@ -378,14 +411,10 @@ fn with_command<'a>(
 pub(crate) fn line<'a>(alloc: Global) -> Result<Command<'a>, AllocError>
     ensures { IfOk result (λ c. app_of c ≡ line_app) }
 {
-    let line = with_command(top(alloc), init(alloc))?;
-    let line = with_command(line, check(alloc))?;
-    let line = with_command(line, gate(alloc))?;
-    let line = with_command(line, status(alloc))?;
-    let line = with_command(line, pairs(alloc))?;
-    let line = with_command(line, stop(alloc))?;
-    let line = with_command(line, peer_off(alloc))?;
-    let line = with_command(line, side(alloc))?;
-    let line = with_command(line, sim(alloc))?;
-    with_command(line, repeat(alloc))
+    let mut line = top(alloc);
+    for name in &ENTRIES {
+        let command = command_of(alloc, *name)?;
+        line = line.subcommand(command)?;
+    }
+    Ok(line)
 }

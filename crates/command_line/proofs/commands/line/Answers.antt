@@ -1,15 +1,22 @@
+use Rattle.std.proofs.Common.{◌∙◌, ap, sym}
+use Rattle.std.proofs.lemmas.List.{drop_all, drop_more}
+use Rattle.clap.specs.Words.{App, app_of}
+use Rattle.command_line.specs.Entries.{with_each}
+use Rattle.command_line.specs.declared.commands.TheConstants.{ENTRIES}
+use Rattle.command_line.proofs.Arguments.{one_entry}
 use Rattle.command_line.proofs.commands.line.Goals as goal
 
--- the commands, one after the other
+pub loop-name-init : goal.loop-name-init
+loop-name-init c = ap (λ (a : App). with_each a ENTRIES) c.top-line.ensures.app
+
+pub loop-name-preserved : goal.loop-name-preserved
+loop-name-preserved c =
+    let l = c.loop-name in
+    let next = drop_more ENTRIES l.name-index _ c.loop-name-test.true in
+    let command = c.in_ok-command.ensures in
+    one_entry _ _ _ (app_of c.in_ok-command.command) _ _ _ next (c.in_ok-line.ensures.shape command.local) command.app l.invariant
+
 pub returns : goal.returns
 returns c =
-    let one = c.in_ok-line.ensures _ _ c.top.ensures.app c.init.ensures.app in
-    let two = c.in_ok-line-2.ensures _ _ one c.check.ensures.app in
-    let three = c.in_ok-line-3.ensures _ _ two c.gate.ensures.app in
-    let four = c.in_ok-line-4.ensures _ _ three c.status.ensures.app in
-    let five = c.in_ok-line-5.ensures _ _ four c.pairs.ensures.app in
-    let six = c.in_ok-line-6.ensures _ _ five c.stop.ensures.app in
-    let seven = c.in_ok-line-7.ensures _ _ six c.peer_off.ensures.app in
-    let eight = c.in_ok-line-8.ensures _ _ seven c.side.ensures.app in
-    let nine = c.in_ok-line-9.ensures _ _ eight c.sim.ensures.app in
-    c.with_command-10.ensures _ _ nine c.repeat.ensures.app
+    let l = c.loop-name in
+    ap (with_each (app_of l.line)) (sym (drop_all l.name-index ENTRIES c.loop-name-test.false)) ∙ l.invariant
