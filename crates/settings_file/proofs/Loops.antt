@@ -1,6 +1,6 @@
 -- Loops that add to a list what each element gives.
-use Rattle.std.proofs.Common.{◌≡◌, ◌∙◌, ◌+◌, ◌<◌, ◌++◌, ◌∷◌, [], ℕ, Bool, true, false, cond, List, length, drop, take, filter, get_or, append_assoc, ap, refl, sym}
-use Rattle.std.proofs.lemmas.List.{drop_more, take_more}
+use Rattle.std.proofs.Common.{◌≡◌, ◌∙◌, ◌+◌, ◌<◌, ◌≤◌, ◌++◌, ◌∷◌, [], ℕ, Bool, true, false, cond, List, length, drop, take, filter, get_or, append_assoc, append-nil, ap, refl, sym}
+use Rattle.std.proofs.lemmas.List.{drop_all, drop_more, take_more}
 use Rattle.settings_file.specs.declared.keys.Key.{Key}
 use Rattle.settings_file.specs.Clashes.{PortRow, all_taken, is_taken}
 use Rattle.settings_file.specs.Faults.{all_bad}
@@ -19,6 +19,12 @@ pub found_item : {X Y : Type 0} (F : List X → List Y) (old found new more : Li
     → found ++ F (drop i xs) ≡ old ++ F xs → new ++ F (drop (i + 1) xs) ≡ old ++ F xs
 found_item F old found new more xs i x is lt added step all =
     found_more F old found new more xs i x lt added (ap (λ y. F (y ∷ drop (i + 1) xs)) (sym is) ∙ step) all
+
+-- behind the last element all is found
+pub found_all : {X Y : Type 0} (F : List X → List Y) (found all : List Y) (xs : List X) (i : ℕ) → F [] ≡ [] → length xs ≤ i
+    → found ++ F (drop i xs) ≡ all → found ≡ all
+found_all F found all xs i none ended whole =
+    sym (append-nil found) ∙ ap (λ ys. found ++ ys) (sym none) ∙ ap (λ ys. found ++ F ys) (sym (drop_all i xs ended)) ∙ whole
 
 -- where an element gives nothing, nothing more is found
 pub found_same : {X Y : Type 0} (F : List X → List Y) (found all : List Y) (xs : List X) (i : ℕ) (d : X) → i < length xs

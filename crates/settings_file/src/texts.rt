@@ -1,5 +1,5 @@
 //! Addresses as the settings write them.
-ghost use Rattle.std.specs.Prelude.{◌≡◌, ◌<◌, ◌∷◌, [], None, map, option_map, IfSome};
+ghost use Rattle.std.specs.Prelude.{◌≡◌, ◌<◌, ◌∷◌, [], None, option_map, IfSome};
 ghost use Rattle.settings_file.specs.Texts.{digit_of, nibble_of, two_digits_of, three_digits_of, number_of, joined, octet_of, pair_of, parts_at, address_in, address_of, mac_in, mac_of};
 
 use addresses::{Ip, Mac};
@@ -137,10 +137,10 @@ pub(crate) fn address_of(text: &str) -> Option<Ip>
 }
 
 /// The address of six pairs of digits.
-fn mac_in(parts: [&str; 6]) -> Option<Mac>
-    ensures { option_map (λ mac. mac.0) result ≡ mac_in (map (λ part. part.now) parts.entry) }
+fn mac_in(a: &str, b: &str, c: &str, d: &str, e: &str, f: &str) -> Option<Mac>
+    ensures { option_map (λ mac. mac.0) result
+        ≡ mac_in (a.now ∷ b.now ∷ c.now ∷ d.now ∷ e.now ∷ f.now ∷ []) }
 {
-    let [a, b, c, d, e, f] = parts;
     let Some(a) = pair(a) else { return None };
     let Some(b) = pair(b) else { return None };
     let Some(c) = pair(c) else { return None };
@@ -173,7 +173,7 @@ fn mac_with(text: &str, separator: char) -> Option<Mac>
     };
     match cut(rest, separator) {
         Some(_) => None,
-        None => mac_in([a, b, c, d, e, rest]),
+        None => mac_in(a, b, c, d, e, rest),
     }
 }
 

@@ -4,7 +4,7 @@ use Rattle.toml.specs.View.{view}
 use Rattle.settings_file.specs.Document.{network_of_prefix}
 use Rattle.settings_file.specs.Faults.{all_bad}
 use Rattle.settings_file.specs.Neighbours.{all_bad_of_neighbour}
-use Rattle.settings_file.proofs.Loops.{found_item}
+use Rattle.settings_file.proofs.Loops.{found_all, found_item}
 use Rattle.settings_file.proofs.neighbours.add_bad_in.Goals as goal
 
 pub loop-table-preserved : goal.loop-table-preserved
@@ -13,3 +13,8 @@ loop-table-preserved c =
     let added = c.in_ok-add_bad.ensures ∙ ap (λ rows. l.found.items ++ all_bad rows) c.value_rows.ensures in
     found_item (λ vs. flat_map (all_bad_of_neighbour (option_map network_of_prefix c.args.inside) (option_map network_of_prefix c.args.outside)) (map view vs))
     _ l.found.items _ _ c.args.tables.now l.table-index c.table-item.result c.table-item.is c.loop-table-test.true added refl l.invariant
+
+pub returns : goal.returns
+returns c =
+    let l = c.loop-table in
+    found_all (λ vs. flat_map (all_bad_of_neighbour (option_map network_of_prefix c.args.inside) (option_map network_of_prefix c.args.outside)) (map view vs)) _ _ c.args.tables.now l.table-index refl c.loop-table-test.false l.invariant
