@@ -339,10 +339,17 @@ where
     ensures untouched { IfErr result (λ why. IsBeforeBoot why → disk.new ≡ disk.old) }
     ensures silent { IfErr result (λ why. IsBeforeBoot why → output.new ≡ output.old) }
 {
-    let log = log_of(rt, start.log, start.format)?;
-    let ended = captured(rt, start, settings, manager, disk, wire, output, &log);
-    drop(log);
-    ended
+    match log_of(rt, start.log, start.format) {
+        Ok(log) => {
+            let ended = captured(rt, start, settings, manager, disk, wire, output, &log);
+            drop(log);
+            ended
+        }
+        Err(fault) => {
+            drop(wire);
+            Err(fault)
+        }
+    }
 }
 
 /// Opens the file of a capture, where there is to be one, and runs the gateway.
@@ -450,11 +457,15 @@ where
         rt, gateway, &mut wire, start, identity, manager, output, log,
     );
     wire.end();
-    let packets = wire.left_out();
+    tell_left_out(log, wire.left_out());
+    ended
+}
+
+/// Tells how many packets a capture has left out, if it has.
+fn tell_left_out<L: Log>(log: &L, packets: u64) {
     if 0 < packets {
         warn!(log; target: "natpair::capture", packets; "capture left out {packets} packets");
     }
-    ended
 }
 
 /// The box's records, on the standard error.
