@@ -12,7 +12,7 @@ use sockets::{Place, Wire};
 pub const PATIENCE: u64 = 100;
 
 /// What was told of a place.
-#[derive(Clone, Copy, Debug, PartialEq, Eq)]
+#[derive(Clone, Copy)]
 pub(crate) struct Mark {
     /// Whether it fails, as it was told last.
     fails: bool,
@@ -49,7 +49,7 @@ impl Mark {
 }
 
 /// What was told of a place.
-#[derive(Clone, Copy, Debug, PartialEq, Eq)]
+#[derive(Clone, Copy)]
 struct Watched {
     mark: Mark,
     /// That it takes less than was to be sent there.
