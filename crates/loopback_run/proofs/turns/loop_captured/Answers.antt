@@ -26,7 +26,7 @@ pub returns-in-Ok-clause-run : goal.returns-in-Ok-clause-run
 returns-in-Ok-clause-run g c = in_ok c.play.result (λ n h. record {
   job = c.in_ok-job.job;
   is = c.in_ok-job.ensures.job;
-  apart = sym c.in-None.ensures;
+  apart = sym c.in_default.ensures;
   open_passage = c.open.new.self;
   opened = c.in-Ok.ensures.opens;
   run = subst (λ (es : List WorldEvent). IsLoop g.P.Channel.passes c.in_ok-job.job.settings es c.open.new.self c.play.new.passage (g.O.Write.contents c.args.output.now) (g.O.Write.contents c.play.new.output) n) c.as_slice.ensures.value h;
