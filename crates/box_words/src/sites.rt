@@ -1,7 +1,8 @@
 //! Where an operator's commands work.
-ghost use Rattle.std.specs.Prelude.{◌≤◌, IfOk, OnOk, length, string_bytes, take};
+ghost use Rattle.std.specs.Prelude.{◌≡◌, ◌≤◌, IfErr, IfOk, OnOk, length, string_bytes, take};
 ghost use Rattle.control.specs.Answers.{answer_of};
 ghost use Rattle.control.specs.Words.{word_of};
+ghost use Rattle.faults.specs.Faults.{status_of};
 ghost use Rattle.box_words.specs.Deeds.{Deed, asked, made, read, said};
 
 use boot_file::{Blocks, FileFault};
@@ -18,7 +19,8 @@ pub trait Site {
     /// The text of the file at a path.
     fn text(&mut self, path: &str) -> Result<String, Fault>
         ensures read { IfOk result
-            (λ text. does self.old (read path.now (string_bytes text)) self.new) };
+            (λ text. does self.old (read path.now (string_bytes text)) self.new) }
+        ensures status { IfErr result (λ fault. status_of fault ≡ 1) };
 
     /// Makes a boot file.
     fn make(&mut self, path: &str) -> Result<(), FileFault>

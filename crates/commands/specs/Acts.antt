@@ -3,9 +3,12 @@ use Rattle.std.specs.Prelude.{ℕ, List, Option, Bool, true, false, Some, string
 use Rattle.command_line.specs.declared.tasks.Task.{Task}
 use Rattle.command_line.specs.declared.tasks.Task.TheVariants as task
 use Rattle.command_line.specs.declared.words.StatusWords.{StatusWords}
-use Rattle.box_words.specs.Deeds.{Does, HasListed, HasReported, HasSaid, HasSynced, HasTaken, made}
+use Rattle.command_line.specs.declared.words.RunWords.{RunWords}
+use Rattle.simulation.specs.Status.{RunsScript}
+use Rattle.box_words.specs.Deeds.{Does, HasListed, HasReported, HasSaid, HasSynced, HasTaken, made, read}
 use Rattle.box_words.specs.Said.{said_off, said_side, said_stop}
 use Rattle.commands.specs.Asked.{filter_of, form_of}
+use Rattle.commands.specs.Ends.{Loops}
 
 -- a box is asked how it stands, and its report written, or until it is synced
 abbrev pub IsAskedSo : {S : Type 0} → Does S → Bool → StatusWords → Option (List ℕ) → Option (List ℕ) → S → S → Type 0
@@ -34,3 +37,29 @@ Acts does (task.Gate words) old new before after = Unit {0}
 Acts does (task.Sim files) old new before after = Unit {0}
 Acts does (task.Loop files) old new before after = Unit {0}
 Acts does task.Version old new before after = Unit {0}
+
+-- just the files that are named were read, the settings first; these are their texts
+pub record AreRead {S : Type 0} (does : Does S) (files : RunWords) (text script : List ℕ) (before after : S) : Type 0 where
+  pub between : S
+  pub settings_read : does before (read (string_bytes files.settings) text) between
+  pub script_read : does between (read (string_bytes files.script) script) after
+
+-- the script's run is that of the files that are named
+pub record HasRunOf {S : Type 0} (does : Does S) (files : RunWords) (old new : Option (List ℕ)) (status : ℕ) (before after : S) : Type 0 where
+  pub text : List ℕ
+  pub script : List ℕ
+  pub are_read : AreRead does files text script before after
+  pub run : RunsScript text script old new status
+
+-- and through sockets
+pub record HasLoopOf {S : Type 0} (does : Does S) (files : RunWords) (old new : Option (List ℕ)) (status : ℕ) (before after : S) : Type 0 where
+  pub text : List ℕ
+  pub script : List ℕ
+  pub are_read : AreRead does files text script before after
+  pub run : Loops text script old new status
+
+-- a script was run as the task says. Other tasks run none
+abbrev pub Runs : {S : Type 0} → Does S → Task → Option (List ℕ) → Option (List ℕ) → ℕ → S → S → Type 0
+Runs does (task.Sim files) old new status before after = HasRunOf does files old new status before after
+Runs does (task.Loop files) old new status before after = HasLoopOf does files old new status before after
+Runs does other old new status before after = Unit {0}

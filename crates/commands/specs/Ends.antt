@@ -27,12 +27,15 @@ has_ports before settings after = after ≡ bound settings
 abbrev pub may_pass : Passes Standing
 may_pass before parcel fate after = MayBe before fate × (after ≡ before)
 
--- the status of such a run in which what each event hands in is first sent through these, and just its text was printed
+-- the status of such a run of these texts in which what each event hands in is first sent through these, and just its text was printed
+abbrev pub Loops : List ℕ → List ℕ → Option (List ℕ) → Option (List ℕ) → ℕ → Type 0
+Loops text script before after status = (last : Standing) × LoopsScript has_ports may_pass text script unasked last before after status
+
+-- the same of some two texts
 pub record HasLoop (before after : Option (List ℕ)) (status : ℕ) : Type 0 where
   pub text : List ℕ
   pub script : List ℕ
-  pub last : Standing
-  pub run : LoopsScript has_ports may_pass text script unasked last before after status
+  pub run : Loops text script before after status
 
 -- the line that tells the version
 abbrev pub version_line : List ℕ

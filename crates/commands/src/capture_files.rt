@@ -1,5 +1,5 @@
 //! The file of a capture.
-ghost use Rattle.std.specs.Prelude.{◌≡◌, ◌⊎◌, is_err, true, Ok, IfErr, IfOk};
+ghost use Rattle.std.specs.Prelude.{◌≡◌, ◌⊎◌, is_err, false, true, Ok, IfErr, IfOk};
 ghost use Rattle.faults.specs.Faults.{status_of};
 
 use captures::{Reader, open};
@@ -44,6 +44,7 @@ pub(crate) fn ended<E: Write>(
     ensures status { (result ≡ 0) ⊎ ((result ≡ 1) ⊎ (result ≡ 3)) }
     ensures run { (result ≡ 0) ⊎ (result ≡ 3) → run ≡ Ok result }
     ensures written { is_err written ≡ true → result ≡ 1 }
+    ensures ended { is_err written ≡ false → IfOk run (λ status. result ≡ status) }
 {
     if let Err(error) = written {
         return unmade(alloc, &error, path, errors);

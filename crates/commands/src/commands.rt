@@ -4,7 +4,7 @@ ghost use Rattle.command_line.specs.Line.{AskVersion, MayAskVersion};
 ghost use Rattle.command_line.specs.Tasks.{FoundsAtZero};
 ghost use Rattle.commands.specs.Words.{AreRefused};
 ghost use Rattle.commands.specs.Asked.{format_of};
-ghost use Rattle.commands.specs.Acts.{Acts};
+ghost use Rattle.commands.specs.Acts.{Acts, Runs};
 ghost use Rattle.commands.specs.Ends.{AreDone, Ends};
 
 use crate::asking::{look_at, pairs_of, state_of};
@@ -71,6 +71,8 @@ where
         → Ends (O.contents output.old) (O.contents output.new) task.now result }
     ensures acts { result ≡ 0 → Acts S.does task.now (O.contents output.old)
         (O.contents output.new) site.old site.new }
+    ensures runs { (result ≡ 0) ⊎ (result ≡ 3) → Runs S.does task.now (O.contents output.old)
+        (O.contents output.new) result site.old site.new }
 {
     match task {
         Task::Init(file) => init(rt.alloc(), site, file.as_str(), errors),
@@ -97,8 +99,8 @@ where
             side: told,
             up,
         } => side(rt.alloc(), site, settings.as_str(), *id, *told, *up, errors),
-        Task::Sim(files) => sim(rt, files, is_watched, output, errors),
-        Task::Loop(files) => repeat(rt, files, output, errors),
+        Task::Sim(files) => sim(rt, site, files, is_watched, output, errors),
+        Task::Loop(files) => repeat(rt, site, files, output, errors),
         Task::Version => tell_version(output, errors),
     }
 }

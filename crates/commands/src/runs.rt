@@ -1,17 +1,19 @@
 //! Scripts that are run, and captured where that is asked for.
-ghost use Rattle.std.specs.Prelude.{◌≡◌, ◌⊎◌, IfErr, IfOk, None, Ok, OnOk};
+ghost use Rattle.std.specs.Prelude.{◌≡◌, ◌⊎◌, IfErr, IfOk, None, Ok, OnOk, string_bytes};
 ghost use Rattle.faults.specs.Faults.{status_of};
 ghost use Rattle.faults.specs.Jobs.{IsJobOf};
 ghost use Rattle.loopback_run.specs.Loops.{IsLoop};
 ghost use Rattle.settings_file.specs.Clashes.{clash_of_both};
 ghost use Rattle.simulation.specs.Status.{RunsScript};
 ghost use Rattle.simulation.specs.Tapes.{IsTapedRun};
-ghost use Rattle.commands.specs.Ends.{HasLoop, HasRun};
+ghost use Rattle.commands.specs.Acts.{AreRead, HasLoopOf, HasRunOf};
+ghost use Rattle.commands.specs.Ends.{HasLoop, HasRun, Loops};
 
 use crate::capture_files::{capture_at, ended, unmade};
 use crate::meters::Meter;
+use box_words::Site;
 use command_line::RunWords;
-use faults::{Fault, Job, job_of, text_of};
+use faults::{Fault, Job, job_of};
 use frame_sim::Tape;
 use loopback::{Channel, Loopback, PortFault};
 use loopback_run::run_loop;
@@ -25,8 +27,9 @@ use std::net::Net;
 use std::rt::Clock;
 
 /// Runs the script of one file with the settings of another.
-pub(crate) fn sim<R: Files + Clock + AllocGlobal, O: Write, E: Write>(
+pub(crate) fn sim<R: Files + Clock + AllocGlobal, S: Site, O: Write, E: Write>(
     rt: &R,
+    site: &mut S,
     files: &RunWords,
     is_watched: bool,
     output: &mut O,
@@ -35,8 +38,10 @@ pub(crate) fn sim<R: Files + Clock + AllocGlobal, O: Write, E: Write>(
     ensures status { (result ≡ 0) ⊎ ((result ≡ 1) ⊎ (result ≡ 3)) }
     ensures run { (result ≡ 0) ⊎ (result ≡ 3) → HasRun (O.contents output.old)
         (O.contents output.new) result }
+    ensures named { (result ≡ 0) ⊎ (result ≡ 3) → HasRunOf S.does files.now
+        (O.contents output.old) (O.contents output.new) result site.old site.new }
 {
-    match texts(rt, files) {
+    match texts(site, files) {
         Ok((settings, script)) => {
             let (settings, script) = (settings.as_str(), script.as_str());
             match &files.capture {
@@ -140,8 +145,9 @@ fn taped<R: Clock + AllocGlobal, T: Tape, O: Write, E: Write>(
 }
 
 /// Runs the script of one file with the settings of another, over the own loopback ports of both gateways.
-pub(crate) fn repeat<R: Files + Net + Clock + AllocGlobal, O: Write, E: Write>(
+pub(crate) fn repeat<R: Files + Net + Clock + AllocGlobal, S: Site, O: Write, E: Write>(
     rt: &R,
+    site: &mut S,
     files: &RunWords,
     output: &mut O,
     errors: &mut E,
@@ -149,8 +155,10 @@ pub(crate) fn repeat<R: Files + Net + Clock + AllocGlobal, O: Write, E: Write>(
     ensures status { (result ≡ 0) ⊎ ((result ≡ 1) ⊎ (result ≡ 3)) }
     ensures run { (result ≡ 0) ⊎ (result ≡ 3) → HasLoop (O.contents output.old)
         (O.contents output.new) result }
+    ensures named { (result ≡ 0) ⊎ (result ≡ 3) → HasLoopOf S.does files.now
+        (O.contents output.old) (O.contents output.new) result site.old site.new }
 {
-    match texts(rt, files) {
+    match texts(site, files) {
         Ok((settings, script)) => {
             let (settings, script) = (settings.as_str(), script.as_str());
             match &files.capture {
@@ -173,8 +181,8 @@ fn repeated<R: Net + Clock + AllocGlobal, O: Write, E: Write>(
     errors: &mut E,
 ) -> u8
     ensures status { (result ≡ 0) ⊎ ((result ≡ 1) ⊎ (result ≡ 3)) }
-    ensures run { (result ≡ 0) ⊎ (result ≡ 3) → HasLoop (O.contents output.old)
-        (O.contents output.new) result }
+    ensures run { (result ≡ 0) ⊎ (result ≡ 3) → Loops settings.now script.now
+        (O.contents output.old) (O.contents output.new) result }
 {
     let mut passage = Loopback::new(rt);
     run_loop(rt.alloc(), settings, script, &mut passage, output, errors)
@@ -190,8 +198,8 @@ fn repeat_captured<R: Files + Net + Clock + AllocGlobal, O: Write, E: Write>(
     errors: &mut E,
 ) -> u8
     ensures status { (result ≡ 0) ⊎ ((result ≡ 1) ⊎ (result ≡ 3)) }
-    ensures run { (result ≡ 0) ⊎ (result ≡ 3) → HasLoop (O.contents output.old)
-        (O.contents output.new) result }
+    ensures run { (result ≡ 0) ⊎ (result ≡ 3) → Loops settings.now script.now
+        (O.contents output.old) (O.contents output.new) result }
 {
     let mut passage = Loopback::new(rt);
     match opened(rt.alloc(), settings, script, &mut passage) {
@@ -257,10 +265,12 @@ fn looped<P: Channel, T: Tape, O: Write>(
 }
 
 /// The texts of two files. The settings' fault comes first.
-fn texts<R: Files + AllocGlobal>(rt: &R, files: &RunWords) -> Result<(String, String), Fault>
+fn texts<S: Site>(site: &mut S, files: &RunWords) -> Result<(String, String), Fault>
+    ensures read { IfOk result (λ texts. AreRead S.does files.now (string_bytes texts.0)
+        (string_bytes texts.1) site.old site.new) }
     ensures status { IfErr result (λ fault. status_of fault ≡ 1) }
 {
-    let settings = text_of(rt, files.settings.as_str())?;
-    let script = text_of(rt, files.script.as_str())?;
+    let settings = site.text(files.settings.as_str())?;
+    let script = site.text(files.script.as_str())?;
     Ok((settings, script))
 }
