@@ -1,5 +1,4 @@
-//! A gateway as it begins. Where a part can't be had, those before it are let go by calls of `drop`: a function that
-//! lets one go by itself has to show that of each of its parts.
+//! A gateway as it begins.
 ghost use Rattle.std.specs.Prelude.{◌≡◌, ◌<◌, ◌≤◌, ◌^◌, IfOk, IsTrue, false, [], if◌then◌else◌};
 ghost use Rattle.nat_types.specs.declared.gateways.GatewayId.TheVariants.{Zero};
 ghost use Rattle.nat_types.specs.declared.gateways.Side.TheVariants.{Inside, Outside};
@@ -115,10 +114,7 @@ fn stations_of(
     ensures outside { IfOk result (λ s. s.1 ≡ new_station settings.now id Outside) }
 {
     let inside = Interface::new(alloc, settings, id, Side::Inside)?;
-    let Ok(outside) = Interface::new(alloc, settings, id, Side::Outside) else {
-        drop(inside);
-        return Err(NoMemory);
-    };
+    let outside = Interface::new(alloc, settings, id, Side::Outside)?;
     Ok((inside, outside))
 }
 
@@ -132,16 +128,8 @@ fn parts_of(alloc: Global, settings: &Settings, id: GatewayId, boot: u64) -> Res
     ensures kept { IfOk result (λ p. p.kept ≡ []) }
 {
     let link = link_of(alloc, settings, id, boot)?;
-    let Ok((inside, outside)) = stations_of(alloc, settings, id) else {
-        drop(link);
-        return Err(NoMemory);
-    };
-    let Ok(kept) = WaitingPackets::new(alloc) else {
-        drop(link);
-        drop(inside);
-        drop(outside);
-        return Err(NoMemory);
-    };
+    let (inside, outside) = stations_of(alloc, settings, id)?;
+    let kept = WaitingPackets::new(alloc)?;
     Ok(Parts {
         link,
         inside,
@@ -194,10 +182,7 @@ fn begin_unsynced(
     let one = bounds_of(settings.ports.one);
     let parts = parts_of(alloc, settings, id, boot)?;
     let limit = settings.ports.host_limit;
-    let Ok(core) = Core::unsynced(alloc, id, zero, one, limit, hashers) else {
-        drop(parts);
-        return Err(NoMemory);
-    };
+    let core = Core::unsynced(alloc, id, zero, one, limit, hashers)?;
     Ok(joined(settings, id, parts, core))
 }
 
@@ -218,10 +203,7 @@ fn begin_founded(
     let one = bounds_of(settings.ports.one);
     let parts = parts_of(alloc, settings, GatewayId::Zero, boot)?;
     let limit = settings.ports.host_limit;
-    let Ok(core) = Core::founder(alloc, zero, one, limit, hashers) else {
-        drop(parts);
-        return Err(NoMemory);
-    };
+    let core = Core::founder(alloc, zero, one, limit, hashers)?;
     let mut forwarder = joined(settings, GatewayId::Zero, parts, core);
     start_routers(&mut forwarder);
     Ok(forwarder)

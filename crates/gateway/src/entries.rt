@@ -31,9 +31,12 @@ pub(crate) fn pair_count(packets: &[HeldPacket]) -> usize
         .count()
 }
 
-/// How many packets wait for next hops: all others.
+/// How many packets wait for next hops.
 pub(crate) fn hop_count(packets: &[HeldPacket]) -> usize
     ensures { result ≡ hops_in packets.now }
 {
-    packets.len() - pair_count(packets)
+    packets
+        .iter()
+        .filter(|packet| !packet.wait.is_for_pair())
+        .count()
 }

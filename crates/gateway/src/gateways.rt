@@ -100,9 +100,7 @@ impl Gateway {
 
     /// Ends it, and gives its memory back. A caller that lets a gateway go by this call alone proves
     /// nothing of its parts.
-    pub fn end(self) {
-        drop(self);
-    }
+    pub fn end(self) {}
 
     /// No step makes more notes than this.
     pub fn most_notes(&self) -> usize
