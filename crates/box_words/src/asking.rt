@@ -219,8 +219,8 @@ pub fn pairs<S: Site, O: Write, E: Write>(
     errors: &mut E,
 ) -> u8
     ensures status { (result ≡ 0) ⊎ (result ≡ 1) }
-    ensures listed { result ≡ 0 → HasListed S.does settings.now id filter.now (O.contents output.old)
-        (O.contents output.new) site.old site.new }
+    ensures listed { result ≡ 0 → HasListed S.does settings.now id filter.now
+        (O.contents output.old) (O.contents output.new) site.old site.new }
 {
     match listed(alloc, site, settings, id, filter, output) {
         Ok(()) => 0,
