@@ -30,8 +30,9 @@ use Rattle.nat_types.specs.declared.pairs.Pair.{Pair}
 use Rattle.port_range.specs.Ports.{is_listed}
 use Rattle.std.proofs.Common.{◌==◌}
 use Rattle.std.proofs.lemmas.Bool.{or_left, eq-eqb}
-use Rattle.spec_binding.specs.Resets.{put_alone, revived, restarted, restart_batch, restart_link}
+use Rattle.spec_binding.specs.Resets.{revived, restarted, restart_batch, restart_link}
 use Rattle.activity.specs.Lives.{Activity, life_renewed}
+use Rattle.slots.specs.declared.hashers.Hashers.{Hashers}
 use Rattle.bindings.specs.Table.{Table, IsTable}
 use Rattle.spec_binding.specs.declared.changes.Change.{Change}
 use Rattle.spec_binding.specs.declared.changes.Change.TheVariants.{Keep, Add, Turn, Renew, Drop, Yield, Want, Give, Gain}
@@ -91,7 +92,7 @@ book-after now c r = at r.change
 
 -- and the lives those of the change
 ledger-after : (now : ℕ) (c : Core) (r : Transition) → ledger_of (core_after now c r) ≡ ledger_after now r.change (ledger_of c)
-ledger-after now c r = ap (λ (b : Book). let l : Ledger = record { book = b; lives = lives_after now r.change c.table.entries c.table.lives } in l) (book-after now c r)
+ledger-after now c r = ap (λ (b : Book). let l : Ledger = record { book = b; lives = lives_after now r.change c.table.entries c.table.lives; hashers = c.table.hashers } in l) (book-after now c r)
 
 -- the ledger then, of a row that is worked out elsewhere
 pub ledger-then : (now : ℕ) (c c2 : Core) (r r2 : Transition) → c2 ≡ core_after now c r → r ≡ r2 → ledger_of c2 ≡ ledger_after now r2.change (ledger_of c)
@@ -201,6 +202,13 @@ loaded-book b rests r h = ap (λ (t : Bool). let x : Book = cond t (after b (row
 pub loaded-answer : (b : Book) (rests : Bool) (r : Record) → is_synced b.stage ≡ false → taken_answer b rests r ≡ None
 loaded-answer b rests r h = ap (λ (t : Bool). let x : Option Record = cond t (row_of b rests r).answer None in x) h
 
+-- a ledger whose parts are these
+ledger-parts : (c : Core) (b : Book) (ls : List Activity) (hs : Hashers) → book_of c ≡ b → c.table.lives ≡ ls → c.table.hashers ≡ hs → ledger_of c ≡ record { book = b; lives = ls; hashers = hs }
+ledger-parts c b ls hs book lives hashers =
+    ap (λ (x : Book). let l : Ledger = record { book = x; lives = c.table.lives; hashers = c.table.hashers } in l) book
+    ∙ ap (λ (x : List Activity). let l : Ledger = record { book = b; lives = x; hashers = c.table.hashers } in l) lives
+    ∙ ap (λ (x : Hashers). let l : Ledger = record { book = b; lives = ls; hashers = x } in l) hashers
+
 pub taken-ledger : (now : ℕ) (c c2 : Core) (r : Record) → is_synced c.stage ≡ true → c2 ≡ core_after now c (row_of (book_of c) (rests_for now (ledger_of c) r) r) → ledger_of c2 ≡ taken_ledger now (ledger_of c) r
 taken-ledger now c c2 r h made = ledger-then now c c2 row row made refl ∙ sym (ap of h)
   where
@@ -208,23 +216,22 @@ taken-ledger now c c2 r h made = ledger-then now c c2 row row made refl ∙ sym 
     row = row_of (book_of c) (rests_for now (ledger_of c) r) r
 
     of : Bool → Ledger
-    of t = record {
+    of t = record (ledger_of c) {
       book = cond t (after (book_of c) row) (unsynced_after (book_of c) r);
       lives = cond t (lives_after now row.change c.table.entries c.table.lives) (lives_loaded now r c.table.entries c.table.lives (loaded (load_of (book_of c)) r));
     }
 
 pub loaded-ledger : (now : ℕ) (c c2 : Core) (r : Record) → is_synced c.stage ≡ false → book_of c2 ≡ unsynced_after (book_of c) r
-    → c2.table.lives ≡ lives_loaded now r c.table.entries c.table.lives (loaded (load_of (book_of c)) r) → ledger_of c2 ≡ taken_ledger now (ledger_of c) r
-loaded-ledger now c c2 r h book lives =
-    ap (λ (b : Book). let l : Ledger = record { book = b; lives = c2.table.lives } in l) book
-    ∙ ap (λ (ls : List Activity). let l : Ledger = record { book = unsynced_after (book_of c) r; lives = ls } in l) lives
+    → c2.table.lives ≡ lives_loaded now r c.table.entries c.table.lives (loaded (load_of (book_of c)) r) → c2.table.hashers ≡ c.table.hashers → ledger_of c2 ≡ taken_ledger now (ledger_of c) r
+loaded-ledger now c c2 r h book lives hashers =
+    ledger-parts c2 _ _ _ book lives hashers
     ∙ sym (ap of h)
   where
     row : Transition
     row = row_of (book_of c) (rests_for now (ledger_of c) r) r
 
     of : Bool → Ledger
-    of t = record {
+    of t = record (ledger_of c) {
       book = cond t (after (book_of c) row) (unsynced_after (book_of c) r);
       lives = cond t (lives_after now row.change c.table.entries c.table.lives) (lives_loaded now r c.table.entries c.table.lives (loaded (load_of (book_of c)) r));
     }
@@ -352,12 +359,11 @@ revived-book c t2 stage cursor same entries =
     ∙ ap (λ (es : List Entry). let b : Book = record (revived (book_of c)) { entries = es; stage = stage; coming = to_come cursor c.table.owned es } in b) entries
 
 -- alone, with each pair's life begun anew
-pub put_alone_is : (now : ℕ) (c c1 c2 : Core) → book_of c1 ≡ revived_with Lone Over c → c1.table.lives ≡ lives_of_pairs c.table.entries c.table.lives → c2 ≡ record c1 { table = record c1.table { lives = map (life_renewed now) c1.table.lives } }
+pub put_alone_is : (now : ℕ) (c c1 c2 : Core) → book_of c1 ≡ revived_with Lone Over c → c1.table.lives ≡ lives_of_pairs c.table.entries c.table.lives → c1.table.hashers ≡ c.table.hashers → c2 ≡ record c1 { table = record c1.table { lives = map (life_renewed now) c1.table.lives } }
     → ledger_of c2 ≡ alone_ledger now (ledger_of c)
-put_alone_is now c c1 c2 book lives is =
+put_alone_is now c c1 c2 book lives hashers is =
     ap ledger_of is
-    ∙ ap (λ (b : Book). let l : Ledger = record { book = b; lives = map (life_renewed now) c1.table.lives } in l) book
-    ∙ ap (λ (ls : List Activity). let l : Ledger = record { book = put_alone (book_of c); lives = map (life_renewed now) ls } in l) lives
+    ∙ ap (λ (l : Ledger). let l2 : Ledger = record l { lives = map (life_renewed now) l.lives } in l2) (ledger-parts c1 _ _ _ book lives hashers)
 
 pub restarted-synced : (b : Book) → is_synced b.stage ≡ true → restarted b ≡ record (revived b) { stage = Paired; coming = restart_batch b }
 restarted-synced b h = ap (λ (t : Bool). let x : Book = cond t (record (revived b) { stage = Paired; coming = restart_batch b }) (empty_book b.id b.zero b.one b.limit) in x) h
@@ -365,17 +371,15 @@ restarted-synced b h = ap (λ (t : Bool). let x : Book = cond t (record (revived
 pub restarted-bare : (b : Book) → is_synced b.stage ≡ false → restarted b ≡ empty_book b.id b.zero b.one b.limit
 restarted-bare b h = ap (λ (t : Bool). let x : Book = cond t (record (revived b) { stage = Paired; coming = restart_batch b }) (empty_book b.id b.zero b.one b.limit) in x) h
 
-pub restarted-ledger : (c c2 : Core) → is_synced c.stage ≡ true → book_of c2 ≡ restarted (book_of c) → c2.table.lives ≡ lives_of_pairs c.table.entries c.table.lives → ledger_of c2 ≡ restarted_ledger (ledger_of c)
-restarted-ledger c c2 h book lives =
-    ap (λ (b : Book). let l : Ledger = record { book = b; lives = c2.table.lives } in l) book
-    ∙ ap (λ (ls : List Activity). let l : Ledger = record { book = restarted (book_of c); lives = ls } in l)
-    (lives ∙ sym (ap (λ (t : Bool). let ls : List Activity = cond t (lives_of_pairs c.table.entries c.table.lives) [] in ls) h))
+pub restarted-ledger : (c c2 : Core) → is_synced c.stage ≡ true → book_of c2 ≡ restarted (book_of c) → c2.table.lives ≡ lives_of_pairs c.table.entries c.table.lives → c2.table.hashers ≡ c.table.hashers → ledger_of c2 ≡ restarted_ledger (ledger_of c)
+restarted-ledger c c2 h book lives hashers =
+    ledger-parts c2 _ _ _ book
+    (lives ∙ sym (ap (λ (t : Bool). let ls : List Activity = cond t (lives_of_pairs c.table.entries c.table.lives) [] in ls) h)) hashers
 
-pub bare-ledger : (c c2 : Core) → is_synced c.stage ≡ false → book_of c2 ≡ restarted (book_of c) → c2.table.lives ≡ [] → ledger_of c2 ≡ restarted_ledger (ledger_of c)
-bare-ledger c c2 h book lives =
-    ap (λ (b : Book). let l : Ledger = record { book = b; lives = c2.table.lives } in l) book
-    ∙ ap (λ (ls : List Activity). let l : Ledger = record { book = restarted (book_of c); lives = ls } in l)
-    (lives ∙ sym (ap (λ (t : Bool). let ls : List Activity = cond t (lives_of_pairs c.table.entries c.table.lives) [] in ls) h))
+pub bare-ledger : (c c2 : Core) → is_synced c.stage ≡ false → book_of c2 ≡ restarted (book_of c) → c2.table.lives ≡ [] → c2.table.hashers ≡ c.table.hashers → ledger_of c2 ≡ restarted_ledger (ledger_of c)
+bare-ledger c c2 h book lives hashers =
+    ledger-parts c2 _ _ _ book
+    (lives ∙ sym (ap (λ (t : Bool). let ls : List Activity = cond t (lives_of_pairs c.table.entries c.table.lives) [] in ls) h)) hashers
 
 pub forgotten : (c : Core) (t2 : Table) (p : Progress) (zero one : PortBounds) → t2 ≡ record c.table { entries = []; lives = []; owned = [] } → c.table.zero ≡ zero → c.table.one ≡ one → p ≡ progress.fresh zero one
     → (let b : Book = record { id = c.id; zero = t2.zero; one = t2.one; limit = c.limit; stage = Unsynced; begun = p.begun; named = p.named; entries = t2.entries; owned = t2.owned; wants = false; coming = [] } in b) ≡ empty_book c.id c.table.zero c.table.one c.limit

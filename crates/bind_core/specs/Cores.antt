@@ -52,9 +52,9 @@ book_of c = record {
   coming = c.coming;
 }
 
--- and what its pairs carried
+-- and what its pairs carried, and by what its table hashes
 abbrev pub ledger_of : Core → Ledger
-ledger_of c = record { book = book_of c; lives = c.table.lives }
+ledger_of c = record { book = book_of c; lives = c.table.lives; hashers = c.table.hashers }
 
 -- once a row is carried out
 abbrev pub core_after : ℕ → Core → Transition → Core

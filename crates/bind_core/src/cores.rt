@@ -487,6 +487,7 @@ impl Core {
         ensures lives { let load = loaded (load_of (book_of self.old)) entry
             in self.new.table.lives
             ≡ lives_loaded now entry self.old.table.entries self.old.table.lives load }
+        ensures hashers { self.new.table.hashers ≡ self.old.table.hashers }
         ensures ready { self.old.table.ready ≤ self.new.table.ready + 1 }
         ensures len { vec_len notes.new ≤ vec_len notes.old + 1 }
         ensures capacity { vec_capacity notes.new ≡ vec_capacity notes.old }
@@ -571,6 +572,7 @@ impl Core {
         ensures capacity { vec_capacity notes.new ≡ vec_capacity notes.old }
         ensures lives { self.new.table.lives
             ≡ lives_of_pairs self.old.table.entries self.old.table.lives }
+        ensures hashers { self.new.table.hashers ≡ self.old.table.hashers }
         ensures ready { self.new.table.ready ≡ self.old.table.ready }
     {
         note_back(&self.table, notes, self.id, now);
@@ -614,6 +616,7 @@ impl Core {
         ensures book { let b = book_of self.old
             in book_of self.new ≡ empty_book b.id b.zero b.one b.limit }
         ensures lives { self.new.table.lives ≡ [] }
+        ensures hashers { self.new.table.hashers ≡ self.old.table.hashers }
         ensures ready { self.new.table.ready ≡ self.old.table.ready }
     {
         self.table.clear();
@@ -650,8 +653,11 @@ impl Core {
     ) -> Result<Core, AllocError>
         requires zero { AreBounds zero }
         requires one { AreBounds one }
-        ensures ledger { IfOk result (λ c. ledger_of c
-            ≡ record { book = empty_book id zero one limit; lives = [] }) }
+        ensures ledger { IfOk result (λ c. ledger_of c ≡ record {
+          book = empty_book id zero one limit;
+          lives = [];
+          hashers = hashers;
+        }) }
         ensures hashers { IfOk result (λ c. c.table.hashers ≡ hashers) }
     {
         books_begin();
@@ -682,8 +688,11 @@ impl Core {
     ) -> Result<Core, AllocError>
         requires zero { AreBounds zero }
         requires one { AreBounds one }
-        ensures ledger { IfOk result (λ c. ledger_of c
-            ≡ record { book = founded_book zero one limit; lives = [] }) }
+        ensures ledger { IfOk result (λ c. ledger_of c ≡ record {
+          book = founded_book zero one limit;
+          lives = [];
+          hashers = hashers;
+        }) }
         ensures hashers { IfOk result (λ c. c.table.hashers ≡ hashers) }
     {
         let mut core = Core::unsynced(alloc, GatewayId::Zero, zero, one, limit, hashers)?;

@@ -5,7 +5,7 @@ use Rattle.std.specs.Io.KnownBytes.{Appends}
 use Rattle.nat_types.specs.declared.gateways.GatewayId.{GatewayId}
 use Rattle.settings.specs.declared.whole.Settings.{Settings}
 use Rattle.spec_step.specs.Shown.{Shown}
-use Rattle.spec_step.specs.Founding.{begun, founded}
+use Rattle.spec_step.specs.Founding.{begun, founded, hashing}
 use Rattle.checks.specs.Digests.{digest}
 use Rattle.rounds.specs.declared.desk.Identity.{Identity}
 
@@ -14,9 +14,9 @@ unfoldable pub HasBoot : ℕ → Shown → Type 0
 HasBoot boot g = g.link.boot ≡ boot
 
 -- it is just the gateway that begins in this boot with these settings: gateway 0 alone, where the pair is founded, else
--- the one of this id, without a table
+-- the one of this id, without a table; by whatever its table hashes
 unfoldable pub IsStart : Settings → GatewayId → Bool → ℕ → Shown → Type 0
-IsStart settings id found boot g = g ≡ (if found then founded settings boot else begun settings id boot)
+IsStart settings id found boot g = g ≡ hashing g.ledger.hashers (if found then founded settings boot else begun settings id boot)
 
 -- the line that tells of a boot
 abbrev pub boot_line : ℕ → List ℕ

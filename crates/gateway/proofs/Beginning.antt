@@ -6,7 +6,8 @@ use Rattle.nat_types.specs.declared.gateways.GatewayId.TheVariants.{Zero}
 use Rattle.settings.specs.declared.whole.Settings.{Settings}
 use Rattle.packet_rules.specs.Networks.{IsPlaced, networks_of}
 use Rattle.interfaces.specs.Stations.{new_station}
-use Rattle.spec_step.specs.Founding.{begun, founded}
+use Rattle.slots.specs.declared.hashers.Hashers.{Hashers}
+use Rattle.spec_step.specs.Founding.{begun, founded, hashing}
 use Rattle.spec_step.specs.Machine.{IsStanding}
 use Rattle.spec_step.specs.Settled.{IsSettled}
 use Rattle.spec_step.specs.Shown.{Shown}
@@ -40,10 +41,24 @@ founded-is settings boot stands settled placed = record {
   settled = settled;
 }
 
+-- whatever its table hashes by
+hashing-is : (hashers : Hashers) (g : Shown) → IsGateway g → IsGateway (hashing hashers g)
+hashing-is hashers g is = record {
+  book = is.book;
+  alone = is.alone;
+  bytes = is.bytes;
+  moment = is.moment;
+  history = is.history;
+  pushed = is.pushed;
+  places = is.places;
+  house = is.house;
+  settled = record { running = is.settled.running; idle = is.settled.idle; answered = is.settled.answered; places = is.settled.places };
+}
+
 -- founded or not
-pub beginning-is : (settings : Settings) (id : GatewayId) (boot : ℕ) (found : Bool) (g : Shown) → IsStanding (begun settings id boot) [] → IsStanding (founded settings boot) []
+pub beginning-is : (settings : Settings) (id : GatewayId) (boot : ℕ) (found : Bool) (hashers : Hashers) (g : Shown) → IsStanding (begun settings id boot) [] → IsStanding (founded settings boot) []
     → IsSettled (begun settings id boot) → IsSettled (founded settings boot)
     → IsPlaced (networks_of settings id) → IsPlaced (networks_of settings Zero)
-    → g ≡ (if found then founded settings boot else begun settings id boot) → IsGateway g
-beginning-is settings id boot true g b f x y placed first is = subst IsGateway (sym is) (founded-is settings boot f y first)
-beginning-is settings id boot false g b f x y placed first is = subst IsGateway (sym is) (begun-is settings id boot b x placed)
+    → g ≡ hashing hashers (if found then founded settings boot else begun settings id boot) → IsGateway g
+beginning-is settings id boot true hashers g b f x y placed first is = subst IsGateway (sym is) (hashing-is hashers _ (founded-is settings boot f y first))
+beginning-is settings id boot false hashers g b f x y placed first is = subst IsGateway (sym is) (hashing-is hashers _ (begun-is settings id boot b x placed))

@@ -9,7 +9,7 @@ ghost use Rattle.bind_core.specs.Cores.{ledger_of};
 ghost use Rattle.packet_rules.specs.Networks.{IsPlaced, networks_of};
 ghost use Rattle.interfaces.specs.Stations.{new_station};
 ghost use Rattle.spec_step.specs.Founding.{HasRanges, begun, bounds_of as bounds_in, founded};
-ghost use Rattle.spec_step.specs.Founding.{link_places as places_of};
+ghost use Rattle.spec_step.specs.Founding.{hashing, link_places as places_of};
 ghost use Rattle.forwarder.specs.Forwarder.{shown_of};
 
 use crate::NoMemory;
@@ -174,7 +174,8 @@ fn begin_unsynced(
     hashers: Hashers,
 ) -> Result<Forwarder, NoMemory>
     requires { 0 < boot }
-    ensures shown { IfOk result (λ f. shown_of f ≡ begun settings.now id boot) }
+    ensures shown { IfOk result (λ f. shown_of f
+        ≡ hashing hashers (begun settings.now id boot)) }
     ensures hashers { IfOk result (λ f. f.core.table.hashers ≡ hashers) }
 {
     recall_ranges(settings);
@@ -195,7 +196,8 @@ fn begin_founded(
     hashers: Hashers,
 ) -> Result<Forwarder, NoMemory>
     requires { 0 < boot }
-    ensures shown { IfOk result (λ f. shown_of f ≡ founded settings.now boot) }
+    ensures shown { IfOk result (λ f. shown_of f
+        ≡ hashing hashers (founded settings.now boot)) }
     ensures hashers { IfOk result (λ f. f.core.table.hashers ≡ hashers) }
 {
     recall_ranges(settings);
@@ -223,8 +225,8 @@ pub(crate) fn begin(
     ensures ranges { HasRanges settings.now }
     ensures placed { IsPlaced (networks_of settings.now id) }
     ensures first { IsPlaced (networks_of settings.now Zero) }
-    ensures shown { IfOk result (λ f. shown_of f
-        ≡ (if found then founded settings.now boot else begun settings.now id boot)) }
+    ensures shown { IfOk result (λ f. shown_of f ≡ hashing hashers
+        (if found then founded settings.now boot else begun settings.now id boot)) }
     ensures hashers { IfOk result (λ f. f.core.table.hashers ≡ hashers) }
 {
     recall_ranges(settings);

@@ -8,7 +8,7 @@ ghost use Rattle.spec_binding.specs.Books.{is_synced};
 ghost use Rattle.spec_binding.specs.Ledgers.{is_heard};
 ghost use Rattle.interfaces.specs.Cables.{is_in};
 ghost use Rattle.interfaces.specs.Stations.{is_active};
-ghost use Rattle.spec_step.specs.Founding.{begun, founded};
+ghost use Rattle.spec_step.specs.Founding.{begun, founded, hashing};
 ghost use Rattle.spec_step.specs.Machine.{HasBytes};
 ghost use Rattle.spec_step.specs.Shown.{scene, station_on};
 ghost use Rattle.spec_step.specs.Steps.{IsStepOn, outcome_on};
@@ -75,8 +75,8 @@ impl Gateway {
     ) -> Result<Gateway, NoMemory>
         requires boot { 0 < boot }
         requires found { IsTrue found → id ≡ Zero }
-        ensures { IfOk result (λ g. g
-            ≡ (if found then founded settings.now boot else begun settings.now id boot)) }
+        ensures { IfOk result (λ g. g ≡ hashing hashers
+            (if found then founded settings.now boot else begun settings.now id boot)) }
     {
         beginnings();
         beginnings_settle();

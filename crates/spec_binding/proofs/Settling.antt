@@ -20,6 +20,7 @@ use Rattle.activity.specs.declared.packets.Packet.{Packet}
 use Rattle.activity.specs.Lives.{life_begun, life_carried}
 use Rattle.activity.specs.Rests.{HaveRested}
 use Rattle.activity.specs.Lives.{least_rest}
+use Rattle.slots.specs.declared.hashers.Hashers.{Hashers}
 use Rattle.bindings.specs.declared.entries.Entry.{Entry}
 use Rattle.bindings.specs.Entries.{slot_of, entry_of, entry_in, translates}
 use Rattle.bindings.specs.Lists.{place_in, put_in, without}
@@ -47,8 +48,8 @@ use Rattle.spec_binding.proofs.Staying.{idle-stays, row-stays, wish-stays}
 
 -- ---- beginnings, time, and the other gateway's notes
 
-pub begun-accounts : (now : ℕ) (b : Book) (h : List Note) → b.entries ≡ [] → ((p : Pair) → uses_of b.id h p ≡ []) → Idle h → Accounts now (record { book = b; lives = [] }) h
-begun-accounts now b h empty none idle = record {
+pub begun-accounts : (now : ℕ) (b : Book) (hashers : Hashers) (h : List Note) → b.entries ≡ [] → ((p : Pair) → uses_of b.id h p ≡ []) → Idle h → Accounts now (record { book = b; lives = []; hashers = hashers }) h
+begun-accounts now b hashers h empty none idle = record {
   uses = subst (λ (es : List Entry). KnowUses now es [] (uses_of b.id h)) (sym empty) (know-none now (uses_of b.id h) none);
   none = λ un. none;
   idle = idle;
@@ -84,7 +85,7 @@ fed-accounts now l h rest a = record { uses = a.uses; none = a.none; idle = a.id
 
 module _ (now : ℕ) (l : Ledger) (h : List Note) (a : Accounts now l h) (loads : is_synced l.book.stage ≡ false) where
   abbrev pub Loads : Record → Option Load → Type 0
-  Loads r o = Accounts now (record { book = load_taken l.book r o; lives = lives_loaded now r l.book.entries l.lives o }) (reverse (noted_by l.book.id now (load_what r o)) ++ h)
+  Loads r o = Accounts now (record l { book = load_taken l.book r o; lives = lives_loaded now r l.book.entries l.lives o }) (reverse (noted_by l.book.id now (load_what r o)) ++ h)
 
   put-loads : (p : Pair) → Loads (rec.Put p) (loaded (load_of l.book) (rec.Put p))
   put-loads p = at (l.book.begun && is_new (load_of l.book) p) refl
@@ -139,7 +140,7 @@ taken-accounts now l h r is a = at (is_synced l.book.stage) refl
     line : Transition
     line = row_of l.book (rests_for now l r) r
 
-    at : (t : Bool) → is_synced l.book.stage ≡ t → Accounts now (record {
+    at : (t : Bool) → is_synced l.book.stage ≡ t → Accounts now (record l {
       book = cond t (after l.book line) (unsynced_after l.book r);
       lives = cond t (lives_after now line.change l.book.entries l.lives) (lives_loaded now r l.book.entries l.lives (loaded (load_of l.book) r));
     }) (reverse (noted_by l.book.id now (cond t line.what (unsynced_what l.book r))) ++ h)
@@ -211,7 +212,7 @@ revived-uses now l h is a =
 pub restarted-accounts : (now : ℕ) (l : Ledger) (h : List Note) → IsBook l.book → Accounts now l h → Accounts now (restarted_ledger l) (reverse (restart_notes l.book now) ++ h)
 restarted-accounts now l h is a = at (is_synced l.book.stage) refl
   where
-    at : (t : Bool) → is_synced l.book.stage ≡ t → Accounts now (record {
+    at : (t : Bool) → is_synced l.book.stage ≡ t → Accounts now (record l {
       book = cond t (begun_anew l.book) (empty_book l.book.id l.book.zero l.book.one l.book.limit);
       lives = cond t (lives_of_pairs l.book.entries l.lives) [];
     }) (reverse (let ns : List Note = cond t (retaken l.book.id now (back_in l.book.entries)) [] in ns) ++ h)

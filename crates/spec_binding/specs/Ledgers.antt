@@ -10,6 +10,7 @@ use Rattle.nat_types.specs.declared.records.Record.TheVariants.{Ask}
 use Rattle.link.specs.Link.{Link}
 use Rattle.activity.specs.declared.packets.Packet.{Packet}
 use Rattle.activity.specs.Lives.{Activity, life_begun, life_carried, life_renewed}
+use Rattle.slots.specs.declared.hashers.Hashers.{Hashers}
 use Rattle.bindings.specs.declared.entries.Entry.{Entry}
 use Rattle.bindings.specs.Lists.{place_in}
 use Rattle.bindings.specs.Lives.{lives_with, lives_without, rests_at, is_unused_at}
@@ -21,10 +22,11 @@ use Rattle.spec_binding.specs.Books.{Book, is_synced, load_of}
 use Rattle.spec_binding.specs.Resets.{restarted, put_alone}
 use Rattle.spec_binding.specs.Rows.{answered, carry_row, changed, idle_row, is_full, noted_by, row_of, taken_book}
 
--- the entries of the book, and the life of each, in the same order
+-- the entries of the book, and the life of each, in the same order; and by what their table hashes, which nothing changes
 pub record Ledger : Type 0 where
   pub book : Book
   pub lives : List Activity
+  pub hashers : Hashers
 
 -- the peer's pair comes by Install
 abbrev pub is_held : EntryState → Bool
@@ -47,7 +49,7 @@ lives_after now (Give g) es ls = ls
 lives_after now (Gain g) es ls = ls
 
 abbrev pub ledger_after : ℕ → Change → Ledger → Ledger
-ledger_after now c l = record { book = changed c l.book; lives = lives_after now c l.book.entries l.lives }
+ledger_after now c l = record l { book = changed c l.book; lives = lives_after now c l.book.entries l.lives }
 
 -- the pair of an Ask is idle, or came by Install and carried nothing since
 abbrev pub rests_for : ℕ → Ledger → Record → Bool
@@ -67,7 +69,7 @@ taken_lives now l r =
     else lives_loaded now r l.book.entries l.lives (loaded (load_of l.book) r)
 
 abbrev pub taken_ledger : ℕ → Ledger → Record → Ledger
-taken_ledger now l r = record { book = taken_book l.book (rests_for now l r) r; lives = taken_lives now l r }
+taken_ledger now l r = record l { book = taken_book l.book (rests_for now l r) r; lives = taken_lives now l r }
 
 -- the pair of a key carries a packet, where it translates
 abbrev pub carried_ledger : Key → Packet → Ledger → Ledger
@@ -77,14 +79,14 @@ carried_ledger k p l = record l {
 
 -- a greater boot of the peer is heard
 abbrev pub restarted_ledger : Ledger → Ledger
-restarted_ledger l = record {
+restarted_ledger l = record l {
   book = restarted l.book;
   lives = if is_synced l.book.stage then lives_of_pairs l.book.entries l.lives else [];
 }
 
 -- the operator says that the peer is off: the life of each pair begins anew
 abbrev pub alone_ledger : ℕ → Ledger → Ledger
-alone_ledger now l = record { book = put_alone l.book; lives = map (life_renewed now) (lives_of_pairs l.book.entries l.lives) }
+alone_ledger now l = record l { book = put_alone l.book; lives = map (life_renewed now) (lives_of_pairs l.book.entries l.lives) }
 
 -- ---- the idle pairs of a tick
 

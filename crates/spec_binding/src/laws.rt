@@ -38,6 +38,7 @@ ghost use Rattle.spec_binding.specs.Waits.{is_waiting};
 ghost use Rattle.nat_types.specs.declared.pairs.Pair.{Pair};
 ghost use Rattle.nat_types.specs.Same.{same};
 ghost use Rattle.activity.specs.declared.packets.Packet.{Packet};
+ghost use Rattle.slots.specs.declared.hashers.Hashers.{Hashers};
 ghost use Rattle.bindings.specs.Lives.{idle_keys_in};
 ghost use Rattle.spec_trace.specs.Past.{Idle};
 ghost use Rattle.spec_binding.specs.Ledgers.{Ledger, alone_ledger, carried_ledger, ledger_after};
@@ -275,11 +276,13 @@ pub fn records_come()
 /// after each use of it by the gateway in the same life. It begins so at each boot of the gateway (`begun`, `founded`).
 pub fn accounts_kept()
     ensures begun { (now : ℕ) (id : GatewayId) (zero one : PortBounds) (limit : Option ℕ)
-        (h : List Note) → ((p : Pair) → uses_of id h p ≡ []) → Idle h
-        → Accounts now (record { book = empty_book id zero one limit; lives = [] }) h }
-    ensures founded { (now : ℕ) (zero one : PortBounds) (limit : Option ℕ) (h : List Note)
-        → ((p : Pair) → uses_of Zero h p ≡ []) → Idle h
-        → Accounts now (record { book = founded_book zero one limit; lives = [] }) h }
+        (hashers : Hashers) (h : List Note) → ((p : Pair) → uses_of id h p ≡ []) → Idle h
+        → let book = empty_book id zero one limit in
+        Accounts now (record { book = book; lives = []; hashers = hashers }) h }
+    ensures founded { (now : ℕ) (zero one : PortBounds) (limit : Option ℕ) (hashers : Hashers)
+        (h : List Note) → ((p : Pair) → uses_of Zero h p ≡ []) → Idle h
+        → let book = founded_book zero one limit in
+        Accounts now (record { book = book; lives = []; hashers = hashers }) h }
     ensures later { (since now : ℕ) (l : Ledger) (h : List Note) → since ≤ now
         → Accounts since l h → Accounts now l h }
     // What the other gateway notes.

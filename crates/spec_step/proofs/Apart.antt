@@ -8,6 +8,7 @@ use Rattle.nat_types.specs.declared.notes.Note.{Note}
 use Rattle.nat_types.specs.Same.{same}
 use Rattle.nat_types.proofs.Offered.{same-true}
 use Rattle.settings.specs.declared.whole.Settings.{Settings}
+use Rattle.slots.specs.declared.hashers.Hashers.TheVariants.{Fixed}
 use Rattle.spec_trace.specs.Past.{Idle}
 use Rattle.spec_pair.specs.Talk.{note}
 use Rattle.spec_binding.specs.Books.{empty_book, founded_book}
@@ -50,10 +51,10 @@ forgotten false uses is = absurd (cc)
 pub boot-accounts : (settings : Settings) (id : GatewayId) (boot at : ℕ) (before : List Note) → Idle before → AccountsOn (begun settings id boot) (note id at (Booted boot) ∷ before)
 unfolding begun
 boot-accounts settings id boot at before idle =
-    begun-accounts 0 (empty_book id (bounds_of settings.ports.zero) (bounds_of settings.ports.one) settings.ports.host_limit) (note id at (Booted boot) ∷ before) refl
+    begun-accounts 0 (empty_book id (bounds_of settings.ports.zero) (bounds_of settings.ports.one) settings.ports.host_limit) Fixed (note id at (Booted boot) ∷ before) refl
     (λ p. forgotten (same id id) (uses_of id before p) (same-true id id refl)) (tt, idle)
 
 pub founded-accounts : (settings : Settings) (boot : ℕ) → AccountsOn (founded settings boot) []
 unfolding founded begun
 founded-accounts settings boot =
-    begun-accounts 0 (founded_book (bounds_of settings.ports.zero) (bounds_of settings.ports.one) settings.ports.host_limit) [] refl (λ p. refl) tt
+    begun-accounts 0 (founded_book (bounds_of settings.ports.zero) (bounds_of settings.ports.one) settings.ports.host_limit) Fixed [] refl (λ p. refl) tt

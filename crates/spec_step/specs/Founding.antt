@@ -6,6 +6,8 @@ use Rattle.nat_types.specs.declared.gateways.Side.TheVariants.{Inside, Outside}
 use Rattle.nat_types.specs.Granted.{IsPort}
 use Rattle.settings.specs.declared.ranges.PortRange.{PortRange}
 use Rattle.settings.specs.declared.whole.Settings.{Settings}
+use Rattle.slots.specs.declared.hashers.Hashers.{Hashers}
+use Rattle.slots.specs.declared.hashers.Hashers.TheVariants.{Fixed}
 use Rattle.bindings.specs.declared.entries.PortBounds.{PortBounds}
 use Rattle.bindings.specs.Ports.{AreBounds, key_count}
 use Rattle.spec_binding.specs.Books.{empty_book, founded_book}
@@ -23,7 +25,7 @@ bounds_of range = record { lowest = range.lowest; highest = range.highest }
 abbrev pub link_places : PortBounds → PortBounds → ℕ
 link_places zero one = 2 * key_count zero one + 66
 
--- A gateway in the life of this number, without a table; its routers stand in Initialize.
+-- A gateway in the life of this number, without a table, which is to hash by the fixed keys; its routers stand in Initialize.
 unfoldable pub begun : Settings → GatewayId → ℕ → Shown
 begun settings id boot =
     let zero = bounds_of settings.ports.zero in
@@ -33,7 +35,7 @@ begun settings id boot =
       moment = 0;
       stopped = false;
       away = false;
-      ledger = record { book = empty_book id zero one settings.ports.host_limit; lives = [] };
+      ledger = record { book = empty_book id zero one settings.ports.host_limit; lives = []; hashers = Fixed };
       link = fresh id boot (link_places zero one);
       inside = new_station settings id Inside;
       outside = new_station settings id Outside;
@@ -46,10 +48,14 @@ founded settings boot =
     let g = begun settings Zero boot in
     let book = founded_book (bounds_of settings.ports.zero) (bounds_of settings.ports.one) settings.ports.host_limit in
     record g {
-      ledger = record { book = book; lives = [] };
+      ledger = record g.ledger { book = book };
       inside = started g.inside 0;
       outside = started g.outside 0;
     }
+
+-- the same gateway, whose table hashes by these hashers
+abbrev pub hashing : Hashers → Shown → Shown
+hashing hashers g = record g { ledger = record g.ledger { hashers = hashers } }
 
 -- what a gateway's beginning asks of the settings: both ranges go from a lowest to a highest port
 pub record HasRanges (settings : Settings) : Type 0 where
