@@ -1,4 +1,5 @@
 mod Laws
+mod Fixed
 mod Mails
 mod Stepping
 mod Turning

@@ -10,15 +10,12 @@ use Rattle.nat_types.specs.declared.notes.Note.{Note}
 use Rattle.nat_types.specs.declared.records.Record.{Record}
 use Rattle.settings.specs.declared.ranges.PortRanges.{PortRanges}
 use Rattle.settings.specs.declared.whole.Settings.{Settings}
-use Rattle.slots.specs.Hashers.{is_drawn}
-use Rattle.slots.specs.declared.hashers.Hashers.{Hashers}
-use Rattle.slots.specs.declared.hashers.Hashers.TheVariants.{Drawn, Fixed}
 use Rattle.bindings.specs.Ports.{AreBounds}
 use Rattle.spec_pair.specs.Acts as act
 use Rattle.spec_pair.specs.Box.{Box, bare, booted}
 use Rattle.spec_pair.specs.World as machine
 use Rattle.spec_pair.specs.World.{Can, IsWorld, Scene, after_event, seen_by}
-use Rattle.spec_step.specs.Founding.{begun, bounds_of, founded, hashing, link_places}
+use Rattle.spec_step.specs.Founding.{begun, bounds_of, founded, link_places}
 use Rattle.spec_step.specs.Machine.{box_of}
 use Rattle.spec_step.specs.Shown.{Shown}
 use Rattle.frame_sim.specs.World.{World, founding, gateway_at, half, is_up, synced_at, with_half}
@@ -144,21 +141,6 @@ boot-sound goes law others begins w i n sound may =
           (goes r (scene_of w sound.pushed) (boot i n) sound.scene (can-boot w sound.pushed i n sound.halves may));
       accounted = boot-accounted others begins w sound.pushed i n sound.halves sound.accounted;
     }
-
--- ---- hashers that aren't drawn
-
-fixed-is : (hashers : Hashers) → is_drawn hashers ≡ false → hashers ≡ Fixed
-fixed-is Fixed is = refl
-fixed-is (Drawn keys) is = absurd (cc)
-
--- are those by which a gateway begins
-pub begun-fixed : (hashers : Hashers) (settings : Settings) (i : GatewayId) (n : ℕ) → is_drawn hashers ≡ false → hashing hashers (begun settings i n) ≡ begun settings i n
-unfolding begun
-begun-fixed hashers settings i n is = ap (λ (h : Hashers). hashing h (begun settings i n)) (fixed-is hashers is)
-
-pub founded-fixed : (hashers : Hashers) (settings : Settings) → is_drawn hashers ≡ false → hashing hashers (founded settings 1) ≡ founded settings 1
-unfolding founded begun
-founded-fixed hashers settings is = ap (λ (h : Hashers). hashing h (founded settings 1)) (fixed-is hashers is)
 
 -- ---- the founding
 

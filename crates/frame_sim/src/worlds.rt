@@ -1,9 +1,11 @@
 //! The world of a script: two gateways, what happens to them, and the trace of their notes.
-ghost use Rattle.std.specs.Prelude.{◌≡◌, ◌<◌, ◌++◌, ◌∷◌, [], true, None, option_map, is_some, vec_len, vec_capacity, IfOk, IsOk, IsTrue, OnOk, OnErr};
+ghost use Rattle.std.specs.Prelude.{◌≡◌, ◌<◌, ◌++◌, ◌∷◌, [], true, None, option_map, is_some, vec_len, vec_capacity, IfOk, IsOk, IsTrue, OnOk, OnErr, if◌then◌else◌};
 ghost use Rattle.bindings.specs.Entries.{is_pair, translates};
 ghost use Rattle.spec_trace.specs.OneBox.{IsOneBox};
 ghost use Rattle.spec_trace.specs.Trace.{Fits, GoesOn, Idle, Kept, Silent};
 ghost use Rattle.output.specs.Output.{none_told, with_note};
+ghost use Rattle.nat_types.specs.declared.gateways.GatewayId.TheVariants.{Zero};
+ghost use Rattle.spec_step.specs.Founding.{begun, founded};
 ghost use Rattle.nat_types.specs.declared.events.WorldEvent.TheVariants as events;
 ghost use Rattle.frame_sim.specs.declared.events.WorldFault.TheVariants as faults;
 ghost use Rattle.frame_sim.specs.Events.{IsHandedDown, TakesAt, datagram_for, may_be_told, may_boot, may_crash};
@@ -89,6 +91,22 @@ fn note_both(trace: &mut Vec<Note>, out: &mut Out, note: &Note) -> Result<(), No
     Ok(())
 }
 
+/// A gateway that begins, by the fixed hashers: a script's run is the same each time.
+fn begin(
+    alloc: Global,
+    settings: &Settings,
+    id: GatewayId,
+    boot: u64,
+    found: bool,
+) -> Result<Gateway, NoMemory>
+    requires boot { 0 < boot }
+    requires found { IsTrue found → id ≡ Zero }
+    ensures { IfOk result (λ g. g
+        ≡ (if found then founded settings.now boot else begun settings.now id boot)) }
+{
+    Gateway::new(alloc, settings, id, boot, found, Hashers::fixed())
+}
+
 impl<'a> World<'a> {
     /// Gateway 0 founded with boot 1, and gateway 1 down.
     pub fn new(alloc: Global, settings: &'a Settings) -> Result<World<'a>, NoMemory>
@@ -97,8 +115,7 @@ impl<'a> World<'a> {
         begins();
         books_begin();
         beginnings_account();
-        let hashers = Hashers::fixed();
-        let gateway = Gateway::new(alloc, settings, GatewayId::Zero, 1, true, hashers)?;
+        let gateway = begin(alloc, settings, GatewayId::Zero, 1, true)?;
         gateway.recall();
         Ok(World {
             alloc,
@@ -353,8 +370,7 @@ impl<'a> World<'a> {
         if !self.may_boot(id, number) {
             return Err(WorldFault::PremiseBroken);
         }
-        let hashers = Hashers::fixed();
-        let gateway = Gateway::new(self.alloc, self.settings, id, number, false, hashers)?;
+        let gateway = begin(self.alloc, self.settings, id, number, false)?;
         let note = Note {
             by: id,
             at: 0,
