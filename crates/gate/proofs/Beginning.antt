@@ -1,7 +1,6 @@
 -- The boot of a gateway that begins.
-use Rattle.std.proofs.Common.{IsErrOf, ◌≡◌, ◌⊎◌, inl, inr, ◌<◌, ◌≤◌, ℕ, Bool, true, false, Result, Ok, Err, IfOk, refl, sym, ap, subst, ◌∙◌, arith, if◌then◌else◌}
+use Rattle.std.proofs.Common.{IsErrOf, ◌≡◌, ◌⊎◌, inl, inr, ◌<◌, ◌≤◌, ℕ, Bool, true, false, Result, Ok, Err, IfOk, refl, sym, subst, arith, if◌then◌else◌}
 use Rattle.std.proofs.lemmas.Bool.{cases_lt}
-use Rattle.std.proofs.lemmas.Result.{IfOk-weaker}
 use Rattle.nat_types.specs.declared.gateways.GatewayId.{GatewayId}
 use Rattle.settings.specs.declared.whole.Settings.{Settings}
 use Rattle.slots.specs.declared.hashers.Hashers.{Hashers}
@@ -9,41 +8,31 @@ use Rattle.spec_step.specs.Shown.{Shown}
 use Rattle.spec_step.specs.Founding.{begun, founded, hashing}
 use Rattle.gate.specs.Boots.{HasBoot, IsStart}
 
-of_begun : (settings : Settings) (id : GatewayId) (boot : ℕ) → HasBoot boot (begun settings id boot)
+of_begun : (settings : Settings) (id : GatewayId) (hashers : Hashers) (boot : ℕ) → HasBoot boot (hashing hashers (begun settings id boot))
 unfolding HasBoot begun
-of_begun settings id boot = refl
+of_begun settings id hashers boot = refl
 
-of_founded : (settings : Settings) (boot : ℕ) → HasBoot boot (founded settings boot)
+of_founded : (settings : Settings) (hashers : Hashers) (boot : ℕ) → HasBoot boot (hashing hashers (founded settings boot))
 unfolding HasBoot founded begun
-of_founded settings boot = refl
-
--- by whatever its table hashes
-of_hashing : (hashers : Hashers) (boot : ℕ) (g : Shown) → HasBoot boot g → HasBoot boot (hashing hashers g)
-unfolding HasBoot
-of_hashing hashers boot g is = is
+of_founded settings hashers boot = refl
 
 -- founded or not
-of_either : (settings : Settings) (id : GatewayId) (boot : ℕ) (found : Bool)
-    → HasBoot boot (if found then founded settings boot else begun settings id boot)
-of_either settings id boot true = of_founded settings boot
-of_either settings id boot false = of_begun settings id boot
+of_either : (settings : Settings) (id : GatewayId) (hashers : Hashers) (boot : ℕ) (found : Bool)
+    → HasBoot boot (hashing hashers (if found then founded settings boot else begun settings id boot))
+of_either settings id hashers boot true = of_founded settings hashers boot
+of_either settings id hashers boot false = of_begun settings id hashers boot
 
 -- a gateway that begins so is a start
-start_of : (settings : Settings) (id : GatewayId) (boot : ℕ) (found : Bool) (hashers : Hashers) (g : Shown)
-    → g ≡ hashing hashers (if found then founded settings boot else begun settings id boot) → IsStart settings id found boot g
-unfolding IsStart
-start_of settings id boot found hashers g is =
-    is ∙ ap (λ (h : Hashers). hashing h (if found then founded settings boot else begun settings id boot)) (sym (ap (λ (x : Shown). x.ledger.hashers) is))
-
 pub is_start : {E : Type 0} (settings : Settings) (id : GatewayId) (boot : ℕ) (found : Bool) (hashers : Hashers) (r : Result Shown E)
-    → IfOk r (λ g. g ≡ hashing hashers (if found then founded settings boot else begun settings id boot)) → IfOk r (IsStart settings id found boot)
-is_start settings id boot found hashers r = IfOk-weaker r _ _ (start_of settings id boot found hashers)
+    → IfOk r (λ g. g ≡ hashing hashers (if found then founded settings boot else begun settings id boot)) → IfOk r (IsStart settings id found hashers boot)
+unfolding IsStart
+is_start settings id boot found hashers r is = is
 
 -- and is in that boot
-pub own_boot : (settings : Settings) (id : GatewayId) (found : Bool) (boot : ℕ) (g : Shown)
-    → IsStart settings id found boot g → HasBoot boot g
+pub own_boot : (settings : Settings) (id : GatewayId) (found : Bool) (hashers : Hashers) (boot : ℕ) (g : Shown)
+    → IsStart settings id found hashers boot g → HasBoot boot g
 unfolding IsStart
-own_boot settings id found boot g is = subst (HasBoot boot) (sym is) (of_hashing g.ledger.hashers boot _ (of_either settings id boot found))
+own_boot settings id found hashers boot g is = subst (HasBoot boot) (sym is) (of_either settings id hashers boot found)
 
 -- what is no Err
 abbrev is_ok : {X E : Type 0} → Result X E → Type 0

@@ -1,9 +1,11 @@
 -- The gateway that a start begins, and the boot that it is in.
-use Rattle.std.specs.Prelude.{◌≡◌, ◌<◌, ◌++◌, ℕ, Bool, List, Option, codes, if◌then◌else◌}
+use Rattle.std.specs.Prelude.{◌≡◌, ◌<◌, ◌++◌, ℕ, Bool, true, List, Option, codes, if◌then◌else◌}
 use Rattle.std.specs.Fmt.{decimal}
 use Rattle.std.specs.Io.KnownBytes.{Appends}
 use Rattle.nat_types.specs.declared.gateways.GatewayId.{GatewayId}
 use Rattle.settings.specs.declared.whole.Settings.{Settings}
+use Rattle.slots.specs.Hashers.{is_drawn}
+use Rattle.slots.specs.declared.hashers.Hashers.{Hashers}
 use Rattle.spec_step.specs.Shown.{Shown}
 use Rattle.spec_step.specs.Founding.{begun, founded, hashing}
 use Rattle.checks.specs.Digests.{digest}
@@ -14,19 +16,21 @@ unfoldable pub HasBoot : ℕ → Shown → Type 0
 HasBoot boot g = g.link.boot ≡ boot
 
 -- it is just the gateway that begins in this boot with these settings: gateway 0 alone, where the pair is founded, else
--- the one of this id, without a table; by whatever its table hashes
-unfoldable pub IsStart : Settings → GatewayId → Bool → ℕ → Shown → Type 0
-IsStart settings id found boot g = g ≡ hashing g.ledger.hashers (if found then founded settings boot else begun settings id boot)
+-- the one of this id, without a table; its table hashes by these hashers
+unfoldable pub IsStart : Settings → GatewayId → Bool → Hashers → ℕ → Shown → Type 0
+IsStart settings id found hashers boot g = g ≡ hashing hashers (if found then founded settings boot else begun settings id boot)
 
 -- the line that tells of a boot
 abbrev pub boot_line : ℕ → List ℕ
 boot_line boot = codes "boot " ++ decimal boot ++ codes "\n"
 
--- it begins in some boot above 0, and the boot's line is what was printed
+-- it begins in some boot above 0, its table hashes by keys that were drawn, and the boot's line is what was printed
 pub record HasStarted (settings : Settings) (id : GatewayId) (found : Bool) (before after : Option (List ℕ)) (g : Shown) : Type 0 where
   pub boot : ℕ
   pub above_zero : 0 < boot
-  pub start : IsStart settings id found boot g
+  pub hashers : Hashers
+  pub drawn : is_drawn hashers ≡ true
+  pub start : IsStart settings id found hashers boot g
   pub printed : Appends before after (boot_line boot)
 
 -- who a box is, to those who ask: its id, the boot that its gateway is in, and the digest of its settings

@@ -646,7 +646,7 @@ fn booted<D: Disk>(
     hashers: Hashers,
 ) -> Result<(u64, Gateway), BoxFault>
     requires found { IsTrue found → id ≡ Zero }
-    ensures begins { IfOk result (λ start. IsStart settings.now id found start.0 start.1) }
+    ensures begins { IfOk result (λ start. IsStart settings.now id found hashers start.0 start.1) }
     ensures own { IfOk result (λ start. HasBoot start.0 start.1) }
     ensures above_zero { IfOk result (λ start. 0 < start.0) }
     ensures err { IfErr result IsOfStart }
@@ -674,7 +674,7 @@ fn begun(
 ) -> Result<Gateway, NoMemory>
     requires boot { 0 < boot }
     requires found { IsTrue found → id ≡ Zero }
-    ensures { IfOk result (IsStart settings.now id found boot) }
+    ensures { IfOk result (IsStart settings.now id found hashers boot) }
 {
     Gateway::new(alloc, settings, id, boot, found, hashers)
 }

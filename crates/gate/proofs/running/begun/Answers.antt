@@ -2,4 +2,4 @@ use Rattle.gate.proofs.Beginning.{is_start}
 use Rattle.gate.proofs.running.begun.Goals as goal
 
 pub returns : goal.returns
-returns c = is_start _ c.args.id c.args.boot c.args.found c.args.hashers _ c.new.ensures
+returns c = is_start _ c.args.id c.args.boot c.args.found _ _ c.new.ensures
