@@ -1,6 +1,6 @@
 //! Why a frame is dropped.
-ghost use Rattle.std.specs.Prelude.{◌≡◌};
-ghost use Rattle.packet_rules.specs.Reasons.{number_of};
+ghost use Rattle.std.specs.Prelude.{◌≡◌, Some};
+ghost use Rattle.packet_rules.specs.Reasons.{number_of, text_of};
 
 use std::fmt;
 use thiserror::Error;
@@ -40,6 +40,8 @@ impl Reason {
 }
 
 impl fmt::Display for Reason {
+    ghost output = { λ r. Some (text_of r) };
+
     fn fmt<W: fmt::Write>(&self, f: &mut fmt::Formatter<W>) -> fmt::Result {
         f.write_str(match self {
             Reason::ShortFrame => "the frame is too short or too long",
