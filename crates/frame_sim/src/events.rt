@@ -6,19 +6,17 @@ use gateway::{Out, Outcome};
 use nat_types::NoMemory;
 use printing::RefusalText;
 use std::alloc::AllocError;
+use std::fmt;
 use thiserror::Error;
 
 /// Why an event was refused; the world is then as before.
 #[derive(Clone, Copy, Debug, PartialEq, Eq, Error)]
 pub enum WorldFault {
     /// The event isn't allowed.
-    #[error("1 PremiseBroken")]
     PremiseBroken,
     /// No such datagram was ever sent.
-    #[error("2 NoSuchDatagram")]
     NoSuchDatagram,
     /// A growth was refused.
-    #[error("3 NoMemory")]
     NoMemory,
 }
 
@@ -35,6 +33,18 @@ impl RefusalText for WorldFault {
             WorldFault::NoSuchDatagram => "2 NoSuchDatagram",
             WorldFault::NoMemory => "3 NoMemory",
         }
+    }
+}
+
+/// The same text.
+impl fmt::Display for WorldFault {
+    ghost use Rattle.std.specs.Prelude.{Some};
+    ghost use Rattle.frame_sim.specs.Texts.{refusal_text};
+
+    ghost output = { λ fault. Some (refusal_text fault) };
+
+    fn fmt<W: fmt::Write>(&self, f: &mut fmt::Formatter<W>) -> fmt::Result {
+        f.write_str(self.text())
     }
 }
 
