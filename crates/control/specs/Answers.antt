@@ -1,5 +1,5 @@
 -- What a box answers to a word.
-use Rattle.std.specs.Prelude.{ℕ, ◌==◌, ◌&&◌, List, [], ◌∷◌, Option, Some, None, option_map, if◌then◌else◌}
+use Rattle.std.specs.Prelude.{ℕ, ◌==◌, ◌&&◌, List, [], ◌∷◌, Option, Some, None, option_map, codes, if◌then◌else◌}
 use Rattle.control.specs.declared.answers.PeerOffRefusal.{PeerOffRefusal}
 use Rattle.control.specs.declared.answers.PeerOffRefusal.TheVariants.{NotSynced, NoPeer, PastBoot, UnknownBoot, PeerHeard}
 use Rattle.control.specs.declared.answers.Answer.{Answer}
@@ -20,6 +20,14 @@ refusal_numbered number =
     else if number == 4 then Some UnknownBoot
     else if number == 5 then Some PeerHeard
     else None
+
+-- a refusal's number and name, as they are told
+abbrev pub refusal_text : PeerOffRefusal → List ℕ
+refusal_text NotSynced = codes "peer-off 1 NotSynced"
+refusal_text NoPeer = codes "peer-off 2 NoPeer"
+refusal_text PastBoot = codes "peer-off 3 PastBoot"
+refusal_text UnknownBoot = codes "peer-off 4 UnknownBoot"
+refusal_text PeerHeard = codes "peer-off 5 PeerHeard"
 
 -- what an answer says: the word is taken, or refused; or the bytes of a report or of a page
 pub data Content : Type 0 where

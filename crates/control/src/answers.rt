@@ -1,27 +1,23 @@
 //! What a box answers to a word.
 ghost use Rattle.std.specs.Prelude.{◌≡◌, ◌++◌, List, ℕ, Some, option_map};
 ghost use Rattle.control.specs.Answers.{answer_of, content_of, refusal_number, refusal_numbered, refused_answer};
-ghost use Rattle.control.specs.Answers.{heard, refused, report, page};
+ghost use Rattle.control.specs.Answers.{heard, refused, report, page, refusal_text};
 
+use std::fmt;
 use thiserror::Error;
 
 /// Why a box doesn't take the word that a boot of the other is off: the first of these that holds.
 #[derive(Clone, Copy, Debug, PartialEq, Eq, Error)]
 pub enum PeerOffRefusal {
     /// Its own table isn't loaded.
-    #[error("peer-off 1 NotSynced")]
     NotSynced,
     /// It knows no boot of the other.
-    #[error("peer-off 2 NoPeer")]
     NoPeer,
     /// The boot is below the known one.
-    #[error("peer-off 3 PastBoot")]
     PastBoot,
     /// It is above the known one, and the word isn't forced.
-    #[error("peer-off 4 UnknownBoot")]
     UnknownBoot,
     /// The other was heard at most 300 centiseconds ago.
-    #[error("peer-off 5 PeerHeard")]
     PeerHeard,
 }
 
@@ -51,6 +47,21 @@ impl PeerOffRefusal {
             5 => Some(PeerOffRefusal::PeerHeard),
             _ => None,
         }
+    }
+}
+
+/// Its number and its name, as `peer-off 1 NotSynced`.
+impl fmt::Display for PeerOffRefusal {
+    ghost output = { λ refusal. Some (refusal_text refusal) };
+
+    fn fmt<W: fmt::Write>(&self, f: &mut fmt::Formatter<W>) -> fmt::Result {
+        f.write_str(match self {
+            PeerOffRefusal::NotSynced => "peer-off 1 NotSynced",
+            PeerOffRefusal::NoPeer => "peer-off 2 NoPeer",
+            PeerOffRefusal::PastBoot => "peer-off 3 PastBoot",
+            PeerOffRefusal::UnknownBoot => "peer-off 4 UnknownBoot",
+            PeerOffRefusal::PeerHeard => "peer-off 5 PeerHeard",
+        })
     }
 }
 
