@@ -1,10 +1,15 @@
 -- The faults of a box, as those of its parts are told.
-use Rattle.std.specs.Prelude.{◌≡◌, ℕ, List, Option, None, Some}
+use Rattle.std.specs.Prelude.{◌≡◌, ℕ, List, ◌++◌, codes, string_bytes, Option, None, Some}
 use Rattle.std.specs.declared.io.ErrorKind.{ErrorKind}
 use Rattle.boot_store.specs.declared.faults.BootFault.{BootFault}
 use Rattle.boot_store.specs.declared.faults.BootFault.TheVariants as boot
 use Rattle.boot_file.specs.declared.faults.FileFault.{FileFault}
 use Rattle.boot_file.specs.declared.faults.FileFault.TheVariants as file
+use Rattle.nat_types.specs.declared.gateways.Side.{Side}
+use Rattle.nat_types.specs.declared.gateways.Side.TheVariants.{Inside, Outside}
+use Rattle.control.specs.Answers.{refusal_text}
+use Rattle.control.specs.declared.answers.PeerOffRefusal.{PeerOffRefusal}
+use Rattle.control.specs.declared.answers.PeerOffRefusal.TheVariants as refusal
 use Rattle.control.specs.declared.paths.PathFault.{PathFault}
 use Rattle.control.specs.declared.paths.PathFault.TheVariants as path
 use Rattle.faults.specs.Faults.{IsOfFile, Tells}
@@ -13,6 +18,8 @@ use Rattle.faults.specs.declared.files.Refusal.TheVariants.{Exists, NoFile, NotW
 use Rattle.faults.specs.declared.faults.Fault.TheVariants.{NoMemory, Setting}
 use Rattle.settings_file.specs.declared.faults.SettingFault.TheVariants.{CantWork}
 use Rattle.settings_file.specs.declared.keys.Key.{Key}
+use Rattle.reports.specs.Texts.{fault_text as read_text}
+use Rattle.box_words.specs.Ends.{refused_text}
 use Rattle.box_words.specs.declared.refusals.BoxFault.{BoxFault}
 use Rattle.box_words.specs.declared.refusals.BoxFault.TheVariants as fault
 
@@ -92,3 +99,48 @@ IsOfNoWay (fault.NoWay side) = ⊥
 IsOfNoWay fault.NoWayOfLink = ⊥
 IsOfNoWay (fault.NoDescriptor why) = ⊥
 IsOfNoWay other = Unit {0}
+
+-- ---- texts
+
+-- a side by its name
+abbrev pub side_name : Side → List ℕ
+side_name Inside = codes "inside"
+side_name Outside = codes "outside"
+
+-- in words why a box doesn't take the word that the other is off
+abbrev pub words_of : PeerOffRefusal → List ℕ
+words_of refusal.NotSynced = codes "the box isn't synced"
+words_of refusal.NoPeer = codes "it knows no boot of the other box"
+words_of refusal.PastBoot = codes "the other box has started anew since that boot"
+words_of refusal.UnknownBoot = codes "it knows no such boot; --force takes it all the same"
+words_of refusal.PeerHeard = codes "the other box was heard within the last 3 seconds"
+
+-- by number and name, and in words
+abbrev pub explained_text : PeerOffRefusal → List ℕ
+explained_text why = refusal_text why ++ codes ": " ++ words_of why
+
+-- a fault's text, as `boot 2 Damaged`. Of one that another crate tells by its own text nothing is known
+abbrev pub fault_text : BoxFault → Option (List ℕ)
+fault_text (fault.Run why) = None
+fault_text (fault.NoWay side) = Some (codes "way 1 NoWay " ++ side_name side)
+fault_text fault.NoWayOfLink = Some (codes "way 1 NoWay link")
+fault_text (fault.NoDescriptor why) = None
+fault_text fault.NoManager = Some (codes "notify 1 NoWay")
+fault_text (fault.NotOpen why) = None
+fault_text (fault.NoSocket end) = Some (codes "socket 1 NoSocket" ++ refused_text end.0)
+fault_text (fault.NoControl path) = Some (codes "socket 1 NoSocket " ++ string_bytes path)
+fault_text fault.LongPath = Some (codes "socket 2 LongPath")
+fault_text fault.Device = Some (codes "boot 1 Device")
+fault_text fault.Damaged = Some (codes "boot 2 Damaged")
+fault_text fault.BootsUsedUp = Some (codes "boot 3 BootsUsedUp")
+fault_text fault.FoundTwice = Some (codes "boot 4 FoundTwice")
+fault_text fault.InUse = Some (codes "boot 5 InUse")
+fault_text (fault.NoFilter part) = Some (codes "log 1 NoFilter " ++ string_bytes part)
+fault_text (fault.NoCapture why) = None
+fault_text (fault.PeerOff why) = Some (explained_text why.0)
+fault_text (fault.NoReport why) = Some (codes "status 1 NoReport: " ++ read_text why)
+fault_text fault.NotSynced = Some (codes "status 2 NotSynced")
+
+-- the line that tells it
+abbrev pub line_of : List ℕ → List ℕ
+line_of text = codes "natpair: " ++ text ++ codes "\n"

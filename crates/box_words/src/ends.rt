@@ -1,6 +1,6 @@
 //! The end of its own that a box can't have.
 ghost use Rattle.std.specs.Prelude.{◌≡◌, IfSome, Some};
-ghost use Rattle.box_words.specs.Ends.{IsNeeded, own_end};
+ghost use Rattle.box_words.specs.Ends.{IsNeeded, own_end, refused_text};
 
 use sockets::{End, Ends, Ports, Way, Ways};
 use std::fmt;
@@ -55,9 +55,15 @@ fn address_of(end: End) -> SocketAddr {
 pub struct Refused(pub Option<End>);
 
 impl fmt::Display for Refused {
+    ghost output = { λ refused. Some (refused_text refused.0) };
+
+    #[tactic(auto, unfolding(std::specs::Net::Addr::IsIpv4OfBits))]
     fn fmt<W: fmt::Write>(&self, f: &mut fmt::Formatter<W>) -> fmt::Result {
         match self.0 {
-            Some(end) => write!(f, " {}:{}", end.address, end.port),
+            Some(end) => {
+                let address = Ipv4Addr::from_bits(end.address.0);
+                write!(f, " {address}:{}", end.port)
+            }
             None => Ok(()),
         }
     }

@@ -1,6 +1,8 @@
 //! Why a box ends without its work done.
-ghost use Rattle.std.specs.Prelude.{◌≡◌};
+ghost use Rattle.std.specs.Prelude.{◌≡◌, IfSome, OnOk, Some};
+ghost use Rattle.std.specs.Io.KnownBytes.{Appends};
 ghost use Rattle.box_words.specs.Faults.{IsOfCapture, IsOfFilter, IsOfNoWay, IsOfSocket, TellsBootFile};
+ghost use Rattle.box_words.specs.Faults.{explained_text, fault_text, line_of};
 
 use crate::ends::Refused;
 use boot_file::FileFault;
@@ -22,62 +24,73 @@ use thiserror::Error;
 #[derive(Debug, Drop, Error)]
 pub enum BoxFault {
     /// The settings can't be had, output isn't written, or memory is refused.
-    #[error("{0}")]
     Run(Fault),
     /// What stands for a side's way writes none.
-    #[error("way 1 NoWay {0}")]
     NoWay(Side),
     /// What stands for the link's way writes none.
-    #[error("way 1 NoWay link")]
     NoWayOfLink,
     /// A descriptor isn't open.
-    #[error("{0}")]
     NoDescriptor(NoDescriptor),
     /// What stands for the service manager's descriptor writes none.
-    #[error("notify 1 NoWay")]
     NoManager,
     /// The service manager's descriptor isn't open.
-    #[error("{0}")]
     NotOpen(NotOpen),
     /// A socket can't be had: this one.
-    #[error("socket 1 NoSocket{0}")]
     NoSocket(Refused),
     /// The control socket at this path can't be had, or nobody hears there.
-    #[error("socket 1 NoSocket {0}")]
     NoControl(String),
     /// The path of the control socket is too long for one.
-    #[error("socket 2 LongPath")]
     LongPath,
     /// A call to the boot file's device failed, or it can't be locked.
-    #[error("boot 1 Device")]
     Device,
     /// The boot file has no valid slot.
-    #[error("boot 2 Damaged")]
     Damaged,
     /// The boot file has the greatest number.
-    #[error("boot 3 BootsUsedUp")]
     BootsUsedUp,
     /// The pair is to be founded on a boot file that was used.
-    #[error("boot 4 FoundTwice")]
     FoundTwice,
     /// Another process runs on the boot file.
-    #[error("boot 5 InUse")]
     InUse,
     /// This part of what is to choose the lines is no directive.
-    #[error("log 1 NoFilter {0}")]
     NoFilter(String),
     /// The file of a capture can't be opened, or has something that is none.
-    #[error("{0}")]
     NoCapture(Fault),
     /// The box doesn't take the word that a boot of the other is off.
-    #[error("{0}")]
     PeerOff(Explained),
     /// What the box answers is no report, or no page.
-    #[error("status 1 NoReport: {0}")]
     NoReport(ReadFault),
     /// The box isn't synced.
-    #[error("status 2 NotSynced")]
     NotSynced,
+}
+
+/// What it is about, its number and its name, as `boot 2 Damaged`; some name behind it what is refused.
+impl fmt::Display for BoxFault {
+    ghost output = { λ fault. fault_text fault };
+
+    fn fmt<W: fmt::Write>(&self, f: &mut fmt::Formatter<W>) -> fmt::Result {
+        let text = match self {
+            BoxFault::Run(fault) | BoxFault::NoCapture(fault) => return fmt::Display::fmt(fault, f),
+            BoxFault::NoDescriptor(fault) => return fmt::Display::fmt(fault, f),
+            BoxFault::NotOpen(fault) => return fmt::Display::fmt(fault, f),
+            BoxFault::NoSocket(end) => return write!(f, "socket 1 NoSocket{end}"),
+            BoxFault::NoControl(path) => return write!(f, "socket 1 NoSocket {path}"),
+            BoxFault::NoFilter(part) => return write!(f, "log 1 NoFilter {part}"),
+            BoxFault::PeerOff(why) => return fmt::Display::fmt(why, f),
+            BoxFault::NoReport(why) => return write!(f, "status 1 NoReport: {why}"),
+            BoxFault::NoWay(Side::Inside) => "way 1 NoWay inside",
+            BoxFault::NoWay(Side::Outside) => "way 1 NoWay outside",
+            BoxFault::NoWayOfLink => "way 1 NoWay link",
+            BoxFault::NoManager => "notify 1 NoWay",
+            BoxFault::LongPath => "socket 2 LongPath",
+            BoxFault::Device => "boot 1 Device",
+            BoxFault::Damaged => "boot 2 Damaged",
+            BoxFault::BootsUsedUp => "boot 3 BootsUsedUp",
+            BoxFault::FoundTwice => "boot 4 FoundTwice",
+            BoxFault::InUse => "boot 5 InUse",
+            BoxFault::NotSynced => "status 2 NotSynced",
+        };
+        f.write_str(text)
+    }
 }
 
 /// Why a box doesn't take the word that a boot of the other is off: by its number and name, and in words.
@@ -85,6 +98,8 @@ pub enum BoxFault {
 pub struct Explained(pub PeerOffRefusal);
 
 impl fmt::Display for Explained {
+    ghost output = { λ why. Some (explained_text why.0) };
+
     fn fmt<W: fmt::Write>(&self, f: &mut fmt::Formatter<W>) -> fmt::Result {
         let words = match self.0 {
             PeerOffRefusal::NotSynced => "the box isn't synced",
@@ -151,8 +166,16 @@ impl BoxFault {
     pub fn tell<E: Write>(self, errors: &mut E) -> u8
         ensures { result ≡ 1 }
     {
-        let _ = writeln!(errors, "natpair: {self}");
+        let _ = self.show(errors);
         1
+    }
+
+    /// Writes that line.
+    fn show<E: Write>(&self, errors: &mut E) -> io::Result<()>
+        ensures told { OnOk result (IfSome (fault_text self.now)
+            (λ text. Appends (E.contents errors.old) (E.contents errors.new) (line_of text))) }
+    {
+        writeln!(errors, "natpair: {self}")
     }
 }
 
