@@ -42,7 +42,7 @@ fn news_in(case: &mut Case) -> News {
     }
 }
 
-fn tell<S: Supervisor>(supervisor: &S, news: News) {
+fn tell<S: Supervisor>(supervisor: &mut S, news: News) {
     match news {
         News::Ready(boot) => supervisor.ready(boot),
         News::Alive => supervisor.alive(),
@@ -64,8 +64,8 @@ pub(crate) fn tell_manager(rt: &HostRuntime, case: &mut Case) {
 
 fn tell_nobody(case: &mut Case) {
     let news = news_in(case);
-    tell(&Unsupervised, news);
-    tell(&None::<Manager>, news);
+    tell(&mut Unsupervised, news);
+    tell(&mut None::<Manager>, news);
     case.tell("done");
 }
 
@@ -91,7 +91,7 @@ fn told_over(rt: &HostRuntime, is_gone: bool, news: News) -> io::Result<UnixStre
 
 fn tell_by(own: &UnixStream, news: News) -> io::Result<()> {
     match u16::try_from(own.as_raw_fd()) {
-        Ok(descriptor) => tell_at(Manager { descriptor }, news),
+        Ok(descriptor) => tell_at(Manager::at(descriptor), news),
         Err(_) => Err(ErrorKind::InvalidInput.into()),
     }
 }
@@ -100,7 +100,7 @@ fn tell_at(manager: Manager, news: News) -> io::Result<()> {
     if manager.inherit().is_err() {
         return Err(ErrorKind::NotFound.into());
     }
-    tell(&Some(manager), news);
+    tell(&mut Some(manager), news);
     Ok(())
 }
 

@@ -1,7 +1,11 @@
 -- The gateway that a start begins, and the boot that it is in.
-use Rattle.std.specs.Prelude.{◌≡◌, ◌<◌, ◌++◌, ℕ, Bool, true, List, Option, codes, if◌then◌else◌}
+use Rattle.std.specs.Prelude.{◌≡◌, ◌⊎◌, ◌<◌, ◌++◌, ℕ, Bool, true, List, Option, Ok, codes, if◌then◌else◌}
 use Rattle.std.specs.Fmt.{decimal}
 use Rattle.std.specs.Io.KnownBytes.{Appends}
+use Rattle.boot_store.specs.Crash.{Decides}
+use Rattle.boot_store.specs.Moment.{Moment}
+use Rattle.box_words.specs.Faults.{IsOfStart}
+use Rattle.box_words.specs.declared.refusals.BoxFault.{BoxFault}
 use Rattle.nat_types.specs.declared.gateways.GatewayId.{GatewayId}
 use Rattle.settings.specs.declared.whole.Settings.{Settings}
 use Rattle.slots.specs.Hashers.{is_drawn}
@@ -38,3 +42,11 @@ pub record IsIdentity (settings : Settings) (id : GatewayId) (who : Identity) (g
   pub own_id : who.id ≡ id
   pub own_boot : HasBoot who.boot g
   pub own_digest : who.digest ≡ digest settings
+
+-- a number was taken of a boot file: of an honest disk the one behind the greatest
+abbrev pub IsTaken : Type 0 → Bool → Moment → Moment → Type 0
+IsTaken honest found before after = honest → (boot : ℕ) × Decides found before after (Ok boot)
+
+-- What is printed before a refusal: nothing; or it is one of a start, whose number was taken before.
+abbrev pub IsInOrder : {O : Type 0} → Type 0 → Bool → Moment → Moment → BoxFault → O → O → Type 0
+IsInOrder honest found before after why output output2 = (output2 ≡ output) ⊎ (IsOfStart why × IsTaken honest found before after)

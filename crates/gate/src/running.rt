@@ -1,10 +1,13 @@
 //! What is done at a box: its boot file and its rounds.
-ghost use Rattle.std.specs.Prelude.{◌≡◌, ◌⊎◌, ◌<◌, ◌↔◌, [], IfErr, IfOk, IsTrue, None, Ok, OnOk, Some, codes, false, is_some, option_map, string_bytes, true};
+ghost use Rattle.std.specs.Prelude.{◌≡◌, ◌⊎◌, ◌<◌, ◌↔◌, [], IfErr, IfOk, IfSome, IsTrue, None, Ok, OnOk, Some, codes, false, is_some, option_map, string_bytes, true};
 ghost use Rattle.std.specs.Io.KnownBytes.{Appends};
 ghost use Rattle.nat_types.specs.declared.gateways.GatewayId.TheVariants.{Zero};
 ghost use Rattle.slots.specs.Hashers.{is_drawn};
 ghost use Rattle.control.specs.Paths.{IsBeside};
-ghost use Rattle.log.specs.Filter.{filtered_rules};
+ghost use Rattle.log.specs.Filter.{filtered_inner, filtered_rules};
+ghost use Rattle.journal.specs.Handed.{IsTold};
+ghost use Rattle.journal.specs.Sinks.{format_of};
+ghost use Rattle.journal.specs.declared.entries.Entry.TheVariants.{Boot};
 ghost use Rattle.settings.specs.Parts.{gateway_of};
 ghost use Rattle.sockets.specs.Boards.{Opens};
 ghost use Rattle.boot_store.specs.Crash.{Decides, Keeps, Rises, Since};
@@ -12,10 +15,12 @@ ghost use Rattle.settings_file.specs.Clashes.{clash_of_one};
 ghost use Rattle.settings_file.specs.declared.keys.Key.{Key};
 ghost use Rattle.gate.specs.Asked.{IsChosenBy, IsManagerOf, box_ports, is_loopback, on_loopback};
 ghost use Rattle.box_words.specs.Deeds.{made};
-ghost use Rattle.gate.specs.Boots.{HasBoot, HasStarted, IsIdentity, IsStart, boot_line};
+ghost use Rattle.gate.specs.Boots.{HasBoot, HasStarted, IsIdentity, IsInOrder, IsStart, boot_line};
 ghost use Rattle.box_words.specs.Faults.{IsBeforeBoot, IsOfFilter, IsOfNoWay, IsOfRun, IsOfStart, of_clash};
 ghost use Rattle.gate.specs.Served.{AreHeld, HadRounds, HasRun, HasServed};
 ghost use Rattle.gate.specs.Starts.{Refuses};
+ghost use Rattle.gate.specs.Told.{HearsAll};
+ghost use Rattle.supervision.specs.Descriptors.{NeverWaits};
 
 use crate::capturing::{CaptureAt, capture_at};
 use crate::ways::{WayTexts, ways_of};
@@ -162,14 +167,15 @@ where
         start.now.track start.now.until_eof (O.contents output.old) (O.contents output.new)) }
     ensures err { IfErr result IsOfNoWay }
 {
-    let manager = manager_of(start.notify)?;
+    let mut manager = manager_of(start.notify)?;
     without_clash(settings, start.id, ways)?;
-    locked(rt, start, settings, ways, &manager, output)
+    locked(rt, start, settings, ways, &mut manager, output)
 }
 
 /// The service manager whose descriptor a text writes, if there is one.
 fn manager_of(text: Option<&str>) -> Result<Option<Manager>, BoxFault>
     ensures ok { IfOk result (IsManagerOf text.entry) }
+    ensures inherited { IfOk result (λ found. IfSome found (λ m. NeverWaits m.descriptor)) }
     ensures err { IfErr result IsOfNoWay }
 {
     let Some(text) = text else {
@@ -219,13 +225,14 @@ fn locked<R: Files + Net + Clock + RandomSource + Eprint + Env + Input + AllocGl
     start: &Start<'_>,
     settings: &Settings,
     ways: &Ways,
-    manager: &Option<Manager>,
+    manager: &mut Option<Manager>,
     output: &mut O,
 ) -> Result<(), BoxFault>
 where
     R::File: Blocks + Lockable + AsRawFd,
     requires found { IsTrue start.now.found → start.now.id ≡ Zero }
     requires no_clash { clash_of_one settings.now start.now.id (on_loopback ways.now) ≡ None }
+    requires inherited { IfSome manager.old (λ m. NeverWaits m.descriptor) }
     ensures ok { OnOk result (HasRun settings.now start.now.id start.now.rounds start.now.found
         start.now.track start.now.until_eof (O.contents output.old) (O.contents output.new)) }
     ensures err { IfErr result IsOfNoWay }
@@ -264,7 +271,7 @@ fn connected<R: Files + Net + Clock + RandomSource + Eprint + Env + Input + Allo
     settings: &Settings,
     ways: &Ways,
     path: &ControlPath,
-    manager: &Option<Manager>,
+    manager: &mut Option<Manager>,
     file: &mut LockedFile<'_, R::File>,
     output: &mut O,
 ) -> Result<(), BoxFault>
@@ -280,7 +287,10 @@ where
         start.now.track start.now.until_eof (O.contents output.old) (O.contents output.new)) }
     ensures err { IfErr result IsOfNoWay }
     ensures untouched { IfErr result (λ why. IsBeforeBoot why → file.new.disk ≡ file.old.disk) }
-    ensures silent { IfErr result (λ why. IsBeforeBoot why → output.new ≡ output.old) }
+    ensures order { IfErr result (λ why. IsInOrder
+        (⟦<FileDisk<R::File> as Disk>⟧.honest file.old.disk) start.now.found
+        (⟦<FileDisk<R::File> as Disk>⟧.now file.old.disk)
+        (⟦<FileDisk<R::File> as Disk>⟧.now file.new.disk) why output.old output.new) }
 {
     let Ok(control) = Control::open(rt, path) else {
         return Err(BoxFault::no_control(rt.alloc(), file.path));
@@ -324,7 +334,7 @@ fn logged<R: Files + Clock + RandomSource + Eprint + Env + Input + AllocGlobal, 
     start: &Start<'_>,
     settings: &Settings,
     ways: &Ways,
-    manager: &Option<Manager>,
+    manager: &mut Option<Manager>,
     disk: &mut D,
     wire: Sockets,
     output: &mut O,
@@ -337,7 +347,8 @@ where
         start.now.track start.now.until_eof (O.contents output.old) (O.contents output.new)) }
     ensures err { IfErr result IsOfNoWay }
     ensures untouched { IfErr result (λ why. IsBeforeBoot why → disk.new ≡ disk.old) }
-    ensures silent { IfErr result (λ why. IsBeforeBoot why → output.new ≡ output.old) }
+    ensures order { IfErr result (λ why. IsInOrder (D.honest disk.old) start.now.found
+        (D.now disk.old) (D.now disk.new) why output.old output.new) }
 {
     match log_of(rt, start.log, start.format) {
         Ok(log) => {
@@ -363,7 +374,7 @@ fn captured<
     rt: &R,
     start: &Start<'_>,
     settings: &Settings,
-    manager: &Option<Manager>,
+    manager: &mut Option<Manager>,
     disk: &mut D,
     mut wire: W,
     output: &mut O,
@@ -372,11 +383,14 @@ fn captured<
 where
     R::File: AsRawFd,
     requires found { IsTrue start.now.found → start.now.id ≡ Zero }
+    requires chosen { IfSome (L.passes log.now) (IsChosenBy start.now.log) }
+    requires format { L.writes log.now ≡ Some start.now.format }
     ensures ok { OnOk result (HasRun settings.now start.now.id start.now.rounds start.now.found
         start.now.track start.now.until_eof (O.contents output.old) (O.contents output.new)) }
     ensures err { IfErr result IsOfNoWay }
     ensures untouched { IfErr result (λ why. IsBeforeBoot why → disk.new ≡ disk.old) }
-    ensures silent { IfErr result (λ why. IsBeforeBoot why → output.new ≡ output.old) }
+    ensures order { IfErr result (λ why. IsInOrder (D.honest disk.old) start.now.found
+        (D.now disk.old) (D.now disk.new) why output.old output.new) }
 {
     match capture_at(rt, start.capture)? {
         Some(capture) => tapped(
@@ -398,7 +412,7 @@ fn tapped<
     rt: &R,
     start: &Start<'_>,
     settings: &Settings,
-    manager: &Option<Manager>,
+    manager: &mut Option<Manager>,
     disk: &mut D,
     capture: CaptureAt<'_, R::File>,
     wire: W,
@@ -413,6 +427,8 @@ where
     ensures ok { OnOk result (HasRun settings.now start.now.id start.now.rounds start.now.found
         start.now.track start.now.until_eof (O.contents output.old) (O.contents output.new)) }
     ensures err { IfErr result IsOfStart }
+    ensures order { IfErr result (λ why. IsInOrder (D.honest disk.old) start.now.found
+        (D.now disk.old) (D.now disk.new) why output.old output.new) }
 {
     let (identity, mut gateway) = started(rt, disk, settings, start.id, start.found, output, log)?;
     let ended = tapped_rounds(
@@ -439,7 +455,7 @@ fn tapped_rounds<R: Files + Clock + Input + AllocGlobal, W: Wire + Drop, O: Writ
     capture: CaptureAt<'_, R::File>,
     start: &Start<'_>,
     identity: Identity,
-    manager: &Option<Manager>,
+    manager: &mut Option<Manager>,
     output: &mut O,
     log: &L,
 ) -> Result<(), BoxFault>
@@ -475,6 +491,7 @@ fn log_of<'a, R: Eprint + Env + AllocGlobal>(
     format: Format,
 ) -> Result<FilteredLog<Unhindered<StandardError<&'a R>>>, BoxFault>
     ensures chosen { IfOk result (λ log. IsChosenBy option.entry (filtered_rules log)) }
+    ensures format { IfOk result (λ log. format_of (filtered_inner log) ≡ format) }
     ensures err { IfErr result IsOfFilter }
     ensures no_way { IfErr result IsOfNoWay }
 {
@@ -496,6 +513,7 @@ fn filtered<'a, R: Eprint + AllocGlobal>(
     format: Format,
 ) -> Result<FilteredLog<Unhindered<StandardError<&'a R>>>, BoxFault>
     ensures chosen { IfOk result (λ log. IsChosenBy option.entry (filtered_rules log)) }
+    ensures format { IfOk result (λ log. format_of (filtered_inner log) ≡ format) }
     ensures err { IfErr result IsOfFilter }
     ensures no_way { IfErr result IsOfNoWay }
 {
@@ -514,7 +532,7 @@ fn run<R: Clock + RandomSource + Input + AllocGlobal, D: Disk, W: Wire, O: Write
     rt: &R,
     start: &Start<'_>,
     settings: &Settings,
-    manager: &Option<Manager>,
+    manager: &mut Option<Manager>,
     disk: &mut D,
     wire: &mut W,
     output: &mut O,
@@ -525,6 +543,8 @@ fn run<R: Clock + RandomSource + Input + AllocGlobal, D: Disk, W: Wire, O: Write
     ensures ok { OnOk result (HasRun settings.now start.now.id start.now.rounds start.now.found
         start.now.track start.now.until_eof (O.contents output.old) (O.contents output.new)) }
     ensures err { IfErr result IsOfStart }
+    ensures order { IfErr result (λ why. IsInOrder (D.honest disk.old) start.now.found
+        (D.now disk.old) (D.now disk.new) why output.old output.new) }
 {
     let (identity, mut gateway) = started(rt, disk, settings, start.id, start.found, output, log)?;
     let ended = rounds_of(
@@ -549,7 +569,7 @@ fn rounds_of<R: Clock + Input + AllocGlobal, W: Wire, O: Write, L: Journal>(
     wire: &mut W,
     start: &Start<'_>,
     identity: Identity,
-    manager: &Option<Manager>,
+    manager: &mut Option<Manager>,
     output: &mut O,
     log: &L,
 ) -> Result<(), BoxFault>
@@ -557,6 +577,8 @@ fn rounds_of<R: Clock + Input + AllocGlobal, W: Wire, O: Write, L: Journal>(
         gateway.old gateway.new }
     ensures ended { OnOk result
         (Appends (O.contents output.old) (O.contents output.new) (codes "end\n")) }
+    ensures told { HearsAll ⟦<Option<Manager> as Supervisor>⟧.hears identity.boot
+        manager.old manager.new }
     ensures err { IfErr result IsOfRun }
 {
     manager.ready(identity.boot);
@@ -607,7 +629,10 @@ fn started<R: RandomSource + AllocGlobal, D: Disk, O: Write, L: Log>(
     ensures identity { IfOk result (λ begun. IsIdentity settings.now id begun.0 begun.1) }
     ensures decided { D.honest disk.old → IfOk result (λ begun. Decides found
         (D.now disk.old) (D.now disk.new) (Ok begun.0.boot)) }
+    ensures record { IfOk result (λ begun. IsTold L.enables log.now 0 (Boot begun.0.boot)) }
     ensures err { IfErr result IsOfStart }
+    ensures order { IfErr result (λ why. IsInOrder (D.honest disk.old) found
+        (D.now disk.old) (D.now disk.new) why output.old output.new) }
 {
     let digest = digest(rt.alloc(), settings)?;
     let hashers = drawn(rt)?;

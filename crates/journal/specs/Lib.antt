@@ -8,3 +8,5 @@ pub mod Filters
 pub mod Owed
 pub mod Each
 pub mod Lines
+pub mod Sinks
+pub mod Handed

@@ -1,7 +1,10 @@
 //! A sink that never waits.
-ghost use Rattle.std.specs.Prelude.{◌≡◌, ◌<◌, true, [], Some, IsTrue, if◌then◌else◌};
+ghost use Rattle.std.specs.Prelude.{◌≡◌, ◌<◌, true, [], List, None, Option, Some, IsTrue, if◌then◌else◌};
+ghost use Rattle.log.specs.Filter.{Rule, filtered_inner, filtered_rules};
 ghost use Rattle.journal.specs.Fates.{all_after, left_after, left_told};
 ghost use Rattle.journal.specs.Lines.{AddsLine};
+ghost use Rattle.journal.specs.Sinks.{format_of};
+ghost use Rattle.journal.specs.declared.lines.Format.{Format as Writing};
 ghost use Rattle.journal.specs.declared.sink.Fate.TheVariants as fates;
 
 use crate::lines::{Format, LeftOutLines, Shown};
@@ -30,20 +33,19 @@ pub(crate) enum Fate {
 #[derive(Drop)]
 struct Desk<O> {
     outlet: O,
-    format: Format,
     left_out: u64,
     all: u64,
 }
 
 impl<O: Outlet> Desk<O> {
-    /// Writes a line where there is room for it; and before it how many were left out.
-    fn offer<D: Display + Drop>(&mut self, line: D) -> Fate
+    /// Writes a line where there is room for it; and before it how many were left out, in this format.
+    fn offer<D: Display + Drop>(&mut self, format: Format, line: D) -> Fate
         ensures left { self.new.left_out ≡ left_after result self.old.left_out }
         ensures told { result ≡ fates.ToldAndLeftOut → 0 < self.old.left_out }
         ensures all { self.new.all ≡ all_after result self.old.all }
     {
         let owed = 0 < self.left_out;
-        if !self.tell_left_out() {
+        if !self.tell_left_out(format) {
             self.left_out = self.left_out.saturating_add(1);
             self.all = self.all.saturating_add(1);
             return Fate::LeftOut;
@@ -61,7 +63,7 @@ impl<O: Outlet> Desk<O> {
     }
 
     /// Writes how many lines were left out, if any were and there is room; and says whether all were told.
-    fn tell_left_out(&mut self) -> bool
+    fn tell_left_out(&mut self, format: Format) -> bool
         ensures left { self.new.left_out ≡ left_told result self.old.left_out }
         ensures all { self.new.all ≡ self.old.all }
     {
@@ -81,7 +83,7 @@ impl<O: Outlet> Desk<O> {
         };
         let metadata = Metadata::new(Level::Warn, Origin::Own.target());
         let line = Record::new(metadata, LeftOutLines(left_out), pairs, ());
-        let is_told = self.put(Shown::new(self.format, &line));
+        let is_told = self.put(Shown::new(format, &line));
         if is_told {
             self.left_out = 0;
         }
@@ -109,11 +111,12 @@ pub struct Unhindered<O> {
 
 impl<O: Outlet> Unhindered<O> {
     /// Over an outlet, of which nothing was left out yet.
-    pub fn new(outlet: O, format: Format) -> Unhindered<O> {
+    pub fn new(outlet: O, format: Format) -> Unhindered<O>
+        ensures { format_of result ≡ format }
+    {
         Unhindered {
             desk: RefCell::new(Desk {
                 outlet,
-                format,
                 left_out: 0,
                 all: 0,
             }),
@@ -133,13 +136,13 @@ impl<O: Outlet> Log for Unhindered<O> {
 
     fn log<D: Display, K: Source, S: Spans>(&self, record: &Record<'_, D, K, S>) {
         if let Ok(mut desk) = self.desk.try_borrow_mut() {
-            let _fate = desk.offer(Shown::new(self.format, record));
+            let _fate = desk.offer(self.format, Shown::new(self.format, record));
         }
     }
 
     fn flush(&self) {
         if let Ok(mut desk) = self.desk.try_borrow_mut() {
-            let _is_told = desk.tell_left_out();
+            let _is_told = desk.tell_left_out(self.format);
         }
     }
 
@@ -150,11 +153,19 @@ impl<O: Outlet> Log for Unhindered<O> {
 
 /// A log that says how much of it was left out.
 pub trait Journal: Log {
+    /// How it writes its records, where that is known.
+    ghost writes: { Self → Option Writing } = { λ _. None };
+
+    /// By which rules they pass, where that is known.
+    ghost passes: { Self → Option (List Rule) } = { λ _. None };
+
     /// How many lines were left out so far. It stays at its greatest number.
     fn lines_left_out(&self) -> u64;
 }
 
 impl<O: Outlet> Journal for Unhindered<O> {
+    ghost writes = { λ sink. Some (format_of sink) };
+
     fn lines_left_out(&self) -> u64 {
         match self.desk.try_borrow() {
             Ok(desk) => desk.all,
@@ -164,6 +175,10 @@ impl<O: Outlet> Journal for Unhindered<O> {
 }
 
 impl<L: Journal, A: Allocator> Journal for FilteredLog<L, A> {
+    ghost writes = { λ log. L.writes (filtered_inner log) };
+
+    ghost passes = { λ log. Some (filtered_rules log) };
+
     fn lines_left_out(&self) -> u64 {
         self.inner().lines_left_out()
     }

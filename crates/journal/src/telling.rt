@@ -1,5 +1,7 @@
 //! The calls by which a box writes its records.
 ghost use Rattle.std.specs.Prelude.{◌≡◌};
+ghost use Rattle.log.specs.Record.{metadata_level, metadata_target};
+ghost use Rattle.journal.specs.Handed.{IsTold, WasHanded};
 ghost use Rattle.journal.specs.Owed.{owed};
 ghost use Rattle.journal.specs.Tally.{noted, turned};
 
@@ -11,12 +13,22 @@ use crate::{Cause, Origin, Tally};
 use log::{Log, Metadata, Record};
 
 /// Writes one record, if it passes.
-pub fn tell<L: Log>(log: &L, moment: u64, entry: Entry) {
+pub fn tell<L: Log>(log: &L, moment: u64, entry: Entry)
+    ensures { IsTold L.enables log.now moment entry }
+{
     let metadata = Metadata::new(entry.level(), entry.origin().target());
     if log.enabled(&metadata) {
-        let note = Note { moment, entry };
-        log.log(&Record::new(metadata, note, note, ()));
+        hand(log, metadata, Note { moment, entry });
     }
+}
+
+/// Hands a record to a log.
+#[tactic(auto, unfolding(crate::specs::Handed::WasHanded))]
+fn hand<L: Log>(log: &L, metadata: Metadata<'_>, note: Note)
+    ensures { WasHanded log.now (metadata_level metadata.entry) (metadata_target metadata.entry)
+        note }
+{
+    log.log(&Record::new(metadata, note, note, ()));
 }
 
 /// Counts an event of which nothing came, and writes a record if it is the first of its second there for that cause;

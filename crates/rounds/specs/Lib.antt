@@ -6,3 +6,4 @@ pub mod LeftOut
 pub mod Polls
 pub mod Outages
 pub mod Answers
+pub mod Told

@@ -1,5 +1,5 @@
 //! What a box has on its desk while it runs.
-ghost use Rattle.std.specs.Prelude.{◌≡◌, ◌<◌, ◌/◌, ◌||◌, false, None, max, nat_lt};
+ghost use Rattle.std.specs.Prelude.{◌≡◌, ◌<◌, ◌≤◌, ◌/◌, ◌||◌, false, None, max, nat_lt};
 ghost use Rattle.rounds.specs.Letters.{is_end};
 ghost use Rattle.supervision.specs.declared.notices.Notice.TheVariants.{Alive};
 
@@ -93,13 +93,15 @@ impl Desk {
     }
 
     /// Tells the supervisor once a second that the box goes on.
-    pub(crate) fn tell_alive<S: Supervisor>(&mut self, gateway: &Gateway, supervisor: &S)
+    pub(crate) fn tell_alive<S: Supervisor>(&mut self, gateway: &Gateway, supervisor: &mut S)
         ensures left { self.new.left ≡ self.old.left }
         ensures ending { self.new.ending ≡ self.old.ending }
         ensures question { self.new.question ≡ self.old.question }
         ensures second { self.new.second ≡ max self.old.second (gateway.now.moment / 100) }
         ensures told { self.old.second < gateway.now.moment / 100
-            → S.heard supervisor.now Alive }
+            → S.hears supervisor.old Alive supervisor.new }
+        ensures quiet { gateway.now.moment / 100 ≤ self.old.second
+            → supervisor.new ≡ supervisor.old }
     {
         if begins(&mut self.second, gateway.moment() / 100) {
             supervisor.alive();

@@ -1,10 +1,10 @@
 //! The rounds of a box.
 ghost use Rattle.std.specs.Prelude.{◌≡◌, ◌<◌, ◌⊎◌, Bool, true, false, None, Option, OnOk, codes};
 ghost use Rattle.std.specs.Io.KnownBytes.{Appends};
-ghost use Rattle.supervision.specs.declared.notices.Notice.TheVariants.{Ending};
 ghost use Rattle.rounds.specs.Rounds.{AreMade, AreRoundsAsked, IsRound, IsRun, RunsTo, Takes};
 ghost use Rattle.rounds.specs.Rounds.{TakesAny, TakesLetter, all_sent, box, most_rounds};
 ghost use Rattle.rounds.specs.Polls.{Asks, HasPolled};
+ghost use Rattle.rounds.specs.Told.{HearsRounds, HearsRun};
 ghost use Rattle.rounds.specs.Views.{seen};
 ghost use Rattle.rounds.specs.declared.judging.Question.{Question};
 
@@ -57,14 +57,14 @@ pub fn serve<W: Wire, C: Clockwork, T: Told, S: Supervisor, O: Write, L: Journal
     rounds: Option<u32>,
     track: bool,
     identity: Identity,
-    supervisor: &S,
+    supervisor: &mut S,
     output: &mut O,
     log: &L,
 ) -> io::Result<LeftOut>
     ensures rounds { RunsTo W.does track C.reads (most_rounds rounds)
         (T.tells until.now) (T.goes_on until.now)
         (box gateway.old wire.old 0 false None) clock.old gateway.new wire.new clock.new result }
-    ensures ending { S.heard supervisor.now Ending }
+    ensures told { HearsRun S.hears supervisor.old supervisor.new }
     ensures ended { OnOk result
         (Appends (O.contents output.old) (O.contents output.new) (codes "end\n")) }
 {
@@ -86,14 +86,15 @@ pub fn run_rounds<W: Wire, C: Clockwork, T: Told, S: Supervisor, L: Journal>(
     rounds: Option<u32>,
     track: bool,
     identity: Identity,
-    supervisor: &S,
+    supervisor: &mut S,
     log: &L,
 ) -> LeftOut
-    ensures { (ending : Bool) × (owed : Option Question) ×
+    ensures rounds { (ending : Bool) × (owed : Option Question) ×
         AreRoundsAsked W.does track C.reads (most_rounds rounds)
         (T.tells until.now) (T.goes_on until.now)
         (box gateway.old wire.old 0 false None) clock.old
         (box gateway.new wire.new result ending owed) clock.new }
+    ensures told { HearsRounds S.hears supervisor.old supervisor.new }
 {
     let mut desk = Desk::new(alloc, gateway, identity);
     all_rounds(
@@ -113,7 +114,7 @@ fn run<W: Wire, C: Clockwork, T: Told, S: Supervisor, L: Journal>(
     rounds: Option<u32>,
     track: bool,
     identity: Identity,
-    supervisor: &S,
+    supervisor: &mut S,
     log: &L,
 ) -> LeftOut
     ensures rounds { (ending : Bool) × (owed : Option Question) ×
@@ -121,7 +122,7 @@ fn run<W: Wire, C: Clockwork, T: Told, S: Supervisor, L: Journal>(
         (box gateway.old wire.old 0 false None) clock.old
         (box gateway.new wire.new result ending owed) clock.new)
         × (0 < run.all.count → T.goes_on until.now)) }
-    ensures ending { S.heard supervisor.now Ending }
+    ensures told { HearsRun S.hears supervisor.old supervisor.new }
 {
     let mut desk = Desk::new(alloc, gateway, identity);
     all_rounds(
@@ -141,14 +142,15 @@ fn all_rounds<W: Wire, C: Clockwork, T: Told, S: Supervisor, L: Journal>(
     until: &T,
     rounds: Option<u32>,
     track: bool,
-    supervisor: &S,
+    supervisor: &mut S,
     desk: &mut Desk,
     log: &L,
 )
-    ensures { AreRoundsAsked W.does track C.reads (most_rounds rounds)
+    ensures rounds { AreRoundsAsked W.does track C.reads (most_rounds rounds)
         (T.tells until.now) (T.goes_on until.now)
         (box gateway.old wire.old desk.old.left desk.old.ending desk.old.question) clock.old
         (box gateway.new wire.new desk.new.left desk.new.ending desk.new.question) clock.new }
+    ensures told { HearsRounds S.hears supervisor.old supervisor.new }
 {
     let mut room = [0; LONGEST];
     let most = most_of(rounds);

@@ -1,11 +1,11 @@
 -- Texts of ways that write no descriptor.
-use Rattle.std.proofs.Common.{arith, ◌≡◌, ◌∙◌, ◌<◌, ◌++◌, ℕ, List, Option, Some, None, MatchOption, get_or, codes, sym, ap}
+use Rattle.std.proofs.Common.{arith, ◌≡◌, ◌∙◌, ◌<◌, ◌++◌, ℕ, List, Option, Some, None, IfSome, MatchOption, get_or, codes, refl, sym, ap}
 use Rattle.sockets.specs.declared.ends.Ends.{Ends}
 use Rattle.sockets.specs.declared.vxlan.Network.{Network}
 use Rattle.sockets.specs.declared.ways.Way.{Way}
 use Rattle.sockets.specs.declared.ways.Way.TheVariants.{Loopback, Udp, Vxlan, Descriptor}
 use Rattle.sockets.specs.Ways.{IsNoWayText, IsWayText}
-use Rattle.supervision.specs.Managers.{IsManagerText, IsNoManagerText, manager_of}
+use Rattle.supervision.specs.Managers.{IsManagerText, IsNoManagerText, manager_at, manager_of}
 
 abbrev head_of : List ℕ → ℕ
 head_of l = get_or l 0 0
@@ -33,3 +33,11 @@ read_by text (Some Loopback) written = no_loopback text written
 read_by text (Some (Udp ends)) written = no_udp text ends written
 read_by text (Some (Vxlan ends network)) written = no_vxlan text ends network written
 read_by text (Some (Descriptor number)) written = written
+
+-- who is reached by a way was told nothing yet
+pub untold_by : (way : Option Way) → IfSome (manager_of way) (λ manager. manager ≡ manager_at manager.descriptor)
+untold_by None = tt
+untold_by (Some Loopback) = tt
+untold_by (Some (Udp ends)) = tt
+untold_by (Some (Vxlan ends network)) = tt
+untold_by (Some (Descriptor number)) = refl

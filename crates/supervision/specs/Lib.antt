@@ -1,3 +1,5 @@
 pub mod Notices
 pub mod Managers
 pub mod Messages
+pub mod Descriptors
+pub mod Hearing

@@ -1,9 +1,13 @@
 -- How a service manager's descriptor is written.
-use Rattle.std.specs.Prelude.{ℕ, List, Option, Some, None}
+use Rattle.std.specs.Prelude.{ℕ, List, [], Option, Some, None}
 use Rattle.sockets.specs.Ways.{IsWayText}
 use Rattle.sockets.specs.declared.ways.Way.{Way}
 use Rattle.sockets.specs.declared.ways.Way.TheVariants.{Loopback, Udp, Vxlan, Descriptor}
 use Rattle.supervision.specs.declared.managers.Manager.{Manager}
+
+-- the manager at a descriptor, which was told nothing yet
+abbrev pub manager_at : ℕ → Manager
+manager_at number = record { descriptor = number; messages = [] }
 
 -- the text writes this manager's descriptor, as that of a way
 abbrev pub IsManagerText : List ℕ → Manager → Type 0
@@ -15,7 +19,7 @@ IsNoManagerText text = (manager : Manager) → ¬ (IsManagerText text manager)
 
 -- who is reached by a way, where that is a descriptor
 abbrev pub manager_of : Option Way → Option Manager
-manager_of (Some (Descriptor number)) = Some (record { descriptor = number })
+manager_of (Some (Descriptor number)) = Some (manager_at number)
 manager_of (Some Loopback) = None
 manager_of (Some (Udp ends)) = None
 manager_of (Some (Vxlan ends network)) = None

@@ -2,6 +2,7 @@
 #![tactic(auto)]
 
 mod managers;
+mod messages;
 mod notices;
 mod supervisors;
 

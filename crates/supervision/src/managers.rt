@@ -1,19 +1,21 @@
 //! A service manager at the other end of a socket.
-ghost use Rattle.std.specs.Prelude.{◌≡◌, ◌↔◌, ◌<ℤ◌, pos, IfErr, IsTrue, MatchOption};
-ghost use Rattle.supervision.specs.Managers.{IsManagerText, IsNoManagerText, manager_of};
-ghost use Rattle.supervision.specs.Messages.{WasSent};
-ghost use Rattle.supervision.specs.Notices.{text_of};
+ghost use Rattle.std.specs.Prelude.{◌≡◌, ◌↔◌, ◌<ℤ◌, pos, IfErr, IfSome, IsTrue, MatchOption, OnErr, OnOk};
+ghost use Rattle.supervision.specs.Descriptors.{IsRefused, NeverWaits, WasAnswered};
+ghost use Rattle.supervision.specs.Hearing.{gets};
+ghost use Rattle.supervision.specs.Managers.{IsManagerText, IsNoManagerText, manager_at, manager_of};
 
 use crate::Supervisor;
+use crate::messages::Messages;
 use crate::notices::{Notice, laid_out};
 use sockets::Way;
 use std::os::fd::RawFd;
 use thiserror::Error;
 
 /// A service manager at the other end of an open socket, which the box inherits: each notice is a message.
-#[derive(Clone, Copy, Debug, PartialEq, Eq)]
+#[derive(Drop)]
 pub struct Manager {
     pub descriptor: u16,
+    messages: Messages,
 }
 
 /// The manager that is reached by a way, if that is a descriptor.
@@ -21,7 +23,7 @@ fn manager_by(way: Option<Way>) -> Option<Manager>
     ensures { result ≡ manager_of way }
 {
     match way? {
-        Way::Descriptor(descriptor) => Some(Manager { descriptor }),
+        Way::Descriptor(descriptor) => Some(Manager::at(descriptor)),
         Way::Loopback | Way::Udp(_) | Way::Vxlan(_, _) => None,
     }
 }
@@ -32,9 +34,20 @@ fn manager_by(way: Option<Way>) -> Option<Manager>
 pub struct NotOpen(pub u16);
 
 impl Manager {
-    /// The manager that a text writes: `descriptor:3`, or a greater one.
+    /// The manager at a descriptor. It was told nothing yet.
+    pub fn at(descriptor: u16) -> Manager
+        ensures { result ≡ manager_at descriptor }
+    {
+        Manager {
+            descriptor,
+            messages: Messages::none(),
+        }
+    }
+
+    /// The manager that a text writes: `descriptor:3`, or a greater one. It was told nothing yet.
     pub fn read(text: &str) -> Option<Manager>
-        ensures { MatchOption result (IsNoManagerText text.now) (IsManagerText text.now) }
+        ensures text { MatchOption result (IsNoManagerText text.now) (IsManagerText text.now) }
+        ensures untold { IfSome result (λ manager. manager ≡ manager_at manager.descriptor) }
     {
         manager_by(Way::read(text))
     }
@@ -46,29 +59,31 @@ impl Manager {
     ///
     /// It isn't open.
     pub fn inherit(&self) -> Result<(), NotOpen>
-        ensures { IfErr result (λ fault. fault.0 ≡ self.now.descriptor) }
+        ensures ok { OnOk result (NeverWaits self.now.descriptor) }
+        ensures err { OnErr result (IsRefused self.now.descriptor) }
+        ensures named { IfErr result (λ fault. fault.0 ≡ self.now.descriptor) }
     {
-        if is_refused(os::set_nonblocking(RawFd::from(self.descriptor), true)) {
+        if is_refused(set_never_waiting(self.descriptor)) {
             return Err(NotOpen(self.descriptor));
         }
         Ok(())
     }
 
     /// Tells it something, by one message.
-    fn tell(&self, notice: Notice)
-        ensures { WasSent self.now.descriptor (text_of notice) }
+    fn tell(&mut self, notice: Notice)
+        ensures { gets self.old notice self.new }
     {
         let text = laid_out(notice);
-        send(self.descriptor, text.as_str().as_bytes());
+        self.messages.send(self.descriptor, &text);
     }
 }
 
-/// Hands a message to the system, and doesn't wait. One that fails is lost.
-#[tactic(auto, unfolding(crate::specs::Messages::WasSent))]
-fn send(descriptor: u16, bytes: &[u8])
-    ensures { WasSent descriptor bytes.now }
+/// Asks the system to make a descriptor one that never waits, and gives its answer.
+#[tactic(auto, unfolding(crate::specs::Descriptors::WasAnswered))]
+fn set_never_waiting(descriptor: u16) -> i32
+    ensures { WasAnswered descriptor result }
 {
-    let _lost = os::sendv(RawFd::from(descriptor), [bytes, &[], &[], &[]]);
+    os::set_nonblocking(RawFd::from(descriptor), true)
 }
 
 /// Whether the system refused a call, by what it answered.
@@ -79,17 +94,17 @@ fn is_refused(answer: i32) -> bool
 }
 
 impl Supervisor for Manager {
-    ghost heard = { λ manager notice. WasSent manager.descriptor (text_of notice) };
+    ghost hears = { gets };
 
-    fn ready(&self, boot: u64) {
+    fn ready(&mut self, boot: u64) {
         self.tell(Notice::Ready(boot));
     }
 
-    fn alive(&self) {
+    fn alive(&mut self) {
         self.tell(Notice::Alive);
     }
 
-    fn ending(&self) {
+    fn ending(&mut self) {
         self.tell(Notice::Ending);
     }
 }

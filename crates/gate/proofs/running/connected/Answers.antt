@@ -9,5 +9,5 @@ returns-in-Ok-sockets_of-clause-err g c = c.logged.ensures.err
 pub returns-in-Ok-sockets_of-clause-untouched : goal.returns-in-Ok-sockets_of-clause-untouched
 returns-in-Ok-sockets_of-clause-untouched g c = c.logged.ensures.untouched
 
-pub returns-in-Ok-sockets_of-clause-silent : goal.returns-in-Ok-sockets_of-clause-silent
-returns-in-Ok-sockets_of-clause-silent g c = c.logged.ensures.silent
+pub returns-in-Ok-sockets_of-clause-order : goal.returns-in-Ok-sockets_of-clause-order
+returns-in-Ok-sockets_of-clause-order g c = c.logged.ensures.order
