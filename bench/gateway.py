@@ -3,7 +3,7 @@
 
     bench/gateway.py [--program FILE] [--turns N] [--count N] [--jobs N] [--keep FILE] [PART..]
 
-PART is instructions, time, memory, churn or many; without one all are measured. It builds crates/bench_gateway by
+PART is instructions, time, memory, churn or many; without one all are measured. It builds crates/bench by
 `rt run`, or takes the program of --program, which is built already; and bench/gateway/bare.rs by `rustc -O`, for the same
 processor. Both get the same words.
 
@@ -28,7 +28,7 @@ import sys
 import tempfile
 
 HERE = pathlib.Path(__file__).resolve().parent
-CRATE = HERE.parent / "crates/bench_gateway"
+CRATE = HERE.parent / "crates/bench"
 PARTS = ("instructions", "time", "memory", "churn", "many")
 PAIRS = (1, 1000, 40_000)
 KINDS = [(protocol, size, side) for protocol in ("udp", "tcp") for size in (44, 1500) for side in ("inside", "outside")]
@@ -63,7 +63,7 @@ ROUNDS, ENDPOINTS = 60, 20_000
 
 def options_of(words):
     parser = argparse.ArgumentParser(description=__doc__.split("\n")[0])
-    parser.add_argument("--program", metavar="FILE", type=pathlib.Path, help="bench_gateway, built already")
+    parser.add_argument("--program", metavar="FILE", type=pathlib.Path, help="out/bench, built already")
     parser.add_argument("--turns", metavar="N", type=int, default=7)
     parser.add_argument("--count", metavar="N", type=int, default=200_000, help="packets of a kind in a turn")
     parser.add_argument("--jobs", metavar="N", type=int, default=2, help="programs whose instructions are counted at once")
@@ -86,7 +86,7 @@ def build(options, made):
     """The two programs by their names; the plain one only where there is rustc."""
     if options.program is None:
         run("rt", "run", "--", "start", cwd=CRATE)
-    found = options.program or CRATE / "out/bench_gateway"
+    found = options.program or CRATE / "out/bench"
     shutil.copy(found, made / "gateway")
     programs = {"gateway": made / "gateway"}
     if shutil.which("rustc"):

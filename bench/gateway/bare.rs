@@ -1,4 +1,4 @@
-//! A gateway's work in plain Rust, without contracts: what bench/gateway.py sets beside crates/bench_gateway. The words are
+//! A gateway's work in plain Rust, without contracts: what bench/gateway.py sets beside crates/bench. The words are
 //! the same, and so is the order of what is decided: whether a frame is for the box, whether its packet is an Echo to it,
 //! VRRP and ARP set apart, hairpins, hosts that are none, the pair (one look-up a way: outward by a keyed hash of its
 //! endpoint, inward by an array of ports), the next hop among the fixed and the learnt neighbours with their age, the

@@ -8,3 +8,4 @@ mod Steady
 mod Walking
 mod Carried
 mod Hearing
+mod Granting

@@ -1,3 +1,4 @@
 pub mod Changes
 pub mod Cores
 pub mod View
+pub mod Grants

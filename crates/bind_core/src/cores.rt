@@ -44,15 +44,16 @@ use crate::deeds::{
     Bounds, carry_by, change_table, count_keys, is_carried, is_link_full, is_wanting,
     lies_in_either, note, own_range, recall_port, tell,
 };
+use crate::grants::{choose_granted, higher, lower};
 use crate::loads::{loading_of, stage_after};
 use crate::resets::note_back;
+use crate::rows::{
+    accept, answering, ask, carry, ending, gives_way, is_lone, is_synced, known, no, quiet, refuse,
+    release, row, wish, yes,
+};
 use activity::{Packet, Remote, Way};
 use addresses::{Ip, Port, TcpFlags};
 use arrayvec::ArrayVec;
-use binding_rows::{
-    accept, answering, ask, carry, choose_granted, ending, gives_way, higher, is_lone, is_synced,
-    known, lower, no, quiet, refuse, release, row, wish, yes,
-};
 use bindings::{Entry, Hashers, PortBounds, Table};
 use link::Link;
 use nat_types::{Endpoint, EntryState, GatewayId, Granted, Key, Note, NoteKind, Pair, Record};

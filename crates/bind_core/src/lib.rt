@@ -5,8 +5,10 @@
 mod calls;
 mod cores;
 mod deeds;
+mod grants;
 mod loads;
 mod resets;
+mod rows;
 
 pub use bindings::Hashers;
 pub use cores::Core;

@@ -47,22 +47,22 @@ fn step(gateway: &mut Gateway, event: Event<'_>, out: &mut Out) -> Result<()> {
 
 /// The sides as they are seen first, of which nothing is said.
 fn sides_of(gateway: &Gateway) -> Sides {
-    surveys::sides_of(gateway)
+    rounds::sides_of(gateway)
 }
 
 /// The sides are seen again, of which nothing is said.
 fn look(sides: &mut Sides, gateway: &Gateway) {
-    surveys::look_again(sides, gateway);
+    rounds::look_again(sides, gateway);
 }
 
 /// What a report says of the gateway, and nothing is said of that.
 fn state_of_gateway(gateway: &Gateway) -> Result<GatewayReport> {
-    Ok(surveys::gateway_report(gateway)?)
+    Ok(rounds::gateway_report(gateway)?)
 }
 
 /// The page behind a key, once it was written as bytes and read back; nothing is said of it.
 fn page_behind(alloc: Global, gateway: &Gateway, last: Option<Key>) -> Result<Page> {
-    let page = surveys::page_behind(alloc, gateway, last)?;
+    let page = rounds::page_behind(alloc, gateway, last)?;
     let bytes = page.bytes();
     drop(page);
     read_page(alloc, bytes.as_slice())

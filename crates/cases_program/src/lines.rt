@@ -4,8 +4,7 @@ use crate::files::text_at;
 use crate::memory::Memory;
 use anyhow::Result;
 use cases_words::{Actor, Case};
-use loopback::{Channel, Loopback};
-use loopback_run::run_loop;
+use loopback_run::{Channel, Loopback, run_loop};
 use simulation::simulate;
 use std::alloc::Global;
 

@@ -1,6 +1,6 @@
 //! A passage in memory.
 
-use loopback::{Channel, Passed, PortFault};
+use loopback_run::{Channel, Passed, PortFault};
 use nat_types::GatewayId;
 use settings::Settings;
 use sockets::Place;

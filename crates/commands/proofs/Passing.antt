@@ -3,7 +3,7 @@ use Rattle.std.proofs.Common.{◌≡◌, ℕ, List, Option, None, Result, Ok, If
 use Rattle.faults.specs.Jobs.{IsJobOf}
 use Rattle.faults.specs.declared.jobs.Job.{Job}
 use Rattle.settings_file.specs.Clashes.{clash_of_both}
-use Rattle.loopback.specs.Standings.{Standing, unasked}
+use Rattle.loopback_run.specs.Standings.{Standing, unasked}
 use Rattle.loopback_run.specs.Loops.{IsLoop, LoopsScript}
 use Rattle.commands.specs.Ends.{Loops, has_ports, may_pass}
 

@@ -9,7 +9,7 @@ use Rattle.command_line.specs.declared.words.CheckWords.{CheckWords}
 use Rattle.settings.specs.declared.whole.Settings.{Settings}
 use Rattle.gate.specs.Served.{HasServed}
 use Rattle.simulation.specs.Status.{RunsScript}
-use Rattle.loopback.specs.Standings.{MayBe, Standing, bound, unasked}
+use Rattle.loopback_run.specs.Standings.{MayBe, Standing, bound, unasked}
 use Rattle.loopback_run.specs.Loops.{LoopsScript}
 use Rattle.loopback_run.specs.Turns.{Passes}
 

@@ -4,7 +4,7 @@ ghost use Rattle.faults.specs.Faults.{status_of};
 
 use captures::{Reader, open};
 use faults::{Fault, Job};
-use recording::Capture;
+use simulation::Capture;
 use std::alloc::Global;
 use std::fs::Files;
 use std::io::{self, BufWriter, Write};

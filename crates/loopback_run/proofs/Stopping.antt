@@ -4,8 +4,8 @@ use Rattle.std.specs.Io.KnownBytes.{Appends, Keeps}
 use Rattle.std.proofs.lemmas.List.{take_all}
 use Rattle.settings.specs.declared.whole.Settings.{Settings}
 use Rattle.nat_types.specs.declared.events.WorldEvent.{WorldEvent}
-use Rattle.loopback.specs.declared.ports.PortFault.{PortFault}
-use Rattle.loopback.specs.declared.ports.PortFault.TheVariants as ports
+use Rattle.loopback_run.specs.declared.ports.PortFault.{PortFault}
+use Rattle.loopback_run.specs.declared.ports.PortFault.TheVariants as ports
 use Rattle.frame_sim.specs.World.{World}
 use Rattle.faults.specs.Faults.{of_print}
 use Rattle.faults.specs.declared.faults.Fault.{Fault}

@@ -3,8 +3,8 @@ use Rattle.std.proofs.Common.{◌≡◌, ℕ, List, None}
 use Rattle.toml.specs.Parse.{parse_document}
 use Rattle.settings.specs.declared.whole.Settings.{Settings}
 use Rattle.settings_file.specs.Settings.{IsReadFrom}
-use Rattle.loopback.specs.declared.ports.PortFault.{PortFault}
-use Rattle.loopback.specs.declared.ports.PortFault.TheVariants as ports
+use Rattle.loopback_run.specs.declared.ports.PortFault.{PortFault}
+use Rattle.loopback_run.specs.declared.ports.PortFault.TheVariants as ports
 use Rattle.scripts.specs.Script.{first_bad_line}
 use Rattle.loopback_run.specs.Loops.{TellsLoop}
 use Rattle.loopback_run.specs.Turns.{of_port}

@@ -8,9 +8,9 @@ use Rattle.nat_types.specs.declared.events.WorldEvent.{WorldEvent}
 use Rattle.frame_sim.specs.World.{World}
 use Rattle.frame_sim.specs.Runs.{Answers, AreSteps}
 use Rattle.frame_sim.specs.Status.{has_refusal}
-use Rattle.loopback.specs.declared.passage.Passed.{Passed}
-use Rattle.loopback.specs.declared.passage.Passed.TheVariants.{Received, Lost}
-use Rattle.loopback.specs.Parcels.{Message}
+use Rattle.loopback_run.specs.declared.passage.Passed.{Passed}
+use Rattle.loopback_run.specs.declared.passage.Passed.TheVariants.{Received, Lost}
+use Rattle.loopback_run.specs.Parcels.{Message}
 use Rattle.printing.specs.Lines.{Counts, no_counts}
 use Rattle.printing.specs.Printed.{IsPart}
 use Rattle.printing.proofs.Offered.{part_more, part_whole}

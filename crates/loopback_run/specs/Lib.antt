@@ -4,3 +4,6 @@ pub mod Runs
 pub mod Loops
 pub mod Stops
 pub mod Tapes
+pub mod Parcels
+pub mod Standings
+pub mod Holds

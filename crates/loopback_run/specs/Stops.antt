@@ -2,8 +2,8 @@
 use Rattle.std.specs.Prelude.{◌≡◌, ◌⊎◌, ◌<◌, ℕ, List, Option, None, take}
 use Rattle.settings.specs.declared.whole.Settings.{Settings}
 use Rattle.nat_types.specs.declared.events.WorldEvent.{WorldEvent}
-use Rattle.loopback.specs.declared.ports.PortFault.{PortFault}
-use Rattle.loopback.specs.declared.ports.PortFault.TheVariants as ports
+use Rattle.loopback_run.specs.declared.ports.PortFault.{PortFault}
+use Rattle.loopback_run.specs.declared.ports.PortFault.TheVariants as ports
 use Rattle.frame_sim.specs.World.{World, founding}
 use Rattle.faults.specs.declared.faults.Fault.{Fault}
 use Rattle.faults.specs.declared.faults.Fault.TheVariants.{Setting, BadLine, NotWritten, NoSocket, NoMemory}

@@ -12,11 +12,11 @@ use Rattle.frame_sim.specs.Runs.{Answers}
 use Rattle.faults.specs.declared.faults.Fault.{Fault}
 use Rattle.faults.specs.declared.faults.Fault.TheVariants as faults
 use Rattle.frame_sim.specs.Status.{has_refusal}
-use Rattle.loopback.specs.declared.ports.PortFault.{PortFault}
-use Rattle.loopback.specs.declared.ports.PortFault.TheVariants as ports
-use Rattle.loopback.specs.declared.passage.Passed.{Passed}
-use Rattle.loopback.specs.declared.passage.Passed.TheVariants.{Received, Lost}
-use Rattle.loopback.specs.Parcels.{Message, parcel_of}
+use Rattle.loopback_run.specs.declared.ports.PortFault.{PortFault}
+use Rattle.loopback_run.specs.declared.ports.PortFault.TheVariants as ports
+use Rattle.loopback_run.specs.declared.passage.Passed.{Passed}
+use Rattle.loopback_run.specs.declared.passage.Passed.TheVariants.{Received, Lost}
+use Rattle.loopback_run.specs.Parcels.{Message, parcel_of}
 
 -- the fault of ports that aren't had
 abbrev pub of_port : PortFault → Fault

@@ -13,10 +13,10 @@ ghost use Rattle.loopback_run.specs.Loops.{IsLoop, LoopsScript, TellsLoop};
 ghost use Rattle.loopback_run.specs.Tapes.{AreTaped, IsTapedLoop, TapesScript, TapesTurn};
 ghost use Rattle.loopback_run.specs.Stops.{FailsScript, HaveBegun, HoldJob, Leaves, Stops, StopsLoop, Untouched};
 
+use crate::{Channel, Passed, PortFault};
 use faults::{Fault, job_of};
 use frame_sim::{Step, Tape, Untaped, World};
 use gateway::Out;
-use loopback::{Channel, Passed, PortFault};
 use nat_types::WorldEvent;
 use printing::Printer;
 use settings::Settings;

@@ -1,2 +1,3 @@
 mod Hearing
 mod Taking
+mod Walks

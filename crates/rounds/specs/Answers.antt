@@ -19,7 +19,7 @@ use Rattle.sockets.specs.declared.places.Place.{Place}
 use Rattle.sockets.specs.declared.places.Place.TheVariants as place
 use Rattle.spec_binding.specs.Books.{is_synced}
 use Rattle.spec_step.specs.Shown.{Shown}
-use Rattle.surveys.specs.Gateways.{CountsEntries, owned_by, peer_seen}
+use Rattle.rounds.specs.Gateways.{CountsEntries, owned_by, peer_seen}
 use Rattle.rounds.specs.declared.judging.Question.{Question}
 use Rattle.rounds.specs.declared.judging.Question.TheVariants.{Status, Pairs}
 

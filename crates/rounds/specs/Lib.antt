@@ -6,4 +6,5 @@ pub mod LeftOut
 pub mod Polls
 pub mod Outages
 pub mod Answers
+pub mod Gateways
 pub mod Told

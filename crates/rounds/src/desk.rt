@@ -8,6 +8,7 @@ use crate::left::LeftOut;
 use crate::letters::is_end;
 use crate::logs::{cause_of, origin_of};
 use crate::outages::Outages;
+use crate::sides_of;
 use crate::views::{View, view_of};
 use gateway::{Event, Gateway, Out, Outcome};
 use journal::{Origin, Tally};
@@ -16,7 +17,6 @@ use reports::{Count, Counters, Sides};
 use sockets::Place;
 use std::alloc::Global;
 use supervision::Supervisor;
-use surveys::sides_of;
 
 /// Who a box is, to those who ask how it stands.
 #[derive(Clone, Copy, Debug, PartialEq, Eq)]

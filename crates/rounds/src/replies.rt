@@ -7,13 +7,13 @@ ghost use Rattle.rounds.specs.Rounds.{AnswersOwed, Replies, box};
 
 use crate::desk::Desk;
 use crate::judging::{Question, Reply};
+use crate::{gateway_report, page_behind};
 use control::{begun_page, begun_report, spelled_heard, spelled_refusal};
 use gateway::Gateway;
 use journal::{Journal, Origin};
 use nat_types::{NoMemory, Side};
 use reports::{Count, Counters, Report};
 use sockets::{LONGEST, Losses, Place, Wire};
-use surveys::{gateway_report, page_behind};
 
 /// Answers a word at once, where a reply is owed; a question is kept for the round's end. A word that isn't done, for want
 /// of memory, has no answer: who said it doesn't hear that it was taken.

@@ -14,7 +14,7 @@ use crate::letters::{event_of, reply_at};
 use crate::logs::tell_step;
 use crate::replies::{answer_question, reply};
 use crate::views::view_of;
-use crate::{Clockwork, Told};
+use crate::{Clockwork, Told, look_again};
 use gateway::{Event, Gateway, Out};
 use journal::{Journal, Origin, tell_end, tell_turn};
 use reports::{Count, Counters};
@@ -23,7 +23,6 @@ use std::alloc::Global;
 use std::io::{self, Write};
 use std::time::Duration;
 use supervision::Supervisor;
-use surveys::look_again;
 
 /// How many datagrams a round receives at most, so that a flood doesn't keep its tick back. What is
 /// left is there for the next round.

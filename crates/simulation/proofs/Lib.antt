@@ -1,3 +1,4 @@
 mod Playing
 mod Taking
 mod Telling
+mod Blocks

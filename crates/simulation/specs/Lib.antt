@@ -3,3 +3,6 @@ pub mod Status
 pub mod Stops
 pub mod Tapes
 pub mod Watched
+pub mod Clocks
+pub mod Packets
+pub mod Captures

@@ -1,0 +1,119 @@
+//! What a gateway's steps cost, and the calls of three crates below it. Each command prints nanoseconds, and does just as
+//! much as its numbers say, so that instructions and requests for memory can be counted by two runs:
+//!
+//! - `kind SIDE PROTOCOL SIZE COUNT PAIRS`: packets of one kind, from the frame that came in to the frame that is sent;
+//!   `synced ..`: the same at a gateway whose pairs another one has loaded
+//! - `new COUNT`: new flows at two gateways; `lone COUNT`: the same at one that is alone
+//! - `pair COUNT PAIRS`: ticks of two gateways, each with the datagram that is due, which the other takes
+//! - `idle COUNT PAIRS`: ticks of a gateway nothing of which is due; `still COUNT PAIRS`: the same while
+//!   its clock stands
+//! - `ports want COUNT`, `ports begin COUNT`, `ports batch COUNT`: ports that are asked for, the
+//!   beginning of a batch, and a batch; COUNT is 0 or 1
+//! - `churn ROUNDS ENDPOINTS`: flows that are opened, closed and let go, by the processor's time;
+//!   `longest ROUNDS ENDPOINTS`: the longest step, and the longest tick, of the same
+//! - `many PAIRS..`: what so many pairs cost at once
+//! - `start`: a gateway starts, and that is all
+//! - `arp COUNT`: a renewal, a stranger and a look-up in a full cache; `link COUNT`: datagrams of the link, a push, and
+//!   draining a whole batch; `wire COUNT`: parsing a packet and sending it on outward
+//!
+//! Without words it does nothing.
+#![tactic(auto)]
+
+mod boxes;
+mod churn;
+mod clocks;
+mod datagrams;
+mod flows;
+mod many;
+mod neighbours;
+mod packets;
+mod ports;
+mod rewriting;
+mod shares;
+mod stations;
+
+use anyhow::{Result, bail};
+use cases_words::Case;
+use churn::report_churn;
+use flows::{report_kind, report_lone, report_new, report_pair, report_synced, report_ticks};
+use many::report_many;
+use ports::report_ports;
+use settings::Settings;
+use stations::Station;
+use std::env;
+
+/// A gateway starts, and ends.
+fn start(settings: &Settings, case: &mut Case) {
+    if let Some(station) = Station::founded(settings, case) {
+        station.end();
+    }
+}
+
+/// A crate below the gateway.
+enum Part {
+    Arp,
+    Link,
+    Wire,
+}
+
+/// What the calls of a part cost, over so many of each as the next word says.
+fn report_part(rt: &HostRuntime, part: Part, case: &mut Case) {
+    let count = case.times();
+    let measured = match part {
+        Part::Arp => neighbours::measure(rt, count),
+        Part::Link => datagrams::measure(rt, count),
+        Part::Wire => rewriting::measure(rt, count),
+    };
+    case.keep(measured);
+}
+
+/// What a command prints.
+fn report(rt: &HostRuntime, settings: &Settings, case: &mut Case) {
+    match case.word() {
+        "kind" => report_kind(rt, settings, case),
+        "synced" => report_synced(rt, settings, case),
+        "new" => report_new(rt, settings, case),
+        "lone" => report_lone(rt, settings, case),
+        "pair" => report_pair(rt, settings, case),
+        "idle" => report_ticks(rt, settings, 1, case),
+        "still" => report_ticks(rt, settings, 0, case),
+        "ports" => report_ports(settings, case),
+        "churn" => report_churn(rt, settings, false, case),
+        "longest" => report_churn(rt, settings, true, case),
+        "many" => report_many(rt, settings, case),
+        "start" => start(settings, case),
+        "arp" => report_part(rt, Part::Arp, case),
+        "link" => report_part(rt, Part::Link, case),
+        "wire" => report_part(rt, Part::Wire, case),
+        _ => case.fault(),
+    }
+}
+
+/// The words of the program, with a space between each two.
+fn read_words(rt: &HostRuntime) -> Result<String> {
+    let mut line = String::new(rt.alloc());
+    for word in env::args(rt)?.skip(1) {
+        if !line.is_empty() {
+            line.push(' ')?;
+        }
+        line.push_str(word.as_str())?;
+    }
+    Ok(line)
+}
+
+fn main(rt: HostRuntime) -> Result<()> {
+    let line = read_words(&rt)?;
+    if line.is_empty() {
+        return Ok(());
+    }
+    let settings = Settings::sample(rt.alloc())?;
+    let mut case = Case::new(rt.alloc());
+    case.begin(line.as_str());
+    report(&rt, &settings, &mut case);
+    drop(settings);
+    case.flush(&rt);
+    if case.is_wrong() {
+        bail!("wrong: {line}");
+    }
+    Ok(())
+}

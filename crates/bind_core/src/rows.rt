@@ -1,0 +1,283 @@
+//! What a record, a wish, a tick or a packet makes of one entry.
+ghost use Rattle.std.specs.Prelude.{◌≡◌, true};
+ghost use Rattle.nat_types.specs.declared.pairs.EntryState.TheVariants.{Held, Live};
+ghost use Rattle.spec_binding.specs.Books.{is_synced as is_synced_at, is_lone as is_lone_at};
+ghost use Rattle.spec_binding.specs.Rows.{row as row_with, quiet as quiet_row};
+ghost use Rattle.spec_binding.specs.Rows.{answering as answering_row, ending as ending_row};
+ghost use Rattle.spec_binding.specs.Rows.{gives_way as gives_way_at, accepted_row, accept_row};
+ghost use Rattle.spec_binding.specs.Rows.{refused_row, refuse_row, asked_row, ask_row, left_row};
+ghost use Rattle.spec_binding.specs.Rows.{yes_row, stayed_row, no_row, known_wish, used_row};
+ghost use Rattle.spec_binding.specs.Rows.{use_row, released_row, release_row};
+ghost use Rattle.spec_binding.specs.Rows.{wish as wish_with};
+
+use bindings::Entry;
+use nat_types::{Endpoint, EntryState, GatewayId, Key, NoteKind, Pair, Record};
+use spec_binding::{Change, PortRequest, Stage, Transition, Want};
+
+/// Whether the table is loaded.
+pub(crate) fn is_synced(stage: Stage) -> bool
+    ensures { result ≡ is_synced_at stage }
+{
+    match stage {
+        Stage::Unsynced => false,
+        Stage::Paired | Stage::Lone => true,
+    }
+}
+
+/// Whether nobody's consent is needed.
+pub(crate) fn is_lone(stage: Stage) -> bool
+    ensures { result ≡ is_lone_at stage }
+{
+    match stage {
+        Stage::Unsynced | Stage::Paired => false,
+        Stage::Lone => true,
+    }
+}
+
+/// A change that is answered and noted, and by which no wait ends.
+pub(crate) fn row(change: Change, answer: Option<Record>, what: Option<NoteKind>) -> Transition
+    ensures { result ≡ row_with change answer what }
+{
+    Transition {
+        change,
+        answer,
+        what,
+        ended: None,
+    }
+}
+
+/// Nothing changes.
+pub(crate) fn quiet() -> Transition
+    ensures { result ≡ quiet_row }
+{
+    row(Change::Keep, None, None)
+}
+
+/// Nothing changes, and this is answered.
+pub(crate) fn answering(answer: Record) -> Transition
+    ensures { result ≡ answering_row answer }
+{
+    row(Change::Keep, Some(answer), None)
+}
+
+/// The row, by which the packets of an endpoint needn't wait any more.
+pub(crate) fn ending(endpoint: Endpoint, row: Transition) -> Transition
+    ensures { result ≡ ending_row endpoint row }
+{
+    Transition {
+        change: row.change,
+        answer: row.answer,
+        what: row.what,
+        ended: Some(endpoint),
+    }
+}
+
+/// What a packet has to do, and what comes of its wish.
+pub(crate) fn wish(answer: Want, row: Transition) -> PortRequest
+    ensures { result ≡ wish_with answer row }
+{
+    PortRequest { answer, row }
+}
+
+/// Whether the own proposal gives way to the peer's for the same endpoint.
+pub(crate) fn gives_way(id: GatewayId, state: EntryState) -> bool
+    ensures { result ≡ gives_way_at id state }
+{
+    match (state, id) {
+        (EntryState::Pending, GatewayId::One) => true,
+        _ => false,
+    }
+}
+
+fn accepted(pair: Pair, state: EntryState) -> Transition
+    ensures { result ≡ accepted_row pair state }
+{
+    match state {
+        EntryState::Pending => {
+            let change = Change::Turn(pair.key, EntryState::Live);
+            let row = row(change, None, Some(NoteKind::Retaken(pair)));
+            ending(pair.endpoint, row)
+        }
+        EntryState::Doomed | EntryState::Live | EntryState::Closing | EntryState::Held => quiet(),
+    }
+}
+
+/// The peer agrees to the pair of a key; `entry` is the key's.
+pub(crate) fn accept(entry: Option<Entry>) -> Transition
+    ensures { result ≡ accept_row entry }
+{
+    match entry {
+        None => quiet(),
+        Some(entry) => accepted(entry.pair, entry.state),
+    }
+}
+
+fn refused(pair: Pair, state: EntryState) -> Transition
+    ensures { result ≡ refused_row pair state }
+{
+    match state {
+        EntryState::Pending => ending(pair.endpoint, row(Change::Drop(pair.key), None, None)),
+        EntryState::Doomed => row(Change::Drop(pair.key), None, None),
+        EntryState::Live | EntryState::Closing | EntryState::Held => quiet(),
+    }
+}
+
+/// The peer refuses the pair of a key; `entry` is the key's.
+pub(crate) fn refuse(entry: Option<Entry>) -> Transition
+    ensures { result ≡ refuse_row entry }
+{
+    match entry {
+        None => quiet(),
+        Some(entry) => refused(entry.pair, entry.state),
+    }
+}
+
+fn let_go(pair: Pair, rests: bool) -> Transition
+    ensures { result ≡ asked_row pair rests Held }
+{
+    if rests {
+        row(
+            Change::Drop(pair.key),
+            Some(Record::Yes(pair.key)),
+            Some(NoteKind::Released(pair)),
+        )
+    } else {
+        answering(Record::No(pair.key))
+    }
+}
+
+fn asked(pair: Pair, rests: bool, state: EntryState) -> Transition
+    ensures { result ≡ asked_row pair rests state }
+{
+    match state {
+        EntryState::Held => let_go(pair, rests),
+        EntryState::Pending | EntryState::Doomed | EntryState::Live | EntryState::Closing => {
+            answering(Record::Yes(pair.key))
+        }
+    }
+}
+
+/// The peer asks whether the pair of a key may go: `rests` says that it is idle, or came by Install and was never used
+/// here since; `entry` is the key's.
+pub(crate) fn ask(key: Key, rests: bool, entry: Option<Entry>) -> Transition
+    ensures { result ≡ ask_row key rests entry }
+{
+    match entry {
+        None => answering(Record::Yes(key)),
+        Some(entry) => asked(entry.pair, rests, entry.state),
+    }
+}
+
+fn left(pair: Pair, state: EntryState) -> Transition
+    ensures { result ≡ left_row pair state }
+{
+    match state {
+        EntryState::Closing => row(Change::Drop(pair.key), None, None),
+        EntryState::Pending | EntryState::Doomed | EntryState::Live | EntryState::Held => quiet(),
+    }
+}
+
+/// The peer has let the pair of a key go; `entry` is the key's.
+pub(crate) fn yes(entry: Option<Entry>) -> Transition
+    ensures { result ≡ yes_row entry }
+{
+    match entry {
+        None => quiet(),
+        Some(entry) => left(entry.pair, entry.state),
+    }
+}
+
+fn stayed(pair: Pair, state: EntryState) -> Transition
+    ensures { result ≡ stayed_row pair state }
+{
+    match state {
+        EntryState::Closing => row(Change::Renew(pair.key), None, Some(NoteKind::Retaken(pair))),
+        EntryState::Pending | EntryState::Doomed | EntryState::Live | EntryState::Held => quiet(),
+    }
+}
+
+/// The peer keeps the pair of a key; `entry` is the key's.
+pub(crate) fn no(entry: Option<Entry>) -> Transition
+    ensures { result ≡ no_row entry }
+{
+    match entry {
+        None => quiet(),
+        Some(entry) => stayed(entry.pair, entry.state),
+    }
+}
+
+/// What a packet of an endpoint has to do whose pair has an entry.
+pub(crate) fn known(pair: Pair, state: EntryState) -> PortRequest
+    ensures { result ≡ known_wish pair state }
+{
+    let answer = match state {
+        EntryState::Live | EntryState::Held => Want::Port(pair.key.port),
+        EntryState::Pending => Want::Wait,
+        EntryState::Closing | EntryState::Doomed => Want::NotNow,
+    };
+    wish(answer, quiet())
+}
+
+fn drop_row(pair: Pair) -> Transition
+    ensures { result ≡ released_row true true pair Held }
+{
+    let what = NoteKind::Released(pair);
+    row(Change::Drop(pair.key), None, Some(what))
+}
+
+fn released_live(is_lone: bool, may_ask: bool, pair: Pair) -> Transition
+    ensures { result ≡ released_row is_lone may_ask pair Live }
+{
+    if is_lone {
+        return drop_row(pair);
+    }
+    if !may_ask {
+        return quiet();
+    }
+    row(
+        Change::Turn(pair.key, EntryState::Closing),
+        Some(Record::Ask(pair.key)),
+        Some(NoteKind::Released(pair)),
+    )
+}
+
+fn released(is_lone: bool, may_ask: bool, pair: Pair, state: EntryState) -> Transition
+    ensures { result ≡ released_row is_lone may_ask pair state }
+{
+    match state {
+        EntryState::Live => released_live(is_lone, may_ask, pair),
+        EntryState::Held => { if is_lone { drop_row(pair) } else { quiet() } }
+        EntryState::Pending | EntryState::Doomed | EntryState::Closing => quiet(),
+    }
+}
+
+/// What a tick makes of an idle key.
+pub(crate) fn release(is_lone: bool, may_ask: bool, entry: Option<Entry>) -> Transition
+    ensures { result ≡ release_row is_lone may_ask entry }
+{
+    match entry {
+        None => quiet(),
+        Some(entry) => released(is_lone, may_ask, entry.pair, entry.state),
+    }
+}
+
+fn used(pair: Pair, state: EntryState) -> Transition
+    ensures { result ≡ used_row pair state }
+{
+    match state {
+        EntryState::Live | EntryState::Held => {
+            row(Change::Keep, None, Some(NoteKind::Used(pair)))
+        }
+        EntryState::Pending | EntryState::Doomed | EntryState::Closing => quiet(),
+    }
+}
+
+/// What a translated packet makes of its pair.
+pub(crate) fn carry(entry: Option<Entry>) -> Transition
+    ensures { result ≡ use_row entry }
+{
+    match entry {
+        None => quiet(),
+        Some(entry) => used(entry.pair, entry.state),
+    }
+}

@@ -1,3 +1,0 @@
-pub mod Parcels
-pub mod Standings
-pub mod Holds

@@ -1,3 +1,0 @@
-pub mod Clocks
-pub mod Packets
-pub mod Tapes

@@ -1,0 +1,78 @@
+//! A run taken down as a capture.
+ghost use Rattle.std.specs.Prelude.{◌≡◌, true, false, OnOk, IfOk, IsErr, IsOk};
+ghost use Rattle.std.specs.Io.KnownBytes.{Keeps};
+ghost use Rattle.frame_sim.specs.World.{World as Scenery};
+ghost use Rattle.frame_sim.specs.declared.events.Step.{Step as Given};
+ghost use Rattle.nat_types.specs.declared.events.WorldEvent.{WorldEvent as Happening};
+ghost use Rattle.simulation.specs.Captures.{Begins, Records};
+
+use crate::Clocks;
+use crate::writing::write_event;
+use captures::write_head;
+use frame_sim::{Step, Tape, World};
+use nat_types::WorldEvent;
+use std::io::{self, ErrorKind, Write};
+
+/// A run is taken down as a capture (of `captures`): behind its head of each event first the packet that came with it, and
+/// then those that its gateway sent.
+#[derive(Drop)]
+pub struct Capture<W> {
+    /// Where the capture is written.
+    pub output: W,
+    /// The gateways' clocks.
+    pub clocks: Clocks,
+    /// Something couldn't be written.
+    pub is_refused: bool,
+}
+
+impl<W: Write + Drop> Capture<W> {
+    /// Begins a capture of a run on a new world: its head is written.
+    ///
+    /// # Errors
+    ///
+    /// Where output is refused; part of the head may be written.
+    pub fn begin(mut output: W) -> io::Result<Capture<W>>
+        ensures begins { IfOk result (λ c. Begins (W.contents output) (W.contents c.output)
+            c.clocks) }
+        ensures fresh { IfOk result (λ c. c.is_refused ≡ false) }
+    {
+        write_head(&mut output)?;
+        Ok(Capture {
+            output,
+            clocks: Clocks::founded(),
+            is_refused: false,
+        })
+    }
+
+    /// Ends the capture: all of it is handed on.
+    ///
+    /// # Errors
+    ///
+    /// Where that is refused, or something was refused before.
+    pub fn end(&mut self) -> io::Result<()>
+        ensures kept { Keeps (W.contents self.old.output) (W.contents self.new.output) }
+        ensures refused { self.old.is_refused ≡ true → IsErr result }
+    {
+        let handed_on = self.output.flush();
+        if self.is_refused {
+            return Err(io::Error::from(ErrorKind::Other));
+        }
+        handed_on
+    }
+}
+
+impl<W: Write> Tape for Capture<W> {
+    ghost takes = { λ c w e s c2. Records (W.contents c.output) c.clocks w e s (W.contents c2.output) c2.clocks };
+
+    fn take(&mut self, world: &World<'_>, event: &WorldEvent, step: &Step) -> io::Result<()>
+        ensures takes { OnOk result (Records (W.contents self.old.output) self.old.clocks world.now
+            event.now step.now (W.contents self.new.output) self.new.clocks) }
+        ensures marked { IsErr result → self.new.is_refused ≡ true }
+        ensures still { self.old.is_refused ≡ true → self.new.is_refused ≡ true }
+    {
+        self.clocks.follow(event, step.answer.is_ok());
+        let written = write_event(&mut self.output, &self.clocks, world, event, step);
+        self.is_refused = self.is_refused || written.is_err();
+        written
+    }
+}
