@@ -1,10 +1,10 @@
 -- Why a start is refused.
-use Rattle.std.proofs.Common.{◌≡◌, inr, subst, ℕ, Bool, Result, Ok, Err, IfErr}
+use Rattle.std.proofs.Common.{◌≡◌, ◌⊎◌, inl, inr, subst, ℕ, Bool, Result, Ok, Err, IfErr}
 use Rattle.boot_store.specs.Crash.{Decides}
 use Rattle.boot_store.specs.Moment.{Moment}
 use Rattle.sockets.specs.declared.ways.Ways.{Ways}
 use Rattle.box_words.specs.Faults.{IsBeforeBoot, IsOfNoWay, IsOfRun, IsOfStart}
-use Rattle.gate.specs.Boots.{IsInOrder}
+use Rattle.gate.specs.Boots.{IsInOrder, IsInSomeOrder, IsTaken}
 use Rattle.gate.specs.Starts.{AreWays, Refuses}
 use Rattle.box_words.specs.declared.refusals.BoxFault.{BoxFault}
 use Rattle.box_words.specs.declared.refusals.BoxFault.TheVariants as fault
@@ -90,21 +90,28 @@ ends_behind A (Ok x) is = tt
 ends_behind A (Err why) is = not_before why is
 
 -- a fault of what comes once a number was taken is in order, whatever was printed
-by_then : {O : Type 0} (why : BoxFault) (honest : Type 0) (found : Bool) (before after : Moment) (boot : ℕ) (output output2 : O)
-    → IsOfRun why → (honest → Decides found before after (Ok boot)) → IsInOrder honest found before after why output output2
-by_then why honest found before after boot output output2 is taken = inr (run_of_start why is, λ h. (boot, taken h))
-
 pub in_order : {T O : Type 0} (result : Result T BoxFault) (why : BoxFault) (honest : Type 0) (found : Bool) (before after : Moment) (boot : ℕ) (output output2 : O)
     → result ≡ Err why → IfErr result IsOfRun → (honest → Decides found before after (Ok boot))
     → IsInOrder honest found before after why output output2
 in_order result why honest found before after boot output output2 ends is taken =
-    by_then why honest found before after boot output output2 (subst (λ r. IfErr r IsOfRun) ends is) taken
+    inr (subst (λ r. IfErr r IsOfRun) ends is, λ h. (boot, taken h))
 
 pub ends_in_order : {T O : Type 0} (result : Result T BoxFault) (honest : Type 0) (found : Bool) (before after : Moment) (boot : ℕ) (output output2 : O)
     → IfErr result IsOfRun → (honest → Decides found before after (Ok boot))
     → IfErr result (λ why. IsInOrder honest found before after why output output2)
 ends_in_order (Ok x) honest found before after boot output output2 is taken = tt
-ends_in_order (Err why) honest found before after boot output output2 is taken = by_then why honest found before after boot output output2 is taken
+ends_in_order (Err why) honest found before after boot output output2 is taken = inr (is, λ h. (boot, taken h))
+
+-- what is in order of a disk is so of some disk
+pub of_some_disk : {T O D : Type 0} (result : Result T BoxFault) (honest : D → Type 0) (now : D → Moment) (found : Bool) (d d2 : D) (output output2 : O)
+    → IfErr result (λ why. IsInOrder (honest d) found (now d) (now d2) why output output2)
+    → IfErr result (λ why. IsInSomeOrder honest now found why output output2)
+of_some_disk (Ok x) honest now found d d2 output output2 is = tt
+of_some_disk (Err why) honest now found d d2 output output2 is = by is
+  where
+    by : (output2 ≡ output) ⊎ (IsOfRun why × IsTaken (honest d) found (now d) (now d2)) → IsInSomeOrder honest now found why output output2
+    by (inl same) = inl same
+    by (inr taken) = inr (taken.0, (d, (d2, taken.1)))
 
 -- where the ways are written, a fault of none refuses
 of_no_way : (texts : WayTexts) (ways : Ways) (why : BoxFault) → AreWays texts ways → IsOfNoWay why → Refuses texts why

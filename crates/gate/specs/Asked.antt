@@ -1,5 +1,5 @@
 -- What a start's words ask for.
-use Rattle.std.specs.Prelude.{◌≡◌, ℕ, Bool, true, false, List, Option, Some, None}
+use Rattle.std.specs.Prelude.{◌≡◌, ℕ, Bool, true, false, List, Option, Some, None, IfSome}
 use Rattle.log.specs.Filter.{Rule, or_errors}
 use Rattle.journal.specs.Filters.{rules_of}
 use Rattle.nat_types.specs.declared.gateways.GatewayId.{GatewayId}
@@ -11,6 +11,7 @@ use Rattle.settings_file.specs.declared.places.OnLoopback.{OnLoopback}
 use Rattle.sockets.specs.declared.ways.Way.{Way}
 use Rattle.sockets.specs.declared.ways.Way.TheVariants.{Loopback}
 use Rattle.sockets.specs.declared.ways.Ways.{Ways}
+use Rattle.supervision.specs.Descriptors.{NeverWaits}
 use Rattle.supervision.specs.Managers.{IsManagerText}
 use Rattle.supervision.specs.declared.managers.Manager.{Manager}
 
@@ -19,6 +20,10 @@ abbrev pub IsManagerOf : Option (Bor (List ℕ)) → Option Manager → Type 0
 IsManagerOf (Some text) (Some manager) = IsManagerText text.now manager
 IsManagerOf (Some text) None = ⊥
 IsManagerOf None found = found ≡ None
+
+-- it is this one, and its descriptor never waits
+abbrev pub IsNotified : Option (Bor (List ℕ)) → Option Manager → Type 0
+IsNotified text found = IsManagerOf text found × IfSome found (λ manager. NeverWaits manager.descriptor)
 
 abbrev pub is_loopback : Way → Bool
 is_loopback Loopback = true

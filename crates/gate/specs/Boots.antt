@@ -4,7 +4,7 @@ use Rattle.std.specs.Fmt.{decimal}
 use Rattle.std.specs.Io.KnownBytes.{Appends}
 use Rattle.boot_store.specs.Crash.{Decides}
 use Rattle.boot_store.specs.Moment.{Moment}
-use Rattle.box_words.specs.Faults.{IsOfStart}
+use Rattle.box_words.specs.Faults.{IsOfRun}
 use Rattle.box_words.specs.declared.refusals.BoxFault.{BoxFault}
 use Rattle.nat_types.specs.declared.gateways.GatewayId.{GatewayId}
 use Rattle.settings.specs.declared.whole.Settings.{Settings}
@@ -47,6 +47,18 @@ pub record IsIdentity (settings : Settings) (id : GatewayId) (who : Identity) (g
 abbrev pub IsTaken : Type 0 → Bool → Moment → Moment → Type 0
 IsTaken honest found before after = honest → (boot : ℕ) × Decides found before after (Ok boot)
 
--- What is printed before a refusal: nothing; or it is one of a start, whose number was taken before.
+-- What is printed before a refusal: nothing; or it is one of a run, whose number was taken before.
 abbrev pub IsInOrder : {O : Type 0} → Type 0 → Bool → Moment → Moment → BoxFault → O → O → Type 0
-IsInOrder honest found before after why output output2 = (output2 ≡ output) ⊎ (IsOfStart why × IsTaken honest found before after)
+IsInOrder honest found before after why output output2 = (output2 ≡ output) ⊎ (IsOfRun why × IsTaken honest found before after)
+
+-- a number was taken of some boot file
+abbrev pub IsTakenSomewhere : {D : Type 0} → (D → Type 0) → (D → Moment) → Bool → Type 0
+IsTakenSomewhere {D = D} honest now found = (before : D) × ((after : D) × IsTaken (honest before) found (now before) (now after))
+
+-- the order of what is printed and refused, where the boot file is opened within the call
+abbrev pub IsInSomeOrder : {O D : Type 0} → (D → Type 0) → (D → Moment) → Bool → BoxFault → O → O → Type 0
+IsInSomeOrder honest now found why output output2 = (output2 ≡ output) ⊎ (IsOfRun why × IsTakenSomewhere honest now found)
+
+-- the same, whatever the refusal is
+abbrev pub IsSilentOrTaken : {O D : Type 0} → (D → Type 0) → (D → Moment) → Bool → O → O → Type 0
+IsSilentOrTaken honest now found output output2 = (output2 ≡ output) ⊎ IsTakenSomewhere honest now found

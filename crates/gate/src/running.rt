@@ -13,14 +13,13 @@ ghost use Rattle.sockets.specs.Boards.{Opens};
 ghost use Rattle.boot_store.specs.Crash.{Decides, Keeps, Rises, Since};
 ghost use Rattle.settings_file.specs.Clashes.{clash_of_one};
 ghost use Rattle.settings_file.specs.declared.keys.Key.{Key};
-ghost use Rattle.gate.specs.Asked.{IsChosenBy, IsManagerOf, box_ports, is_loopback, on_loopback};
+ghost use Rattle.gate.specs.Asked.{IsChosenBy, IsNotified, box_ports, is_loopback, on_loopback};
 ghost use Rattle.box_words.specs.Deeds.{made};
-ghost use Rattle.gate.specs.Boots.{HasBoot, HasStarted, IsIdentity, IsInOrder, IsStart, boot_line};
+ghost use Rattle.gate.specs.Boots.{HasBoot, HasStarted, IsIdentity, IsInOrder, IsInSomeOrder, IsSilentOrTaken, IsStart, boot_line};
 ghost use Rattle.box_words.specs.Faults.{IsBeforeBoot, IsOfFilter, IsOfNoWay, IsOfRun, IsOfStart, of_clash};
 ghost use Rattle.gate.specs.Served.{AreHeld, HadRounds, HasRun, HasServed};
 ghost use Rattle.gate.specs.Starts.{Refuses};
 ghost use Rattle.gate.specs.Told.{HearsAll};
-ghost use Rattle.supervision.specs.Descriptors.{NeverWaits};
 
 use crate::capturing::{CaptureAt, capture_at};
 use crate::ways::{WayTexts, ways_of};
@@ -103,6 +102,9 @@ where
     ensures status { (result ≡ 0) ⊎ (result ≡ 1) }
     ensures served { result ≡ 0 → HasServed start.now.id start.now.rounds start.now.found
         start.now.track start.now.until_eof (O.contents output.old) (O.contents output.new) }
+    ensures order { result ≡ 1 → IsSilentOrTaken
+        ⟦<FileDisk<R::File> as Disk>⟧.honest ⟦<FileDisk<R::File> as Disk>⟧.now start.now.found
+        output.old output.new }
 {
     match served(rt, start, output) {
         Ok(()) => 0,
@@ -126,6 +128,9 @@ where
     ensures ok { OnOk result (HasServed start.now.id start.now.rounds start.now.found
         start.now.track start.now.until_eof (O.contents output.old) (O.contents output.new)) }
     ensures err { IfErr result (Refuses start.now.ways) }
+    ensures order { IfErr result (λ why. IsInSomeOrder
+        ⟦<FileDisk<R::File> as Disk>⟧.honest ⟦<FileDisk<R::File> as Disk>⟧.now start.now.found
+        why output.old output.new) }
 {
     let settings = settings_at(rt, start.settings)?;
     let ended = reached(rt, start, &settings, output);
@@ -146,6 +151,9 @@ where
     ensures ok { OnOk result (HasRun settings.now start.now.id start.now.rounds start.now.found
         start.now.track start.now.until_eof (O.contents output.old) (O.contents output.new)) }
     ensures err { IfErr result (Refuses start.now.ways) }
+    ensures order { IfErr result (λ why. IsInSomeOrder
+        ⟦<FileDisk<R::File> as Disk>⟧.honest ⟦<FileDisk<R::File> as Disk>⟧.now start.now.found
+        why output.old output.new) }
 {
     let ways = ways_of(start.ways)?;
     ways.inherit()?;
@@ -166,6 +174,9 @@ where
     ensures ok { OnOk result (HasRun settings.now start.now.id start.now.rounds start.now.found
         start.now.track start.now.until_eof (O.contents output.old) (O.contents output.new)) }
     ensures err { IfErr result IsOfNoWay }
+    ensures order { IfErr result (λ why. IsInSomeOrder
+        ⟦<FileDisk<R::File> as Disk>⟧.honest ⟦<FileDisk<R::File> as Disk>⟧.now start.now.found
+        why output.old output.new) }
 {
     let mut manager = manager_of(start.notify)?;
     without_clash(settings, start.id, ways)?;
@@ -174,8 +185,7 @@ where
 
 /// The service manager whose descriptor a text writes, if there is one.
 fn manager_of(text: Option<&str>) -> Result<Option<Manager>, BoxFault>
-    ensures ok { IfOk result (IsManagerOf text.entry) }
-    ensures inherited { IfOk result (λ found. IfSome found (λ m. NeverWaits m.descriptor)) }
+    ensures ok { IfOk result (IsNotified text.entry) }
     ensures err { IfErr result IsOfNoWay }
 {
     let Some(text) = text else {
@@ -232,10 +242,13 @@ where
     R::File: Blocks + Lockable + AsRawFd,
     requires found { IsTrue start.now.found → start.now.id ≡ Zero }
     requires no_clash { clash_of_one settings.now start.now.id (on_loopback ways.now) ≡ None }
-    requires inherited { IfSome manager.old (λ m. NeverWaits m.descriptor) }
+    requires notified { IsNotified start.now.notify manager.old }
     ensures ok { OnOk result (HasRun settings.now start.now.id start.now.rounds start.now.found
         start.now.track start.now.until_eof (O.contents output.old) (O.contents output.new)) }
     ensures err { IfErr result IsOfNoWay }
+    ensures order { IfErr result (λ why. IsInSomeOrder
+        ⟦<FileDisk<R::File> as Disk>⟧.honest ⟦<FileDisk<R::File> as Disk>⟧.now start.now.found
+        why output.old output.new) }
 {
     let path = control_path(rt.alloc(), settings, start.id)?;
     let boot_file = settings.gateway(start.id).boot_file.as_str();
@@ -278,6 +291,7 @@ fn connected<R: Files + Net + Clock + RandomSource + Eprint + Env + Input + Allo
 where
     R::File: Blocks + Lockable + AsRawFd,
     requires found { IsTrue start.now.found → start.now.id ≡ Zero }
+    requires notified { IsNotified start.now.notify manager.old }
     requires locked { ⟦<R::File as Lockable>⟧.locked file.old.disk.file }
     requires own_file { file.old.path.now
         ≡ string_bytes (gateway_of settings.now start.now.id).boot_file }
@@ -342,6 +356,7 @@ fn logged<R: Files + Clock + RandomSource + Eprint + Env + Input + AllocGlobal, 
 where
     R::File: AsRawFd,
     requires found { IsTrue start.now.found → start.now.id ≡ Zero }
+    requires notified { IsNotified start.now.notify manager.old }
     requires opened { Opens ways.now (box_ports settings.now start.now.id) wire.board }
     ensures ok { OnOk result (HasRun settings.now start.now.id start.now.rounds start.now.found
         start.now.track start.now.until_eof (O.contents output.old) (O.contents output.new)) }
@@ -383,6 +398,7 @@ fn captured<
 where
     R::File: AsRawFd,
     requires found { IsTrue start.now.found → start.now.id ≡ Zero }
+    requires notified { IsNotified start.now.notify manager.old }
     requires chosen { IfSome (L.passes log.now) (IsChosenBy start.now.log) }
     requires format { L.writes log.now ≡ Some start.now.format }
     ensures ok { OnOk result (HasRun settings.now start.now.id start.now.rounds start.now.found
@@ -422,6 +438,7 @@ fn tapped<
 where
     R::File: AsRawFd,
     requires found { IsTrue start.now.found → start.now.id ≡ Zero }
+    requires notified { IsNotified start.now.notify manager.old }
     requires captured { option_map (λ path. path.now) start.now.capture
         ≡ Some capture.path.now }
     ensures ok { OnOk result (HasRun settings.now start.now.id start.now.rounds start.now.found
@@ -461,6 +478,7 @@ fn tapped_rounds<R: Files + Clock + Input + AllocGlobal, W: Wire + Drop, O: Writ
 ) -> Result<(), BoxFault>
 where
     R::File: AsRawFd,
+    requires notified { IsNotified start.now.notify manager.old }
     ensures rounds { OnOk result (HadRounds start.now.rounds start.now.track start.now.until_eof
         gateway.old gateway.new) }
     ensures ended { OnOk result
@@ -539,6 +557,7 @@ fn run<R: Clock + RandomSource + Input + AllocGlobal, D: Disk, W: Wire, O: Write
     log: &L,
 ) -> Result<(), BoxFault>
     requires found { IsTrue start.now.found → start.now.id ≡ Zero }
+    requires notified { IsNotified start.now.notify manager.old }
     requires uncaptured { is_some start.now.capture ≡ false }
     ensures ok { OnOk result (HasRun settings.now start.now.id start.now.rounds start.now.found
         start.now.track start.now.until_eof (O.contents output.old) (O.contents output.new)) }
@@ -573,6 +592,7 @@ fn rounds_of<R: Clock + Input + AllocGlobal, W: Wire, O: Write, L: Journal>(
     output: &mut O,
     log: &L,
 ) -> Result<(), BoxFault>
+    requires notified { IsNotified start.now.notify manager.old }
     ensures rounds { HadRounds start.now.rounds start.now.track start.now.until_eof
         gateway.old gateway.new }
     ensures ended { OnOk result
