@@ -7,6 +7,7 @@ mod stations;
 
 use anyhow::Result;
 use gateway::Hashers;
+use slots::SystemDraws;
 use stations::Station;
 use std::alloc::Global;
 use std::fs;
@@ -43,7 +44,7 @@ fn play_lines<O: Write>(station: &mut Station, text: &str, output: &mut O) -> Re
 
 fn main(rt: HostRuntime) -> Result<()> {
     let mut output = io::writer(&rt);
-    let hashers = Hashers::drawn(&rt)?;
+    let hashers = Hashers::drawn(&mut SystemDraws(&rt))?;
     for name in ["word.cases", "accepts.cases", "pairs.cases"] {
         let text = text_of(&rt, name)?;
         writeln!(output, "== {name}")?;

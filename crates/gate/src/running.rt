@@ -37,6 +37,7 @@ use nat_types::{GatewayId, NoMemory};
 use rounds::{Identity, InputEnd, Stopwatch, serve};
 use settings::Settings;
 use settings_file::{OnLoopback, SettingFault, port_clash};
+use slots::SystemDraws;
 use sockets::{SocketFault, Sockets, Way, Ways, Wire, ports_of};
 use std::alloc::Global;
 use std::fs::Files;
@@ -626,7 +627,7 @@ fn drawn<R: RandomSource>(rt: &R) -> Result<Hashers, BoxFault>
     ensures drawn { IfOk result (λ hashers. is_drawn hashers ≡ true) }
     ensures err { IfErr result IsOfRun }
 {
-    match Hashers::drawn(rt) {
+    match Hashers::drawn(&mut SystemDraws(rt)) {
         Ok(hashers) => Ok(hashers),
         Err(_refused) => Err(BoxFault::from(NoMemory)),
     }

@@ -3,6 +3,7 @@ pub mod Cells
 pub mod Counts
 pub mod Endpoints
 pub mod Lends
+pub mod Draws
 pub mod Hashers
 pub mod Dues
 pub mod SmallNumbers

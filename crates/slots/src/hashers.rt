@@ -1,11 +1,12 @@
 //! A choice of hashers when the program runs.
 ghost use Rattle.std.specs.Prelude.{◌≡◌, true, false, IfOk};
+ghost use Rattle.slots.specs.Draws.{HaveDrawnKeys};
 ghost use Rattle.slots.specs.Hashers.{hasher_of, is_drawn};
 
+use crate::draws::Draws;
 use crate::keyed_hasher::{KeyedHasher, Keys};
 use std::hash::BuildHasher;
 use std::io;
-use std::random::RandomSource;
 
 /// Makes hashers with fixed keys, or with keys that were drawn.
 #[derive(Clone, Copy)]
@@ -24,11 +25,12 @@ impl Hashers {
         Hashers::Fixed
     }
 
-    /// Hashers with keys that are drawn now. It is an error where the system refuses them.
-    pub fn drawn<R: RandomSource>(rt: &R) -> io::Result<Hashers>
-        ensures { IfOk result (λ hashers. is_drawn hashers ≡ true) }
+    /// Hashers with keys that are drawn now. It is an error where they aren't had.
+    pub fn drawn<D: Draws>(draws: &mut D) -> io::Result<Hashers>
+        ensures kind { IfOk result (λ hashers. is_drawn hashers ≡ true) }
+        ensures keys { IfOk result (λ hashers. HaveDrawnKeys D.drew draws.old hashers draws.new) }
     {
-        let keys = Keys::drawn(rt)?;
+        let keys = Keys::drawn(draws)?;
         Ok(Hashers::Drawn(keys))
     }
 }

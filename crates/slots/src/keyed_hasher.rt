@@ -1,12 +1,13 @@
 //! A hasher that costs a packet one product, and that nobody who hasn't seen its keys can make meet
 //! often.
-ghost use Rattle.std.specs.Prelude.{◌≡◌, ℕ, ◌%◌, ◌*◌, ◌+◌};
+ghost use Rattle.std.specs.Prelude.{◌≡◌, ℕ, ◌%◌, ◌*◌, ◌+◌, IfOk};
+ghost use Rattle.slots.specs.Draws.{AreDrawn};
 ghost use Rattle.slots.specs.KeyedHashing.{finished, fixed_keys, new_hasher, written, written_from};
 ghost use Rattle.slots.specs.KeyedHashing.{AreCollisionsRare};
 
+use crate::draws::Draws;
 use std::hash::Hasher;
 use std::io;
-use std::random::RandomSource;
 
 /// What a hasher multiplies by and adds.
 #[derive(Clone, Copy)]
@@ -26,16 +27,13 @@ impl Keys {
         }
     }
 
-    /// Keys that are drawn now. It is an error where the system refuses them.
-    pub(crate) fn drawn<R: RandomSource>(rt: &R) -> io::Result<Keys> {
-        let mut factor = [0; 16];
-        rt.fill_bytes(&mut factor)?;
-        let mut summand = [0; 16];
-        rt.fill_bytes(&mut summand)?;
-        Ok(Keys {
-            factor: u128::from_le_bytes(factor),
-            summand: u128::from_le_bytes(summand),
-        })
+    /// Keys that are drawn now: the factor, then the summand. It is an error where one isn't had.
+    pub(crate) fn drawn<D: Draws>(draws: &mut D) -> io::Result<Keys>
+        ensures { IfOk result (λ keys. AreDrawn D.drew draws.old keys draws.new) }
+    {
+        let factor = draws.draw()?;
+        let summand = draws.draw()?;
+        Ok(Keys { factor, summand })
     }
 }
 

@@ -3,6 +3,7 @@
 
 mod address_counts;
 mod cells;
+mod draws;
 mod dues;
 mod endpoints;
 mod hashers;
@@ -11,6 +12,7 @@ mod numbers;
 mod port_slots;
 mod small_numbers;
 
+pub use draws::{Draws, SystemDraws};
 pub use dues::Dues;
 pub use endpoints::EndpointIndex;
 pub use hashers::Hashers;

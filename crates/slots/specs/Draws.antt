@@ -1,0 +1,15 @@
+-- Keys that were drawn.
+use Rattle.std.specs.Prelude.{ℕ}
+use Rattle.slots.specs.declared.keyed_hasher.Keys.{Keys}
+use Rattle.slots.specs.declared.hashers.Hashers.{Hashers}
+use Rattle.slots.specs.declared.hashers.Hashers.TheVariants.{Fixed, Drawn}
+
+-- each by a draw of its own, the factor first
+pub record AreDrawn {D : Type 0} (drew : D → ℕ → D → Type 0) (before : D) (keys : Keys) (after : D) : Type 0 where
+  pub between : D
+  pub factor : drew before keys.factor between
+  pub summand : drew between keys.summand after
+
+abbrev pub HaveDrawnKeys : {D : Type 0} → (D → ℕ → D → Type 0) → D → Hashers → D → Type 0
+HaveDrawnKeys drew before Fixed after = ⊥
+HaveDrawnKeys drew before (Drawn keys) after = AreDrawn drew before keys after

@@ -1,0 +1,29 @@
+//! Where the keys of hashers are drawn from.
+ghost use Rattle.std.specs.Prelude.{ℕ, IfOk};
+
+use std::io;
+use std::random::RandomSource;
+
+/// What numbers are drawn from.
+pub trait Draws {
+    /// Which number may be drawn, and what there is to draw from then.
+    ghost drew: { Self → ℕ → Self → Type 0 };
+
+    /// The next number. It is an error where none is had.
+    fn draw(&mut self) -> io::Result<u128>
+        ensures { IfOk result (λ number. drew self.old number self.new) };
+}
+
+/// The system's random numbers.
+pub struct SystemDraws<'a, R>(pub &'a R);
+
+/// What the system gives is its own to say, so nothing is claimed.
+impl<R: RandomSource> Draws for SystemDraws<'_, R> {
+    ghost drew = { λ _ _ _. Unit {0} };
+
+    fn draw(&mut self) -> io::Result<u128> {
+        let mut bytes = [0; 16];
+        self.0.fill_bytes(&mut bytes)?;
+        Ok(u128::from_le_bytes(bytes))
+    }
+}
