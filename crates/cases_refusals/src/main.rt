@@ -44,7 +44,10 @@ fn play_lines<O: Write>(station: &mut Station, text: &str, output: &mut O) -> Re
 
 fn main(rt: HostRuntime) -> Result<()> {
     let mut output = io::writer(&rt);
-    let hashers = Hashers::drawn(&mut SystemDraws(&rt))?;
+    let mut draws = SystemDraws(&rt);
+    let drawn = Hashers::drawn(&mut draws);
+    let SystemDraws(_) = draws;
+    let hashers = drawn?;
     for name in ["word.cases", "accepts.cases", "pairs.cases"] {
         let text = text_of(&rt, name)?;
         writeln!(output, "== {name}")?;

@@ -4,3 +4,4 @@ pub mod Paths
 pub mod Heard
 pub mod Saying
 pub mod Attending
+pub mod Folders

@@ -1,6 +1,6 @@
 -- What a caller has said, and what he is answered.
 use Rattle.std.specs.Prelude.{ℕ, Bool, true, false, ◌≡◌, ◌≤◌, List, length, Option, Some}
-use Rattle.std.specs.Io.KnownBytes.{Consumes}
+use Rattle.std.specs.Io.KnownBytes.{Appends, Consumes}
 use Rattle.control.specs.Answers.{Content, answer_of, heard}
 use Rattle.control.specs.Heard.{IsWord}
 use Rattle.control.specs.declared.callers.Said.{Said}
@@ -22,3 +22,16 @@ pub record HasHeard (before after : Option (List ℕ)) : Type 0 where
   pub answer : List ℕ
   pub taken : is_heard (answer_of answer) ≡ true
   pub came : Consumes before after answer
+
+-- A word was said, once and whole, to a stream of which it is known what was written to it and what is to come; and then its answer
+-- says that it is taken
+pub record IsTaken {S : Type 0} (contents remaining : S → Option (List ℕ)) (word : List ℕ) (before after : S) : Type 0 where
+  pub between : S
+  pub said : Appends (contents before) (contents between) word
+  pub heard : HasHeard (remaining between) (remaining after)
+
+-- and then this answer came
+pub record IsAnswered {S : Type 0} (contents remaining : S → Option (List ℕ)) (word answer : List ℕ) (before after : S) : Type 0 where
+  pub between : S
+  pub said : Appends (contents before) (contents between) word
+  pub came : Consumes (remaining between) (remaining after) answer

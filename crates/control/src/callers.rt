@@ -4,6 +4,7 @@ ghost use Rattle.control.specs.Attending.{unanswered_after, with_more, with_room
 ghost use Rattle.control.specs.Heard.{AreHeard, IsWord};
 ghost use Rattle.control.specs.Saying.{Says};
 
+use crate::folders::{Machine, ready};
 use crate::{ControlPath, NoSocket, word_of};
 use mio::net::{UnixListener, UnixStream};
 use mio::{Interest, Registry, Token};
@@ -75,9 +76,7 @@ impl Control {
     ) -> Result<Control, NoSocket>
         ensures { IfOk result (λ c. c ≡ record { awaits = false; refused = 0; unanswered = 0 }) }
     {
-        let _is_there = rt.create_dir_with_mode(path.folder(), 0o700);
-        check(os::chmod(path.folder().as_bytes(), 0o700))?;
-        let _missing = rt.remove_file(path.socket());
+        ready(&mut Machine(rt), path)?;
         Ok(Control {
             listener: UnixListener::bind(rt, path.socket())?,
             callers: Vec::new(rt.alloc()),
@@ -260,12 +259,4 @@ fn asked(caller: &mut UnixStream, room: &mut [u8]) -> Said
         Err(error) if error.kind() == ErrorKind::WouldBlock => Said::Nothing,
         Ok(_) | Err(_) => Said::NoWord,
     }
-}
-
-/// The error of a call that has just failed, where it has.
-fn check(status: i32) -> io::Result<()> {
-    if status < 0 {
-        return Err(io::Error::from_raw_os_error(os::errno()));
-    }
-    Ok(())
 }

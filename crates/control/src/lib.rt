@@ -4,6 +4,7 @@
 
 mod answers;
 mod callers;
+mod folders;
 mod paths;
 mod saying;
 mod words;

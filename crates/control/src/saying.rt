@@ -2,7 +2,7 @@
 ghost use Rattle.std.specs.Prelude.{◌≡◌, ◌<◌, ◌≤◌, length, take, IfOk, OnOk};
 ghost use Rattle.std.specs.Io.KnownBytes.{Consumes, IsAtEnd};
 ghost use Rattle.control.specs.Answers.{answer_of};
-ghost use Rattle.control.specs.Saying.{HasHeard, is_heard};
+ghost use Rattle.control.specs.Saying.{HasHeard, IsAnswered, IsTaken, is_heard};
 
 use crate::{Answer, ControlPath};
 use std::io::{self, Read, Write};
@@ -36,8 +36,15 @@ impl From<io::Error> for NoSocket {
 /// `NoSocket` where no box listens there, the caller may not speak to it, or it doesn't answer in time that the word is
 /// taken. Whether it took the word isn't known then.
 pub fn say<R: Net>(rt: &R, path: &ControlPath, word: &[u8]) -> Result<(), NoSocket> {
-    let mut stream = said(rt, path, word)?;
-    await_heard(&mut stream)
+    say_at(&mut connected(rt, path)?, word)
+}
+
+/// Says a word, once, and waits until it is taken.
+fn say_at<S: Read + Write>(stream: &mut S, word: &[u8]) -> Result<(), NoSocket>
+    ensures { OnOk result (IsTaken S.contents S.remaining word.now stream.old stream.new) }
+{
+    stream.write_all(word)?;
+    await_heard(stream)
 }
 
 /// Waits until a word that was said is taken.
@@ -78,20 +85,28 @@ pub fn ask<R: Net>(
 ) -> Result<usize, NoSocket>
     ensures within { IfOk result (λ count. count ≤ length room.new) }
 {
-    let mut stream = said(rt, path, word)?;
-    match whole(&mut stream, room)? {
+    ask_at(&mut connected(rt, path)?, word, room)
+}
+
+/// Says a word, once, and waits for its answer.
+fn ask_at<S: Read + Write>(stream: &mut S, word: &[u8], room: &mut [u8]) -> Result<usize, NoSocket>
+    ensures within { IfOk result (λ count. count ≤ length room.new) }
+    ensures answered { IfOk result (λ count. IsAnswered S.contents S.remaining word.now
+        (take count room.new) stream.old stream.new) }
+{
+    stream.write_all(word)?;
+    match whole(stream, room)? {
         0 => Err(NoSocket),
         count => Ok(count),
     }
 }
 
-/// A word is said; at each end 2 seconds are waited at most.
-fn said<R: Net>(rt: &R, path: &ControlPath, word: &[u8]) -> io::Result<UnixStream> {
-    let mut stream = UnixStream::connect(rt, path.socket())?;
+/// The box whose control socket lies there; at each end 2 seconds are waited at most.
+fn connected<R: Net>(rt: &R, path: &ControlPath) -> io::Result<UnixStream> {
+    let stream = UnixStream::connect(rt, path.socket())?;
     let patience = Some(Duration::from_secs(PATIENCE));
     stream.set_read_timeout(patience)?;
     stream.set_write_timeout(patience)?;
-    stream.write_all(word)?;
     Ok(stream)
 }
 

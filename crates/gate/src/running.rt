@@ -627,7 +627,10 @@ fn drawn<R: RandomSource>(rt: &R) -> Result<Hashers, BoxFault>
     ensures drawn { IfOk result (λ hashers. is_drawn hashers ≡ true) }
     ensures err { IfErr result IsOfRun }
 {
-    match Hashers::drawn(&mut SystemDraws(rt)) {
+    let mut draws = SystemDraws(rt);
+    let drawn = Hashers::drawn(&mut draws);
+    let SystemDraws(_) = draws;
+    match drawn {
         Ok(hashers) => Ok(hashers),
         Err(_refused) => Err(BoxFault::from(NoMemory)),
     }

@@ -1,5 +1,6 @@
 //! The clock of a box.
-ghost use Rattle.std.specs.Prelude.{ℕ};
+ghost use Rattle.std.specs.Prelude.{◌≡◌, ℕ, ◌-◌, ◌/◌, IfSome};
+ghost use Rattle.std.specs.Time.{instant_nanos};
 
 use std::rt::Clock;
 use std::time::Instant;
@@ -23,6 +24,14 @@ pub struct Stopwatch<'a, R> {
     last: u64,
 }
 
+/// The centiseconds from one reading of the clock to a later one, where 64 bits hold them.
+fn centiseconds(start: Instant, now: Instant) -> Option<u64>
+    ensures { IfSome result (λ passed. passed ≡ (instant_nanos now - instant_nanos start)
+        / 1_000_000 / 10) }
+{
+    u64::try_from(now.duration_since(start).as_millis() / 10).ok()
+}
+
 impl<'a, R: Clock> Stopwatch<'a, R> {
     /// Begins at 0.
     pub fn start(rt: &'a R) -> Stopwatch<'a, R> {
@@ -35,8 +44,7 @@ impl<'a, R: Clock> Stopwatch<'a, R> {
 
     /// The centiseconds since the start, where the clock can be read.
     fn passed(&self) -> Option<u64> {
-        let passed = self.start?.elapsed(self.rt).ok()?;
-        u64::try_from(passed.as_millis() / 10).ok()
+        centiseconds(self.start?, Instant::now(self.rt).ok()?)
     }
 }
 
