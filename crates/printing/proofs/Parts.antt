@@ -1,6 +1,6 @@
 -- Text that is written part by part.
-use Rattle.std.proofs.Common.{◌≡◌, ◌∙◌, ◌++◌, ℕ, List, [], Option, Some, None, Result, Ok, Err, is_err, true, IfOk, OnErr, take, refl, ap, sym, subst, append_assoc, append-nil}
-use Rattle.std.specs.Io.KnownBytes.{Appends, Keeps, WriteAppends}
+use Rattle.std.proofs.Common.{◌≡◌, ◌∙◌, ◌++◌, ℕ, List, [], Option, Result, Ok, Err, is_err, true, refl, ap, sym, subst, append_assoc, append-nil}
+use Rattle.std.specs.Io.KnownBytes.{Appends, Keeps}
 use Rattle.std.proofs.KnownBytes.{Appends-kept, Appends-nil, Appends-trans}
 use Rattle.printing.specs.Printed.{IsBegun, IsPart, Prints}
 
@@ -54,22 +54,3 @@ err_begun (Err e) a b text is begun = begun
 -- a text that is the same
 pub prints_as : {T E : Type 0} (r : Result T E) (a b : Option (List ℕ)) (text same : List ℕ) → text ≡ same → Prints a r b same → Prints a r b text
 prints_as r a b text same is h = subst (λ (l : List ℕ). Prints a r b l) (sym is) h
-
--- ---- one call of `write`
-
--- none of it was taken
-pub keeps_none : (a b : Option (List ℕ)) → Appends a b [] → Keeps a b
-keeps_none None b h = tt
-keeps_none (Some x) None h = absurd h
-keeps_none (Some x) (Some y) h = h ∙ append-nil x
-
-pub none_kept : (a b : Option (List ℕ)) → Keeps a b → Appends a b []
-none_kept None b h = tt
-none_kept (Some x) None h = absurd h
-none_kept (Some x) (Some y) h = h ∙ sym (append-nil x)
-
--- the count that was told is the one that was taken; a fault is told where none was
-pub taken_as : {E : Type 0} (r : Result ℕ E) (a b : Option (List ℕ)) (bytes : List ℕ) (n : ℕ) → IfOk r (λ m. m ≡ n) → OnErr r (n ≡ 0)
-    → Appends a b (take n bytes) → WriteAppends a b r bytes
-taken_as (Ok m) a b bytes n same none h = subst (λ (k : ℕ). Appends a b (take k bytes)) (sym same) h
-taken_as (Err e) a b bytes n same none h = keeps_none a b (subst (λ (k : ℕ). Appends a b (take k bytes)) none h)

@@ -3,7 +3,7 @@ ghost use Rattle.std.specs.Io.KnownBytes.{WriteAppends};
 ghost use Rattle.std.specs.Io.{WritesAtMost};
 ghost use Rattle.std.specs.Prelude.{flat_map};
 ghost use Rattle.hex.specs.Hex.{encode_lower};
-ghost use Rattle.std.specs.Prelude.{◌≤◌, ◌≡◌, IfErr, IfOk, IsErr, OnErr, length};
+ghost use Rattle.std.specs.Prelude.{◌≤◌, ◌≡◌, ◌≢◌, Err, IfErr, IfOk, IsErr, Ok, OnErr, length};
 ghost use Rattle.std.specs.IoError.{error_kind};
 ghost use Rattle.printing.specs.Printed.{Prints};
 
@@ -22,16 +22,31 @@ fn taken(count: usize) -> io::Result<usize>
     Ok(count)
 }
 
+/// What a write that answered so comes to: how many bytes were taken, none where it was interrupted. An output that takes
+/// nothing is refused.
+fn judged(answer: io::Result<usize>) -> io::Result<usize>
+    ensures some { IfOk answer (λ n. IfOk result (λ taken. taken ≡ n)) }
+    ensures none { IfOk answer (λ n. OnErr result (n ≡ 0)) }
+    ensures zero { answer ≡ Ok 0 → IsErr result }
+    ensures nothing { IfErr answer (λ _. IfOk result (λ taken. taken ≡ 0)) }
+    ensures interrupted { IfErr answer
+        (λ error. error_kind error ≡ ErrorKind.Interrupted → result ≡ Ok 0) }
+    ensures refused { IfErr answer
+        (λ error. error_kind error ≢ ErrorKind.Interrupted → result ≡ Err error) }
+{
+    match answer {
+        Ok(count) => taken(count),
+        Err(error) if error.kind() == ErrorKind::Interrupted => Ok(0),
+        Err(error) => Err(error),
+    }
+}
+
 /// Writes some of these bytes, those at the front, and says how many; none where writing was interrupted.
 fn put_some<O: Write>(output: &mut O, bytes: &[u8]) -> io::Result<usize>
     ensures bound { WritesAtMost result bytes.now }
     ensures bytes { WriteAppends (O.contents output.old) (O.contents output.new) result bytes.now }
 {
-    match output.write(bytes) {
-        Ok(count) => taken(count),
-        Err(error) if error.kind() == ErrorKind::Interrupted => Ok(0),
-        Err(error) => Err(error),
-    }
+    judged(output.write(bytes))
 }
 
 /// Writes bytes.
