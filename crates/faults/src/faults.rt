@@ -6,6 +6,7 @@ use nat_types::NoMemory;
 use scripts::ScriptFault;
 use settings_file::SettingFault;
 use std::alloc::{AllocError, Global};
+use std::fmt;
 use std::io::{self, ErrorKind, Write};
 use thiserror::Error;
 
@@ -13,34 +14,49 @@ use thiserror::Error;
 #[derive(Debug, Drop, Error)]
 pub enum Fault {
     /// The words of the command line aren't UTF-8.
-    #[error("words that are not text")]
     Words,
     /// The settings' text holds none.
-    #[error("settings {0}")]
     Setting(SettingFault),
     /// The script's line with this number, from 1, is none of a script's.
-    #[error("script 1 BadLine {0}")]
     BadLine(usize),
     /// A file isn't had as it was wanted.
-    #[error("{0}")]
     File(FileFault),
     /// The output couldn't be written.
-    #[error("file 3 NotWritten output")]
     NotWritten,
     /// A file isn't UTF-8.
-    #[error("file 4 NotText")]
     NotText,
     /// This port of the loopback address couldn't be had.
-    #[error("socket 1 NoSocket 127.0.0.1:{0}")]
     NoSocket(u16),
-    #[error("memory 1 NoMemory")]
     NoMemory,
 }
 
+/// What it is about, its number and its name, as `memory 1 NoMemory`; some name behind it what is refused.
+impl fmt::Display for Fault {
+    ghost use Rattle.faults.specs.Texts.{fault_text};
+
+    ghost output = { λ fault. fault_text fault };
+
+    fn fmt<W: fmt::Write>(&self, f: &mut fmt::Formatter<W>) -> fmt::Result {
+        let text = match self {
+            Fault::Setting(fault) => return write!(f, "settings {fault}"),
+            Fault::BadLine(number) => return write!(f, "script 1 BadLine {number}"),
+            Fault::File(fault) => return fmt::Display::fmt(fault, f),
+            Fault::NoSocket(port) => return write!(f, "socket 1 NoSocket 127.0.0.1:{port}"),
+            Fault::Words => "words that are not text",
+            Fault::NotWritten => "file 3 NotWritten output",
+            Fault::NotText => "file 4 NotText",
+            Fault::NoMemory => "memory 1 NoMemory",
+        };
+        f.write_str(text)
+    }
+}
+
 impl Fault {
-    ghost use Rattle.std.specs.Prelude.{◌≡◌, ◌≢◌, None, Some};
+    ghost use Rattle.std.specs.Prelude.{◌≡◌, ◌≢◌, IfSome, None, OnOk, Some};
+    ghost use Rattle.std.specs.Io.KnownBytes.{Appends};
     ghost use Rattle.std.specs.IoError.{error_kind};
     ghost use Rattle.faults.specs.Faults.{IsOfFile, Tells, status_of};
+    ghost use Rattle.faults.specs.Texts.{fault_text, line_of};
     ghost use Rattle.faults.specs.declared.files.Refusal.TheVariants as refusals;
     ghost use Rattle.faults.specs.declared.faults.Fault.TheVariants as faults;
 
@@ -59,8 +75,16 @@ impl Fault {
     pub fn tell<E: Write>(&self, errors: &mut E) -> u8
         ensures { result ≡ status_of self.now }
     {
-        let _ = writeln!(errors, "natpair: {self}");
+        let _ = self.show(errors);
         self.status()
+    }
+
+    /// Writes that line.
+    fn show<E: Write>(&self, errors: &mut E) -> io::Result<()>
+        ensures told { OnOk result (IfSome (fault_text self.now)
+            (λ text. Appends (E.contents errors.old) (E.contents errors.new) (line_of text))) }
+    {
+        writeln!(errors, "natpair: {self}")
     }
 
     /// The fault of words that couldn't be read.

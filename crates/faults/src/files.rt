@@ -11,14 +11,27 @@ use thiserror::Error;
 #[derive(Clone, Copy, Debug, PartialEq, Eq, Error)]
 pub enum Refusal {
     /// It can't be opened or read.
-    #[error("file 1 NoFile")]
     NoFile,
     /// It was to be made, and something of that name is there already.
-    #[error("file 2 Exists")]
     Exists,
     /// It can't be made or written.
-    #[error("file 3 NotWritten")]
     NotWritten,
+}
+
+/// As `file 1 NoFile`.
+impl fmt::Display for Refusal {
+    ghost use Rattle.std.specs.Prelude.{Some};
+    ghost use Rattle.faults.specs.Texts.{refusal_text};
+
+    ghost output = { λ refusal. Some (refusal_text refusal) };
+
+    fn fmt<W: fmt::Write>(&self, f: &mut fmt::Formatter<W>) -> fmt::Result {
+        f.write_str(match self {
+            Refusal::NoFile => "file 1 NoFile",
+            Refusal::Exists => "file 2 Exists",
+            Refusal::NotWritten => "file 3 NotWritten",
+        })
+    }
 }
 
 /// A file that isn't had as it was wanted: which, and why, where the system said so.
@@ -48,8 +61,12 @@ impl FileFault {
     }
 }
 
+/// As in `file 1 NoFile S.toml: permission denied`.
 impl fmt::Display for FileFault {
-    /// As in `file 1 NoFile S.toml: permission denied`.
+    ghost use Rattle.faults.specs.Texts.{file_text};
+
+    ghost output = { λ fault. file_text fault };
+
     fn fmt<W: fmt::Write>(&self, f: &mut fmt::Formatter<W>) -> fmt::Result {
         write!(f, "{} {}", self.refusal, self.path)?;
         match self.cause {
