@@ -1,9 +1,10 @@
 -- By what way each place of a box is reached, and how it is written.
-use Rattle.std.specs.Prelude.{ℕ, ◌≡◌, ◌<◌, ◌≤◌, ◌^◌, ◌⊎◌, List, ◌++◌, codes}
+use Rattle.std.specs.Prelude.{ℕ, ◌≡◌, ◌<◌, ◌≤◌, ◌^◌, ◌⊎◌, List, ◌++◌, codes, decimal}
 use Rattle.std.specs.Str.Parse.{IsNumeral, digits_value, without_leading_plus}
 use Rattle.sockets.specs.Ends.{IsEndText, IsEndsText}
 use Rattle.sockets.specs.declared.ends.Ends.{Ends}
 use Rattle.sockets.specs.declared.vxlan.Network.{Network}
+use Rattle.sockets.specs.declared.ways.NoDescriptor.{NoDescriptor}
 use Rattle.sockets.specs.declared.ways.Way.{Way}
 use Rattle.sockets.specs.declared.ways.Way.TheVariants.{Loopback, Udp, Vxlan, Descriptor}
 use Rattle.sockets.specs.declared.ways.Ways.{Ways}
@@ -63,3 +64,7 @@ IsDescriptor other n = ⊥
 -- one of the ways has it
 abbrev pub Names : Ways → ℕ → Type 0
 Names ways n = IsDescriptor ways.inside n ⊎ IsDescriptor ways.outside n ⊎ IsDescriptor ways.link n
+
+-- what is told of a way's descriptor that isn't open
+abbrev pub no_descriptor_text : NoDescriptor → List ℕ
+no_descriptor_text fault = codes "way 2 NoDescriptor " ++ decimal fault.0

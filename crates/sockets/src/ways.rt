@@ -3,6 +3,7 @@ ghost use Rattle.std.specs.Prelude.{◌≡◌, MatchOption, IfErr};
 ghost use Rattle.sockets.specs.Ways.{IsWayText, IsNoWayText, IsVxlanText, IsNoVxlanText, IsDescriptorText, IsNoDescriptorText, IsDescriptor, Names};
 
 use crate::{End, Ends, FarEnd, Network};
+use std::fmt;
 use std::os::fd::RawFd;
 use thiserror::Error;
 
@@ -84,8 +85,19 @@ impl Way {
 
 /// A descriptor that isn't open.
 #[derive(Clone, Copy, Debug, PartialEq, Eq, Error)]
-#[error("way 2 NoDescriptor {0}")]
 pub struct NoDescriptor(pub u16);
+
+/// As `way 2 NoDescriptor 5`.
+impl fmt::Display for NoDescriptor {
+    ghost use Rattle.std.specs.Prelude.{Some};
+    ghost use Rattle.sockets.specs.Ways.{no_descriptor_text};
+
+    ghost output = { λ fault. Some (no_descriptor_text fault) };
+
+    fn fmt<W: fmt::Write>(&self, f: &mut fmt::Formatter<W>) -> fmt::Result {
+        write!(f, "way 2 NoDescriptor {}", self.0)
+    }
+}
 
 /// The ways of a box.
 #[derive(Clone, Copy, Debug, PartialEq, Eq)]
