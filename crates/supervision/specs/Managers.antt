@@ -1,9 +1,10 @@
--- How a service manager's descriptor is written.
-use Rattle.std.specs.Prelude.{ℕ, List, [], Option, Some, None}
+-- How a service manager's descriptor is written, and what is told of one that isn't open.
+use Rattle.std.specs.Prelude.{ℕ, List, [], ◌++◌, codes, decimal, Option, Some, None}
 use Rattle.sockets.specs.Ways.{IsWayText}
 use Rattle.sockets.specs.declared.ways.Way.{Way}
 use Rattle.sockets.specs.declared.ways.Way.TheVariants.{Loopback, Udp, Vxlan, Descriptor}
 use Rattle.supervision.specs.declared.managers.Manager.{Manager}
+use Rattle.supervision.specs.declared.managers.NotOpen.{NotOpen}
 
 -- the manager at a descriptor, which was told nothing yet
 abbrev pub manager_at : ℕ → Manager
@@ -24,3 +25,7 @@ manager_of (Some Loopback) = None
 manager_of (Some (Udp ends)) = None
 manager_of (Some (Vxlan ends network)) = None
 manager_of None = None
+
+-- what is told of a manager's descriptor that isn't open
+abbrev pub not_open_text : NotOpen → List ℕ
+not_open_text fault = codes "notify 2 NoDescriptor " ++ decimal fault.0

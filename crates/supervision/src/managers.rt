@@ -8,6 +8,7 @@ use crate::Supervisor;
 use crate::messages::Messages;
 use crate::notices::{Notice, laid_out};
 use sockets::Way;
+use std::fmt;
 use std::os::fd::RawFd;
 use thiserror::Error;
 
@@ -30,8 +31,19 @@ fn manager_by(way: Option<Way>) -> Option<Manager>
 
 /// A descriptor that isn't open.
 #[derive(Clone, Copy, Debug, PartialEq, Eq, Error)]
-#[error("notify 2 NoDescriptor {0}")]
 pub struct NotOpen(pub u16);
+
+/// As `notify 2 NoDescriptor 5`.
+impl fmt::Display for NotOpen {
+    ghost use Rattle.std.specs.Prelude.{Some};
+    ghost use Rattle.supervision.specs.Managers.{not_open_text};
+
+    ghost output = { λ fault. Some (not_open_text fault) };
+
+    fn fmt<W: fmt::Write>(&self, f: &mut fmt::Formatter<W>) -> fmt::Result {
+        write!(f, "notify 2 NoDescriptor {}", self.0)
+    }
+}
 
 impl Manager {
     /// The manager at a descriptor. It was told nothing yet.
