@@ -2,13 +2,17 @@
 use crate::edits::edited;
 use crate::full::Full;
 use cases_words::{Actor, Case};
-use checks::{Request, check, compare};
+use checks::{Request, Source, ThisMachine, check, compare, tell_of};
+use faults::text_of;
 use nat_types::GatewayId;
 use std::io::Write;
 use std::{fs, mem};
 
 /// Where an edited text lies while it is checked.
 const EDITED: &str = "edited.toml";
+
+/// Where the sample lies.
+const SAMPLE: &str = "S.toml";
 
 /// The value of an option, as `10.0.0.1` of `link=10.0.0.1`, where it stands.
 fn option<'a>(options: &'a str, name: &str) -> Option<&'a str> {
@@ -27,7 +31,6 @@ fn request(options: &str) -> Request<'_> {
         None => None,
     };
     Request {
-        settings: EDITED,
         id,
         strict: option(options, "strict").is_some(),
         inside: option(options, "inside="),
@@ -47,13 +50,63 @@ fn all_edited(sample: &str, case: &mut Case) -> String {
     text
 }
 
+/// The text of a file; why there is none is told on `errors`.
+fn text_at(rt: &HostRuntime, path: &str, errors: &mut Vec<u8>) -> Option<String> {
+    match text_of(rt, path) {
+        Ok(text) => Some(text),
+        Err(fault) => {
+            tell_of(&fault, path, errors);
+            None
+        }
+    }
+}
+
+/// What `check` says of the edited sample.
+fn say_checked<O: Write>(
+    rt: &HostRuntime,
+    request: &Request<'_>,
+    output: &mut O,
+    errors: &mut Vec<u8>,
+) -> u8 {
+    match text_at(rt, EDITED, errors) {
+        Some(text) => {
+            let around = ThisMachine::new(rt);
+            check(rt.alloc(), &around, text.as_str(), request, output, errors)
+        }
+        None => 1,
+    }
+}
+
+/// What `compare` says of another file beside the sample.
+fn say_compared<O: Write>(
+    rt: &HostRuntime,
+    path: &str,
+    output: &mut O,
+    errors: &mut Vec<u8>,
+) -> u8 {
+    match (text_at(rt, SAMPLE, errors), text_at(rt, path, errors)) {
+        (Some(sample), Some(other)) => {
+            let one = Source {
+                path: SAMPLE,
+                text: sample.as_str(),
+            };
+            let other = Source {
+                path,
+                text: other.as_str(),
+            };
+            compare(rt.alloc(), one, other, output, errors)
+        }
+        _ => 1,
+    }
+}
+
 /// What `check` says of the edited sample; with `compare` what `compare` says of it beside the sample, and with `other=PATH`
 /// of the file there.
 fn say<O: Write>(rt: &HostRuntime, options: &str, output: &mut O, errors: &mut Vec<u8>) -> u8 {
     match (option(options, "compare"), option(options, "other=")) {
-        (Some(_), _) => compare(rt, "S.toml", EDITED, output, errors),
-        (None, Some(other)) => compare(rt, "S.toml", other, output, errors),
-        (None, None) => check(rt, &request(options), output, errors),
+        (Some(_), _) => say_compared(rt, EDITED, output, errors),
+        (None, Some(other)) => say_compared(rt, other, output, errors),
+        (None, None) => say_checked(rt, &request(options), output, errors),
     }
 }
 

@@ -7,7 +7,7 @@ use Rattle.settings_file.specs.declared.looks.Look.{Look}
 use Rattle.settings_file.specs.declared.looks.Look.TheVariants as looks
 use Rattle.settings_file.specs.Listing.{HasNoFault, IsSeen, IsSeenIn}
 use Rattle.checks.specs.declared.doubts.Warning.{Warning}
-use Rattle.checks.specs.Counts.{Grows, at_least_one, fault_count, stops, stopping, left, IsClean, IsUndoubted}
+use Rattle.checks.specs.Counts.{at_least_one, fault_count, stops, stopping, left, IsClean, IsUndoubted}
 
 positive : (n : ℕ) (none : Bool) → (n == 0) ≡ none → cond none 1 n ≡ 0 → ⊥
 positive n true e h = absurd (omega arith)
@@ -43,21 +43,21 @@ pub counted : (look : Look) → (fault_count look ≡ 0) ↔ HasNoFault look
 counted look = (counted_none look, none_counted look)
 
 clean_in : (t : Members) (look : Look) → IsSeenIn t look → HasNoFault look → IsUndoubted look → IsClean (Some t)
-clean_in t looks.NotToml h none undoubted = absurd undoubted
-clean_in t (looks.UnknownKeys paths) h none undoubted = absurd undoubted
-clean_in t (looks.MissingKeys keys) h none undoubted = absurd undoubted
-clean_in t (looks.BadValues keys) h none undoubted = absurd undoubted
-clean_in t looks.RangesOverlap h none undoubted = absurd undoubted
-clean_in t looks.SameIds h none undoubted = absurd undoubted
+clean_in t looks.NotToml h none undoubted = absurd none
+clean_in t (looks.UnknownKeys paths) h none undoubted = absurd none
+clean_in t (looks.MissingKeys keys) h none undoubted = absurd none
+clean_in t (looks.BadValues keys) h none undoubted = absurd none
+clean_in t looks.RangesOverlap h none undoubted = absurd none
+clean_in t looks.SameIds h none undoubted = absurd none
 clean_in t (looks.Held settings keys) h none undoubted =
     (settings, (t, refl, h.0, h.1), sym h.2 ∙ none, undoubted)
 
-not_toml : (document : Option Members) (look : Look) → look ≡ looks.NotToml → IsUndoubted look → IsClean document
-not_toml document look h undoubted = absurd (rw h at undoubted)
+not_toml : (document : Option Members) (look : Look) → look ≡ looks.NotToml → HasNoFault look → IsClean document
+not_toml document look h none = absurd (rw h at none)
 
 -- a document is clean where a look finds no fault, and nothing is doubted
 pub clean : (document : Option Members) (look : Look) → IsSeen document look → HasNoFault look → IsUndoubted look → IsClean document
-clean None look h none undoubted = not_toml None look h undoubted
+clean None look h none undoubted = not_toml None look h none
 clean (Some t) look h none undoubted = clean_in t look h none undoubted
 
 -- a warning is a fault of the box, or it is left
@@ -75,11 +75,3 @@ undoubted id (w ∷ ws) h k =
 pub none_stops : (ws : List Warning) → stopping None ws ≡ 0
 none_stops [] = refl
 none_stops (w ∷ ws) = none_stops ws
-
--- a count that is 0 has grown by nothing
-pub grown_none : (old new more : ℕ) → Grows old new more → new ≡ 0 → more ≡ 0
-grown_none old new more h k = grind arith
-
--- a count that grows by nothing stays 0
-pub none_grown : (old new more : ℕ) → Grows old new more → old ≡ 0 → more ≡ 0 → new ≡ 0
-none_grown old new more h k e = grind arith

@@ -1,5 +1,5 @@
 -- How many faults a look finds, and when there is none.
-use Rattle.std.specs.Prelude.{◌≡◌, ℕ, ◌+◌, ◌-◌, ◌^◌, ◌==◌, ◌&&◌, ◌||◌, min, nat_lt, not, Bool, true, false, if◌then◌else◌, List, [], length, filter, Option, Some, None, Result, Ok, Err}
+use Rattle.std.specs.Prelude.{◌≡◌, ℕ, ◌-◌, ◌^◌, ◌==◌, ◌&&◌, ◌||◌, min, nat_lt, not, Bool, true, false, if◌then◌else◌, List, [], length, filter, Option, Some, None, Result, Ok, Err}
 use Rattle.toml.specs.Data.{Members}
 use Rattle.toml.specs.Parse.{parse_document}
 use Rattle.boot_store.specs.declared.faults.BootFault.{BootFault}
@@ -24,9 +24,9 @@ use Rattle.checks.specs.Differences.{may_differ, differing}
 abbrev pub capped : ℕ → ℕ
 capped n = min n (2 ^ 64 - 1)
 
--- a count of 64 bits has grown by so many, as far as it goes
-abbrev pub Grows : ℕ → ℕ → ℕ → Type 0
-Grows old new more = capped new ≡ capped (old + more)
+-- 1 where it is so
+abbrev pub one_if : Bool → ℕ
+one_if holds = if holds then 1 else 0
 
 -- the exit status: 1 where there is a fault, or, where it is strict, a warning
 abbrev pub status_of : ℕ → ℕ → Bool → ℕ
@@ -72,33 +72,33 @@ abbrev pub faults_of_start : Result ℕ BootFault → ℕ
 faults_of_start (Ok boot) = 0
 faults_of_start (Err fault) = 1
 
--- a look that found settings of which nothing is doubted
+-- nothing is doubted of the settings that a look found, where it found some
 abbrev pub IsUndoubted : Look → Type 0
 IsUndoubted (Held settings keys) = warnings_of settings ≡ []
-IsUndoubted _ = ⊥
+IsUndoubted _ = Unit {0}
 
 -- a document holds settings of which all can work, and nothing is doubted
 abbrev pub IsClean : Option Members → Type 0
 IsClean document =
     (settings : Settings) × IsHeld document settings × (all_that_cant settings ≡ []) × (warnings_of settings ≡ [])
 
--- some text is such
-unfoldable pub IsSomeClean : Type 0
-IsSomeClean = (text : List ℕ) × IsClean (parse_document text)
+-- a text holds settings with which `gate` starts
+unfoldable pub IsGoodText : List ℕ → Type 0
+IsGoodText text = IsGood (parse_document text)
 
--- some text holds settings with which `gate` starts
-unfoldable pub IsSomeGood : Type 0
-IsSomeGood = (text : List ℕ) × IsGood (parse_document text)
+-- and of which nothing is doubted
+unfoldable pub IsCleanText : List ℕ → Type 0
+IsCleanText text = IsClean (parse_document text)
 
 -- of the keys in which two settings differ, how many must not
 abbrev pub must_not : List Key → ℕ
 must_not keys = length (filter (λ k. not (may_differ k.name)) keys)
 
--- some two settings differ in no key in which they must not
-unfoldable pub AreSomeAlike : Type 0
-AreSomeAlike = (one : Settings) × (other : Settings) × (must_not (differing one other) ≡ 0)
-
 -- two documents hold settings that differ in so many keys in which they must not
 abbrev pub DifferIn : Option Members → Option Members → ℕ → Type 0
 DifferIn one other count =
     (a : Settings) × (b : Settings) × IsReadFrom one a × IsReadFrom other b × (count ≡ must_not (differing a b))
+
+-- two texts hold settings that differ in no key in which they must not
+unfoldable pub AreAlike : List ℕ → List ℕ → Type 0
+AreAlike one other = DifferIn (parse_document one) (parse_document other) 0

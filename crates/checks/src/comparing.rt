@@ -1,69 +1,38 @@
-//! Says in what two settings files differ.
+//! Says in what the settings of two files differ.
 ghost use Rattle.std.specs.Prelude.{◌≡◌, ◌⊎◌, IfOk, IfSome};
 ghost use Rattle.toml.specs.Parse.{parse_document};
 ghost use Rattle.settings_file.specs.Settings.{IsReadFrom};
 ghost use Rattle.checks.specs.Differences.{differing, word_of};
-ghost use Rattle.checks.specs.Counts.{must_not, AreSomeAlike, DifferIn};
+ghost use Rattle.checks.specs.Counts.{AreAlike, DifferIn, must_not};
 
-use crate::{differing_keys, may_differ};
-use faults::{Fault, text_of};
+use crate::{Source, differing_keys, may_differ};
+use faults::Fault;
 use settings::Settings;
 use settings_file::Key;
 use std::alloc::{AllocError, Global};
 use std::io::{self, Write};
-use std::rt::Files;
 
-/// The text of a settings file, and the file's path.
-#[derive(Clone, Copy)]
-struct Source<'a> {
-    path: &'a str,
-    text: &'a str,
-}
-
-/// Says on `output` each key in which the settings of two files differ, and whether it may. The answer is the exit
-/// status: 0, or 1 where one differs that must not, a file can't be read or holds no settings, or `output` can't be
-/// written; these are told on `errors`.
-pub fn compare<R: Files + AllocGlobal, O: Write, E: Write>(
-    rt: &R,
-    one: &str,
-    other: &str,
+/// Says on `output` each key in which the settings of two texts differ, and whether it may. The answer is the exit
+/// status: 0, or 1 where one differs that must not, a text holds no settings, or `output` can't be written; the last two
+/// are told on `errors`.
+pub fn compare<O: Write, E: Write>(
+    alloc: Global,
+    one: Source<'_>,
+    other: Source<'_>,
     output: &mut O,
     errors: &mut E,
 ) -> u8
     ensures status { (result ≡ 0) ⊎ (result ≡ 1) }
-    ensures alike { result ≡ 0 → AreSomeAlike }
+    ensures alike { result ≡ 0 → AreAlike one.entry.text.now other.entry.text.now }
 {
-    let (Some(one_text), Some(other_text)) = (text_at(rt, one, errors), text_at(rt, other, errors))
-    else {
-        return 1;
-    };
-    let one = Source {
-        path: one,
-        text: one_text.as_str(),
-    };
-    let other = Source {
-        path: other,
-        text: other_text.as_str(),
-    };
-    match compare_texts(rt.alloc(), one, other, output, errors) {
+    match compare_texts(alloc, one, other, output, errors) {
         Some(0) => 0,
         _ => 1,
     }
 }
 
-/// The text of a file; why there is none is told on `errors`.
-fn text_at<R: Files + AllocGlobal, E: Write>(rt: &R, path: &str, errors: &mut E) -> Option<String> {
-    match text_of(rt, path) {
-        Ok(text) => Some(text),
-        Err(fault) => {
-            tell(&fault, path, errors);
-            None
-        }
-    }
-}
-
-/// Tells of the fault of a file, and which file it is.
-fn tell<E: Write>(fault: &Fault, path: &str, errors: &mut E) {
+/// Tells on `errors` of the fault of a file, and which file it is.
+pub fn tell_of<E: Write>(fault: &Fault, path: &str, errors: &mut E) {
     let _untold = match fault {
         Fault::File(_) => writeln!(errors, "natpair: {fault}"),
         _ => writeln!(errors, "natpair: {fault} ({path})"),
@@ -104,7 +73,7 @@ fn settings_in<E: Write>(alloc: Global, source: Source<'_>, errors: &mut E) -> O
     match settings_file::read(alloc, source.text) {
         Ok(settings) => Some(settings),
         Err(fault) => {
-            tell(&Fault::from(fault), source.path, errors);
+            tell_of(&Fault::from(fault), source.path, errors);
             None
         }
     }

@@ -1,5 +1,5 @@
-//! Whether a pair could run with settings: every fault and every warning of a settings file, and in what two of them
-//! differ.
+//! Whether a pair could run with settings: every fault and every warning of a text of settings, and in what two of
+//! them differ.
 #![tactic(auto)]
 
 mod boots;
@@ -11,13 +11,15 @@ mod doubts;
 mod places;
 mod requests;
 mod saying;
+mod surroundings;
 mod tallies;
 mod warnings;
 
 pub use checking::check;
-pub use comparing::compare;
+pub use comparing::{compare, tell_of};
 pub use differences::{differing_keys, may_differ};
 pub use digests::digest;
 pub use doubts::{Doubt, Warning};
-pub use requests::Request;
+pub use requests::{Request, Source};
+pub use surroundings::{Found, Seen, Surroundings, ThisMachine};
 pub use warnings::warnings_of;

@@ -1,48 +1,38 @@
 //! Says what is wrong with the places of a box: its interfaces, and its address on the link.
-ghost use Rattle.std.specs.Prelude.{◌≡◌, ◌≤◌, ◌+◌, false, nat_lt, true, None, OnOk};
+ghost use Rattle.std.specs.Prelude.{◌≡◌, nat_lt, IfOk, None};
 ghost use Rattle.addresses.specs.Address.{IsIn};
 ghost use Rattle.settings.specs.Parts.{interface_of};
-ghost use Rattle.checks.specs.Counts.{capped};
+ghost use Rattle.checks.specs.Counts.{one_if};
 ghost use Rattle.checks.specs.Interfaces.{is_short};
 
-use crate::Request;
-use crate::tallies::Tally;
+use crate::tallies::{FAULT, NOTHING, Tally, WARNING};
+use crate::{Request, Surroundings};
 use addresses::Ip;
-use faults::{Fault, text_of};
+use faults::Fault;
 use nat_types::Side;
 use settings::Settings;
-use std::alloc::AllocError;
-use std::io::Write;
+use std::io::{self, Write};
 use std::net::Ipv4Addr;
-use std::rt::Files;
 
 /// The least MTU with which an interface takes each frame of a box: 1,514 bytes with the Ethernet header.
 const LEAST_MTU: u32 = 1500;
 
-/// The MTU of an interface, where it has one.
-fn mtu_of<R: Files + AllocGlobal>(rt: &R, name: &str) -> Result<Option<u32>, AllocError> {
-    let path = format!(in rt.alloc(); "/sys/class/net/{name}/mtu")?;
-    match text_of(rt, path.as_str()) {
-        Ok(text) => Ok(text.as_str().trim().parse().ok()),
-        Err(_) => Ok(None),
-    }
-}
-
 /// Looks at the interface of a side, where its name is given.
-pub(crate) fn say_interface<R: Files + AllocGlobal, O: Write>(
-    rt: &R,
+fn say_interface<P: Surroundings, O: Write>(
+    around: &P,
     side: Side,
     name: Option<&str>,
     output: &mut O,
-    tally: &mut Tally,
-) -> Result<(), Fault>
-    ensures faults { tally.new.faults ≡ tally.old.faults }
-    ensures no_fewer { tally.old.warnings ≤ tally.new.warnings }
+) -> Result<Tally, Fault>
+    ensures faults { IfOk result (λ tally. tally.faults ≡ 0) }
+    ensures none { name.entry ≡ None → IfOk result (λ tally. tally.warnings ≡ 0) }
 {
     let Some(name) = name else {
-        return Ok(());
+        return Ok(NOTHING);
     };
-    say_mtu(side, name, mtu_of(rt, name)?, output, tally)
+    let mtu = around.mtu(name)?;
+    let tally = say_mtu(side, name, mtu, output)?;
+    Ok(tally)
 }
 
 /// Whether frames are too long for an interface.
@@ -53,34 +43,19 @@ fn is_short(mtu: u32) -> bool
 }
 
 /// Looks at the MTU of an interface; where it has none there is no such interface.
-fn say_mtu<O: Write>(
-    side: Side,
-    name: &str,
-    mtu: Option<u32>,
-    output: &mut O,
-    tally: &mut Tally,
-) -> Result<(), Fault>
-    ensures warned { is_short mtu ≡ true
-        → OnOk result (tally.new.warnings ≡ capped (tally.old.warnings + 1)) }
-    ensures none { is_short mtu ≡ false → tally.new.warnings ≡ tally.old.warnings }
-    ensures faults { tally.new.faults ≡ tally.old.faults }
-    ensures no_fewer { tally.old.warnings ≤ tally.new.warnings }
+fn say_mtu<O: Write>(side: Side, name: &str, mtu: Option<u32>, output: &mut O) -> io::Result<Tally>
+    ensures faults { IfOk result (λ tally. tally.faults ≡ 0) }
+    ensures warnings { IfOk result (λ tally. tally.warnings ≡ one_if (is_short mtu)) }
 {
     match mtu {
-        Some(mtu) if is_short(mtu) => {
-            writeln!(
-                output,
-                "warning: {side} {name}: its MTU is {mtu}, and frames need 1500"
-            )?;
-            tally.warning();
-        }
-        Some(_) => {}
-        None => {
-            writeln!(output, "warning: {side} {name}: no such interface")?;
-            tally.warning();
-        }
+        Some(mtu) if is_short(mtu) => writeln!(
+            output,
+            "warning: {side} {name}: its MTU is {mtu}, and frames need 1500"
+        )?,
+        Some(_) => return Ok(NOTHING),
+        None => writeln!(output, "warning: {side} {name}: no such interface")?,
     }
-    Ok(())
+    Ok(WARNING)
 }
 
 /// Whether an address on the link lies in the network of a side.
@@ -89,61 +64,60 @@ fn say_link_on<O: Write>(
     side: Side,
     ip: Ip,
     output: &mut O,
-    tally: &mut Tally,
-) -> Result<(), Fault>
+) -> io::Result<Tally>
+    ensures faults { IfOk result (λ tally. tally.faults ≡ 0) }
     ensures warned { IsIn ip.0 (interface_of settings.now side).virtual_ip.0
         (interface_of settings.now side).prefix_length
-        → OnOk result (tally.new.warnings ≡ capped (tally.old.warnings + 1)) }
-    ensures no_fewer { tally.old.warnings ≤ tally.new.warnings }
-    ensures faults { tally.new.faults ≡ tally.old.faults }
+        → IfOk result (λ tally. tally.warnings ≡ 1) }
 {
-    if settings.interface(side).network().contains(ip) {
-        writeln!(
-            output,
-            "warning: link {ip}: it lies in the network of the {side}, whose cable it goes down with"
-        )?;
-        tally.warning();
+    if !settings.interface(side).network().contains(ip) {
+        return Ok(NOTHING);
     }
-    Ok(())
+    writeln!(
+        output,
+        "warning: link {ip}: it lies in the network of the {side}, whose cable it goes down with"
+    )?;
+    Ok(WARNING)
+}
+
+/// Looks at an address on the link beside the networks of both sides.
+fn say_address<O: Write>(settings: &Settings, ip: Ip, output: &mut O) -> io::Result<Tally>
+    ensures faults { IfOk result (λ tally. tally.faults ≡ 0) }
+{
+    let inside = say_link_on(settings, Side::Inside, ip, output)?;
+    let outside = say_link_on(settings, Side::Outside, ip, output)?;
+    Ok(inside.and(outside))
 }
 
 /// Looks at the box's own address on the link, where it is given.
-pub(crate) fn say_link<O: Write>(
+fn say_link<O: Write>(
     settings: &Settings,
     address: Option<&str>,
     output: &mut O,
-    tally: &mut Tally,
-) -> Result<(), Fault>
-    ensures faults { tally.old.faults ≤ tally.new.faults }
-    ensures none { address.entry ≡ None → tally.new.faults ≡ tally.old.faults }
-    ensures warnings { tally.old.warnings ≤ tally.new.warnings }
+) -> io::Result<Tally>
+    ensures none { address.entry ≡ None → IfOk result (λ tally. tally.faults ≡ 0) }
 {
     let Some(text) = address else {
-        return Ok(());
+        return Ok(NOTHING);
     };
-    let Ok(address) = text.parse::<Ipv4Addr>() else {
-        writeln!(output, "fault: link {text}: no IPv4 address")?;
-        tally.fault();
-        return Ok(());
-    };
-    let ip = Ip::new(address.octets());
-    say_link_on(settings, Side::Inside, ip, output, tally)?;
-    say_link_on(settings, Side::Outside, ip, output, tally)
+    if let Ok(address) = text.parse::<Ipv4Addr>() {
+        return say_address(settings, Ip::new(address.octets()), output);
+    }
+    writeln!(output, "fault: link {text}: no IPv4 address")?;
+    Ok(FAULT)
 }
 
 /// Looks at all that the request names of a box's places.
-pub(crate) fn say_places<R: Files + AllocGlobal, O: Write>(
-    rt: &R,
+pub(crate) fn say_places<P: Surroundings, O: Write>(
+    around: &P,
     request: &Request<'_>,
     settings: &Settings,
     output: &mut O,
-    tally: &mut Tally,
-) -> Result<(), Fault>
-    ensures faults { tally.old.faults ≤ tally.new.faults }
-    ensures none { request.now.link ≡ None → tally.new.faults ≡ tally.old.faults }
-    ensures warnings { tally.old.warnings ≤ tally.new.warnings }
+) -> Result<Tally, Fault>
+    ensures none { request.now.link ≡ None → IfOk result (λ tally. tally.faults ≡ 0) }
 {
-    say_interface(rt, Side::Inside, request.inside, output, tally)?;
-    say_interface(rt, Side::Outside, request.outside, output, tally)?;
-    say_link(settings, request.link, output, tally)
+    let inside = say_interface(around, Side::Inside, request.inside, output)?;
+    let outside = say_interface(around, Side::Outside, request.outside, output)?;
+    let link = say_link(settings, request.link, output)?;
+    Ok(inside.and(outside).and(link))
 }

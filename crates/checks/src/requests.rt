@@ -1,12 +1,10 @@
-//! What is to be checked.
+//! What is to be checked, and compared.
 
 use nat_types::GatewayId;
 
-/// What is to be checked.
+/// What is to be checked beside a text of settings, and how strictly.
 #[derive(Clone, Copy, Debug)]
 pub struct Request<'a> {
-    /// The path of the settings.
-    pub settings: &'a str,
     /// The box whose boot file is looked at too, if one's is.
     pub id: Option<GatewayId>,
     /// Whether a warning makes the status 1 too.
@@ -17,4 +15,11 @@ pub struct Request<'a> {
     pub outside: Option<&'a str>,
     /// The box's own address on the link, as `10.0.0.1`, where it is looked at.
     pub link: Option<&'a str>,
+}
+
+/// The text of a settings file, and the file's path, which faults name.
+#[derive(Clone, Copy, Debug)]
+pub struct Source<'a> {
+    pub path: &'a str,
+    pub text: &'a str,
 }

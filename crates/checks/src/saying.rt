@@ -1,9 +1,9 @@
 //! Says what was found in a text of settings, a line each.
-ghost use Rattle.std.specs.Prelude.{◌≡◌, OnOk};
+ghost use Rattle.std.specs.Prelude.{◌≡◌, IfOk};
 ghost use Rattle.checks.specs.Doubts.{warnings_of};
-ghost use Rattle.checks.specs.Counts.{Grows, at_least_one, fault_count, is_of, left, stopping, stops};
+ghost use Rattle.checks.specs.Counts.{at_least_one, fault_count, is_of, left, stopping, stops};
 
-use crate::tallies::Tally;
+use crate::tallies::{NOTHING, Tally};
 use crate::{Doubt, Warning, warnings_of};
 use faults::Fault;
 use nat_types::GatewayId;
@@ -82,28 +82,36 @@ fn stops(id: Option<GatewayId>, warning: &Warning) -> bool
     }
 }
 
+/// Says a warning: as a fault where it stops the box that is looked at.
+fn say_warning<O: Write>(warning: &Warning, is_stop: bool, output: &mut O) -> io::Result<()> {
+    if is_stop {
+        let key = warning.key;
+        writeln!(output, "fault: socket 2 LongPath {key}")
+    } else {
+        writeln!(output, "warning: {warning}")
+    }
+}
+
 /// Says a list of warnings: as a fault what stops the box that is looked at.
 fn say_each<O: Write>(
     warnings: &[Warning],
     id: Option<GatewayId>,
     output: &mut O,
-    tally: &mut Tally,
-) -> io::Result<()>
-    ensures faults { OnOk result
-        (Grows tally.old.faults tally.new.faults (stopping id warnings.now)) }
-    ensures warnings { OnOk result
-        (Grows tally.old.warnings tally.new.warnings (left id warnings.now)) }
+) -> io::Result<Tally>
+    ensures faults { IfOk result (λ tally. tally.faults ≡ stopping id warnings.now) }
+    ensures warnings { IfOk result (λ tally. tally.warnings ≡ left id warnings.now) }
 {
+    let mut tally = NOTHING;
     for warning in warnings {
-        if stops(id, warning) {
-            writeln!(output, "fault: socket 2 LongPath {}", warning.key)?;
-            tally.fault();
+        let is_stop = stops(id, warning);
+        say_warning(warning, is_stop, output)?;
+        if is_stop {
+            tally.faults += 1;
         } else {
-            writeln!(output, "warning: {warning}")?;
-            tally.warning();
+            tally.warnings += 1;
         }
     }
-    Ok(())
+    Ok(tally)
 }
 
 /// Says each warning of settings: as a fault what stops the box that is looked at.
@@ -112,14 +120,11 @@ pub(crate) fn say_warnings<O: Write>(
     settings: &Settings,
     id: Option<GatewayId>,
     output: &mut O,
-    tally: &mut Tally,
-) -> Result<(), Fault>
-    ensures faults { OnOk result
-        (Grows tally.old.faults tally.new.faults (stopping id (warnings_of settings.now))) }
-    ensures warnings { OnOk result
-        (Grows tally.old.warnings tally.new.warnings (left id (warnings_of settings.now))) }
+) -> Result<Tally, Fault>
+    ensures faults { IfOk result (λ tally. tally.faults ≡ stopping id (warnings_of settings.now)) }
+    ensures warnings { IfOk result (λ tally. tally.warnings ≡ left id (warnings_of settings.now)) }
 {
     let warnings = warnings_of(alloc, settings)?;
-    say_each(warnings.as_slice(), id, output, tally)?;
-    Ok(())
+    let tally = say_each(warnings.as_slice(), id, output)?;
+    Ok(tally)
 }

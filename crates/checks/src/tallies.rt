@@ -1,5 +1,5 @@
 //! How many faults and warnings there are.
-ghost use Rattle.std.specs.Prelude.{◌≡◌, ◌≤◌, ◌+◌};
+ghost use Rattle.std.specs.Prelude.{◌≡◌, ◌+◌};
 ghost use Rattle.checks.specs.Counts.{capped, status_of};
 
 /// How many faults and warnings were said.
@@ -10,33 +10,15 @@ pub(crate) struct Tally {
 }
 
 impl Tally {
-    /// So many faults, and no warning yet.
-    pub(crate) fn of_faults(faults: usize) -> Tally
-        ensures faults { result.faults ≡ faults }
-        ensures warnings { result.warnings ≡ 0 }
+    /// These and others, as far as 64 bits go.
+    pub(crate) fn and(self, others: Tally) -> Tally
+        ensures faults { result.faults ≡ capped (self.faults + others.faults) }
+        ensures warnings { result.warnings ≡ capped (self.warnings + others.warnings) }
     {
         Tally {
-            faults,
-            warnings: 0,
+            faults: self.faults.saturating_add(others.faults),
+            warnings: self.warnings.saturating_add(others.warnings),
         }
-    }
-
-    /// One more fault.
-    pub(crate) fn fault(&mut self)
-        ensures faults { self.new.faults ≡ capped (self.old.faults + 1) }
-        ensures no_fewer { self.old.faults ≤ self.new.faults }
-        ensures warnings { self.new.warnings ≡ self.old.warnings }
-    {
-        self.faults = self.faults.saturating_add(1);
-    }
-
-    /// One more warning.
-    pub(crate) fn warning(&mut self)
-        ensures warnings { self.new.warnings ≡ capped (self.old.warnings + 1) }
-        ensures no_fewer { self.old.warnings ≤ self.new.warnings }
-        ensures faults { self.new.faults ≡ self.old.faults }
-    {
-        self.warnings = self.warnings.saturating_add(1);
     }
 
     /// The exit status: 1 where there is a fault, or, where it is strict, a warning.
@@ -50,3 +32,21 @@ impl Tally {
         }
     }
 }
+
+/// Nothing was found.
+pub(crate) const NOTHING: Tally = Tally {
+    faults: 0,
+    warnings: 0,
+};
+
+/// One fault.
+pub(crate) const FAULT: Tally = Tally {
+    faults: 1,
+    warnings: 0,
+};
+
+/// One warning.
+pub(crate) const WARNING: Tally = Tally {
+    faults: 0,
+    warnings: 1,
+};
