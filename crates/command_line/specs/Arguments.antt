@@ -1,22 +1,33 @@
 -- The arguments of a command, as clap is told of them.
-use Rattle.std.specs.Prelude.{ℕ, List, [], ◌∷◌}
-use Rattle.clap.specs.Words.{App, Rule, with_rule}
-use Rattle.command_line.specs.Line.{file_rule, flag_rule, id_rule, id_rule_if, number_rule, rounds_rule, text_rule, way_rule, word_rule}
+use Rattle.std.specs.Prelude.{Bool, true, false, List, [], ◌∷◌}
+use Rattle.clap.specs.Words.{App, Rule, Text, with_rule}
+use Rattle.clap.specs.declared.builder.action.ArgAction.{ArgAction}
+use Rattle.clap.specs.declared.builder.action.ArgAction.TheVariants.{Set, SetTrue}
+use Rattle.command_line.specs.Line.{file_rule, flag_rule, parsed_rule, text_rule, way_rule, word_rule}
 use Rattle.command_line.specs.declared.options.Argument.{Argument}
 use Rattle.command_line.specs.declared.options.Form.{Form}
 use Rattle.command_line.specs.declared.options.Form.TheVariants as form
 
+-- one that has to be there
+abbrev pub is_needed : Form → Bool
+is_needed form.File = true
+is_needed (form.Needed parser) = true
+is_needed _ = false
+
+-- what clap does where it meets one
+abbrev pub action_for : Form → ArgAction
+action_for form.Flag = SetTrue
+action_for _ = Set
+
 -- of a name, by how it is given
-abbrev pub rule_by : Form → List ℕ → Rule
+abbrev pub rule_by : Form → Text → Rule
 rule_by form.File name = file_rule name
 rule_by form.Word name = word_rule name
 rule_by form.Text name = text_rule name
 rule_by form.Way name = way_rule name
 rule_by form.Flag name = flag_rule name
-rule_by (form.Number least most) name = number_rule name least most
-rule_by form.Id name = id_rule
-rule_by form.IdIf name = id_rule_if
-rule_by form.Rounds name = rounds_rule
+rule_by (form.Number parser) name = parsed_rule name parser
+rule_by (form.Needed parser) name = record (parsed_rule name parser) { required = true }
 
 abbrev pub rule_for : Argument → Rule
 rule_for argument = rule_by argument.0 argument.1.now

@@ -157,10 +157,13 @@ with_words a =
     status_app.top) pairs_app.top) stop_app.top) peer_off_app.top) side_app.top
 
 -- all commands
-abbrev pub line_app : App
-line_app =
-    with_subcommand (with_subcommand (with_words (with_subcommand (with_subcommand (with_subcommand top_app
+abbrev pub with_commands : App → App
+with_commands a =
+    with_subcommand (with_subcommand (with_words (with_subcommand (with_subcommand (with_subcommand a
     init_app.top) check_app.top) gate_app.top)) sim_app.top) loop_app.top
+
+abbrev pub line_app : App
+line_app = with_commands top_app
 
 -- the kinds of fault that clap finds in the words: of the first that there is
 abbrev pub faults_of : List Text → Kinds

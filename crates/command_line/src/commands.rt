@@ -1,16 +1,14 @@
 //! The commands.
-ghost use Rattle.std.specs.Prelude.{◌≡◌, codes, false, IfOk};
-ghost use Rattle.clap.specs.Words.{app_of, new_app};
+ghost use Rattle.std.specs.Prelude.{◌≡◌, false, IfOk, Some};
+ghost use Rattle.clap.specs.Words.{app_of, with_subcommand};
 ghost use Rattle.clap.specs.declared.builder.command.Command.TheViews.{out-Command as fields_of};
-ghost use Rattle.command_line.specs.Arguments.{with_all};
-ghost use Rattle.command_line.specs.Entries.{app_for};
-ghost use Rattle.command_line.specs.Line.{check_app, gate_app, init_app, line_app, loop_app};
-ghost use Rattle.command_line.specs.Line.{pairs_app, peer_off_app, side_app, sim_app, status_app};
-ghost use Rattle.command_line.specs.Line.{stop_app, top_app};
+ghost use Rattle.command_line.specs.Entries.{about_for, about_of, app_for, app_in, bare_app, line_about};
+ghost use Rattle.command_line.specs.Line.{line_app};
 
 use crate::VERSION;
 use crate::options::{Argument, Form};
 use clap::Command;
+use clap::builder::ValueParser;
 use std::alloc::{AllocError, Global};
 
 /// Which of the commands it is.
@@ -42,6 +40,15 @@ const ENTRIES: [Entry; 10] = [
     Entry::Loop,
 ];
 
+/// What clap is told of a command: its name, what help says of it, what stands below its options, and what it takes.
+#[derive(Clone, Copy)]
+pub(crate) struct Outline<'a> {
+    name: &'a str,
+    about: &'a str,
+    below: &'a str,
+    arguments: &'a [Argument<'a>],
+}
+
 /// What stands below the options of `gate`.
 const GATE_HELP: &str = "A way is one of
   loopback                          the ports of the settings, on this machine
@@ -54,6 +61,9 @@ environment's NATPAIR_LOG, or info.
 
 Example: natpair gate S.toml --id 0";
 
+/// The numbers of the two gateways.
+const ONE_BIT: ValueParser<'static> = ValueParser::Signed(0, 1);
+
 /// The settings, which all commands but `init` take.
 const SETTINGS: Argument<'static> = Argument(
     Form::File,
@@ -63,7 +73,7 @@ const SETTINGS: Argument<'static> = Argument(
 
 /// The gateway that is run or spoken to.
 const ID: Argument<'static> = Argument(
-    Form::Id,
+    Form::Needed(ONE_BIT),
     "id",
     "Which of the two gateways it is, 0 or 1, as in --id 0",
 );
@@ -82,339 +92,307 @@ const CAPTURE: Argument<'static> = Argument(
     "A file for all frames and datagrams, in pcapng, as in --capture day.pcapng",
 );
 
-/// What `init` takes.
-const INIT: [Argument<'static>; 1] = [Argument(
-    Form::File,
-    "FILE",
-    "The boot file to create, as in boot0",
-)];
-
-/// What `check` takes.
-const CHECK: [Argument<'static>; 7] = [
-    SETTINGS,
-    Argument(
-        Form::Word,
-        "OTHER",
-        "Other settings, which they are compared with",
-    ),
-    Argument(
-        Form::IdIf,
-        "id",
-        "Which of the two gateways it is, 0 or 1, as in --id 0",
-    ),
-    Argument(
-        Form::Flag,
-        "strict",
-        "Ends with 1 where there is a warning, too",
-    ),
-    Argument(
-        Form::Text,
-        "inside",
-        "The inside's interface, which is looked at, as in --inside eth1",
-    ),
-    Argument(
-        Form::Text,
-        "outside",
-        "The outside's interface, which is looked at, as in --outside eth2",
-    ),
-    Argument(
-        Form::Text,
-        "link",
-        "This box's address on the link, as in --link 10.0.0.1",
-    ),
-];
-
-/// What `gate` takes.
-const GATE: [Argument<'static>; 13] = [
-    SETTINGS,
-    ID,
-    Argument(
-        Form::Rounds,
-        "rounds",
-        "How many rounds it runs, each waiting at most 10 ms; left out, it runs until told",
-    ),
-    Argument(
-        Form::Flag,
-        "until-eof",
-        "Ends, as told, where its standard input ends",
-    ),
-    Argument(
-        Form::Flag,
-        "found",
-        "Founds the pair: once, at gateway 0, with a new boot file",
-    ),
-    Argument(
-        Form::Way,
-        "inside",
-        "The inside's way, as in --inside descriptor:3",
-    ),
-    Argument(
-        Form::Way,
-        "outside",
-        "The outside's way, as in --outside descriptor:4",
-    ),
-    Argument(
-        Form::Way,
-        "link",
-        "The link's way, as in --link udp:10.1.0.1:7000,10.1.0.2:7000",
-    ),
-    Argument(
-        Form::Flag,
-        "no-track",
-        "Doesn't give way where an interface says that it has no carrier",
-    ),
-    Argument(
-        Form::Text,
-        "log",
-        "Which records it writes to the standard error, as in --log debug",
-    ),
-    Argument(
-        Form::Flag,
-        "log-pairs",
-        "Writes each record as key=value, for programs",
-    ),
-    Argument(
-        Form::Text,
-        "capture",
-        "A file for all that it takes and sends, in pcapng, as in --capture box0.pcapng",
-    ),
-    Argument(
-        Form::Text,
-        "notify",
-        "The service manager's socket, an open descriptor, as in --notify descriptor:6",
-    ),
-];
-
-/// What `status` takes.
-const STATUS: [Argument<'static>; 6] = [
-    SETTINGS,
-    ID,
-    Argument(Form::Flag, "json", "Writes it as JSON"),
-    Argument(
-        Form::Flag,
-        "prometheus",
-        "Writes it as metrics for Prometheus",
-    ),
-    Argument(
-        Form::Text,
-        "until",
-        "Asks again until the gateway is synced, and writes nothing, as in --until synced",
-    ),
-    Argument(
-        Form::Number(0, 4_294_967_295),
-        "seconds",
-        "How long it asks with --until, in seconds; left out, it is 60",
-    ),
-];
-
-/// What `pairs` takes.
-const PAIRS: [Argument<'static>; 6] = [
-    SETTINGS,
-    ID,
-    Argument(
-        Form::Text,
-        "protocol",
-        "Pairs of this protocol: icmp, tcp or udp",
-    ),
-    Argument(
-        Form::Text,
-        "address",
-        "Pairs of this inside address, as in --address 192.168.1.10",
-    ),
-    Argument(
-        Form::Number(1, 65_535),
-        "port",
-        "The pair of this outside port, as in --port 20000",
-    ),
-    Argument(
-        Form::Text,
-        "state",
-        "Pairs in this state: pending, doomed, live, closing or held",
-    ),
-];
-
-/// What `stop` takes.
-const STOP: [Argument<'static>; 2] = [SETTINGS, ID];
-
-/// What `peer-off` takes.
-const PEER_OFF: [Argument<'static>; 4] = [
-    SETTINGS,
-    ID,
-    Argument(
-        Form::Number(0, 18_446_744_073_709_551_615),
-        "boot",
-        "The boot of the peer that has ended, as in --boot 7; left out, the one that it knows",
-    ),
-    Argument(
-        Form::Flag,
-        "force",
-        "Takes a boot above the one that it knows, too",
-    ),
-];
-
-/// What `side` takes.
-const SIDE: [Argument<'static>; 4] = [
-    SETTINGS,
-    ID,
-    Argument(Form::File, "SIDE", "The side, inside or outside"),
-    Argument(Form::File, "STATE", "Whether it can be used, up or down"),
-];
-
 /// What `sim` and `loop` take.
-const RUN: [Argument<'static>; 3] = [SETTINGS, SCRIPT, CAPTURE];
+const RUN: &[Argument<'static>] = &[SETTINGS, SCRIPT, CAPTURE];
 
-/// A command of a name, with these arguments: what it does, and what stands below its options.
-fn command<'a>(
-    alloc: Global,
-    name: &'a str,
-    about: &'a str,
-    below: &'a str,
-    arguments: &[Argument<'a>],
-) -> Result<Command<'a>, AllocError>
-    ensures app { IfOk result (λ c. app_of c
-        ≡ with_all (new_app name.entry.now) arguments.now) }
-    ensures local { IfOk result (λ c. (fields_of c).has_globals ≡ false) }
+/// `natpair init`.
+static INIT: Outline<'static> = Outline {
+    name: "init",
+    about: "Creates a boot file; one that exists is left as it is and refused",
+    below: "Example: natpair init boot0",
+    arguments: &[Argument(Form::File, "FILE", "The boot file to create, as in boot0")],
+};
+
+/// `natpair check`.
+static CHECK: Outline<'static> = Outline {
+    name: "check",
+    about: "Says each fault and each warning of settings, or where two settings differ",
+    below: "Example: natpair check S.toml --id 0 --strict",
+    arguments: &[
+        SETTINGS,
+        Argument(
+            Form::Word,
+            "OTHER",
+            "Other settings, which they are compared with",
+        ),
+        Argument(
+            Form::Number(ONE_BIT),
+            "id",
+            "Which of the two gateways it is, 0 or 1, as in --id 0",
+        ),
+        Argument(
+            Form::Flag,
+            "strict",
+            "Ends with 1 where there is a warning, too",
+        ),
+        Argument(
+            Form::Text,
+            "inside",
+            "The inside's interface, which is looked at, as in --inside eth1",
+        ),
+        Argument(
+            Form::Text,
+            "outside",
+            "The outside's interface, which is looked at, as in --outside eth2",
+        ),
+        Argument(
+            Form::Text,
+            "link",
+            "This box's address on the link, as in --link 10.0.0.1",
+        ),
+    ],
+};
+
+/// `natpair gate`.
+static GATE: Outline<'static> = Outline {
+    name: "gate",
+    about: "Runs one gateway: on interfaces, over VXLAN, or on loopback sockets",
+    below: GATE_HELP,
+    arguments: &[
+        SETTINGS,
+        ID,
+        Argument(
+            Form::Number(ValueParser::Signed(0, 4_294_967_295)),
+            "rounds",
+            "How many rounds it runs, each waiting at most 10 ms; left out, it runs until told",
+        ),
+        Argument(
+            Form::Flag,
+            "until-eof",
+            "Ends, as told, where its standard input ends",
+        ),
+        Argument(
+            Form::Flag,
+            "found",
+            "Founds the pair: once, at gateway 0, with a new boot file",
+        ),
+        Argument(
+            Form::Way,
+            "inside",
+            "The inside's way, as in --inside descriptor:3",
+        ),
+        Argument(
+            Form::Way,
+            "outside",
+            "The outside's way, as in --outside descriptor:4",
+        ),
+        Argument(
+            Form::Way,
+            "link",
+            "The link's way, as in --link udp:10.1.0.1:7000,10.1.0.2:7000",
+        ),
+        Argument(
+            Form::Flag,
+            "no-track",
+            "Doesn't give way where an interface says that it has no carrier",
+        ),
+        Argument(
+            Form::Text,
+            "log",
+            "Which records it writes to the standard error, as in --log debug",
+        ),
+        Argument(
+            Form::Flag,
+            "log-pairs",
+            "Writes each record as key=value, for programs",
+        ),
+        Argument(
+            Form::Text,
+            "capture",
+            "A file for all that it takes and sends, in pcapng, as in --capture box0.pcapng",
+        ),
+        Argument(
+            Form::Text,
+            "notify",
+            "The service manager's socket, an open descriptor, as in --notify descriptor:6",
+        ),
+    ],
+};
+
+/// `natpair status`.
+static STATUS: Outline<'static> = Outline {
+    name: "status",
+    about: "Writes what a running gateway says of itself",
+    below: "Example: natpair status S.toml --id 0",
+    arguments: &[
+        SETTINGS,
+        ID,
+        Argument(Form::Flag, "json", "Writes it as JSON"),
+        Argument(
+            Form::Flag,
+            "prometheus",
+            "Writes it as metrics for Prometheus",
+        ),
+        Argument(
+            Form::Text,
+            "until",
+            "Asks again until the gateway is synced, and writes nothing, as in --until synced",
+        ),
+        Argument(
+            Form::Number(ValueParser::Unsigned(0, 4_294_967_295)),
+            "seconds",
+            "How long it asks with --until, in seconds; left out, it is 60",
+        ),
+    ],
+};
+
+/// `natpair pairs`.
+static PAIRS: Outline<'static> = Outline {
+    name: "pairs",
+    about: "Lists the pairs of a running gateway",
+    below: "Example: natpair pairs S.toml --id 0 --protocol tcp",
+    arguments: &[
+        SETTINGS,
+        ID,
+        Argument(
+            Form::Text,
+            "protocol",
+            "Pairs of this protocol: icmp, tcp or udp",
+        ),
+        Argument(
+            Form::Text,
+            "address",
+            "Pairs of this inside address, as in --address 192.168.1.10",
+        ),
+        Argument(
+            Form::Number(ValueParser::Unsigned(1, 65_535)),
+            "port",
+            "The pair of this outside port, as in --port 20000",
+        ),
+        Argument(
+            Form::Text,
+            "state",
+            "Pairs in this state: pending, doomed, live, closing or held",
+        ),
+    ],
+};
+
+/// `natpair stop`.
+static STOP: Outline<'static> = Outline {
+    name: "stop",
+    about: "Tells a running gateway to end: it resigns on both sides, so that its peer takes over",
+    below: "Example: natpair stop S.toml --id 0",
+    arguments: &[SETTINGS, ID],
+};
+
+/// `natpair peer-off`.
+static PEER_OFF: Outline<'static> = Outline {
+    name: "peer-off",
+    about: "Tells a running gateway that a boot of its peer has ended for good",
+    below: "Example: natpair peer-off S.toml --id 0 --boot 7",
+    arguments: &[
+        SETTINGS,
+        ID,
+        Argument(
+            Form::Number(ValueParser::Unsigned(0, 18_446_744_073_709_551_615)),
+            "boot",
+            "The boot of the peer that has ended, as in --boot 7; left out, the one that it knows",
+        ),
+        Argument(
+            Form::Flag,
+            "force",
+            "Takes a boot above the one that it knows, too",
+        ),
+    ],
+};
+
+/// `natpair side`.
+static SIDE: Outline<'static> = Outline {
+    name: "side",
+    about: "Tells a running gateway that a side can't be used, or can be again",
+    below: "Example: natpair side S.toml --id 0 inside down",
+    arguments: &[
+        SETTINGS,
+        ID,
+        Argument(Form::File, "SIDE", "The side, inside or outside"),
+        Argument(Form::File, "STATE", "Whether it can be used, up or down"),
+    ],
+};
+
+/// `natpair sim`.
+static SIM: Outline<'static> = Outline {
+    name: "sim",
+    about: "Runs both gateways on the events of a script and prints each step",
+    below: "Example: natpair sim S.toml day.script",
+    arguments: RUN,
+};
+
+/// `natpair loop`.
+static LOOP: Outline<'static> = Outline {
+    name: "loop",
+    about: "Runs a script as sim does, with each frame and datagram sent through a loopback socket",
+    below: "Example: natpair loop S.toml day.script",
+    arguments: RUN,
+};
+
+/// What clap is told of a command.
+fn outline_of<'a>(entry: Entry) -> &'a Outline<'a>
+    ensures app { app_in result.now ≡ app_for entry }
+    ensures about { result.now.about.now ≡ about_for entry }
 {
-    let mut command = Command::new(alloc, name).about(about).after_help(below);
-    for argument in arguments {
+    match entry {
+        Entry::Init => &INIT,
+        Entry::Check => &CHECK,
+        Entry::Gate => &GATE,
+        Entry::Status => &STATUS,
+        Entry::Pairs => &PAIRS,
+        Entry::Stop => &STOP,
+        Entry::PeerOff => &PEER_OFF,
+        Entry::Side => &SIDE,
+        Entry::Sim => &SIM,
+        Entry::Loop => &LOOP,
+    }
+}
+
+/// The command of an entry. What help says of it comes last: of that `clap` tells nothing once an argument is added.
+fn command<'a>(alloc: Global, entry: Entry) -> Result<Command<'a>, AllocError>
+    ensures app { IfOk result (λ c. app_of c ≡ app_for entry) }
+    ensures local { IfOk result (λ c. (fields_of c).has_globals ≡ false) }
+    ensures about { IfOk result (λ c. about_of c ≡ Some (about_for entry)) }
+{
+    let outline = outline_of(entry);
+    let mut command = Command::new(alloc, outline.name);
+    for argument in outline.arguments {
         command = command.arg(argument.arg(alloc))?;
     }
-    Ok(command)
+    Ok(command.about(outline.about).after_help(outline.below))
 }
 
-fn init<'a>(alloc: Global) -> Result<Command<'a>, AllocError>
-    ensures app { IfOk result (λ c. app_of c ≡ init_app) }
-    ensures local { IfOk result (λ c. (fields_of c).has_globals ≡ false) }
+/// The program with one more command.
+fn with_command<'a>(
+    alloc: Global,
+    program: Command<'a>,
+    entry: Entry,
+) -> Result<Command<'a>, AllocError>
+    ensures { IfOk result (λ c. app_of c ≡ with_subcommand (app_of program.entry) (app_for entry).top) }
 {
-    let about = "Creates a boot file; one that exists is left as it is and refused";
-    let below = "Example: natpair init boot0";
-    command(alloc, "init", about, below, &INIT)
+    let command = command(alloc, entry)?;
+    program.subcommand(command)
 }
 
-fn check<'a>(alloc: Global) -> Result<Command<'a>, AllocError>
-    ensures app { IfOk result (λ c. app_of c ≡ check_app) }
-    ensures local { IfOk result (λ c. (fields_of c).has_globals ≡ false) }
+/// The program with all its commands.
+fn commands<'a>(alloc: Global) -> Result<Command<'a>, AllocError>
+    ensures { IfOk result (λ c. app_of c ≡ bare_app) }
 {
-    let about = "Says each fault and each warning of settings, or where two settings differ";
-    let below = "Example: natpair check S.toml --id 0 --strict";
-    command(alloc, "check", about, below, &CHECK)
+    let mut program = Command::new(alloc, "natpair");
+    for entry in &ENTRIES {
+        program = with_command(alloc, program, *entry)?;
+    }
+    Ok(program)
 }
 
-fn gate<'a>(alloc: Global) -> Result<Command<'a>, AllocError>
-    ensures app { IfOk result (λ c. app_of c ≡ gate_app) }
-    ensures local { IfOk result (λ c. (fields_of c).has_globals ≡ false) }
+/// The command line.
+pub(crate) fn line<'a>(alloc: Global) -> Result<Command<'a>, AllocError>
+    ensures app { IfOk result (λ c. app_of c ≡ line_app) }
+    ensures about { IfOk result (λ c. about_of c ≡ Some line_about) }
 {
-    let about = "Runs one gateway: on interfaces, over VXLAN, or on loopback sockets";
-    let below = GATE_HELP;
-    command(alloc, "gate", about, below, &GATE)
-}
-
-fn status<'a>(alloc: Global) -> Result<Command<'a>, AllocError>
-    ensures app { IfOk result (λ c. app_of c ≡ status_app) }
-    ensures local { IfOk result (λ c. (fields_of c).has_globals ≡ false) }
-{
-    let about = "Writes what a running gateway says of itself";
-    let below = "Example: natpair status S.toml --id 0";
-    command(alloc, "status", about, below, &STATUS)
-}
-
-fn pairs<'a>(alloc: Global) -> Result<Command<'a>, AllocError>
-    ensures app { IfOk result (λ c. app_of c ≡ pairs_app) }
-    ensures local { IfOk result (λ c. (fields_of c).has_globals ≡ false) }
-{
-    let about = "Lists the pairs of a running gateway";
-    let below = "Example: natpair pairs S.toml --id 0 --protocol tcp";
-    command(alloc, "pairs", about, below, &PAIRS)
-}
-
-fn stop<'a>(alloc: Global) -> Result<Command<'a>, AllocError>
-    ensures app { IfOk result (λ c. app_of c ≡ stop_app) }
-    ensures local { IfOk result (λ c. (fields_of c).has_globals ≡ false) }
-{
-    let about =
-        "Tells a running gateway to end: it resigns on both sides, so that its peer takes over";
-    let below = "Example: natpair stop S.toml --id 0";
-    command(alloc, "stop", about, below, &STOP)
-}
-
-fn peer_off<'a>(alloc: Global) -> Result<Command<'a>, AllocError>
-    ensures app { IfOk result (λ c. app_of c ≡ peer_off_app) }
-    ensures local { IfOk result (λ c. (fields_of c).has_globals ≡ false) }
-{
-    let about = "Tells a running gateway that a boot of its peer has ended for good";
-    let below = "Example: natpair peer-off S.toml --id 0 --boot 7";
-    command(alloc, "peer-off", about, below, &PEER_OFF)
-}
-
-fn side<'a>(alloc: Global) -> Result<Command<'a>, AllocError>
-    ensures app { IfOk result (λ c. app_of c ≡ side_app) }
-    ensures local { IfOk result (λ c. (fields_of c).has_globals ≡ false) }
-{
-    let about = "Tells a running gateway that a side can't be used, or can be again";
-    let below = "Example: natpair side S.toml --id 0 inside down";
-    command(alloc, "side", about, below, &SIDE)
-}
-
-fn sim<'a>(alloc: Global) -> Result<Command<'a>, AllocError>
-    ensures app { IfOk result (λ c. app_of c ≡ sim_app) }
-    ensures local { IfOk result (λ c. (fields_of c).has_globals ≡ false) }
-{
-    let about = "Runs both gateways on the events of a script and prints each step";
-    let below = "Example: natpair sim S.toml day.script";
-    command(alloc, "sim", about, below, &RUN)
-}
-
-fn repeat<'a>(alloc: Global) -> Result<Command<'a>, AllocError>
-    ensures app { IfOk result (λ c. app_of c ≡ loop_app) }
-    ensures local { IfOk result (λ c. (fields_of c).has_globals ≡ false) }
-{
-    let about =
-        "Runs a script as sim does, with each frame and datagram sent through a loopback socket";
-    let below = "Example: natpair loop S.toml day.script";
-    command(alloc, "loop", about, below, &RUN)
-}
-
-fn top<'a>(alloc: Global) -> Command<'a>
-    ensures app { app_of result ≡ top_app }
-    ensures local { (fields_of result).has_globals ≡ false }
-{
-    Command::new(alloc, "natpair")
-        .about("A pair of IPv4 NAT gateways that share an inside and an outside address by VRRP")
-        .after_help(
-            "Example: natpair sim S.toml day.script\n`natpair COMMAND --help` tells a command's options.",
-        )
+    let line = commands(alloc)?
         .version(VERSION)
         .disable_help_subcommand(true)
         .subcommand_required(true)
-}
-
-/// The command of an entry.
-fn command_of<'a>(alloc: Global, entry: Entry) -> Result<Command<'a>, AllocError>
-    ensures app { IfOk result (λ c. app_of c ≡ app_for entry) }
-    ensures local { IfOk result (λ c. (fields_of c).has_globals ≡ false) }
-{
-    match entry {
-        Entry::Init => init(alloc),
-        Entry::Check => check(alloc),
-        Entry::Gate => gate(alloc),
-        Entry::Status => status(alloc),
-        Entry::Pairs => pairs(alloc),
-        Entry::Stop => stop(alloc),
-        Entry::PeerOff => peer_off(alloc),
-        Entry::Side => side(alloc),
-        Entry::Sim => sim(alloc),
-        Entry::Loop => repeat(alloc),
-    }
-}
-
-/// All commands.
-pub(crate) fn line<'a>(alloc: Global) -> Result<Command<'a>, AllocError>
-    ensures { IfOk result (λ c. app_of c ≡ line_app) }
-{
-    let mut line = top(alloc);
-    for name in &ENTRIES {
-        let command = command_of(alloc, *name)?;
-        line = line.subcommand(command)?;
-    }
+        .about("A pair of IPv4 NAT gateways that share an inside and an outside address by VRRP")
+        .after_help(
+            "Example: natpair sim S.toml day.script\n`natpair COMMAND --help` tells a command's options.",
+        );
     Ok(line)
 }

@@ -3,7 +3,7 @@ ghost use Rattle.std.specs.Prelude.{◌≡◌, ◌⊎◌, codes, string_bytes, m
 ghost use Rattle.clap.specs.Words.{found_of, rows_of, subcommand_rows_of};
 ghost use Rattle.command_line.specs.Line.{AskVersion, Takes, entered_by};
 ghost use Rattle.command_line.specs.Values.{HasId, IsId};
-ghost use Rattle.command_line.specs.Tasks.{AreFiles, AreWays, AreWrong, Asks, Enters, FoundsAtZero, HasNumbers, IsAnswer, IsEnteredFaulty, IsFaulty, IsGate, IsTask, Numbered, Refuses, RefusesAs, RefusesEntered, RefusesValues, RefusesWords, is_named, is_plain, wants_id};
+ghost use Rattle.command_line.specs.Tasks.{AreFiles, AreWays, AreWrong, Asks, Enters, FoundsAtZero, HasNumbers, IsAnswer, IsEnteredFaulty, IsCheck, IsFaulty, IsGate, IsPeerOff, IsTask, Numbered, Refuses, RefusesAs, RefusesEntered, RefusesValues, RefusesWords, is_named, is_plain, wants_id};
 ghost use Rattle.command_line.specs.declared.faults.LineFault.TheVariants as faults;
 ghost use Rattle.command_line.specs.declared.faults.ValueFault.{ValueFault as Why};
 ghost use Rattle.command_line.specs.declared.faults.ValueFault.TheVariants.{FoundNeedsIdZero, NoFilter, NoSide, NoStatus};
@@ -51,27 +51,23 @@ pub enum Task {
     Version,
 }
 
-fn init(alloc: Global, matches: &ArgMatches<'_>) -> Result<Task, AllocError>
-    ensures { IfOk result (IsTask (codes "init") (rows_of (found_of matches.now))) }
-{
-    let file = values::word(alloc, matches, "FILE")?;
-    Ok(Task::Init(file))
-}
-
-fn check(alloc: Global, matches: &ArgMatches<'_>) -> Result<Task, AllocError>
+/// What is to be looked at of settings.
+fn check(alloc: Global, matches: &ArgMatches<'_>) -> Result<CheckWords, AllocError>
     requires { HasNumbers (rows_of (found_of matches.now)) }
-    ensures { IfOk result (IsTask (codes "check") (rows_of (found_of matches.now))) }
+    ensures { IfOk result (IsCheck (rows_of (found_of matches.now))) }
 {
-    let words = CheckWords {
+    let id = values::id_if(matches);
+    let strict = values::flag(matches, "strict");
+    let (inside, outside, link) = values::words_if(alloc, matches, "inside", "outside", "link")?;
+    Ok(CheckWords {
         settings: values::word(alloc, matches, "SETTINGS")?,
         other: values::word_if(alloc, matches, "OTHER")?,
-        id: values::id_if(matches),
-        strict: values::flag(matches, "strict"),
-        inside: values::word_if(alloc, matches, "inside")?,
-        outside: values::word_if(alloc, matches, "outside")?,
-        link: values::word_if(alloc, matches, "link")?,
-    };
-    Ok(Task::Check(words))
+        id,
+        strict,
+        inside,
+        outside,
+        link,
+    })
 }
 
 fn ways(alloc: Global, matches: &ArgMatches<'_>) -> Result<WayWords, AllocError>
@@ -114,6 +110,7 @@ fn gate_words(
     ensures words { IfOk result (IsGate (rows_of (found_of matches.now))) }
     ensures id { IfOk result (λ gate. gate.id ≡ id) }
 {
+    let (log, capture, notify) = values::words_if(alloc, matches, "log", "capture", "notify")?;
     Ok(GateWords {
         settings: values::word(alloc, matches, "SETTINGS")?,
         id,
@@ -121,10 +118,10 @@ fn gate_words(
         until_eof: values::flag(matches, "until-eof"),
         found: values::flag(matches, "found"),
         track: !values::flag(matches, "no-track"),
-        log: values::word_if(alloc, matches, "log")?,
+        log,
         pairs: values::flag(matches, "log-pairs"),
-        capture: values::word_if(alloc, matches, "capture")?,
-        notify: values::word_if(alloc, matches, "notify")?,
+        capture,
+        notify,
         ways: ways(alloc, matches)?,
     })
 }
@@ -197,19 +194,18 @@ fn stop(alloc: Global, matches: &ArgMatches<'_>) -> Result<Task, AllocError>
     Ok(Task::Stop(settings, id))
 }
 
-fn peer_off(alloc: Global, matches: &ArgMatches<'_>) -> Result<Task, AllocError>
+/// What the gateway is told of its peer.
+fn peer_off(alloc: Global, matches: &ArgMatches<'_>) -> Result<PeerOffWords, AllocError>
     requires numbers { HasNumbers (rows_of (found_of matches.now)) }
     requires id { HasId (rows_of (found_of matches.now)) }
-    ensures { IfOk result (IsTask (codes "peer-off") (rows_of (found_of matches.now))) }
+    ensures { IfOk result (IsPeerOff (rows_of (found_of matches.now))) }
 {
-    let id = values::gateway(matches);
-    let words = PeerOffWords {
+    Ok(PeerOffWords {
         settings: values::word(alloc, matches, "SETTINGS")?,
-        id,
+        id: values::gateway(matches),
         boot: values::long_if(matches, "boot"),
         force: values::flag(matches, "force"),
-    };
-    Ok(Task::PeerOff(words))
+    })
 }
 
 fn side(alloc: Global, matches: &ArgMatches<'_>) -> Result<Task, LineFault>
@@ -246,20 +242,6 @@ fn files(alloc: Global, matches: &ArgMatches<'_>) -> Result<RunWords, AllocError
     })
 }
 
-fn sim(alloc: Global, matches: &ArgMatches<'_>) -> Result<Task, AllocError>
-    ensures { IfOk result (IsTask (codes "sim") (rows_of (found_of matches.now))) }
-{
-    let files = files(alloc, matches)?;
-    Ok(Task::Sim(files))
-}
-
-fn repeat(alloc: Global, matches: &ArgMatches<'_>) -> Result<Task, AllocError>
-    ensures { IfOk result (IsTask (codes "loop") (rows_of (found_of matches.now))) }
-{
-    let files = files(alloc, matches)?;
-    Ok(Task::Loop(files))
-}
-
 /// The command that a line entered, and its values.
 fn entered<'m, 'a>(matches: &'m ArgMatches<'a>) -> Option<(&'a str, &'m ArgMatches<'a>)>
     ensures { option_map (λ p. (p.0.now, rows_of (found_of p.1.now))) result
@@ -276,12 +258,12 @@ fn plain(alloc: Global, name: &str, matches: &ArgMatches<'_>) -> Result<Task, Al
     ensures { IfOk result (IsTask name.now (rows_of (found_of matches.now))) }
 {
     match name {
-        "init" => init(alloc, matches),
-        "check" => check(alloc, matches),
+        "init" => Ok(Task::Init(values::word(alloc, matches, "FILE")?)),
+        "check" => Ok(Task::Check(check(alloc, matches)?)),
         "stop" => stop(alloc, matches),
-        "peer-off" => peer_off(alloc, matches),
-        "sim" => sim(alloc, matches),
-        "loop" => repeat(alloc, matches),
+        "peer-off" => Ok(Task::PeerOff(peer_off(alloc, matches)?)),
+        "sim" => Ok(Task::Sim(files(alloc, matches)?)),
+        "loop" => Ok(Task::Loop(files(alloc, matches)?)),
         _ => unreachable!(),
     }
 }
