@@ -11,10 +11,10 @@ pub one_more : (a b whole : App) (all rest : List Argument) (x : Argument) (r : 
     → with_all a all ≡ whole → with_all b rest ≡ whole
 one_more a b whole all rest x r is made rule had = rw (made, rule) (rw is at had)
 
--- a program has one more command
-pub one_entry : (a b whole : App) (all rest : List Entry) (x : Entry) → all ≡ x ∷ rest → b ≡ with_subcommand a (app_for x).top
+-- a line has one more command
+pub one_entry : (a b whole sub : App) (all rest : List Entry) (x : Entry) → all ≡ x ∷ rest → b ≡ with_subcommand a sub.top → sub ≡ app_for x
     → with_each a all ≡ whole → with_each b rest ≡ whole
-one_entry a b whole all rest x is made had = rw made (rw is at had)
+one_entry a b whole sub all rest x is made app had = rw (made, app) (rw is at had)
 
 -- an argument that isn't global leaves a command without global ones
 pub no_globals : (new old own : Bool) → new ≡ (old || own) → old ≡ false → own ≡ false → new ≡ false

@@ -1,6 +1,6 @@
 //! The commands.
 ghost use Rattle.std.specs.Prelude.{◌≡◌, false, IfOk, Some};
-ghost use Rattle.clap.specs.Words.{app_of, with_subcommand};
+ghost use Rattle.clap.specs.Words.{app_of};
 ghost use Rattle.clap.specs.declared.builder.command.Command.TheViews.{out-Command as fields_of};
 ghost use Rattle.command_line.specs.Entries.{about_for, about_of, app_for, app_in, bare_app, line_about};
 ghost use Rattle.command_line.specs.Line.{line_app};
@@ -358,25 +358,14 @@ fn command<'a>(alloc: Global, entry: Entry) -> Result<Command<'a>, AllocError>
     Ok(command.about(outline.about).after_help(outline.below))
 }
 
-/// The program with one more command.
-fn with_command<'a>(
-    alloc: Global,
-    program: Command<'a>,
-    entry: Entry,
-) -> Result<Command<'a>, AllocError>
-    ensures { IfOk result (λ c. app_of c ≡ with_subcommand (app_of program.entry) (app_for entry).top) }
-{
-    let command = command(alloc, entry)?;
-    program.subcommand(command)
-}
-
 /// The program with all its commands.
 fn commands<'a>(alloc: Global) -> Result<Command<'a>, AllocError>
     ensures { IfOk result (λ c. app_of c ≡ bare_app) }
 {
     let mut program = Command::new(alloc, "natpair");
     for entry in &ENTRIES {
-        program = with_command(alloc, program, *entry)?;
+        let command = command(alloc, *entry)?;
+        program = program.subcommand(command)?;
     }
     Ok(program)
 }

@@ -1,7 +1,7 @@
 //! What is asked of a gateway's state, and of which pairs.
 ghost use Rattle.std.specs.Prelude.{◌≡◌, codes, Some, MatchOption};
 ghost use Rattle.clap.specs.Words.{first_of, found_of, one_of, rows_of};
-ghost use Rattle.command_line.specs.Filters.{IsAddressIf, IsAddressText, IsPortIf, LacksAddress, form_in, form_of, protocol_in, protocol_of, entry_state_in, entry_state_of, wait_in};
+ghost use Rattle.command_line.specs.Filters.{IsAddressIf, IsAddressText, IsPortIf, LacksAddress, form_in, protocol_in, protocol_of, entry_state_in, entry_state_of, wait_in};
 ghost use Rattle.command_line.specs.Values.{HasNumberIf};
 
 use crate::{Form, values};
@@ -14,16 +14,8 @@ use std::net::Ipv4Addr;
 pub(crate) fn form(matches: &ArgMatches<'_>) -> Option<Form>
     ensures { result ≡ form_in (rows_of (found_of matches.now)) }
 {
-    form_of(
-        values::flag(matches, "json"),
-        values::flag(matches, "prometheus"),
-    )
-}
-
-/// The form that two flags say.
-fn form_of(json: bool, prometheus: bool) -> Option<Form>
-    ensures { result ≡ form_of json prometheus }
-{
+    let json = values::flag(matches, "json");
+    let prometheus = values::flag(matches, "prometheus");
     match (json, prometheus) {
         (false, false) => Some(Form::Plain),
         (true, false) => Some(Form::Json),

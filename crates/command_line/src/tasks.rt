@@ -56,17 +56,14 @@ fn check(alloc: Global, matches: &ArgMatches<'_>) -> Result<CheckWords, AllocErr
     requires { HasNumbers (rows_of (found_of matches.now)) }
     ensures { IfOk result (IsCheck (rows_of (found_of matches.now))) }
 {
-    let id = values::id_if(matches);
-    let strict = values::flag(matches, "strict");
-    let (inside, outside, link) = values::words_if(alloc, matches, "inside", "outside", "link")?;
     Ok(CheckWords {
         settings: values::word(alloc, matches, "SETTINGS")?,
         other: values::word_if(alloc, matches, "OTHER")?,
-        id,
-        strict,
-        inside,
-        outside,
-        link,
+        inside: values::word_if(alloc, matches, "inside")?,
+        outside: values::word_if(alloc, matches, "outside")?,
+        link: values::word_if(alloc, matches, "link")?,
+        id: values::id_if(matches),
+        strict: values::flag(matches, "strict"),
     })
 }
 
@@ -110,19 +107,18 @@ fn gate_words(
     ensures words { IfOk result (IsGate (rows_of (found_of matches.now))) }
     ensures id { IfOk result (λ gate. gate.id ≡ id) }
 {
-    let (log, capture, notify) = values::words_if(alloc, matches, "log", "capture", "notify")?;
     Ok(GateWords {
+        ways: ways(alloc, matches)?,
         settings: values::word(alloc, matches, "SETTINGS")?,
+        log: values::word_if(alloc, matches, "log")?,
+        capture: values::word_if(alloc, matches, "capture")?,
+        notify: values::word_if(alloc, matches, "notify")?,
         id,
         rounds: values::short_if(matches, "rounds"),
         until_eof: values::flag(matches, "until-eof"),
         found: values::flag(matches, "found"),
         track: !values::flag(matches, "no-track"),
-        log,
         pairs: values::flag(matches, "log-pairs"),
-        capture,
-        notify,
-        ways: ways(alloc, matches)?,
     })
 }
 

@@ -52,28 +52,6 @@ pub(crate) fn word_if(
     }
 }
 
-/// The words at three names, of which each may be left out.
-pub(crate) fn words_if(
-    alloc: Global,
-    matches: &ArgMatches<'_>,
-    one: &str,
-    two: &str,
-    three: &str,
-) -> Result<(Option<String>, Option<String>, Option<String>), AllocError>
-    ensures one { IfOk result (λ o. option_map string_bytes o.0
-        ≡ first_of one.now (rows_of (found_of matches.now))) }
-    ensures two { IfOk result (λ o. option_map string_bytes o.1
-        ≡ first_of two.now (rows_of (found_of matches.now))) }
-    ensures three { IfOk result (λ o. option_map string_bytes o.2
-        ≡ first_of three.now (rows_of (found_of matches.now))) }
-{
-    Ok((
-        word_if(alloc, matches, one)?,
-        word_if(alloc, matches, two)?,
-        word_if(alloc, matches, three)?,
-    ))
-}
-
 /// Whether a flag is set.
 pub(crate) fn flag(matches: &ArgMatches<'_>, name: &str) -> bool
     ensures { result ≡ flag_of name.now (rows_of (found_of matches.now)) }

@@ -1,9 +1,14 @@
-use Rattle.std.proofs.Common.{ap, rules}
+use Rattle.std.proofs.Common.{◌∙◌, ap}
 use Rattle.std.proofs.lemmas.List.{drop_more}
 use Rattle.clap.specs.Words.{App}
 use Rattle.command_line.specs.Arguments.{with_all}
 use Rattle.command_line.proofs.Arguments.{no_globals, one_more}
 use Rattle.command_line.proofs.commands.command.Goals as goal
+
+pub loop-argument-init : goal.loop-argument-init
+loop-argument-init c =
+    let outline = c.outline_of-outline in
+    (ap (λ (a : App). with_all a outline.result.now.arguments.now) c.new-command.ensures.app ∙ outline.ensures.app, c.new-command.ensures.local)
 
 pub loop-argument-preserved : goal.loop-argument-preserved
 loop-argument-preserved c =

@@ -13,7 +13,8 @@ pub loop-entry-preserved : goal.loop-entry-preserved
 loop-entry-preserved c =
     let l = c.loop-entry in
     let next = drop_more ENTRIES l.entry-index _ c.loop-entry-test.true in
-    one_entry _ _ _ _ _ _ next c.in_ok-program.ensures l.invariant
+    let command = c.in_ok-command.ensures in
+    one_entry _ _ _ (app_of c.in_ok-command.command) _ _ _ next (c.in_ok-program.ensures.shape command.local) command.app l.invariant
 
 pub returns : goal.returns
 returns c =
