@@ -156,12 +156,13 @@ with_words a =
     with_subcommand (with_subcommand (with_subcommand (with_subcommand (with_subcommand a
     status_app.top) pairs_app.top) stop_app.top) peer_off_app.top) side_app.top
 
--- all commands
+-- all commands, below a program
 abbrev pub with_commands : App → App
 with_commands a =
     with_subcommand (with_subcommand (with_words (with_subcommand (with_subcommand (with_subcommand a
     init_app.top) check_app.top) gate_app.top)) sim_app.top) loop_app.top
 
+-- the command line
 abbrev pub line_app : App
 line_app = with_commands top_app
 
