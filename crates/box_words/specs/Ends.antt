@@ -1,5 +1,5 @@
 -- The ends of its own that a box needs.
-use Rattle.std.specs.Prelude.{◌≡◌, ◌⊎◌, ℕ, List, [], ◌++◌, Option, None, Some, codes, decimal}
+use Rattle.std.specs.Prelude.{◌≡◌, ◌⊎◌, ℕ, Bool, true, false, List, [], ◌∷◌, ◌++◌, Option, None, Some, IsSome, codes, decimal}
 use Rattle.std.specs.Int.{to_be_bytes, w32}
 use Rattle.std.specs.Net.Text.{ipv4_text}
 use Rattle.sockets.specs.Ends.{are_on_loopback}
@@ -20,6 +20,23 @@ own_end (way.Descriptor number) ports = None
 abbrev pub IsNeeded : Ways → Ports → End → Type 0
 IsNeeded ways ports end = (own_end ways.link ports.link ≡ Some end)
     ⊎ ((own_end ways.inside ports.inside ≡ Some end) ⊎ (own_end ways.outside ports.outside ≡ Some end))
+
+-- those of a box, in the order in which they are asked for
+abbrev pub own_ends : Ways → Ports → List (Option End)
+own_ends ways ports = own_end ways.link ports.link ∷ own_end ways.inside ports.inside ∷ own_end ways.outside ports.outside ∷ []
+
+-- of an end it is asked whether it is refused, and of none nothing
+abbrev pub IsAsked : {B : Type 0} → (B → End → Bool → B → Type 0) → Option End → B → Option End → B → Type 0
+IsAsked answers None before found after = (found ≡ None) × (after ≡ before)
+IsAsked answers (Some end) before None after = answers before end false after
+IsAsked answers (Some end) before (Some found) after = (found ≡ end) × answers before end true after
+
+-- of these it is the first that is refused; behind it none is asked for
+abbrev pub IsFirstRefused : {B : Type 0} → (B → End → Bool → B → Type 0) → List (Option End) → B → Option End → B → Type 0
+IsFirstRefused answers [] before found after = (found ≡ None) × (after ≡ before)
+IsFirstRefused {B} answers (end ∷ ends) before found after =
+    (IsAsked answers end before found after × IsSome found)
+    ⊎ ((between : B) × (IsAsked answers end before None between × IsFirstRefused answers ends between found after))
 
 -- an end, as `192.0.2.1:7001`
 abbrev pub end_text : End → List ℕ

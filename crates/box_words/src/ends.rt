@@ -1,38 +1,64 @@
 //! The end of its own that a box can't have.
 ghost use Rattle.std.specs.Prelude.{◌≡◌, IfSome, Some};
-ghost use Rattle.box_words.specs.Ends.{IsNeeded, own_end, refused_text};
+ghost use Rattle.box_words.specs.Ends.{IsAsked, IsFirstRefused, IsNeeded, own_end, own_ends, refused_text};
 
 use sockets::{End, Ends, Ports, Way, Ways};
 use std::fmt;
 use std::net::{Ipv4Addr, Net, SocketAddr, SocketAddrV4, UdpSocket};
 
+/// Who says which ends a box can have.
+pub trait Binder {
+    ghost use Rattle.std.specs.Prelude.{Bool};
+    ghost use Rattle.sockets.specs.declared.ends.End.{End};
+
+    /// Whether an end is refused, as it may be answered, and who says so then.
+    ghost answers: { Self → End → Bool → Self → Type 0 };
+
+    /// Whether a socket is refused at this end.
+    fn is_refused(&mut self, end: End) -> bool
+        ensures { answers self.old end result self.new };
+}
+
+/// The system, of whose answers nothing is known.
+#[derive(Drop)]
+pub struct SystemBinder<'a, R>(pub &'a R);
+
+impl<R: Net> Binder for SystemBinder<'_, R> {
+    ghost answers = { λ _ _ _ _. Unit {0} };
+
+    fn is_refused(&mut self, end: End) -> bool {
+        UdpSocket::bind(self.0, address_of(end)).is_err()
+    }
+}
+
 /// The first of a box's own ends that is refused, of those that its ways need: the link's, the inside's, the outside's. It
 /// is looked for once a box's sockets were refused; where each can be had by itself, there is none.
-pub fn refused_end<R: Net>(rt: &R, ways: &Ways, ports: Ports) -> Refused
-    ensures { IfSome result.0 (IsNeeded ways.now ports) }
+#[tactic(auto, using(crate::proofs::Asking::asked_last))]
+pub fn refused_end<B: Binder>(binder: &mut B, ways: &Ways, ports: Ports) -> Refused
+    ensures needed { IfSome result.0 (IsNeeded ways.now ports) }
+    ensures first { IsFirstRefused B.answers (own_ends ways.now ports) binder.old result.0
+        binder.new }
 {
-    if let Some(end) = refused_one(rt, own_end(ways.link, ports.link)) {
+    if let Some(end) = refused_one(binder, own_end(ways.link, ports.link)) {
         return Refused(Some(end));
     }
-    if let Some(end) = refused_one(rt, own_end(ways.inside, ports.inside)) {
+    if let Some(end) = refused_one(binder, own_end(ways.inside, ports.inside)) {
         return Refused(Some(end));
     }
-    Refused(refused_one(rt, own_end(ways.outside, ports.outside)))
+    Refused(refused_one(binder, own_end(ways.outside, ports.outside)))
 }
 
 /// An end that is refused, where there is one.
-fn refused_one<R: Net>(rt: &R, end: Option<End>) -> Option<End>
-    ensures { IfSome result (λ e. end ≡ Some e) }
+fn refused_one<B: Binder>(binder: &mut B, end: Option<End>) -> Option<End>
+    ensures same { IfSome result (λ e. end ≡ Some e) }
+    ensures asked { IsAsked B.answers end binder.old result binder.new }
 {
-    match end {
-        Some(end) if is_refused(rt, end) => Some(end),
-        _ => None,
+    let end = end?;
+    if binder.is_refused(end) {
+        Some(end)
+    } else {
+        None
     }
-}
-
-/// Whether the system refuses a socket there.
-fn is_refused<R: Net>(rt: &R, end: End) -> bool {
-    UdpSocket::bind(rt, address_of(end)).is_err()
 }
 
 /// The box's own end of a way; a descriptor has none.

@@ -8,7 +8,7 @@ mod saying;
 mod sites;
 
 pub use asking::{Form, await_synced, pairs, status};
-pub use ends::{Refused, refused_end};
+pub use ends::{Binder, Refused, SystemBinder, refused_end};
 pub use refusals::{BoxFault, Explained};
 pub use saying::{control_path, peer_off, side, stop};
 pub use sites::{Machine, Site};

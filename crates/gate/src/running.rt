@@ -25,7 +25,7 @@ use crate::capturing::{CaptureAt, capture_at};
 use crate::ways::{WayTexts, ways_of};
 use boot_file::{Blocks, FileDisk, FileFault, Lockable};
 use boot_store::{Disk, next_boot};
-use box_words::{BoxFault, Site, control_path, refused_end};
+use box_words::{BoxFault, Site, SystemBinder, control_path, refused_end};
 use checks::digest;
 use control::{Control, ControlPath};
 use faults::{Fault, text_of};
@@ -324,7 +324,8 @@ where
         Err(SocketFault::NoMemory) => Err(BoxFault::from(NoMemory)),
         Err(SocketFault::NoSocket) => {
             let ports = ports_of(settings, start.id);
-            Err(BoxFault::NoSocket(refused_end(rt, ways, ports)))
+            let end = refused_end(&mut SystemBinder(rt), ways, ports);
+            Err(BoxFault::NoSocket(end))
         }
     }
 }
