@@ -13,12 +13,15 @@ use Rattle.control.specs.declared.answers.PeerOffRefusal.TheVariants as refusal
 use Rattle.control.specs.declared.paths.PathFault.{PathFault}
 use Rattle.control.specs.declared.paths.PathFault.TheVariants as path
 use Rattle.faults.specs.Faults.{IsOfFile, Tells}
+use Rattle.faults.specs.Texts.{fault_text as run_text}
 use Rattle.faults.specs.declared.files.Refusal.{Refusal}
 use Rattle.faults.specs.declared.files.Refusal.TheVariants.{Exists, NoFile, NotWritten}
 use Rattle.faults.specs.declared.faults.Fault.TheVariants.{NoMemory, Setting}
 use Rattle.settings_file.specs.declared.faults.SettingFault.TheVariants.{CantWork}
 use Rattle.settings_file.specs.declared.keys.Key.{Key}
 use Rattle.reports.specs.Texts.{fault_text as read_text}
+use Rattle.sockets.specs.Ways.{no_descriptor_text}
+use Rattle.supervision.specs.Managers.{not_open_text}
 use Rattle.box_words.specs.Ends.{refused_text}
 use Rattle.box_words.specs.declared.refusals.BoxFault.{BoxFault}
 use Rattle.box_words.specs.declared.refusals.BoxFault.TheVariants as fault
@@ -119,14 +122,14 @@ words_of refusal.PeerHeard = codes "the other box was heard within the last 3 se
 abbrev pub explained_text : PeerOffRefusal → List ℕ
 explained_text why = refusal_text why ++ codes ": " ++ words_of why
 
--- a fault's text, as `boot 2 Damaged`. Of one that another crate tells by its own text nothing is known
+-- a fault's text, as `boot 2 Damaged`; none is known of a file with a cause
 abbrev pub fault_text : BoxFault → Option (List ℕ)
-fault_text (fault.Run why) = None
+fault_text (fault.Run why) = run_text why
 fault_text (fault.NoWay side) = Some (codes "way 1 NoWay " ++ side_name side)
 fault_text fault.NoWayOfLink = Some (codes "way 1 NoWay link")
-fault_text (fault.NoDescriptor why) = None
+fault_text (fault.NoDescriptor why) = Some (no_descriptor_text why)
 fault_text fault.NoManager = Some (codes "notify 1 NoWay")
-fault_text (fault.NotOpen why) = None
+fault_text (fault.NotOpen why) = Some (not_open_text why)
 fault_text (fault.NoSocket end) = Some (codes "socket 1 NoSocket" ++ refused_text end.0)
 fault_text (fault.NoControl path) = Some (codes "socket 1 NoSocket " ++ string_bytes path)
 fault_text fault.LongPath = Some (codes "socket 2 LongPath")
@@ -136,11 +139,7 @@ fault_text fault.BootsUsedUp = Some (codes "boot 3 BootsUsedUp")
 fault_text fault.FoundTwice = Some (codes "boot 4 FoundTwice")
 fault_text fault.InUse = Some (codes "boot 5 InUse")
 fault_text (fault.NoFilter part) = Some (codes "log 1 NoFilter " ++ string_bytes part)
-fault_text (fault.NoCapture why) = None
+fault_text (fault.NoCapture why) = run_text why
 fault_text (fault.PeerOff why) = Some (explained_text why.0)
 fault_text (fault.NoReport why) = Some (codes "status 1 NoReport: " ++ read_text why)
 fault_text fault.NotSynced = Some (codes "status 2 NotSynced")
-
--- the line that tells it
-abbrev pub line_of : List ℕ → List ℕ
-line_of text = codes "natpair: " ++ text ++ codes "\n"

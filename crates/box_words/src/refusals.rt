@@ -2,7 +2,8 @@
 ghost use Rattle.std.specs.Prelude.{◌≡◌, IfSome, OnOk, Some};
 ghost use Rattle.std.specs.Io.KnownBytes.{Appends};
 ghost use Rattle.box_words.specs.Faults.{IsOfCapture, IsOfFilter, IsOfNoWay, IsOfSocket, TellsBootFile};
-ghost use Rattle.box_words.specs.Faults.{explained_text, fault_text, line_of};
+ghost use Rattle.box_words.specs.Faults.{explained_text, fault_text};
+ghost use Rattle.faults.specs.Texts.{line_of};
 
 use crate::ends::Refused;
 use boot_file::FileFault;
