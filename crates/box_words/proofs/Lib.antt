@@ -1,3 +1,3 @@
 mod Doing
-mod Asking
+mod Refusing
 mod Showing

@@ -1,5 +1,5 @@
 //! The end of its own that a box can't have.
-ghost use Rattle.std.specs.Prelude.{◌≡◌, IfSome, Some};
+ghost use Rattle.std.specs.Prelude.{◌≡◌, ◌∷◌, ◌⊎◌, [], IfSome, Some};
 ghost use Rattle.box_words.specs.Ends.{IsAsked, IsFirstRefused, IsNeeded, own_end, own_ends, refused_text};
 
 use sockets::{End, Ends, Ports, Way, Ways};
@@ -33,19 +33,37 @@ impl<R: Net> Binder for SystemBinder<'_, R> {
 
 /// The first of a box's own ends that is refused, of those that its ways need: the link's, the inside's, the outside's. It
 /// is looked for once a box's sockets were refused; where each can be had by itself, there is none.
-#[tactic(auto, using(crate::proofs::Asking::asked_last))]
 pub fn refused_end<B: Binder>(binder: &mut B, ways: &Ways, ports: Ports) -> Refused
     ensures needed { IfSome result.0 (IsNeeded ways.now ports) }
     ensures first { IsFirstRefused B.answers (own_ends ways.now ports) binder.old result.0
         binder.new }
 {
-    if let Some(end) = refused_one(binder, own_end(ways.link, ports.link)) {
-        return Refused(Some(end));
+    let link = own_end(ways.link, ports.link);
+    let inside = own_end(ways.inside, ports.inside);
+    let outside = own_end(ways.outside, ports.outside);
+    Refused(first_refused(binder, link, inside, outside))
+}
+
+/// The first of these ends that is refused.
+#[tactic(auto, using(crate::proofs::Refusing::asked_last))]
+fn first_refused<B: Binder>(
+    binder: &mut B,
+    link: Option<End>,
+    inside: Option<End>,
+    outside: Option<End>,
+) -> Option<End>
+    ensures needed { IfSome result
+        (λ end. (link ≡ Some end) ⊎ ((inside ≡ Some end) ⊎ (outside ≡ Some end))) }
+    ensures first { IsFirstRefused B.answers (link ∷ inside ∷ outside ∷ []) binder.old result
+        binder.new }
+{
+    if let Some(end) = refused_one(binder, link) {
+        return Some(end);
     }
-    if let Some(end) = refused_one(binder, own_end(ways.inside, ports.inside)) {
-        return Refused(Some(end));
+    if let Some(end) = refused_one(binder, inside) {
+        return Some(end);
     }
-    Refused(refused_one(binder, own_end(ways.outside, ports.outside)))
+    refused_one(binder, outside)
 }
 
 /// An end that is refused, where there is one.
