@@ -7,4 +7,4 @@ pub returns-clause-first : goal.returns-clause-first
 returns-clause-first g c =
     let same : c.own_end-link.result ∷ c.own_end-inside.result ∷ c.own_end-outside.result ∷ [] ≡ own_ends c.args.ways.now c.args.ports = cc in
     subst (λ (ends : List (Option End)). IsFirstRefused g.B.Binder.answers ends c.args.binder.now c.first_refused.result c.first_refused.new.binder)
-        same c.first_refused.ensures.first
+    same c.first_refused.ensures.first
