@@ -1,4 +1,4 @@
-use Rattle.std.proofs.Common.{◌≡◌, List, [], ◌∷◌, Option, subst, ap, sym, ◌∙◌}
+use Rattle.std.proofs.Common.{◌≡◌, List, [], ◌∷◌, Option, subst}
 use Rattle.sockets.specs.declared.ends.End.{End}
 use Rattle.box_words.specs.Ends.{IsFirstRefused, own_ends}
 use Rattle.box_words.proofs.ends.refused_end.Goals as goal
