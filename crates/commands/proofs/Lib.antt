@@ -3,3 +3,5 @@ mod Asked
 mod Refusing
 mod Passing
 mod Taping
+mod Looking
+mod Hearing

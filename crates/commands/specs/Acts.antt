@@ -1,7 +1,9 @@
 -- What a task that is done has done at a site.
-use Rattle.std.specs.Prelude.{ℕ, List, Option, Bool, true, false, Some, string_bytes}
+use Rattle.std.specs.Prelude.{◌≡◌, ℕ, List, Option, MatchOption, Bool, true, false, Some, string_bytes}
 use Rattle.command_line.specs.declared.tasks.Task.{Task}
 use Rattle.command_line.specs.declared.tasks.Task.TheVariants as task
+use Rattle.checks.specs.Counts.{AreAlike, IsCleanText, IsGoodText}
+use Rattle.command_line.specs.declared.words.CheckWords.{CheckWords}
 use Rattle.command_line.specs.declared.words.StatusWords.{StatusWords}
 use Rattle.command_line.specs.declared.words.RunWords.{RunWords}
 use Rattle.simulation.specs.Status.{RunsScript}
@@ -19,9 +21,35 @@ IsAskedSo does false words old new before after =
 abbrev pub IsAsked : {S : Type 0} → Does S → StatusWords → Option (List ℕ) → Option (List ℕ) → S → S → Type 0
 IsAsked does words old new before after = IsAskedSo does words.until_synced words old new before after
 
+-- just two files were read, one behind the other; these are their texts
+pub record AreRead {S : Type 0} (does : Does S) (first second text other : List ℕ) (before after : S) : Type 0 where
+  pub between : S
+  pub first_read : does before (read first text) between
+  pub second_read : does between (read second other) after
+
+-- just the file that is named was read, and its text is good, or, where it is strict, clean
+pub record HasChecked {S : Type 0} (does : Does S) (settings : List ℕ) (strict : Bool) (before after : S) : Type 0 where
+  pub text : List ℕ
+  pub is_read : does before (read settings text) after
+  pub good : IsGoodText text
+  pub clean : strict ≡ true → IsCleanText text
+
+-- just the files that are named were read, the settings first, and their texts are alike
+pub record HasCompared {S : Type 0} (does : Does S) (settings other : List ℕ) (before after : S) : Type 0 where
+  pub one : List ℕ
+  pub two : List ℕ
+  pub are_read : AreRead does settings other one two before after
+  pub alike : AreAlike one two
+
+-- settings were checked, or compared with others
+abbrev pub HasLooked : {S : Type 0} → Does S → CheckWords → S → S → Type 0
+HasLooked does words before after =
+    MatchOption words.other (HasChecked does (string_bytes words.settings) words.strict before after)
+    (λ other. HasCompared does (string_bytes words.settings) (string_bytes other) before after)
+
 -- Just the boot file that is named was made; or the settings that are named were read, and then just the box that is named was said
--- just what the words say, and heard it, or took it; or was asked, and answered, and its answer was written. Other tasks do nothing
--- of this.
+-- just what the words say, and heard it, or took it; or was asked, and answered, and its answer was written; or the files that are
+-- named were read, and looked at. Other tasks do nothing of this.
 abbrev pub Acts : {S : Type 0} → Does S → Task → Option (List ℕ) → Option (List ℕ) → S → S → Type 0
 Acts does (task.Init file) old new before after = does before (made (string_bytes file)) after
 Acts does (task.Status words) old new before after = IsAsked does words old new before after
@@ -32,30 +60,24 @@ Acts does (task.PeerOff words) old new before after =
     HasTaken does (string_bytes words.settings) words.id (Some (said_off words.boot words.force)) before after
 Acts does (task.Side settings id side up) old new before after =
     HasSaid does (string_bytes settings) id (Some (said_side side up)) before after
-Acts does (task.Check words) old new before after = Unit {0}
+Acts does (task.Check words) old new before after = HasLooked does words before after
 Acts does (task.Gate words) old new before after = Unit {0}
 Acts does (task.Sim files) old new before after = Unit {0}
 Acts does (task.Loop files) old new before after = Unit {0}
 Acts does task.Version old new before after = Unit {0}
 
--- just the files that are named were read, the settings first; these are their texts
-pub record AreRead {S : Type 0} (does : Does S) (files : RunWords) (text script : List ℕ) (before after : S) : Type 0 where
-  pub between : S
-  pub settings_read : does before (read (string_bytes files.settings) text) between
-  pub script_read : does between (read (string_bytes files.script) script) after
-
 -- the script's run is that of the files that are named
 pub record HasRunOf {S : Type 0} (does : Does S) (files : RunWords) (old new : Option (List ℕ)) (status : ℕ) (before after : S) : Type 0 where
   pub text : List ℕ
   pub script : List ℕ
-  pub are_read : AreRead does files text script before after
+  pub are_read : AreRead does (string_bytes files.settings) (string_bytes files.script) text script before after
   pub run : RunsScript text script old new status
 
 -- and through sockets
 pub record HasLoopOf {S : Type 0} (does : Does S) (files : RunWords) (old new : Option (List ℕ)) (status : ℕ) (before after : S) : Type 0 where
   pub text : List ℕ
   pub script : List ℕ
-  pub are_read : AreRead does files text script before after
+  pub are_read : AreRead does (string_bytes files.settings) (string_bytes files.script) text script before after
   pub run : Loops text script old new status
 
 -- a script was run as the task says. Other tasks run none
@@ -63,3 +85,8 @@ abbrev pub Runs : {S : Type 0} → Does S → Task → Option (List ℕ) → Opt
 Runs does (task.Sim files) old new status before after = HasRunOf does files old new status before after
 Runs does (task.Loop files) old new status before after = HasLoopOf does files old new status before after
 Runs does other old new status before after = Unit {0}
+
+-- Of a script that nobody watches nothing is told but its output. Of other tasks this says nothing.
+abbrev pub IsQuiet : {E : Type 0} → Task → E → E → Type 0
+IsQuiet (task.Sim files) before after = after ≡ before
+IsQuiet other before after = Unit {0}

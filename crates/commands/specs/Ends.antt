@@ -1,8 +1,8 @@
 -- What an exit status says of what was done.
-use Rattle.std.specs.Prelude.{◌≡◌, ℕ, true, List, Option, MatchOption, codes}
+use Rattle.std.specs.Prelude.{◌≡◌, ℕ, Bool, true, List, Option, MatchOption, codes}
 use Rattle.std.specs.Io.KnownBytes.{Appends}
 use Rattle.command_line.specs.Tasks.{IsAnswer}
-use Rattle.checks.specs.Counts.{AreSomeAlike, IsSomeClean, IsSomeGood}
+use Rattle.checks.specs.Counts.{AreAlike, IsCleanText, IsGoodText}
 use Rattle.command_line.specs.declared.tasks.Task.{Task}
 use Rattle.command_line.specs.declared.tasks.Task.TheVariants as task
 use Rattle.command_line.specs.declared.words.CheckWords.{CheckWords}
@@ -41,9 +41,21 @@ pub record HasLoop (before after : Option (List ℕ)) (status : ℕ) : Type 0 wh
 abbrev pub version_line : List ℕ
 version_line = codes "natpair 0.1.0 (rattle-kit-13 logic dac8208d650f15bf)\n"
 
--- what was looked at is good, or, where it is strict, clean; what was compared is alike. Of some text, or some two settings
+-- some text is good, or, where it is strict, clean
+pub record HasGood (strict : Bool) : Type 0 where
+  pub text : List ℕ
+  pub good : IsGoodText text
+  pub clean : strict ≡ true → IsCleanText text
+
+-- some two texts are alike
+pub record HasAlike : Type 0 where
+  pub one : List ℕ
+  pub two : List ℕ
+  pub alike : AreAlike one two
+
+-- what was looked at is good, or clean; what was compared is alike
 abbrev pub IsChecked : CheckWords → Type 0
-IsChecked words = MatchOption words.other (IsSomeGood × (words.strict ≡ true → IsSomeClean)) (λ other. AreSomeAlike)
+IsChecked words = MatchOption words.other (HasGood words.strict) (λ other. HasAlike)
 
 -- The status with which a task is done, and what was printed until then: that of such a run for `sim` and `loop`, 0 for
 -- the others; for `check` what was looked at is as it was asked; for `gate` there are a start and its rounds, and of the version just its line is printed.

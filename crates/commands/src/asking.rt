@@ -1,14 +1,13 @@
 //! What is asked of settings, and of a running gateway.
-ghost use Rattle.std.specs.Prelude.{◌≡◌, ◌⊎◌, option_map, string_bytes, unwrap_or};
-ghost use Rattle.commands.specs.Acts.{IsAsked};
+ghost use Rattle.std.specs.Prelude.{◌≡◌, ◌⊎◌, IfSome, option_map, string_bytes, unwrap_or};
+ghost use Rattle.commands.specs.Acts.{HasChecked, HasCompared, HasLooked, IsAsked};
 ghost use Rattle.commands.specs.Asked.{filter_of, form_of};
-ghost use Rattle.commands.specs.Ends.{IsChecked};
-ghost use Rattle.box_words.specs.Deeds.{HasListed};
+ghost use Rattle.box_words.specs.Deeds.{HasListed, read};
 
 use crate::commands::text_of;
 use boot_file::Lockable;
 use box_words::{Site, await_synced, pairs, status};
-use checks::{Request, check, compare};
+use checks::{Request, Source, ThisMachine, check, compare, tell_of};
 use command_line::{CheckWords, PairsWords, StatusWords};
 use report_texts::Filter;
 use std::alloc::Global;
@@ -20,8 +19,9 @@ use std::rt::Clock;
 const PATIENCE: u32 = 60;
 
 /// Looks at settings, or in what they differ from others.
-pub(crate) fn look_at<R: Files + AllocGlobal, O: Write, E: Write>(
+pub(crate) fn look_at<R: Files + AllocGlobal, S: Site, O: Write, E: Write>(
     rt: &R,
+    site: &mut S,
     words: &CheckWords,
     output: &mut O,
     errors: &mut E,
@@ -29,17 +29,87 @@ pub(crate) fn look_at<R: Files + AllocGlobal, O: Write, E: Write>(
 where
     R::File: Lockable,
     ensures status { (result ≡ 0) ⊎ (result ≡ 1) }
-    ensures checked { result ≡ 0 → IsChecked words.now }
+    ensures looked { result ≡ 0 → HasLooked S.does words.now site.old site.new }
 {
+    let settings = words.settings.as_str();
     match &words.other {
-        Some(other) => compare(rt, words.settings.as_str(), other.as_str(), output, errors),
-        None => check(rt, &request_of(words), output, errors),
+        Some(other) => {
+            let (alloc, other) = (rt.alloc(), other.as_str());
+            look_at_both(alloc, site, settings, other, output, errors)
+        }
+        None => look_at_one(rt, site, settings, &request_of(words), output, errors),
+    }
+}
+
+/// Looks at the settings in a file.
+fn look_at_one<R: Files + AllocGlobal, S: Site, O: Write, E: Write>(
+    rt: &R,
+    site: &mut S,
+    settings: &str,
+    request: &Request<'_>,
+    output: &mut O,
+    errors: &mut E,
+) -> u8
+where
+    R::File: Lockable,
+    ensures status { (result ≡ 0) ⊎ (result ≡ 1) }
+    ensures checked { result ≡ 0
+        → HasChecked S.does settings.now request.now.strict site.old site.new }
+{
+    match site.text(settings) {
+        Ok(text) => {
+            let around = ThisMachine::new(rt);
+            check(rt.alloc(), &around, text.as_str(), request, output, errors)
+        }
+        Err(fault) => fault.tell(errors),
+    }
+}
+
+/// Looks in what the settings in two files differ.
+fn look_at_both<S: Site, O: Write, E: Write>(
+    alloc: Global,
+    site: &mut S,
+    settings: &str,
+    other: &str,
+    output: &mut O,
+    errors: &mut E,
+) -> u8
+    ensures status { (result ≡ 0) ⊎ (result ≡ 1) }
+    ensures compared { result ≡ 0
+        → HasCompared S.does settings.now other.now site.old site.new }
+{
+    let one = text_at(site, settings, errors);
+    let two = text_at(site, other, errors);
+    let (Some(one), Some(two)) = (one, two) else {
+        return 1;
+    };
+    let one = Source {
+        path: settings,
+        text: one.as_str(),
+    };
+    let two = Source {
+        path: other,
+        text: two.as_str(),
+    };
+    compare(alloc, one, two, output, errors)
+}
+
+/// The text of a file; why there is none is told on `errors`.
+fn text_at<S: Site, E: Write>(site: &mut S, path: &str, errors: &mut E) -> Option<String>
+    ensures { IfSome result
+        (λ text. S.does site.old (read path.now (string_bytes text)) site.new) }
+{
+    match site.text(path) {
+        Ok(text) => Some(text),
+        Err(fault) => {
+            tell_of(&fault, path, errors);
+            None
+        }
     }
 }
 
 /// What these words ask to be looked at.
 fn request_of(words: &CheckWords) -> Request<'_>
-    ensures settings { result.settings.now ≡ string_bytes words.now.settings }
     ensures id { result.id ≡ words.now.id }
     ensures strict { result.strict ≡ words.now.strict }
     ensures inside { option_map (λ t. t.now) result.inside
@@ -49,7 +119,6 @@ fn request_of(words: &CheckWords) -> Request<'_>
     ensures link { option_map (λ t. t.now) result.link ≡ option_map string_bytes words.now.link }
 {
     Request {
-        settings: words.settings.as_str(),
         id: words.id,
         strict: words.strict,
         inside: text_of(&words.inside),

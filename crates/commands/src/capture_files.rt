@@ -44,6 +44,7 @@ pub(crate) fn ended<E: Write>(
     ensures status { (result ≡ 0) ⊎ ((result ≡ 1) ⊎ (result ≡ 3)) }
     ensures run { (result ≡ 0) ⊎ (result ≡ 3) → run ≡ Ok result }
     ensures written { is_err written ≡ true → result ≡ 1 }
+    ensures quiet { (result ≡ 0) ⊎ (result ≡ 3) → errors.new ≡ errors.old }
     ensures ended { is_err written ≡ false → IfOk run (λ status. result ≡ status) }
 {
     if let Err(error) = written {

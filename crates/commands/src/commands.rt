@@ -1,10 +1,10 @@
 //! The commands.
-ghost use Rattle.std.specs.Prelude.{◌≡◌, ◌⊎◌, ◌≤◌, map, option_map, string_bytes};
+ghost use Rattle.std.specs.Prelude.{◌≡◌, ◌⊎◌, ◌≤◌, false, map, option_map, string_bytes};
 ghost use Rattle.command_line.specs.Line.{AskVersion, MayAskVersion};
 ghost use Rattle.command_line.specs.Tasks.{FoundsAtZero};
 ghost use Rattle.commands.specs.Words.{AreRefused};
 ghost use Rattle.commands.specs.Asked.{format_of};
-ghost use Rattle.commands.specs.Acts.{Acts, Runs};
+ghost use Rattle.commands.specs.Acts.{Acts, IsQuiet, Runs};
 ghost use Rattle.commands.specs.Ends.{AreDone, Ends};
 
 use crate::asking::{look_at, pairs_of, state_of};
@@ -56,7 +56,7 @@ where
     }
 }
 
-/// Does a task: boxes are spoken to, and boot files made, at a site.
+/// Does a task: files are read, boxes are spoken to, and boot files made, at a site.
 fn done<
     R: Files + Net + Clock + RandomSource + Eprint + Env + Input + AllocGlobal,
     S: Site,
@@ -73,10 +73,12 @@ where
         (O.contents output.new) site.old site.new }
     ensures runs { (result ≡ 0) ⊎ (result ≡ 3) → Runs S.does task.now (O.contents output.old)
         (O.contents output.new) result site.old site.new }
+    ensures quiet { is_watched ≡ false → (result ≡ 0) ⊎ (result ≡ 3)
+        → IsQuiet task.now errors.old errors.new }
 {
     match task {
         Task::Init(file) => init(rt.alloc(), site, file.as_str(), errors),
-        Task::Check(words) => look_at(rt, words, output, errors),
+        Task::Check(words) => look_at(rt, site, words, output, errors),
         Task::Gate(words) => gate(rt, &start_of(words), output, errors),
         Task::Status(words) => state_of(rt, site, words, output, errors),
         Task::Pairs(words) => pairs_of(rt.alloc(), site, words, output, errors),

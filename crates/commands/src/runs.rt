@@ -1,13 +1,15 @@
 //! Scripts that are run, and captured where that is asked for.
-ghost use Rattle.std.specs.Prelude.{◌≡◌, ◌⊎◌, IfErr, IfOk, None, Ok, OnOk, string_bytes};
+ghost use Rattle.std.specs.Prelude.{◌≡◌, ◌⊎◌, IfErr, IfOk, None, Ok, OnOk, false, length, string_bytes, true};
 ghost use Rattle.faults.specs.Faults.{status_of};
 ghost use Rattle.faults.specs.Jobs.{IsJobOf};
 ghost use Rattle.loopback_run.specs.Loops.{IsLoop};
 ghost use Rattle.settings_file.specs.Clashes.{clash_of_both};
 ghost use Rattle.simulation.specs.Status.{RunsScript};
 ghost use Rattle.simulation.specs.Tapes.{IsTapedRun};
+ghost use Rattle.simulation.specs.Watched.{IsToldAll, WatchesScript};
 ghost use Rattle.commands.specs.Acts.{AreRead, HasLoopOf, HasRunOf};
 ghost use Rattle.commands.specs.Ends.{HasLoop, HasRun, Loops};
+ghost use Rattle.commands.specs.Meters.{HasHeard, HasHeardScript, Hears, telling};
 
 use crate::capture_files::{capture_at, ended, unmade};
 use crate::meters::Meter;
@@ -16,6 +18,7 @@ use command_line::RunWords;
 use faults::{Fault, Job, job_of};
 use frame_sim::Tape;
 use loopback_run::{Channel, Loopback, PortFault, run_loop};
+use rounds::{Clockwork, Stopwatch};
 use settings::Settings;
 use settings_file::{SettingFault, port_clash_of_both};
 use simulation::{Unwatched, simulate, simulate_watched};
@@ -39,6 +42,8 @@ pub(crate) fn sim<R: Files + Clock + AllocGlobal, S: Site, O: Write, E: Write>(
         (O.contents output.new) result }
     ensures named { (result ≡ 0) ⊎ (result ≡ 3) → HasRunOf S.does files.now
         (O.contents output.old) (O.contents output.new) result site.old site.new }
+    ensures quiet { is_watched ≡ false → (result ≡ 0) ⊎ (result ≡ 3)
+        → errors.new ≡ errors.old }
 {
     match texts(site, files) {
         Ok((settings, script)) => {
@@ -48,16 +53,21 @@ pub(crate) fn sim<R: Files + Clock + AllocGlobal, S: Site, O: Write, E: Write>(
                     let path = path.as_str();
                     sim_captured(rt, settings, script, path, is_watched, output, errors)
                 }
-                None => simulated(rt, settings, script, is_watched, output, errors),
+                None => {
+                    let clock = Stopwatch::start(rt);
+                    let alloc = rt.alloc();
+                    simulated(alloc, clock, settings, script, is_watched, output, errors)
+                }
             }
         }
         Err(fault) => fault.tell(errors),
     }
 }
 
-/// Runs a script.
-fn simulated<R: Clock + AllocGlobal, O: Write, E: Write>(
-    rt: &R,
+/// Runs a script, and says how far it is by a clock where somebody watches.
+fn simulated<C: Clockwork + Drop, O: Write, E: Write>(
+    alloc: Global,
+    clock: C,
     settings: &str,
     script: &str,
     is_watched: bool,
@@ -67,31 +77,59 @@ fn simulated<R: Clock + AllocGlobal, O: Write, E: Write>(
     ensures status { (result ≡ 0) ⊎ ((result ≡ 1) ⊎ (result ≡ 3)) }
     ensures run { (result ≡ 0) ⊎ (result ≡ 3) → RunsScript settings.now script.now
         (O.contents output.old) (O.contents output.new) result }
+    ensures heard { is_watched ≡ true → (result ≡ 0) ⊎ (result ≡ 3)
+        → HasHeardScript C.reads E.contents settings.now script.now clock errors.old errors.new }
+    ensures quiet { is_watched ≡ false → (result ≡ 0) ⊎ (result ≡ 3)
+        → errors.new ≡ errors.old }
 {
-    if is_watched {
-        watched(rt, settings, script, output, errors)
-    } else {
-        simulate(rt.alloc(), settings, script, output, errors)
+    if !is_watched {
+        return simulate(alloc, settings, script, output, errors);
+    }
+    match watched(alloc, clock, settings, script, output, errors) {
+        Ok(status) => status,
+        Err(fault) => fault.tell(errors),
     }
 }
 
-/// Runs a script, and says how far it is while somebody waits.
-fn watched<R: Clock + AllocGlobal, O: Write, E: Write>(
-    rt: &R,
+/// Runs a script, and says how far it is by a clock.
+fn watched<C: Clockwork + Drop, O: Write, E: Write>(
+    alloc: Global,
+    clock: C,
     settings: &str,
     script: &str,
     output: &mut O,
     errors: &mut E,
-) -> u8
-    ensures status { (result ≡ 0) ⊎ ((result ≡ 1) ⊎ (result ≡ 3)) }
-    ensures run { (result ≡ 0) ⊎ (result ≡ 3) → RunsScript settings.now script.now
-        (O.contents output.old) (O.contents output.new) result }
+) -> Result<u8, Fault>
+    ensures run { IfOk result (RunsScript settings.now script.now (O.contents output.old)
+        (O.contents output.new)) }
+    ensures status { IfOk result (λ status. (status ≡ 0) ⊎ (status ≡ 3)) }
+    ensures known { IfErr result (λ fault. status_of fault ≡ 1) }
+    ensures heard { OnOk result (HasHeardScript C.reads E.contents settings.now script.now
+        clock errors.old errors.new) }
 {
-    let mut meter = Meter::start(rt, errors);
-    match simulate_watched(rt.alloc(), settings, script, &mut meter, output) {
-        Ok(status) => status,
-        Err(fault) => fault.tell(errors),
-    }
+    let mut meter = Meter::start(clock, errors);
+    metered(alloc, settings, script, &mut meter, output)
+}
+
+/// Runs a script, and has a meter say how far it is.
+fn metered<C: Clockwork, O: Write, E: Write>(
+    alloc: Global,
+    settings: &str,
+    script: &str,
+    meter: &mut Meter<'_, C, E>,
+    output: &mut O,
+) -> Result<u8, Fault>
+    ensures run { IfOk result (RunsScript settings.now script.now (O.contents output.old)
+        (O.contents output.new)) }
+    ensures status { IfOk result (λ status. (status ≡ 0) ⊎ (status ≡ 3)) }
+    ensures known { IfErr result (λ fault. status_of fault ≡ 1) }
+    ensures same_reference { OnOk result
+        (meter.new.errors.ghost_name ≡ meter.old.errors.ghost_name) }
+    ensures heard { OnOk result (WatchesScript (Hears C.reads E.contents) settings.now script.now
+        (telling meter.old.clock meter.old.next meter.old.is_refused meter.old.errors.now)
+        (telling meter.new.clock meter.new.next meter.new.is_refused meter.new.errors.now)) }
+{
+    simulate_watched(alloc, settings, script, meter, output)
 }
 
 /// Runs a script, with its capture in a file, which is begun once both texts are read.
@@ -107,11 +145,14 @@ fn sim_captured<R: Files + Clock + AllocGlobal, O: Write, E: Write>(
     ensures status { (result ≡ 0) ⊎ ((result ≡ 1) ⊎ (result ≡ 3)) }
     ensures run { (result ≡ 0) ⊎ (result ≡ 3) → RunsScript settings.now script.now
         (O.contents output.old) (O.contents output.new) result }
+    ensures quiet { is_watched ≡ false → (result ≡ 0) ⊎ (result ≡ 3)
+        → errors.new ≡ errors.old }
 {
     match job_of(rt.alloc(), settings, script) {
         Ok(job) => match capture_at(rt, path, &job) {
             Ok(mut capture) => {
-                let run = taped(rt, &job, is_watched, &mut capture, output, errors);
+                let (alloc, clock) = (rt.alloc(), Stopwatch::start(rt));
+                let run = taped(alloc, clock, &job, is_watched, &mut capture, output, errors);
                 ended(rt.alloc(), run, capture.end(), path, errors)
             }
             Err(error) => unmade(rt.alloc(), &error, path, errors),
@@ -120,9 +161,10 @@ fn sim_captured<R: Files + Clock + AllocGlobal, O: Write, E: Write>(
     }
 }
 
-/// Runs a job, has a tape take it down, and says how far it is where somebody watches.
-fn taped<R: Clock + AllocGlobal, T: Tape, O: Write, E: Write>(
-    rt: &R,
+/// Runs a job, has a tape take it down, and says how far it is by a clock where somebody watches.
+fn taped<C: Clockwork + Drop, T: Tape, O: Write, E: Write>(
+    alloc: Global,
+    clock: C,
     job: &Job,
     is_watched: bool,
     tape: &mut T,
@@ -133,14 +175,40 @@ fn taped<R: Clock + AllocGlobal, T: Tape, O: Write, E: Write>(
         tape.old tape.new (O.contents output.old) (O.contents output.new)) }
     ensures status { IfOk result (λ status. (status ≡ 0) ⊎ (status ≡ 3)) }
     ensures known { IfErr result (λ fault. status_of fault ≡ 1) }
+    ensures heard { is_watched ≡ true → OnOk result (HasHeard C.reads E.contents
+        (length job.now.events.items) clock errors.old errors.new) }
+    ensures quiet { is_watched ≡ false → errors.new ≡ errors.old }
+{
+    if is_watched {
+        let mut meter = Meter::start(clock, errors);
+        taped_metered(alloc, job, &mut meter, tape, output)
+    } else {
+        let (settings, events) = (&job.settings, job.events.as_slice());
+        simulation::play(alloc, settings, events, &mut Unwatched, tape, output)
+    }
+}
+
+/// Runs a job, has a tape take it down, and a meter say how far it is.
+fn taped_metered<C: Clockwork, T: Tape, O: Write, E: Write>(
+    alloc: Global,
+    job: &Job,
+    meter: &mut Meter<'_, C, E>,
+    tape: &mut T,
+    output: &mut O,
+) -> Result<u8, Fault>
+    ensures run { IfOk result (IsTapedRun T.takes job.now.settings job.now.events.items
+        tape.old tape.new (O.contents output.old) (O.contents output.new)) }
+    ensures status { IfOk result (λ status. (status ≡ 0) ⊎ (status ≡ 3)) }
+    ensures known { IfErr result (λ fault. status_of fault ≡ 1) }
+    ensures same_reference { OnOk result
+        (meter.new.errors.ghost_name ≡ meter.old.errors.ghost_name) }
+    ensures heard { OnOk result
+        (IsToldAll (Hears C.reads E.contents) (length job.now.events.items)
+        (telling meter.old.clock meter.old.next meter.old.is_refused meter.old.errors.now)
+        (telling meter.new.clock meter.new.next meter.new.is_refused meter.new.errors.now)) }
 {
     let (settings, events) = (&job.settings, job.events.as_slice());
-    if is_watched {
-        let mut meter = Meter::start(rt, errors);
-        simulation::play(rt.alloc(), settings, events, &mut meter, tape, output)
-    } else {
-        simulation::play(rt.alloc(), settings, events, &mut Unwatched, tape, output)
-    }
+    simulation::play(alloc, settings, events, meter, tape, output)
 }
 
 /// Runs the script of one file with the settings of another, over the own loopback ports of both gateways.
@@ -265,8 +333,9 @@ fn looped<P: Channel, T: Tape, O: Write>(
 
 /// The texts of two files. The settings' fault comes first.
 fn texts<S: Site>(site: &mut S, files: &RunWords) -> Result<(String, String), Fault>
-    ensures read { IfOk result (λ texts. AreRead S.does files.now (string_bytes texts.0)
-        (string_bytes texts.1) site.old site.new) }
+    ensures read { IfOk result (λ texts. AreRead S.does (string_bytes files.now.settings)
+        (string_bytes files.now.script) (string_bytes texts.0) (string_bytes texts.1)
+        site.old site.new) }
     ensures status { IfErr result (λ fault. status_of fault ≡ 1) }
 {
     let settings = site.text(files.settings.as_str())?;

@@ -1,4 +1,6 @@
 use Rattle.commands.proofs.Statuses.{is_0}
+use Rattle.std.specs.Prelude.{string_bytes}
+use Rattle.commands.proofs.Looking.{looked}
 use Rattle.commands.proofs.commands.done.Goals as goal
 
 pub returns-in-Init-clause-done : goal.returns-in-Init-clause-done
@@ -7,7 +9,7 @@ returns-in-Init-clause-done g c h = rw c.in-Init.is (is_0 _ c.init.ensures.statu
 pub returns-in-Check-clause-done : goal.returns-in-Check-clause-done
 returns-in-Check-clause-done g c h =
     let none = is_0 _ c.look_at.ensures.status h in
-    rw c.in-Check.is (none, c.look_at.ensures.checked none)
+    rw c.in-Check.is (none, looked _ _ string_bytes _ _ _ _ (c.look_at.ensures.looked none))
 
 pub returns-in-Gate-clause-done : goal.returns-in-Gate-clause-done
 returns-in-Gate-clause-done g c h =
@@ -36,6 +38,9 @@ returns-in-Version-clause-done g c h =
 
 pub returns-in-Init-clause-acts : goal.returns-in-Init-clause-acts
 returns-in-Init-clause-acts g c h = rw c.in-Init.is (rw c.as_str.ensures.value at (c.init.ensures.made h))
+
+pub returns-in-Check-clause-acts : goal.returns-in-Check-clause-acts
+returns-in-Check-clause-acts g c h = rw c.in-Check.is (c.look_at.ensures.looked h)
 
 pub returns-in-Status-clause-acts : goal.returns-in-Status-clause-acts
 returns-in-Status-clause-acts g c h = rw c.in-Status.is (c.state_of.ensures.asked h)

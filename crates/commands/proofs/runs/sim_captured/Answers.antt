@@ -7,3 +7,6 @@ returns-in-Ok-capture_at-clause-run g c h = run_of _ _ _ _ _ _ _ _ _ _ c.in-Ok.e
 
 pub returns-clause-run : goal.returns-clause-run
 returns-clause-run g c done = isnt_1 _ (c.tell.ensures ∙ c.in-Err.ensures.known) done
+
+pub returns-clause-quiet : goal.returns-clause-quiet
+returns-clause-quiet g c unwatched done = isnt_1 _ (c.tell.ensures ∙ c.in-Err.ensures.known) done

@@ -1,0 +1,18 @@
+use Rattle.std.proofs.Common.{arith}
+use Rattle.commands.specs.Meters.{telling}
+use Rattle.commands.proofs.Hearing.{on_both}
+use Rattle.commands.proofs.runs.watched.Goals as goal
+
+pub returns-clause-heard : goal.returns-clause-heard
+returns-clause-heard g c =
+    let last = c.metered.new.meter in
+    let new = c.start-meter.ensures in
+    on_both c.metered.result c.metered.ensures.same_reference c.metered.ensures.heard (λ same heard. record {
+      job = heard.job;
+      is = heard.is;
+      heard = record {
+        last = telling last.clock last.next last.is_refused last.errors.now;
+        told = rw (← new.clock, ← new.next, ← new.is_refused, ← new.errors) heard.told;
+        is_last = grind (arith, same, new.same_reference, c.drop-meter.ensures);
+      };
+    })
