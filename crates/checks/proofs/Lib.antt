@@ -1,4 +1,5 @@
 mod Counting
 mod Differing
+mod Lines
 mod Numbers
 mod Pairing

@@ -4,3 +4,4 @@ pub mod Digests
 pub mod Doubts
 pub mod BootFiles
 pub mod Interfaces
+pub mod Saying

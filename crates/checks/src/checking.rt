@@ -1,6 +1,8 @@
 //! Says every fault and every warning of settings.
-ghost use Rattle.std.specs.Prelude.{◌≡◌, ◌⊎◌, ◌↔◌, IfOk, MatchResult, None, [], true};
+ghost use Rattle.std.specs.Io.KnownBytes.{Appends};
+ghost use Rattle.std.specs.Prelude.{◌≡◌, ◌⊎◌, ◌↔◌, IfOk, MatchResult, None, OnOk, [], true};
 ghost use Rattle.checks.specs.Doubts.{warnings_of};
+ghost use Rattle.checks.specs.Saying.{IsSaid, total_line};
 ghost use Rattle.checks.specs.Counts.{IsCleanText, IsGoodText, IsUndoubted, status_of};
 
 use crate::boots::say_boot_file;
@@ -73,7 +75,10 @@ fn say_text<P: Surroundings, O: Write>(
 }
 
 /// Says how many faults and warnings there are.
-fn say_total<O: Write>(tally: Tally, output: &mut O) -> Result<(), Fault> {
+fn say_total<O: Write>(tally: Tally, output: &mut O) -> Result<(), Fault>
+    ensures { OnOk result (Appends (O.contents output.old) (O.contents output.new)
+        (total_line tally.faults tally.warnings)) }
+{
     let Tally { faults, warnings } = tally;
     writeln!(output, "{faults} faults, {warnings} warnings")?;
     output.flush()?;
@@ -81,6 +86,7 @@ fn say_total<O: Write>(tally: Tally, output: &mut O) -> Result<(), Fault> {
 }
 
 /// Says each fault of a text, and of settings that it holds what there is beside these, which is counted.
+#[tactic(auto, using(crate::proofs::Lines::all_said))]
 fn say_look<P: Surroundings, O: Write>(
     alloc: Global,
     around: &P,
@@ -92,6 +98,7 @@ fn say_look<P: Surroundings, O: Write>(
         (λ tally. tally.faults ≡ 0 → tally.warnings ≡ 0 → IsUndoubted seen.now) }
     ensures none { request.now.id ≡ None → request.now.link ≡ None
         → IfOk result (λ tally. tally.faults ≡ 0) }
+    ensures said { OnOk result (IsSaid seen.now (O.contents output.old) (O.contents output.new)) }
 {
     say_faults(seen, output)?;
     match seen {

@@ -1,6 +1,8 @@
 //! Says what was found in a text of settings, a line each.
-ghost use Rattle.std.specs.Prelude.{◌≡◌, IfOk};
+ghost use Rattle.std.specs.Prelude.{◌≡◌, IfOk, OnOk, flat_map};
+ghost use Rattle.std.specs.Io.KnownBytes.{Appends};
 ghost use Rattle.checks.specs.Doubts.{warnings_of};
+ghost use Rattle.checks.specs.Saying.{fault_line, faults_text, key_line, path_line};
 ghost use Rattle.checks.specs.Counts.{at_least_one, fault_count, is_of, left, stopping, stops};
 
 use crate::tallies::{NOTHING, Tally};
@@ -12,14 +14,20 @@ use settings_file::{Key, Look, Section};
 use std::alloc::Global;
 use std::io::{self, Write};
 
-fn say_paths<O: Write>(paths: &[String], output: &mut O) -> io::Result<()> {
+fn say_paths<O: Write>(paths: &[String], output: &mut O) -> io::Result<()>
+    ensures { OnOk result (Appends (O.contents output.old) (O.contents output.new)
+        (flat_map path_line paths.now)) }
+{
     for path in paths {
         writeln!(output, "fault: settings 6 UnknownKey {path}")?;
     }
     Ok(())
 }
 
-fn say_keys<O: Write>(keys: &[Key], fault: &str, output: &mut O) -> io::Result<()> {
+fn say_keys<O: Write>(keys: &[Key], fault: &str, output: &mut O) -> io::Result<()>
+    ensures { OnOk result (Appends (O.contents output.old) (O.contents output.new)
+        (flat_map (key_line fault.now) keys.now)) }
+{
     for key in keys {
         writeln!(output, "fault: settings {fault} {key}")?;
     }
@@ -45,12 +53,18 @@ pub(crate) fn fault_count(look: &Look) -> usize
 }
 
 /// Says a fault that is of no key.
-fn say_whole<O: Write>(fault: &str, output: &mut O) -> io::Result<()> {
+fn say_whole<O: Write>(fault: &str, output: &mut O) -> io::Result<()>
+    ensures { OnOk result (Appends (O.contents output.old) (O.contents output.new)
+        (fault_line fault.now)) }
+{
     writeln!(output, "fault: settings {fault}")
 }
 
 /// Says each fault of a text.
-pub(crate) fn say_faults<O: Write>(look: &Look, output: &mut O) -> io::Result<()> {
+pub(crate) fn say_faults<O: Write>(look: &Look, output: &mut O) -> io::Result<()>
+    ensures { OnOk result (Appends (O.contents output.old) (O.contents output.new)
+        (faults_text look.now)) }
+{
     match look {
         Look::NotToml => say_whole("1 NotToml", output),
         Look::UnknownKeys(paths) => say_paths(paths.as_slice(), output),
