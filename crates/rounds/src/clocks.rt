@@ -1,5 +1,5 @@
 //! The clock of a box.
-ghost use Rattle.std.specs.Prelude.{◌≡◌, ℕ, ◌-◌, ◌/◌, IfSome};
+ghost use Rattle.std.specs.Prelude.{◌≡◌, ℕ, ◌-◌, ◌/◌, ◌≤◌, IfSome, IsNone};
 ghost use Rattle.std.specs.Time.{instant_nanos};
 
 use std::rt::Clock;
@@ -26,8 +26,10 @@ pub struct Stopwatch<'a, R> {
 
 /// The centiseconds from one reading of the clock to a later one, where 64 bits hold them.
 fn centiseconds(start: Instant, now: Instant) -> Option<u64>
-    ensures { IfSome result (λ passed. passed ≡ (instant_nanos now - instant_nanos start)
+    ensures passed { IfSome result (λ passed. passed ≡ (instant_nanos now - instant_nanos start)
         / 1_000_000 / 10) }
+    ensures none { IsNone result → 18_446_744_073_709_551_616
+        ≤ (instant_nanos now - instant_nanos start) / 1_000_000 / 10 }
 {
     u64::try_from(now.duration_since(start).as_millis() / 10).ok()
 }

@@ -7,6 +7,7 @@ use std::marker::Model;
 use std::snapshot::Snapshot;
 
 /// How many events were left out because memory was refused.
+#[derive(Drop)]
 pub struct LeftOut {
     before: Option<Snapshot<LeftOut>>,
 }
@@ -20,12 +21,6 @@ impl Model for LeftOut {
     ghost view = { λ l. counted l.before };
 
     ghost size = { λ n. n };
-}
-
-impl Drop for LeftOut {
-    fn drop(self) {
-        let Self { before: _ } = self;
-    }
 }
 
 impl LeftOut {

@@ -7,6 +7,7 @@ use std::os::fd::RawFd;
 use std::snapshot::Snapshot;
 
 /// The messages that the system was handed, each for a descriptor. Clauses read them; no byte is kept.
+#[derive(Drop)]
 pub struct Messages {
     last: Option<(u16, Snapshot<ArrayString<64>>, Snapshot<Messages>)>,
 }
@@ -20,12 +21,6 @@ impl Model for Messages {
     ghost view = { λ m. all_handed m.last };
 
     ghost size = { λ l. length l };
-}
-
-impl Drop for Messages {
-    fn drop(self) {
-        let Self { last: _ } = self;
-    }
 }
 
 impl Messages {

@@ -1,7 +1,9 @@
 //! The moments of packets.
+ghost use Rattle.std.specs.Prelude.{◌≡◌, ◌/◌, ◌≤◌, IfSome, IsNone};
+ghost use Rattle.std.specs.Duration.{as_nanos};
 
 use std::rt::Clock;
-use std::time::Instant;
+use std::time::{Duration, Instant};
 
 /// What says the moment of a packet.
 pub trait Moments {
@@ -16,6 +18,14 @@ pub struct SinceFirst<'a, R> {
     rt: &'a R,
     start: Option<Instant>,
     last: u64,
+}
+
+/// The centiseconds of a duration, where 64 bits hold them.
+fn centiseconds(passed: Duration) -> Option<u64>
+    ensures passed { IfSome result (λ count. count ≡ as_nanos passed / 1_000_000 / 10) }
+    ensures none { IsNone result → 18_446_744_073_709_551_616 ≤ as_nanos passed / 1_000_000 / 10 }
+{
+    u64::try_from(passed.as_millis() / 10).ok()
 }
 
 impl<'a, R: Clock> SinceFirst<'a, R> {
@@ -34,8 +44,7 @@ impl<'a, R: Clock> SinceFirst<'a, R> {
             self.start = Instant::now(self.rt).ok();
             return None;
         };
-        let passed = start.elapsed(self.rt).ok()?;
-        u64::try_from(passed.as_millis() / 10).ok()
+        centiseconds(start.elapsed(self.rt).ok()?)
     }
 }
 
