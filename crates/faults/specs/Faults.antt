@@ -1,10 +1,11 @@
 -- The faults of the program, and what leads to each.
-use Rattle.std.specs.Prelude.{◌≡◌, ℕ, List, Option, string_bytes}
+use Rattle.std.specs.Prelude.{◌≡◌, ℕ, IsUtf8, List, Option, Some, Result, Ok, Err, string_bytes}
 use Rattle.std.specs.declared.io.ErrorKind.{ErrorKind}
 use Rattle.faults.specs.declared.faults.Fault.{Fault}
 use Rattle.faults.specs.declared.faults.Fault.TheVariants.{Words, Setting, BadLine, File, NotWritten, NotText, NoSocket, NoMemory}
 use Rattle.faults.specs.declared.files.FileFault.{FileFault}
 use Rattle.faults.specs.declared.files.Refusal.{Refusal}
+use Rattle.faults.specs.declared.files.Refusal.TheVariants.{NoFile}
 use Rattle.faults.specs.declared.prints.PrintFault.{PrintFault}
 use Rattle.faults.specs.declared.prints.PrintFault.TheVariants as prints
 use Rattle.scripts.specs.declared.faults.ScriptFault.{ScriptFault}
@@ -40,6 +41,20 @@ abbrev pub Tells : Refusal → List ℕ → Option ErrorKind → Fault → Type 
 Tells refusal path cause (File fault) = IsAbout refusal path cause fault
 Tells refusal path cause NoMemory = Unit {0}
 Tells refusal path cause other = ⊥
+
+-- why the file at this path isn't had as a text: it can't be read, it is none, or there is no memory
+abbrev pub IsUnread : List ℕ → Fault → Type 0
+IsUnread path (File fault) = (fault.refusal ≡ NoFile) × (string_bytes fault.path ≡ path)
+IsUnread path NotText = Unit {0}
+IsUnread path NoMemory = Unit {0}
+IsUnread path other = ⊥
+
+-- the same by what was answered: this cause, or bytes that are no UTF-8
+abbrev pub TellsUnread : (Result (List ℕ) ErrorKind → Type 0) → List ℕ → Fault → Type 0
+TellsUnread answers path (File fault) = (cause : ErrorKind) × (answers (Err cause) × IsAbout NoFile path (Some cause) fault)
+TellsUnread answers path NotText = (bytes : List ℕ) × (answers (Ok bytes) × (¬ (IsUtf8 bytes)))
+TellsUnread answers path NoMemory = Unit {0}
+TellsUnread answers path other = ⊥
 
 -- the fault of a run that isn't printed
 abbrev pub of_print : PrintFault → Fault

@@ -1,3 +1,4 @@
+pub mod Causes
 pub mod Faults
 pub mod Jobs
 pub mod Texts

@@ -32,9 +32,10 @@ pub enum Fault {
 
 /// What it is about, its number and its name, as `memory 1 NoMemory`; some name behind it what is refused.
 impl fmt::Display for Fault {
+    ghost use Rattle.std.specs.Prelude.{Some};
     ghost use Rattle.faults.specs.Texts.{fault_text};
 
-    ghost output = { λ fault. fault_text fault };
+    ghost output = { λ fault. Some (fault_text fault) };
 
     fn fmt<W: fmt::Write>(&self, f: &mut fmt::Formatter<W>) -> fmt::Result {
         let text = match self {
@@ -52,7 +53,7 @@ impl fmt::Display for Fault {
 }
 
 impl Fault {
-    ghost use Rattle.std.specs.Prelude.{◌≡◌, ◌≢◌, IfSome, None, OnOk, Some};
+    ghost use Rattle.std.specs.Prelude.{◌≡◌, ◌≢◌, None, OnOk, Some};
     ghost use Rattle.std.specs.Io.KnownBytes.{Appends};
     ghost use Rattle.std.specs.IoError.{error_kind};
     ghost use Rattle.faults.specs.Faults.{IsOfFile, Tells, status_of};
@@ -81,8 +82,8 @@ impl Fault {
 
     /// Writes that line.
     fn show<E: Write>(&self, errors: &mut E) -> io::Result<()>
-        ensures told { OnOk result (IfSome (fault_text self.now)
-            (λ text. Appends (E.contents errors.old) (E.contents errors.new) (line_of text))) }
+        ensures told { OnOk result (Appends (E.contents errors.old) (E.contents errors.new)
+            (line_of (fault_text self.now))) }
     {
         writeln!(errors, "natpair: {self}")
     }

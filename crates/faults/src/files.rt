@@ -2,6 +2,7 @@
 ghost use Rattle.std.specs.Prelude.{IfOk};
 ghost use Rattle.faults.specs.Faults.{IsAbout};
 
+use crate::causes::cause_text;
 use std::alloc::{AllocError, Global};
 use std::fmt;
 use std::io::ErrorKind;
@@ -63,14 +64,29 @@ impl FileFault {
 
 /// As in `file 1 NoFile S.toml: permission denied`.
 impl fmt::Display for FileFault {
+    ghost use Rattle.std.specs.Prelude.{Some};
     ghost use Rattle.faults.specs.Texts.{file_text};
 
-    ghost output = { λ fault. file_text fault };
+    ghost output = { λ fault. Some (file_text fault) };
 
     fn fmt<W: fmt::Write>(&self, f: &mut fmt::Formatter<W>) -> fmt::Result {
-        write!(f, "{} {}", self.refusal, self.path)?;
-        match self.cause {
-            Some(cause) => write!(f, ": {cause}"),
+        write!(f, "{} {}{}", self.refusal, self.path, Why(self.cause))
+    }
+}
+
+/// Why a file isn't had, behind a colon, where the system said so.
+#[derive(Clone, Copy)]
+struct Why(Option<ErrorKind>);
+
+impl fmt::Display for Why {
+    ghost use Rattle.std.specs.Prelude.{Some};
+    ghost use Rattle.faults.specs.Texts.{why_text};
+
+    ghost output = { λ why. Some (why_text why.0) };
+
+    fn fmt<W: fmt::Write>(&self, f: &mut fmt::Formatter<W>) -> fmt::Result {
+        match self.0 {
+            Some(cause) => write!(f, ": {}", cause_text(cause)),
             None => Ok(()),
         }
     }

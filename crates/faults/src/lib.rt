@@ -1,6 +1,7 @@
 //! What a run needs, the texts of its files, and why the program ends without its work done.
 #![tactic(auto)]
 
+mod causes;
 mod faults;
 mod files;
 mod jobs;
@@ -11,4 +12,4 @@ pub use faults::Fault;
 pub use files::{FileFault, Refusal};
 pub use jobs::{Job, job_of};
 pub use prints::PrintFault;
-pub use texts::text_of;
+pub use texts::{Reads, SystemReads, text_by, text_of};

@@ -1,21 +1,77 @@
 //! The text of a file.
-ghost use Rattle.std.specs.Prelude.{◌≡◌, IfErr};
-ghost use Rattle.faults.specs.Faults.{status_of};
+ghost use Rattle.std.specs.Prelude.{◌≡◌, Err, IfErr, IfOk, IsErr, IsUtf8, Ok, string_bytes};
+ghost use Rattle.faults.specs.Faults.{IsUnread, TellsUnread, status_of};
+ghost use Rattle.faults.specs.declared.faults.Fault.TheVariants as faults;
 
 use crate::Fault;
-use std::fs;
+use std::alloc::Global;
 use std::rt::Files;
+use std::{fs, io};
 
-/// The text of the file at a path.
+/// Who reads files.
+pub trait Reads {
+    ghost use Rattle.std.specs.Prelude.{ℕ, List, Result, Err, IfErr, IfOk, Ok};
+    ghost use Rattle.std.specs.IoError.{error_kind};
+    ghost use Rattle.std.specs.declared.io.ErrorKind.{ErrorKind};
+
+    /// What may be answered of the file at a path: its bytes, or why it can't be read.
+    ghost answers: { Self → List ℕ → Result (List ℕ) ErrorKind → Type 0 };
+
+    /// The bytes of the file at a path.
+    fn read(&self, path: &str) -> io::Result<Vec<u8>>
+        ensures bytes { IfOk result (λ bytes. answers self.now path.now (Ok bytes.items)) }
+        ensures cause { IfErr result
+            (λ error. answers self.now path.now (Err (error_kind error))) };
+}
+
+/// The system, of whose answers nothing is known.
+#[derive(Drop)]
+pub struct SystemReads<'a, R>(pub &'a R);
+
+impl<R: Files + AllocGlobal> Reads for SystemReads<'_, R> {
+    ghost answers = { λ _ _ _. Unit {0} };
+
+    fn read(&self, path: &str) -> io::Result<Vec<u8>> {
+        fs::read(self.0, path)
+    }
+}
+
+/// The text of the file at a path, as the system reads it.
 ///
 /// # Errors
 ///
 /// `File` where it can't be read, `NotText` where it isn't UTF-8, `NoMemory`.
 pub fn text_of<R: Files + AllocGlobal>(rt: &R, path: &str) -> Result<String, Fault>
+    ensures told { IfErr result (IsUnread path.now) }
     ensures status { IfErr result (λ fault. status_of fault ≡ 1) }
 {
-    match fs::read(rt, path) {
-        Ok(bytes) => String::from_utf8(bytes).map_err(|_| Fault::NotText),
-        Err(error) => Err(Fault::of_reading(rt.alloc(), path, &error)),
+    text_by(rt.alloc(), &SystemReads(rt), path)
+}
+
+/// The text of the file at a path, by who reads it.
+///
+/// # Errors
+///
+/// The same.
+pub fn text_by<R: Reads>(alloc: Global, files: &R, path: &str) -> Result<String, Fault>
+    ensures text { IfOk result (λ text. R.answers files.now path.now (Ok (string_bytes text))) }
+    ensures told { IfErr result (TellsUnread (R.answers files.now path.now) path.now) }
+    ensures status { IfErr result (λ fault. status_of fault ≡ 1) }
+{
+    match files.read(path) {
+        Ok(bytes) => as_text(bytes),
+        Err(error) => Err(Fault::of_reading(alloc, path, &error)),
+    }
+}
+
+/// Bytes as the text that they are.
+fn as_text(bytes: Vec<u8>) -> Result<String, Fault>
+    ensures text { IfOk result (λ text. string_bytes text ≡ bytes.items) }
+    ensures told { IfErr result (λ fault. fault ≡ faults.NotText) }
+    ensures only { IsErr result → ¬ (IsUtf8 bytes.items) }
+{
+    match String::from_utf8(bytes) {
+        Ok(text) => Ok(text),
+        Err(_) => Err(Fault::NotText),
     }
 }

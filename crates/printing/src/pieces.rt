@@ -6,6 +6,7 @@ ghost use Rattle.hex.specs.Hex.{encode_lower};
 ghost use Rattle.std.specs.Prelude.{◌≤◌, ◌≡◌, ◌≢◌, Err, IfErr, IfOk, IsErr, Ok, OnErr, length};
 ghost use Rattle.std.specs.IoError.{error_kind};
 ghost use Rattle.printing.specs.Printed.{Prints};
+ghost use Rattle.printing.specs.Writes.{IsOfOneWrite};
 
 use std::io::{self, ErrorKind, Write};
 
@@ -28,6 +29,7 @@ fn judged(answer: io::Result<usize>) -> io::Result<usize>
     ensures some { IfOk answer (λ n. IfOk result (λ taken. taken ≡ n)) }
     ensures none { IfOk answer (λ n. OnErr result (n ≡ 0)) }
     ensures zero { answer ≡ Ok 0 → IsErr result }
+    ensures kind { answer ≡ Ok 0 → IfErr result (λ e. error_kind e ≡ ErrorKind.WriteZero) }
     ensures nothing { IfErr answer (λ _. IfOk result (λ taken. taken ≡ 0)) }
     ensures interrupted { IfErr answer
         (λ error. error_kind error ≡ ErrorKind.Interrupted → result ≡ Ok 0) }
@@ -41,12 +43,44 @@ fn judged(answer: io::Result<usize>) -> io::Result<usize>
     }
 }
 
+/// What takes bytes, some at a time.
+trait Takes {
+    ghost use Rattle.std.specs.Prelude.{ℕ, List, Option, Result};
+    ghost use Rattle.std.specs.Io.KnownBytes.{WriteAppends};
+    ghost use Rattle.std.specs.Io.{WritesAtMost};
+    ghost use Rattle.std.specs.declared.io.Error.{Error};
+
+    /// What it has taken so far, where that is known.
+    ghost held: { Self → Option (List ℕ) };
+
+    /// What may be answered where it is to take these bytes, and what it is then.
+    ghost answers: { Self → List ℕ → Result ℕ Error → Self → Type 0 };
+
+    /// Takes some of these bytes, those at the front, and says how many.
+    fn take(&mut self, bytes: &[u8]) -> io::Result<usize>
+        ensures bound { WritesAtMost result bytes.now }
+        ensures bytes { WriteAppends (held self.old) (held self.new) result bytes.now }
+        ensures answered { answers self.old bytes.now result self.new };
+}
+
+/// Of what a writer answers nothing more is known.
+impl<O: Write> Takes for O {
+    ghost held = { O.contents };
+
+    ghost answers = { λ _ _ _ _. Unit {0} };
+
+    fn take(&mut self, bytes: &[u8]) -> io::Result<usize> {
+        self.write(bytes)
+    }
+}
+
 /// Writes some of these bytes, those at the front, and says how many; none where writing was interrupted.
-fn put_some<O: Write>(output: &mut O, bytes: &[u8]) -> io::Result<usize>
+fn put_some<T: Takes>(output: &mut T, bytes: &[u8]) -> io::Result<usize>
     ensures bound { WritesAtMost result bytes.now }
-    ensures bytes { WriteAppends (O.contents output.old) (O.contents output.new) result bytes.now }
+    ensures bytes { WriteAppends (T.held output.old) (T.held output.new) result bytes.now }
+    ensures asked { IsOfOneWrite T.answers output.old bytes.now result output.new }
 {
-    judged(output.write(bytes))
+    judged(output.take(bytes))
 }
 
 /// Writes bytes.

@@ -1,5 +1,5 @@
 //! Prints what each event of a run gave, in order.
-ghost use Rattle.std.specs.Prelude.{◌≡◌, ◌++◌, List, ℕ, OnOk};
+ghost use Rattle.std.specs.Prelude.{◌≡◌, ◌⊎◌, ◌++◌, List, ℕ, OnErr, OnOk};
 ghost use Rattle.printing.specs.Lines.{answer_text, counts_after, event_line, gateway_of, lost_line, no_counts, one_more, sent_by, step_lines, with_event, with_sent};
 ghost use Rattle.printing.specs.Printed.{Prints};
 
@@ -55,7 +55,7 @@ impl Printer {
     ///
     /// # Errors
     ///
-    /// Where output is refused: a beginning of the lines is written.
+    /// Where output is refused: a beginning of the lines is written. All is counted then, or nothing.
     pub fn step<O: Write, F: RefusalText>(
         &mut self,
         output: &mut O,
@@ -66,6 +66,8 @@ impl Printer {
         ensures printed { Prints (O.contents output.old) result (O.contents output.new)
             (step_lines F.text self.old event.now outcome.now out.now) }
         ensures counted { OnOk result (self.new ≡ counts_after self.old event.now out.now) }
+        ensures refused { OnErr result ((self.new ≡ self.old)
+            ⊎ (self.new ≡ counts_after self.old event.now out.now)) }
     {
         let id = gateway_of(event);
         let mut sent = self.sent_by(id);
