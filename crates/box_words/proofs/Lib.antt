@@ -1,3 +1,2 @@
 mod Doing
 mod Refusing
-mod Showing

@@ -1,7 +1,11 @@
 -- The ends of its own that a box needs.
 use Rattle.std.specs.Prelude.{◌≡◌, ◌⊎◌, ℕ, Bool, true, false, List, [], ◌∷◌, ◌++◌, Option, None, Some, IsSome, codes, decimal}
 use Rattle.std.specs.Int.{to_be_bytes, w32}
+use Rattle.std.specs.Net.Addr.{IsIpv4OfBits}
+use Rattle.std.specs.Net.Socket.{v4_ip, v4_port}
 use Rattle.std.specs.Net.Text.{ipv4_text}
+use Rattle.std.specs.declared.net.socket_addr.SocketAddr.{SocketAddr}
+use Rattle.std.specs.declared.net.socket_addr.SocketAddr.TheVariants as socket
 use Rattle.sockets.specs.Ends.{are_on_loopback}
 use Rattle.sockets.specs.declared.ends.End.{End}
 use Rattle.sockets.specs.declared.places.Ports.{Ports}
@@ -37,6 +41,11 @@ IsFirstRefused answers [] before found after = (found ≡ None) × (after ≡ be
 IsFirstRefused {B} answers (end ∷ ends) before found after =
     (IsAsked answers end before found after × IsSome found)
     ⊎ ((between : B) × (IsAsked answers end before None between × IsFirstRefused answers ends between found after))
+
+-- the socket's address, of version 4, is that of the end, and so is its port
+abbrev pub IsAt : End → SocketAddr → Type 0
+IsAt end (socket.V4 at) = IsIpv4OfBits (v4_ip at) end.address.0 × (v4_port at ≡ end.port)
+IsAt end (socket.V6 at) = ⊥
 
 -- an end, as `192.0.2.1:7001`
 abbrev pub end_text : End → List ℕ

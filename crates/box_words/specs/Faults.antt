@@ -12,6 +12,8 @@ use Rattle.control.specs.declared.answers.PeerOffRefusal.{PeerOffRefusal}
 use Rattle.control.specs.declared.answers.PeerOffRefusal.TheVariants as refusal
 use Rattle.control.specs.declared.paths.PathFault.{PathFault}
 use Rattle.control.specs.declared.paths.PathFault.TheVariants as path
+use Rattle.journal.specs.declared.filters.FilterFault.{FilterFault}
+use Rattle.journal.specs.declared.filters.FilterFault.TheVariants as filter
 use Rattle.faults.specs.Faults.{IsOfFile, Tells}
 use Rattle.faults.specs.Texts.{fault_text as run_text}
 use Rattle.faults.specs.declared.files.Refusal.{Refusal}
@@ -58,11 +60,22 @@ abbrev pub IsOfCapture : BoxFault → Type 0
 IsOfCapture (fault.NoCapture why) = IsOfFile why
 IsOfCapture other = ⊥
 
+-- just this is told of the file of a capture at this path; or there is no memory to tell it
+abbrev pub TellsCapture : Refusal → List ℕ → Option ErrorKind → BoxFault → Type 0
+TellsCapture refusal path cause (fault.NoCapture why) = Tells refusal path cause why
+TellsCapture refusal path cause other = ⊥
+
 -- it is of a control socket, or of memory
 abbrev pub IsOfSocket : BoxFault → Type 0
 IsOfSocket (fault.NoControl path) = Unit {0}
 IsOfSocket (fault.Run why) = Unit {0}
 IsOfSocket other = ⊥
+
+-- it is of the control socket at this path; or there is no memory to tell it
+abbrev pub TellsSocket : List ℕ → BoxFault → Type 0
+TellsSocket path (fault.NoControl told) = string_bytes told ≡ path
+TellsSocket path (fault.Run why) = why ≡ NoMemory
+TellsSocket path other = ⊥
 
 -- it is of settings, of a file, of output or of memory
 abbrev pub IsOfRun : BoxFault → Type 0
@@ -74,6 +87,12 @@ abbrev pub IsOfFilter : BoxFault → Type 0
 IsOfFilter (fault.NoFilter part) = Unit {0}
 IsOfFilter (fault.Run why) = why ≡ NoMemory
 IsOfFilter other = ⊥
+
+-- it is of the same part of a filter's text; or there is no memory to tell it
+abbrev pub TellsFilter : FilterFault → BoxFault → Type 0
+TellsFilter (filter.NoFilter part) (fault.NoFilter told) = string_bytes told ≡ part.now
+TellsFilter why (fault.Run reason) = reason ≡ NoMemory
+TellsFilter why other = ⊥
 
 -- the fault of loopback ports that can't be had together: that of this key is the first that stands twice
 abbrev pub of_clash : Key → BoxFault
@@ -122,24 +141,24 @@ words_of refusal.PeerHeard = codes "the other box was heard within the last 3 se
 abbrev pub explained_text : PeerOffRefusal → List ℕ
 explained_text why = refusal_text why ++ codes ": " ++ words_of why
 
--- a fault's text, as `boot 2 Damaged`; none is known of a file with a cause
-abbrev pub fault_text : BoxFault → Option (List ℕ)
+-- a fault's text, as `boot 2 Damaged`
+abbrev pub fault_text : BoxFault → List ℕ
 fault_text (fault.Run why) = run_text why
-fault_text (fault.NoWay side) = Some (codes "way 1 NoWay " ++ side_name side)
-fault_text fault.NoWayOfLink = Some (codes "way 1 NoWay link")
-fault_text (fault.NoDescriptor why) = Some (no_descriptor_text why)
-fault_text fault.NoManager = Some (codes "notify 1 NoWay")
-fault_text (fault.NotOpen why) = Some (not_open_text why)
-fault_text (fault.NoSocket end) = Some (codes "socket 1 NoSocket" ++ refused_text end.0)
-fault_text (fault.NoControl path) = Some (codes "socket 1 NoSocket " ++ string_bytes path)
-fault_text fault.LongPath = Some (codes "socket 2 LongPath")
-fault_text fault.Device = Some (codes "boot 1 Device")
-fault_text fault.Damaged = Some (codes "boot 2 Damaged")
-fault_text fault.BootsUsedUp = Some (codes "boot 3 BootsUsedUp")
-fault_text fault.FoundTwice = Some (codes "boot 4 FoundTwice")
-fault_text fault.InUse = Some (codes "boot 5 InUse")
-fault_text (fault.NoFilter part) = Some (codes "log 1 NoFilter " ++ string_bytes part)
+fault_text (fault.NoWay side) = codes "way 1 NoWay " ++ side_name side
+fault_text fault.NoWayOfLink = codes "way 1 NoWay link"
+fault_text (fault.NoDescriptor why) = no_descriptor_text why
+fault_text fault.NoManager = codes "notify 1 NoWay"
+fault_text (fault.NotOpen why) = not_open_text why
+fault_text (fault.NoSocket end) = codes "socket 1 NoSocket" ++ refused_text end.0
+fault_text (fault.NoControl path) = codes "socket 1 NoSocket " ++ string_bytes path
+fault_text fault.LongPath = codes "socket 2 LongPath"
+fault_text fault.Device = codes "boot 1 Device"
+fault_text fault.Damaged = codes "boot 2 Damaged"
+fault_text fault.BootsUsedUp = codes "boot 3 BootsUsedUp"
+fault_text fault.FoundTwice = codes "boot 4 FoundTwice"
+fault_text fault.InUse = codes "boot 5 InUse"
+fault_text (fault.NoFilter part) = codes "log 1 NoFilter " ++ string_bytes part
 fault_text (fault.NoCapture why) = run_text why
-fault_text (fault.PeerOff why) = Some (explained_text why.0)
-fault_text (fault.NoReport why) = Some (codes "status 1 NoReport: " ++ read_text why)
-fault_text fault.NotSynced = Some (codes "status 2 NotSynced")
+fault_text (fault.PeerOff why) = explained_text why.0
+fault_text (fault.NoReport why) = codes "status 1 NoReport: " ++ read_text why
+fault_text fault.NotSynced = codes "status 2 NotSynced"

@@ -1,6 +1,6 @@
 //! The end of its own that a box can't have.
 ghost use Rattle.std.specs.Prelude.{◌≡◌, ◌∷◌, ◌⊎◌, [], IfSome, Some};
-ghost use Rattle.box_words.specs.Ends.{IsAsked, IsFirstRefused, IsNeeded, own_end, own_ends, refused_text};
+ghost use Rattle.box_words.specs.Ends.{IsAsked, IsAt, IsFirstRefused, IsNeeded, own_end, own_ends, refused_text};
 
 use sockets::{End, Ends, Ports, Way, Ways};
 use std::fmt;
@@ -90,7 +90,10 @@ fn own_end(way: Way, ports: (u16, u16)) -> Option<End>
     }
 }
 
-fn address_of(end: End) -> SocketAddr {
+/// The address of an end's socket.
+fn address_of(end: End) -> SocketAddr
+    ensures { IsAt end result }
+{
     SocketAddr::V4(SocketAddrV4::new(Ipv4Addr::from_bits(end.address.0), end.port))
 }
 

@@ -1,9 +1,16 @@
 //! Why a box ends without its work done.
-ghost use Rattle.std.specs.Prelude.{◌≡◌, IfSome, OnOk, Some};
+ghost use Rattle.std.specs.Prelude.{◌≡◌, ◌≢◌, None, OnOk, Some};
 ghost use Rattle.std.specs.Io.KnownBytes.{Appends};
-ghost use Rattle.box_words.specs.Faults.{IsOfCapture, IsOfFilter, IsOfNoWay, IsOfSocket, TellsBootFile};
+ghost use Rattle.std.specs.IoError.{error_kind};
+ghost use Rattle.std.specs.declared.io.ErrorKind.TheVariants as causes;
+ghost use Rattle.box_words.specs.Faults.{IsOfCapture, IsOfFilter, IsOfNoWay, IsOfSocket};
+ghost use Rattle.box_words.specs.Faults.{TellsBootFile, TellsCapture, TellsFilter, TellsSocket};
 ghost use Rattle.box_words.specs.Faults.{explained_text, fault_text};
+ghost use Rattle.box_words.specs.declared.refusals.BoxFault.TheVariants as faults;
+ghost use Rattle.control.specs.Paths.{socket_of};
 ghost use Rattle.faults.specs.Texts.{line_of};
+ghost use Rattle.faults.specs.declared.faults.Fault.TheVariants as reasons;
+ghost use Rattle.faults.specs.declared.files.Refusal.TheVariants as refusals;
 
 use crate::ends::Refused;
 use boot_file::FileFault;
@@ -66,7 +73,7 @@ pub enum BoxFault {
 
 /// What it is about, its number and its name, as `boot 2 Damaged`; some name behind it what is refused.
 impl fmt::Display for BoxFault {
-    ghost output = { λ fault. fault_text fault };
+    ghost output = { λ fault. Some (fault_text fault) };
 
     fn fmt<W: fmt::Write>(&self, f: &mut fmt::Formatter<W>) -> fmt::Result {
         let text = match self {
@@ -116,7 +123,8 @@ impl fmt::Display for Explained {
 impl BoxFault {
     /// Of what is no filter, or for which memory is refused.
     pub fn of_filter(alloc: Global, fault: FilterFault<'_>) -> BoxFault
-        ensures { IsOfFilter result }
+        ensures kind { IsOfFilter result }
+        ensures told { TellsFilter fault.entry result }
     {
         match fault {
             FilterFault::NoFilter(part) => match String::from_str(alloc, part) {
@@ -130,6 +138,7 @@ impl BoxFault {
     /// Nobody hears at the control socket beside this boot file, or it can't be had.
     pub fn no_control(alloc: Global, boot_file: &str) -> BoxFault
         ensures kind { IsOfSocket result }
+        ensures told { TellsSocket (socket_of boot_file.now) result }
         ensures no_way { IsOfNoWay result }
     {
         match format!(in alloc; "{boot_file}.control/socket") {
@@ -157,6 +166,13 @@ impl BoxFault {
     /// Of the file of a capture that can't be opened, or has something that is none.
     pub fn no_capture(alloc: Global, path: &str, error: &io::Error) -> BoxFault
         ensures kind { IsOfCapture result }
+        ensures memory { error_kind error.now ≡ causes.OutOfMemory
+            → result ≡ faults.NoCapture reasons.NoMemory }
+        ensures exists { error_kind error.now ≡ causes.AlreadyExists
+            → TellsCapture refusals.Exists path.now None result }
+        ensures told { error_kind error.now ≢ causes.OutOfMemory
+            → error_kind error.now ≢ causes.AlreadyExists
+            → TellsCapture refusals.NotWritten path.now (Some (error_kind error.now)) result }
         ensures no_way { IsOfNoWay result }
     {
         BoxFault::NoCapture(Fault::of_capture(alloc, path, error))
@@ -173,8 +189,8 @@ impl BoxFault {
 
     /// Writes that line.
     fn show<E: Write>(&self, errors: &mut E) -> io::Result<()>
-        ensures told { OnOk result (IfSome (fault_text self.now)
-            (λ text. Appends (E.contents errors.old) (E.contents errors.new) (line_of text))) }
+        ensures told { OnOk result (Appends (E.contents errors.old) (E.contents errors.new)
+            (line_of (fault_text self.now))) }
     {
         writeln!(errors, "natpair: {self}")
     }

@@ -1,9 +1,10 @@
 //! The words that an operator says to a running box.
-ghost use Rattle.std.specs.Prelude.{◌≡◌, ◌⊎◌, IfOk, OnOk, Some, option_map, string_bytes};
+ghost use Rattle.std.specs.Prelude.{◌≡◌, ◌<◌, ◌⊎◌, IfOk, IsErrOf, OnOk, Some, length, option_map, string_bytes};
 ghost use Rattle.control.specs.Answers.{content_of, heard};
-ghost use Rattle.control.specs.Paths.{IsBeside};
+ghost use Rattle.control.specs.Paths.{IsBeside, socket_of};
 ghost use Rattle.control.specs.Words.{word_of};
 ghost use Rattle.box_words.specs.Deeds.{HasSaid, HasTaken, IsBoxOf};
+ghost use Rattle.box_words.specs.Faults.{TellsSocket};
 ghost use Rattle.box_words.specs.Said.{off_bytes, said_off as meaning_off, said_side, said_stop};
 ghost use Rattle.settings.specs.Parts.{gateway_of};
 
@@ -171,7 +172,9 @@ pub(crate) struct Line {
 
 impl Line {
     /// Nobody hears there.
-    pub(crate) fn unheard(&self, alloc: Global) -> BoxFault {
+    pub(crate) fn unheard(&self, alloc: Global) -> BoxFault
+        ensures { TellsSocket (socket_of (string_bytes self.now.boot_file)) result }
+    {
         BoxFault::no_control(alloc, self.boot_file.as_str())
     }
 }
@@ -202,6 +205,8 @@ pub fn control_path(
 ) -> Result<ControlPath, PathFault>
     ensures beside { IfOk result
         (IsBeside (string_bytes (gateway_of settings.now id).boot_file)) }
+    ensures long { IsErrOf result PathFault.LongPath
+        → 107 < length (socket_of (string_bytes (gateway_of settings.now id).boot_file)) }
 {
     ControlPath::beside(alloc, settings.gateway(id).boot_file.as_str())
 }

@@ -2,7 +2,7 @@
 ghost use Rattle.std.specs.Prelude.{◌≡◌, ◌≤◌, IfErr, IfOk, OnOk, length, string_bytes, take};
 ghost use Rattle.control.specs.Answers.{answer_of};
 ghost use Rattle.control.specs.Words.{word_of};
-ghost use Rattle.faults.specs.Faults.{status_of};
+ghost use Rattle.faults.specs.Faults.{IsUnread, status_of};
 ghost use Rattle.box_words.specs.Deeds.{Deed, asked, made, read, said};
 
 use boot_file::{Blocks, FileFault};
@@ -20,6 +20,7 @@ pub trait Site {
     fn text(&mut self, path: &str) -> Result<String, Fault>
         ensures read { IfOk result
             (λ text. does self.old (read path.now (string_bytes text)) self.new) }
+        ensures told { IfErr result (IsUnread path.now) }
         ensures status { IfErr result (λ fault. status_of fault ≡ 1) };
 
     /// Makes a boot file.
