@@ -1,1 +1,4 @@
 mod Rooms
+mod Parts
+mod Coming
+mod Answering

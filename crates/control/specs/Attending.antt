@@ -1,5 +1,7 @@
 -- Whom a box attends to at its control socket.
-use Rattle.std.specs.Prelude.{ℕ, Bool, ◌+◌, ◌-◌, ◌^◌, ◌==◌, min, nat_le, List, length, drop, Result, Ok, Err, if◌then◌else◌}
+use Rattle.std.specs.Prelude.{ℕ, Bool, ◌≡◌, ◌⊎◌, ◌+◌, ◌-◌, ◌^◌, ◌==◌, min, nat_le, List, length, drop, Option, Result, Ok, Err, if◌then◌else◌}
+use Rattle.std.specs.Io.KnownBytes.{Appends}
+use Rattle.control.specs.Lines.{IsBegun}
 
 -- somebody whose word was handed on waits for its answer; how many callers were refused, and how many went unanswered
 pub record Attending : Type 0 where
@@ -15,6 +17,11 @@ with_more count more = min (count + more) (2 ^ 64 - 1)
 abbrev pub unanswered_after : {E : Type 0} → Result ℕ E → ℕ → ℕ → ℕ
 unanswered_after (Ok count) whole before = if count == whole then before else with_more before 1
 unanswered_after (Err error) whole before = with_more before 1
+
+-- the whole answer was written behind the known bytes, and the count stays; or a beginning of it, and it is counted
+abbrev pub IsToldOrCounted : Option (List ℕ) → Option (List ℕ) → List ℕ → ℕ → ℕ → Type 0
+IsToldOrCounted before after answer count count2 =
+    (Appends before after answer × (count2 ≡ count)) ⊎ (IsBegun before after answer × (count2 ≡ with_more count 1))
 
 -- eight are waited for at most: where there are as many, the one that was waited for longest makes room
 abbrev pub with_room : {T : Type 0} → List T → List T

@@ -2,6 +2,8 @@ pub mod Words
 pub mod Answers
 pub mod Paths
 pub mod Heard
+pub mod Lines
 pub mod Saying
+pub mod Dialling
 pub mod Attending
 pub mod Folders

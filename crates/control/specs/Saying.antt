@@ -1,8 +1,10 @@
 -- What a caller has said, and what he is answered.
-use Rattle.std.specs.Prelude.{ℕ, Bool, true, false, ◌≡◌, ◌≤◌, List, length, Option, Some}
-use Rattle.std.specs.Io.KnownBytes.{Appends, Consumes}
+use Rattle.std.specs.Prelude.{ℕ, Bool, true, false, ◌≡◌, ◌<◌, ◌≤◌, ◌⊎◌, List, [], ◌∷◌, ◌++◌, length, take, Option, Some}
+use Rattle.std.specs.Io.KnownBytes.{Consumes}
+use Rattle.std.specs.List.{concat}
 use Rattle.control.specs.Answers.{Content, answer_of, heard}
 use Rattle.control.specs.Heard.{IsWord}
+use Rattle.control.specs.Lines.{ComeIn, Does, not_come, not_said, said}
 use Rattle.control.specs.declared.callers.Said.{Said}
 use Rattle.control.specs.declared.callers.Said.TheVariants.{Nothing, Word, NoWord}
 
@@ -12,26 +14,49 @@ Says Nothing room = Unit {0}
 Says (Word count) room = (count ≤ length room) × IsWord count room
 Says NoWord room = Unit {0}
 
+-- a word is all that came at a time from a caller of whom it is known what is to come
+abbrev pub CameFrom : Said → Option (List ℕ) → Option (List ℕ) → List ℕ → Type 0
+CameFrom Nothing before after room = Unit {0}
+CameFrom (Word count) before after room = Consumes before after (take count room)
+CameFrom NoWord before after room = Unit {0}
+
 -- the answer that a word is taken, and no other
 abbrev pub is_heard : Option Content → Bool
 is_heard (Some heard) = true
 is_heard other = false
 
--- what came next says that the word is taken
-pub record HasHeard (before after : Option (List ℕ)) : Type 0 where
-  pub answer : List ℕ
-  pub taken : is_heard (answer_of answer) ≡ true
-  pub came : Consumes before after answer
+-- the last of these parts has nothing: no more will come
+abbrev pub IsEnded : List (List ℕ) → Type 0
+IsEnded parts = (earlier : List (List ℕ)) × (parts ≡ earlier ++ [] ∷ [])
 
--- A word was said, once and whole, to a stream of which it is known what was written to it and what is to come; and then its answer
--- says that it is taken
-pub record IsTaken {S : Type 0} (contents remaining : S → Option (List ℕ)) (word : List ℕ) (before after : S) : Type 0 where
-  pub between : S
-  pub said : Appends (contents before) (contents between) word
-  pub heard : HasHeard (remaining between) (remaining after)
+-- these bytes come, part by part: all there are, or as many as a room of this length takes; nothing else passes
+pub record Comes {L : Type 0} (does : Does L) (room : ℕ) (bytes : List ℕ) (before after : L) : Type 0 where
+  pub parts : List (List ℕ)
+  pub come : ComeIn does parts before after
+  pub bytes_are : concat parts ≡ bytes
+  pub all : length bytes < room → IsEnded parts
 
--- and then this answer came
-pub record IsAnswered {S : Type 0} (contents remaining : S → Option (List ℕ)) (word answer : List ℕ) (before after : S) : Type 0 where
-  pub between : S
-  pub said : Appends (contents before) (contents between) word
-  pub came : Consumes (remaining between) (remaining after) answer
+-- some parts come, and then none can be had; nothing else passes
+pub record IsCut {L : Type 0} (does : Does L) (before after : L) : Type 0 where
+  pub parts : List (List ℕ)
+  pub between : L
+  pub come : ComeIn does parts before between
+  pub cut : does between not_come after
+
+-- just this word is said, whole, by one call, and once; then this answer comes, all of it, or as much as a room of this length takes;
+-- nothing else passes
+pub record IsAnswered {L : Type 0} (does : Does L) (word : List ℕ) (room : ℕ) (answer : List ℕ) (before after : L) : Type 0 where
+  pub between : L
+  pub is_said : does before (said word) between
+  pub comes : Comes does room answer between after
+
+-- a word can't be said; or just it is, whole, by one call, and once, and then its answer, or the rest of it, can't be had; nothing else
+-- passes
+abbrev pub IsLost : {L : Type 0} → Does L → List ℕ → L → L → Type 0
+IsLost {L} does word before after =
+    does before (not_said word) after ⊎ ((between : L) × (does before (said word) between × IsCut does between after))
+
+-- just this word is said, so; then an answer comes, or the first five bytes of one, which says that the word is taken, or doesn't
+abbrev pub Tells : {L : Type 0} → Does L → List ℕ → Bool → L → L → Type 0
+Tells does word taken before after =
+    (answer : List ℕ) × (IsAnswered does word 5 answer before after × (is_heard (answer_of answer) ≡ taken))

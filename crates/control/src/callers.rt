@@ -1,8 +1,8 @@
 //! The end at which words are heard.
 ghost use Rattle.std.specs.Prelude.{◌≡◌, ◌-◌, ◌≤◌, ◌<◌, ◌||◌, ◌⊎◌, true, false, length, remove, vec_len, is_some, IfOk, IfSome, IsNone};
-ghost use Rattle.control.specs.Attending.{unanswered_after, with_more, with_room};
+ghost use Rattle.control.specs.Attending.{IsToldOrCounted, unanswered_after, with_more, with_room};
 ghost use Rattle.control.specs.Heard.{AreHeard, IsWord};
-ghost use Rattle.control.specs.Saying.{Says};
+ghost use Rattle.control.specs.Saying.{CameFrom, Says};
 
 use crate::folders::{Machine, ready};
 use crate::{ControlPath, NoSocket, word_of};
@@ -156,7 +156,7 @@ impl Control {
         let Some(mut speaker) = self.speaker.take() else {
             return;
         };
-        self.unanswered = unanswered_after(speaker.write(bytes), bytes.len(), self.unanswered);
+        self.unanswered = answered(&mut speaker, bytes, self.unanswered);
     }
 
     /// A word of those who are waited for, one after the other. Who said it, who said something else and who has gone
@@ -240,6 +240,14 @@ fn refuse(callers: &mut Vec<UnixStream>, at: usize, refused: &mut u64)
     *refused = refused.saturating_add(1);
 }
 
+/// Answers a caller by one write. How many went unanswered then: one more, where he hasn't the whole answer.
+fn answered<S: Write>(caller: &mut S, bytes: &[u8], before: u64) -> u64
+    ensures { IsToldOrCounted (S.contents caller.old) (S.contents caller.new) bytes.now before
+        result }
+{
+    unanswered_after(caller.write(bytes), bytes.len(), before)
+}
+
 /// How many went unanswered, once an answer of so many bytes was written.
 fn unanswered_after(written: io::Result<usize>, length: usize, before: u64) -> u64
     ensures { result ≡ unanswered_after written length before }
@@ -250,9 +258,10 @@ fn unanswered_after(written: io::Result<usize>, length: usize, before: u64) -> u
     }
 }
 
-/// What a caller has said by now.
-fn asked(caller: &mut UnixStream, room: &mut [u8]) -> Said
-    ensures { Says result room.new }
+/// What a caller has said by now, as far as there is room.
+fn asked<S: Read>(caller: &mut S, room: &mut [u8]) -> Said
+    ensures says { Says result room.new }
+    ensures came { CameFrom result (S.remaining caller.old) (S.remaining caller.new) room.new }
 {
     match caller.read(room) {
         Ok(count) if word_of(&room[..count]).is_some() => Said::Word(count),

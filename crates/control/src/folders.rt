@@ -1,6 +1,6 @@
 //! The folder in which a control socket lies.
-ghost use Rattle.std.specs.Prelude.{OnOk};
-ghost use Rattle.control.specs.Folders.{Deed, IsReady, closed, made, removed};
+ghost use Rattle.std.specs.Prelude.{◌<ℤ◌, ◌↔◌, pos, IsErr, OnErr, OnOk};
+ghost use Rattle.control.specs.Folders.{Deed, IsReady, IsRefused, closing, made, removed};
 
 use crate::ControlPath;
 use std::fs::Files;
@@ -20,9 +20,9 @@ pub(crate) trait Folders {
     fn make(&mut self, folder: &str, mode: u32)
         ensures { does self.old (made folder.now mode) self.new };
 
-    /// Gives a folder a mode.
+    /// Gives a folder a mode. After an Err it has the one that it had.
     fn close(&mut self, folder: &str, mode: u32) -> io::Result<()>
-        ensures { OnOk result (does self.old (closed folder.now mode) self.new) };
+        ensures { does self.old (closing result folder.now mode) self.new };
 
     /// Removes a socket, if it is there.
     fn remove(&mut self, socket: &str)
@@ -31,7 +31,8 @@ pub(crate) trait Folders {
 
 /// Readies the folder of a socket: only its owner may enter it, and what was left of an earlier socket is gone.
 pub(crate) fn ready<F: Folders>(folders: &mut F, path: &ControlPath) -> io::Result<()>
-    ensures { OnOk result (IsReady F.does path.now folders.old folders.new) }
+    ensures ready { OnOk result (IsReady F.does path.now folders.old folders.new) }
+    ensures refused { OnErr result (IsRefused F.does path.now folders.old folders.new) }
 {
     folders.make(path.folder(), OWN);
     folders.close(path.folder(), OWN)?;
@@ -59,8 +60,10 @@ impl<R: Files> Folders for Machine<'_, R> {
     }
 }
 
-/// The error of a call that has just failed, where it has.
-fn check(status: i32) -> io::Result<()> {
+/// The error of a call that has just failed, where it has: its status is below 0.
+fn check(status: i32) -> io::Result<()>
+    ensures { IsErr result ↔ (status <ℤ pos 0) }
+{
     if status < 0 {
         return Err(io::Error::from_raw_os_error(os::errno()));
     }

@@ -5,6 +5,7 @@
 mod answers;
 mod callers;
 mod folders;
+mod lines;
 mod paths;
 mod saying;
 mod words;

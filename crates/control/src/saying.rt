@@ -1,18 +1,17 @@
 //! The end at which a word is said.
-ghost use Rattle.std.specs.Prelude.{◌≡◌, ◌<◌, ◌≤◌, length, take, IfOk, OnOk};
-ghost use Rattle.std.specs.Io.KnownBytes.{Consumes, IsAtEnd};
+ghost use Rattle.std.specs.Duration.{as_nanos};
+ghost use Rattle.std.specs.Prelude.{◌≡◌, ◌<◌, ◌≤◌, ◌⊎◌, [], false, length, take, true, IfOk, OnErr, OnOk};
 ghost use Rattle.control.specs.Answers.{answer_of};
-ghost use Rattle.control.specs.Saying.{HasHeard, IsAnswered, IsTaken, is_heard};
+ghost use Rattle.control.specs.Dialling.{IsDialled, patience};
+ghost use Rattle.control.specs.Saying.{Comes, IsAnswered, IsCut, IsLost, Tells, is_heard};
 
+use crate::lines::{Dial, Line};
 use crate::{Answer, ControlPath};
-use std::io::{self, Read, Write};
+use std::io;
 use std::net::Net;
 use std::os::unix::net::UnixStream;
 use std::time::Duration;
 use thiserror::Error;
-
-/// How long a caller waits for an answer, or for more of it, in seconds.
-const PATIENCE: u64 = 2;
 
 /// A control socket can't be had; or nobody hears there.
 #[derive(Clone, Copy, Debug, PartialEq, Eq, Error)]
@@ -36,24 +35,18 @@ impl From<io::Error> for NoSocket {
 /// `NoSocket` where no box listens there, the caller may not speak to it, or it doesn't answer in time that the word is
 /// taken. Whether it took the word isn't known then.
 pub fn say<R: Net>(rt: &R, path: &ControlPath, word: &[u8]) -> Result<(), NoSocket> {
-    say_at(&mut connected(rt, path)?, word)
+    say_at::<UnixStream>(&mut connected(rt, path)?, word)
 }
 
 /// Says a word, once, and waits until it is taken.
-fn say_at<S: Read + Write>(stream: &mut S, word: &[u8]) -> Result<(), NoSocket>
-    ensures { OnOk result (IsTaken S.contents S.remaining word.now stream.old stream.new) }
-{
-    stream.write_all(word)?;
-    await_heard(stream)
-}
-
-/// Waits until a word that was said is taken.
-fn await_heard<S: Read>(stream: &mut S) -> Result<(), NoSocket>
-    ensures { OnOk result (HasHeard (S.remaining stream.old) (S.remaining stream.new)) }
+fn say_at<L: Line>(line: &mut L, word: &[u8]) -> Result<(), NoSocket>
+    ensures taken { OnOk result (Tells L.does word.now true line.old line.new) }
+    ensures untaken { OnErr result (IsLost L.does word.now line.old line.new
+        ⊎ Tells L.does word.now false line.old line.new) }
 {
     let mut answer = [0; 5];
-    stream.read_exact(&mut answer)?;
-    if is_heard(&answer) {
+    let count = exchange(line, word, &mut answer)?;
+    if is_heard(&answer[..count]) {
         Ok(())
     } else {
         Err(NoSocket)
@@ -84,43 +77,66 @@ pub fn ask<R: Net>(
     room: &mut [u8],
 ) -> Result<usize, NoSocket>
     ensures within { IfOk result (λ count. count ≤ length room.new) }
+    ensures some { IfOk result (λ count. 0 < count) }
 {
-    ask_at(&mut connected(rt, path)?, word, room)
+    ask_at::<UnixStream>(&mut connected(rt, path)?, word, room)
 }
 
 /// Says a word, once, and waits for its answer.
-fn ask_at<S: Read + Write>(stream: &mut S, word: &[u8], room: &mut [u8]) -> Result<usize, NoSocket>
+fn ask_at<L: Line>(line: &mut L, word: &[u8], room: &mut [u8]) -> Result<usize, NoSocket>
     ensures within { IfOk result (λ count. count ≤ length room.new) }
-    ensures answered { IfOk result (λ count. IsAnswered S.contents S.remaining word.now
-        (take count room.new) stream.old stream.new) }
+    ensures some { IfOk result (λ count. 0 < count) }
+    ensures answered { IfOk result (λ count. IsAnswered L.does word.now (length room.new)
+        (take count room.new) line.old line.new) }
+    ensures unanswered { OnErr result (IsLost L.does word.now line.old line.new
+        ⊎ IsAnswered L.does word.now (length room.new) [] line.old line.new) }
 {
-    stream.write_all(word)?;
-    match whole(stream, room)? {
+    match exchange(line, word, room)? {
         0 => Err(NoSocket),
         count => Ok(count),
     }
 }
 
-/// The box whose control socket lies there; at each end 2 seconds are waited at most.
-fn connected<R: Net>(rt: &R, path: &ControlPath) -> io::Result<UnixStream> {
-    let stream = UnixStream::connect(rt, path.socket())?;
-    let patience = Some(Duration::from_secs(PATIENCE));
-    stream.set_read_timeout(patience)?;
-    stream.set_write_timeout(patience)?;
-    Ok(stream)
+/// Says a word, once, and hears its answer: so many bytes of the room, and none where there is none.
+fn exchange<L: Line>(line: &mut L, word: &[u8], room: &mut [u8]) -> io::Result<usize>
+    ensures within { IfOk result (λ count. count ≤ length room.new) }
+    ensures room { length room.new ≡ length room.old }
+    ensures answered { IfOk result (λ count. IsAnswered L.does word.now (length room.new)
+        (take count room.new) line.old line.new) }
+    ensures lost { OnErr result (IsLost L.does word.now line.old line.new) }
+{
+    line.say(word)?;
+    whole(line, room)
 }
 
-/// How much is said until the other end is closed, as far as there is room.
-fn whole<S: Read>(stream: &mut S, room: &mut [u8]) -> io::Result<usize>
+/// A line to the box whose control socket lies there; at each end 2 seconds are waited at most.
+fn connected<R: Net, L: Dial + Drop>(rt: &R, path: &ControlPath) -> io::Result<L>
+    ensures { IfOk result (IsDialled L.reaches L.limits path.now) }
+{
+    let mut line = L::dial(rt, path.socket())?;
+    line.limit_hearing(patience())?;
+    line.limit_saying(patience())?;
+    Ok(line)
+}
+
+/// How long a caller waits for an answer, or for more of it, and until its word is taken.
+fn patience() -> Duration
+    ensures { as_nanos result ≡ patience }
+{
+    Duration::from_secs(2)
+}
+
+/// How much comes until the other end is closed, as far as there is room.
+fn whole<L: Line>(line: &mut L, room: &mut [u8]) -> io::Result<usize>
     ensures within { IfOk result (λ count. count ≤ length room.new) }
-    ensures came { IfOk result (λ count. Consumes (S.remaining stream.old)
-        (S.remaining stream.new) (take count room.new)) }
-    ensures all { IfOk result (λ count. count < length room.new
-        → IsAtEnd (S.remaining stream.new)) }
+    ensures room { length room.new ≡ length room.old }
+    ensures comes { IfOk result (λ count. Comes L.does (length room.new) (take count room.new)
+        line.old line.new) }
+    ensures cut { OnErr result (IsCut L.does line.old line.new) }
 {
     let mut count = 0;
-    for _turn in 0..room.len() {
-        match stream.read(&mut room[count..])? {
+    while count < room.len() {
+        match line.hear(&mut room[count..])? {
             0 => return Ok(count),
             more => count += more,
         }

@@ -1,11 +1,13 @@
-use Rattle.std.proofs.Common.{◌≡◌, ◌≤◌, length, take}
-use Rattle.std.specs.Io.KnownBytes.{Consumes}
+use Rattle.std.proofs.Common.{◌≡◌, ◌≤◌, ◌-◌, length, take}
+use Rattle.control.proofs.Coming.{HasCome}
 use Rattle.control.proofs.saying.whole.Given as goal
 
-abbrev pub invariant-loop-turn : goal.invariant-loop-turn
-invariant-loop-turn g l = record {
+abbrev pub invariant-loop-count : goal.invariant-loop-count
+invariant-loop-count g l = record {
   room : length l.room ≡ length l.fn.room;
   within : l.count ≤ length l.room;
-  came : Consumes (g.S.Read.remaining l.fn.stream) (g.S.Read.remaining l.stream) (take l.count l.room);
-  each : l._turn ≤ l.count;
+  come : HasCome g.L.Line.does (take l.count l.room) l.fn.line l.line;
 }
+
+abbrev pub decreases-loop-count : goal.decreases-loop-count
+decreases-loop-count g l = length l.room - l.count
