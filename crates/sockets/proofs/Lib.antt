@@ -3,3 +3,4 @@ mod Boards
 mod Commas
 mod Texts
 mod WayTexts
+mod Inheriting

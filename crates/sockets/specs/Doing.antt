@@ -1,7 +1,6 @@
 -- What a call is to the sockets of a box.
-use Rattle.std.specs.Prelude.{List, [], ◌∷◌, Result}
+use Rattle.std.specs.Prelude.{[], ◌∷◌, Result}
 use Rattle.sockets.specs.declared.losses.SendFault.{SendFault}
-use Rattle.sockets.specs.declared.places.Place.{Place}
 use Rattle.sockets.specs.declared.places.Place.TheVariants.{Operator}
 use Rattle.sockets.specs.declared.sockets.Sockets.{Sockets}
 use Rattle.sockets.specs.Boards.{HearsAt, IsAsBefore, SendsAt}

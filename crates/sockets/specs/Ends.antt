@@ -1,11 +1,19 @@
 -- The two ends of a way over UDP, and their texts.
 use Rattle.std.specs.Prelude.{ℕ, ◌≡◌, ◌<◌, List, ◌++◌, codes}
+use Rattle.std.specs.Int.{to_be_bytes, w32}
+use Rattle.std.specs.declared.net.socket_addr.SocketAddr.{SocketAddr}
+use Rattle.std.specs.declared.net.socket_addr.SocketAddr.TheVariants.{V4, V6}
 use Rattle.std.specs.declared.net.socket_addr.SocketAddrV4.{SocketAddrV4}
-use Rattle.std.specs.Net.Addr.{ipv4_bits}
+use Rattle.std.specs.Net.Addr.{ipv4_bits, ipv4_octets}
 use Rattle.std.specs.Net.Grammar.{IsSocketV4Text}
 use Rattle.std.specs.Net.Socket.{v4_ip, v4_port}
 use Rattle.sockets.specs.declared.ends.End.{End}
 use Rattle.sockets.specs.declared.ends.Ends.{Ends}
+
+-- the system's name of an end: its address, the most significant byte first, and its port
+abbrev pub IsSocketOf : End → SocketAddr → Type 0
+IsSocketOf end (V4 socket) = (ipv4_octets (v4_ip socket) ≡ to_be_bytes w32 end.address.0) × (v4_port socket ≡ end.port)
+IsSocketOf end (V6 socket) = ⊥
 
 -- the text writes an address and a port, as 10.0.0.1:7000, and the port is above 0
 pub record IsEndText (text : List ℕ) (end : End) : Type 0 where

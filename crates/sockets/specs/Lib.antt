@@ -3,6 +3,7 @@ pub mod Letters
 pub mod Failing
 pub mod Ends
 pub mod Ways
+pub mod Inheriting
 pub mod Vxlan
 pub mod FarEnds
 pub mod Rooms
@@ -14,3 +15,4 @@ pub mod Bringing
 pub mod Boards
 pub mod Showing
 pub mod Doing
+pub mod Opening

@@ -1,11 +1,17 @@
 -- How many datagrams of a place weren't sent.
-use Rattle.std.specs.Prelude.{ℕ, ◌+◌, ◌-◌, ◌^◌, min, Result, Ok, Err}
+use Rattle.std.specs.Prelude.{ℕ, ℤ, pos, negsuc, ◌+◌, ◌-◌, ◌^◌, ◌==◌, min, Option, Some, None, Result, Ok, Err, if◌then◌else◌}
 use Rattle.sockets.specs.declared.losses.SendFault.{SendFault}
 use Rattle.sockets.specs.declared.losses.SendFault.TheVariants.{TooLong, Failed}
 use Rattle.sockets.specs.declared.losses.Losses.{Losses}
 
 abbrev pub none_lost : Losses
 none_lost = record { too_long = 0; failed = 0 }
+
+-- by the system's number of an error: Linux has 90 for a datagram that is too long
+abbrev pub fault_of : Option ℤ → SendFault
+fault_of None = Failed
+fault_of (Some (pos number)) = if number == 90 then TooLong else Failed
+fault_of (Some (negsuc number)) = Failed
 
 -- a count stays at its greatest number
 abbrev pub one_more : ℕ → ℕ

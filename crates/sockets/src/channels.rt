@@ -1,7 +1,9 @@
 //! The system's sockets and inherited descriptors as conduits.
-ghost use Rattle.std.specs.Prelude.{◌≡◌, ◌≢◌, ◌≤◌, ◌++◌, ◌↔◌, length, IfErr, IfOk, IfSome, IsErr, IsOk, Some, None, Ok};
-ghost use Rattle.std.specs.IoError.{error_kind};
+ghost use Rattle.std.specs.Prelude.{◌≡◌, ◌≢◌, ◌≤◌, ◌<ℤ◌, ◌++◌, ◌↔◌, pos, length, IfErr, IfOk, IfSome, IsErr, IsOk, OnOk, Some, None, Ok};
+ghost use Rattle.std.specs.IoError.{error_kind, raw_os_error};
 ghost use Rattle.sockets.specs.Kept.{nothing_yet};
+ghost use Rattle.sockets.specs.Losses.{fault_of};
+ghost use Rattle.sockets.specs.Opening.{IsJoined, IsOpened};
 
 use crate::traffic::Traffic;
 use crate::{Arrived, Conduit, End, Ends, LONGEST, SendFault, Sender, Way, WireFault};
@@ -12,13 +14,47 @@ use std::io::{self, ErrorKind};
 use std::net::{Net, SocketAddr};
 use std::os::fd::RawFd;
 
+/// A UDP socket, as far as it is bound and connected.
+trait Bind: Sized {
+    ghost use Rattle.std.specs.declared.net.socket_addr.SocketAddr.{SocketAddr};
+
+    /// Which sockets are those just bound at an address.
+    ghost bound: { SocketAddr → Self → Type 0 };
+
+    /// What it is to a socket to be connected to an address, and what the socket is then.
+    ghost connects: { Self → SocketAddr → Self → Type 0 };
+
+    /// A socket at this address.
+    fn bind_at<R: Net>(net: &R, own: SocketAddr) -> io::Result<Self>
+        ensures { IfOk result (bound own) };
+
+    /// Has it hear this address alone, as far as the system has it, and send there.
+    fn connect_to(&mut self, other: SocketAddr) -> io::Result<()>
+        ensures { OnOk result (connects self.old other self.new) };
+}
+
+/// The system's, of which nothing is known.
+impl Bind for UdpSocket {
+    ghost bound = { λ _ _. Unit {0} };
+
+    ghost connects = { λ _ _ _. Unit {0} };
+
+    fn bind_at<R: Net>(net: &R, own: SocketAddr) -> io::Result<UdpSocket> {
+        UdpSocket::bind(net, own)
+    }
+
+    fn connect_to(&mut self, other: SocketAddr) -> io::Result<()> {
+        self.connect(other)
+    }
+}
+
 /// What a datagram goes through. It never waits.
 #[derive(Drop)]
-enum Socket {
+enum Socket<S> {
     /// It is connected, so that what others send takes no room in it.
-    Connected(UdpSocket),
+    Connected(S),
     /// A kernel sends each flow of VXLAN from a port of its own, so this one isn't connected; it sends there.
-    Open(UdpSocket, SocketAddr),
+    Open(S, SocketAddr),
     /// Inherited, and never closed.
     Descriptor(RawFd),
 }
@@ -26,7 +62,7 @@ enum Socket {
 /// A socket of the system's. No clause can say what it does; what its calls answer is its traffic.
 #[derive(Drop)]
 pub(crate) struct Channel {
-    socket: Socket,
+    socket: Socket<UdpSocket>,
     traffic: Traffic,
 }
 
@@ -42,15 +78,7 @@ impl Channel {
     ) -> io::Result<Channel>
         ensures { IfOk result (λ c. c.traffic ≡ nothing_yet) }
     {
-        let mut socket = match way {
-            Way::Loopback => Socket::connected(net, Ends::on_loopback(ports))?,
-            Way::Udp(ends) => Socket::connected(net, ends)?,
-            Way::Vxlan(ends, _) => {
-                let socket = UdpSocket::bind(net, ends.own.socket())?;
-                Socket::Open(socket, ends.other.socket())
-            }
-            Way::Descriptor(number) => Socket::Descriptor(RawFd::from(number)),
-        };
+        let mut socket = opened(net, way, ports)?;
         socket.register(registry, token)?;
         Ok(Channel {
             socket,
@@ -81,7 +109,9 @@ impl Conduit for Channel {
 const EMSGSIZE: i32 = 90;
 
 /// Why a datagram wasn't sent.
-fn fault_of(error: &io::Error) -> SendFault {
+fn fault_of(error: &io::Error) -> SendFault
+    ensures { result ≡ fault_of (raw_os_error error.now) }
+{
     match error.raw_os_error() {
         Some(EMSGSIZE) => SendFault::TooLong,
         _ => SendFault::Failed,
@@ -105,14 +135,31 @@ fn settled(received: io::Result<Arrived>) -> Result<Option<Arrived>, WireFault>
     }
 }
 
-impl Socket {
-    /// A socket at the own end that hears the other alone, as far as the system has it.
-    fn connected<R: Net>(net: &R, ends: Ends) -> io::Result<Socket> {
-        let socket = UdpSocket::bind(net, ends.own.socket())?;
-        socket.connect(ends.other.socket())?;
-        Ok(Socket::Connected(socket))
+/// What a way needs. On the loopback address the place has these ports: its own, and the other.
+fn opened<R: Net, S: Bind + Drop>(net: &R, way: Way, ports: (u16, u16)) -> io::Result<Socket<S>>
+    ensures { IfOk result (IsOpened S.bound S.connects way ports) }
+{
+    match way {
+        Way::Loopback => Ok(Socket::Connected(joined(net, Ends::on_loopback(ports))?)),
+        Way::Udp(ends) => Ok(Socket::Connected(joined(net, ends)?)),
+        Way::Vxlan(ends, _) => {
+            let socket = S::bind_at(net, ends.own.socket())?;
+            Ok(Socket::Open(socket, ends.other.socket()))
+        }
+        Way::Descriptor(number) => Ok(Socket::Descriptor(RawFd::from(number))),
     }
+}
 
+/// A socket at the own end that hears the other alone, as far as the system has it.
+fn joined<R: Net, S: Bind + Drop>(net: &R, ends: Ends) -> io::Result<S>
+    ensures { IfOk result (IsJoined S.bound S.connects ends) }
+{
+    let mut socket = S::bind_at(net, ends.own.socket())?;
+    socket.connect_to(ends.other.socket())?;
+    Ok(socket)
+}
+
+impl Socket<UdpSocket> {
     fn register(&mut self, registry: &Registry, token: Token) -> io::Result<()> {
         match self {
             Socket::Connected(socket) | Socket::Open(socket, _) => {
@@ -190,28 +237,28 @@ fn receive_from(socket: &UdpSocket, room: &mut [u8; LONGEST]) -> io::Result<Arri
 fn read(descriptor: RawFd, room: &mut [u8; LONGEST]) -> io::Result<Arrived>
     ensures { IfOk result (λ arrived. arrived.count ≤ 4096) }
 {
-    let count = libc::read(descriptor, room);
-    if count < 0 {
-        return Err(last_error());
-    }
+    let count = counted(libc::read(descriptor, room))?;
     if count == 0 {
         return Err(io::Error::from(ErrorKind::UnexpectedEof));
     }
     Ok(Arrived {
-        count: count as usize,
+        count,
         sender: Sender::Interface,
     })
 }
 
 /// Writes a frame, and says how many of its bytes were taken.
 fn write(descriptor: RawFd, bytes: &[u8]) -> io::Result<usize> {
-    let count = libc::write(descriptor, bytes);
-    if count < 0 {
-        return Err(last_error());
-    }
-    Ok(count as usize)
+    counted(libc::write(descriptor, bytes))
 }
 
-fn last_error() -> io::Error {
-    io::Error::from_raw_os_error(os::errno())
+/// How many bytes a call of the system counts, or why it fails: it counts less than 0 then.
+fn counted(count: isize) -> io::Result<usize>
+    ensures failed { IsErr result ↔ (count <ℤ pos 0) }
+    ensures bytes { IfOk result (λ bytes. count ≡ pos bytes) }
+{
+    if count < 0 {
+        return Err(io::Error::from_raw_os_error(os::errno()));
+    }
+    Ok(count as usize)
 }

@@ -2,7 +2,7 @@
 ghost use Rattle.std.specs.Prelude.{◌≡◌, MatchOption};
 ghost use Rattle.std.specs.Net.Addr.{ipv4_bits};
 ghost use Rattle.std.specs.Net.Socket.{v4_ip, v4_port};
-ghost use Rattle.sockets.specs.Ends.{IsEndText, IsEndsText, IsNoEndText, IsNoEndsText, are_on_loopback};
+ghost use Rattle.sockets.specs.Ends.{IsEndText, IsEndsText, IsNoEndText, IsNoEndsText, IsSocketOf, are_on_loopback};
 
 use addresses::Ip;
 use std::net::{Ipv4Addr, SocketAddr, SocketAddrV4};
@@ -36,7 +36,10 @@ impl End {
         }
     }
 
-    pub(crate) fn socket(self) -> SocketAddr {
+    #[tactic(auto, unfolding(std::specs::Net::Addr::IsIpv4OfBits))]
+    pub(crate) fn socket(self) -> SocketAddr
+        ensures { IsSocketOf self result }
+    {
         SocketAddr::V4(SocketAddrV4::new(Ipv4Addr::from_bits(self.address.0), self.port))
     }
 }

@@ -1,5 +1,6 @@
 //! By what way each place of a box is reached.
 ghost use Rattle.std.specs.Prelude.{◌≡◌, MatchOption, IfErr};
+ghost use Rattle.sockets.specs.Inheriting.{AreInherited, IsInherited, descriptor_of, descriptors_of, named_by};
 ghost use Rattle.sockets.specs.Ways.{IsWayText, IsNoWayText, IsVxlanText, IsNoVxlanText, IsDescriptorText, IsNoDescriptorText, IsDescriptor, Names};
 
 use crate::{End, Ends, FarEnd, Network};
@@ -117,20 +118,58 @@ impl Ways {
     pub fn inherit(&self) -> Result<(), NoDescriptor>
         ensures { IfErr result (λ fault. Names self.now fault.0) }
     {
-        inherit(self.inside)?;
-        inherit(self.outside)?;
-        inherit(self.link)
+        inherit_all(&mut SystemDescriptors, self)
     }
 }
 
-/// Makes the descriptor of a way, if it has one, one that never waits.
-fn inherit(way: Way) -> Result<(), NoDescriptor>
-    ensures { IfErr result (λ fault. IsDescriptor way fault.0) }
+/// The descriptors that a box inherits.
+trait Descriptors {
+    ghost use Rattle.std.specs.Prelude.{ℕ, Bool};
+
+    /// Whether a descriptor is made one that never waits, as it may be answered, and what they are then.
+    ghost unblocks: { Self → ℕ → Bool → Self → Type 0 };
+
+    /// Makes a descriptor one that never waits. It can't be where it isn't open.
+    fn unblock(&mut self, number: u16) -> bool
+        ensures { unblocks self.old number result self.new };
+}
+
+/// The system's, of which nothing is known.
+#[derive(Drop)]
+struct SystemDescriptors;
+
+impl Descriptors for SystemDescriptors {
+    ghost unblocks = { λ _ _ _ _. Unit {0} };
+
+    fn unblock(&mut self, number: u16) -> bool {
+        os::set_nonblocking(RawFd::from(number), true) >= 0
+    }
+}
+
+/// Makes the descriptors of the ways ones that never wait, up to the first that isn't open.
+#[tactic(auto, using(crate::proofs::Inheriting::inherited_last))]
+fn inherit_all<D: Descriptors>(descriptors: &mut D, ways: &Ways) -> Result<(), NoDescriptor>
+    ensures named { IfErr result (λ fault. Names ways.now fault.0) }
+    ensures first { AreInherited D.unblocks (descriptors_of ways.now) (named_by result)
+        descriptors.old descriptors.new }
 {
-    match way {
-        Way::Descriptor(number) if os::set_nonblocking(RawFd::from(number), true) < 0 => {
-            Err(NoDescriptor(number))
-        }
-        _ => Ok(()),
+    inherit(descriptors, ways.inside)?;
+    inherit(descriptors, ways.outside)?;
+    inherit(descriptors, ways.link)
+}
+
+/// Makes the descriptor of a way, if it has one, one that never waits.
+fn inherit<D: Descriptors>(descriptors: &mut D, way: Way) -> Result<(), NoDescriptor>
+    ensures named { IfErr result (λ fault. IsDescriptor way fault.0) }
+    ensures inherited { IsInherited D.unblocks (descriptor_of way) (named_by result)
+        descriptors.old descriptors.new }
+{
+    let Way::Descriptor(number) = way else {
+        return Ok(());
+    };
+    if descriptors.unblock(number) {
+        Ok(())
+    } else {
+        Err(NoDescriptor(number))
     }
 }

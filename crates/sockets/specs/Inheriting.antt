@@ -1,0 +1,35 @@
+-- How a box inherits the descriptors of its ways.
+use Rattle.std.specs.Prelude.{ℕ, Bool, true, false, ◌≡◌, ◌⊎◌, List, [], ◌∷◌, Option, Some, None, IsSome, Result, Ok, Err}
+use Rattle.sockets.specs.declared.ways.NoDescriptor.{NoDescriptor}
+use Rattle.sockets.specs.declared.ways.Way.{Way}
+use Rattle.sockets.specs.declared.ways.Way.TheVariants.{Loopback, Udp, Vxlan, Descriptor}
+use Rattle.sockets.specs.declared.ways.Ways.{Ways}
+
+-- the descriptor of a way, where it has one
+abbrev pub descriptor_of : Way → Option ℕ
+descriptor_of Loopback = None
+descriptor_of (Udp ends) = None
+descriptor_of (Vxlan ends network) = None
+descriptor_of (Descriptor number) = Some number
+
+-- those of a box, in the order in which they are inherited: the inside's, the outside's, the link's
+abbrev pub descriptors_of : Ways → List (Option ℕ)
+descriptors_of ways = descriptor_of ways.inside ∷ descriptor_of ways.outside ∷ descriptor_of ways.link ∷ []
+
+-- the one that an Err names
+abbrev pub named_by : {T : Type 0} → Result T NoDescriptor → Option ℕ
+named_by (Ok done) = None
+named_by (Err fault) = Some fault.0
+
+-- a descriptor is made one that never waits, and none is named; or it can't be, and is named. Where there is none nothing is done
+abbrev pub IsInherited : {D : Type 0} → (D → ℕ → Bool → D → Type 0) → Option ℕ → Option ℕ → D → D → Type 0
+IsInherited unblocks None named before after = (named ≡ None) × (after ≡ before)
+IsInherited unblocks (Some number) None before after = unblocks before number true after
+IsInherited unblocks (Some number) (Some named) before after = (named ≡ number) × unblocks before number false after
+
+-- so are these, one after the other, up to the first that can't be: it is named, and nothing is done to those behind it
+abbrev pub AreInherited : {D : Type 0} → (D → ℕ → Bool → D → Type 0) → List (Option ℕ) → Option ℕ → D → D → Type 0
+AreInherited unblocks [] named before after = (named ≡ None) × (after ≡ before)
+AreInherited {D} unblocks (one ∷ others) named before after =
+    (IsInherited unblocks one named before after × IsSome named)
+    ⊎ ((between : D) × (IsInherited unblocks one None before between × AreInherited unblocks others named between after))

@@ -1,0 +1,39 @@
+-- What a way needs is opened.
+use Rattle.std.specs.Prelude.{ℕ, pos, ◌≡◌}
+use Rattle.std.specs.declared.net.socket_addr.SocketAddr.{SocketAddr}
+use Rattle.sockets.specs.Ends.{IsSocketOf, are_on_loopback}
+use Rattle.sockets.specs.declared.channels.Socket.{Socket}
+use Rattle.sockets.specs.declared.channels.Socket.TheVariants as socket
+use Rattle.sockets.specs.declared.ends.End.{End}
+use Rattle.sockets.specs.declared.ends.Ends.{Ends}
+use Rattle.sockets.specs.declared.ways.Way.{Way}
+use Rattle.sockets.specs.declared.ways.Way.TheVariants as way
+
+-- a socket was just bound at an end
+pub record IsBoundAt {S : Type 0} (bound : SocketAddr → S → Type 0) (end : End) (s : S) : Type 0 where
+  pub address : SocketAddr
+  pub address_is : IsSocketOf end address
+  pub is_bound : bound address s
+
+-- it was bound at the own end, and then connected to the other
+pub record IsJoined {S : Type 0} (bound : SocketAddr → S → Type 0) (connects : S → SocketAddr → S → Type 0) (ends : Ends) (s : S) : Type 0 where
+  pub first : S
+  pub own : IsBoundAt bound ends.own first
+  pub address : SocketAddr
+  pub address_is : IsSocketOf ends.other address
+  pub is_connected : connects first address s
+
+-- this is what a way needs: on the loopback address the place has these ports
+abbrev pub IsOpened : {S : Type 0} → (SocketAddr → S → Type 0) → (S → SocketAddr → S → Type 0) → Way → ℕ × ℕ → Socket S → Type 0
+IsOpened bound connects way.Loopback ports (socket.Connected s) = IsJoined bound connects (are_on_loopback ports) s
+IsOpened bound connects way.Loopback ports (socket.Open s other) = ⊥
+IsOpened bound connects way.Loopback ports (socket.Descriptor number) = ⊥
+IsOpened bound connects (way.Udp ends) ports (socket.Connected s) = IsJoined bound connects ends s
+IsOpened bound connects (way.Udp ends) ports (socket.Open s other) = ⊥
+IsOpened bound connects (way.Udp ends) ports (socket.Descriptor number) = ⊥
+IsOpened bound connects (way.Vxlan ends network) ports (socket.Connected s) = ⊥
+IsOpened bound connects (way.Vxlan ends network) ports (socket.Open s other) = IsBoundAt bound ends.own s × IsSocketOf ends.other other
+IsOpened bound connects (way.Vxlan ends network) ports (socket.Descriptor number) = ⊥
+IsOpened bound connects (way.Descriptor number) ports (socket.Connected s) = ⊥
+IsOpened bound connects (way.Descriptor number) ports (socket.Open s other) = ⊥
+IsOpened bound connects (way.Descriptor number) ports (socket.Descriptor found) = found ≡ pos number
