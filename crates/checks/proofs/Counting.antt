@@ -1,13 +1,19 @@
 -- When no fault is counted.
-use Rattle.std.proofs.Common.{◌≡◌, ◌∙◌, ◌↔◌, ◌==◌, ℕ, Bool, true, false, cond, not, List, [], ◌∷◌, length, filter, Option, Some, None, refl, sym, ap, arith}
+use Rattle.std.proofs.Common.{◌≡◌, ◌∙◌, ◌↔◌, ◌==◌, ◌+◌, ℕ, Bool, true, false, cond, not, List, [], ◌∷◌, length, filter, Option, Some, None, refl, sym, ap, arith}
 use Rattle.std.proofs.lemmas.Bool.{eqb-false}
 use Rattle.toml.specs.Data.{Members}
 use Rattle.nat_types.specs.declared.gateways.GatewayId.{GatewayId}
 use Rattle.settings_file.specs.declared.looks.Look.{Look}
 use Rattle.settings_file.specs.declared.looks.Look.TheVariants as looks
 use Rattle.settings_file.specs.Listing.{HasNoFault, IsSeen, IsSeenIn}
+use Rattle.settings.specs.declared.whole.Settings.{Settings}
 use Rattle.checks.specs.declared.doubts.Warning.{Warning}
-use Rattle.checks.specs.Counts.{at_least_one, fault_count, stops, stopping, left, IsClean, IsUndoubted}
+use Rattle.checks.specs.declared.requests.Request.{Request}
+use Rattle.checks.specs.declared.sights.Sights.{Sights}
+use Rattle.checks.specs.BootFiles.{boot_file_faults, boot_file_warnings}
+use Rattle.checks.specs.Counts.{at_least_one, capped, fault_count, stops, stopping, left, IsClean, IsUndoubted}
+use Rattle.checks.specs.Doubts.{warnings_of}
+use Rattle.checks.specs.Reports.{faults_in, held_faults, held_warnings, more_faults, more_warnings, places_faults, places_warnings}
 
 positive : (n : ℕ) (none : Bool) → (n == 0) ≡ none → cond none 1 n ≡ 0 → ⊥
 positive n true e h = absurd (omega arith)
@@ -75,3 +81,50 @@ undoubted id (w ∷ ws) h k =
 pub none_stops : (ws : List Warning) → stopping None ws ≡ 0
 none_stops [] = refl
 none_stops (w ∷ ws) = none_stops ws
+
+-- ---- what a report counts
+
+-- a sum is none just where its parts are
+capped_none : (a b : ℕ) → capped (a + b) ≡ 0 → (a ≡ 0) × (b ≡ 0)
+capped_none a b h = (omega (arith, h), omega (arith, h))
+
+-- where no fault is counted a look found none
+pub none_found : (look : Look) (request : Request) (sights : Sights) → faults_in look request sights ≡ 0 → HasNoFault look
+none_found look request sights h = (counted look).0 (capped_none (fault_count look) (more_faults look request sights) h).0
+
+-- of settings of which no fault and no warning is counted nothing is doubted
+held_undoubted : (settings : Settings) (request : Request) (sights : Sights) → held_faults settings request sights ≡ 0
+    → held_warnings settings request sights ≡ 0 → warnings_of settings ≡ []
+unfolding held_faults held_warnings
+held_undoubted settings request sights h k =
+    undoubted request.id (warnings_of settings)
+    (capped_none (stopping request.id (warnings_of settings)) (places_faults request sights + boot_file_faults request.id sights.boot_file) h).0
+    (capped_none (left request.id (warnings_of settings)) (places_warnings settings request sights + boot_file_warnings request.id sights.boot_file) k).0
+
+pub none_doubted : (look : Look) (request : Request) (sights : Sights) → faults_in look request sights ≡ 0
+    → more_warnings look request sights ≡ 0 → IsUndoubted look
+none_doubted looks.NotToml request sights h k = tt
+none_doubted (looks.UnknownKeys paths) request sights h k = tt
+none_doubted (looks.MissingKeys keys) request sights h k = tt
+none_doubted (looks.BadValues keys) request sights h k = tt
+none_doubted looks.RangesOverlap request sights h k = tt
+none_doubted looks.SameIds request sights h k = tt
+none_doubted (looks.Held settings keys) request sights h k =
+    held_undoubted settings request sights (capped_none (length keys.items) (held_faults settings request sights) h).1 k
+
+-- where neither a box nor an address is asked for, settings have no fault but their own
+held_unasked : (settings : Settings) (request : Request) (sights : Sights) → request.id ≡ None → request.link ≡ None
+    → held_faults settings request sights ≡ 0
+unfolding held_faults
+held_unasked settings request sights id link = rw (id, link) (rw (none_stops (warnings_of settings)) refl)
+
+pub none_asked : (look : Look) (request : Request) (sights : Sights) → request.id ≡ None → request.link ≡ None → HasNoFault look
+    → faults_in look request sights ≡ 0
+none_asked looks.NotToml request sights id link none = absurd none
+none_asked (looks.UnknownKeys paths) request sights id link none = absurd none
+none_asked (looks.MissingKeys keys) request sights id link none = absurd none
+none_asked (looks.BadValues keys) request sights id link none = absurd none
+none_asked looks.RangesOverlap request sights id link none = absurd none
+none_asked looks.SameIds request sights id link none = absurd none
+none_asked (looks.Held settings keys) request sights id link none =
+    rw (none, held_unasked settings request sights id link) refl

@@ -1,5 +1,6 @@
 mod Counting
 mod Differing
 mod Lines
+mod Parts
 mod Numbers
 mod Pairing

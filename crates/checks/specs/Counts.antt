@@ -82,7 +82,7 @@ abbrev pub IsClean : Option Members → Type 0
 IsClean document =
     (settings : Settings) × IsHeld document settings × (all_that_cant settings ≡ []) × (warnings_of settings ≡ [])
 
--- a text holds settings with which `gate` starts
+-- a text holds settings that can work: those that `settings_file::read` gives of it
 unfoldable pub IsGoodText : List ℕ → Type 0
 IsGoodText text = IsGood (parse_document text)
 

@@ -1,16 +1,18 @@
 //! Says what there is of a box's boot file.
-ghost use Rattle.std.specs.Prelude.{◌≡◌, false, string_bytes, IfOk, None};
+ghost use Rattle.std.specs.Prelude.{◌≡◌, ◌++◌, false, string_bytes, IfOk, OnOk};
 ghost use Rattle.boot_store.specs.BootFile.{boot_answer};
-ghost use Rattle.settings.specs.Parts.{gateway_of};
-ghost use Rattle.checks.specs.BootFiles.{faults_of, is_open_to_others, key_of, open_count, open_to};
+ghost use Rattle.checks.specs.BootFiles.{boot_file_faults, boot_file_text, boot_file_warnings};
+ghost use Rattle.checks.specs.BootFiles.{faults_of, found_text, is_open_to_others, key_of, mode_line};
+ghost use Rattle.checks.specs.BootFiles.{mode_text, number_line, open_count, open_to, seen_text};
+ghost use Rattle.checks.specs.BootFiles.{start_line, use_text};
 ghost use Rattle.checks.specs.Counts.{faults_of_start, one_if};
+ghost use Rattle.checks.specs.Saying.{fault_at};
 
 use crate::tallies::{FAULT, NOTHING, Tally, WARNING};
-use crate::{Found, Seen, Surroundings};
+use crate::{Found, Seen};
 use nat_types::GatewayId;
-use settings::Settings;
 use settings_file::{Key, Name, Section};
-use std::io::{self, Write};
+use std::alloc::AllocError;
 
 fn key_of(id: GatewayId) -> Key
     ensures { result ≡ key_of id }
@@ -23,33 +25,39 @@ fn key_of(id: GatewayId) -> Key
 }
 
 /// Says a fault of a boot file.
-fn say_fault<O: Write>(fault: &str, key: Key, output: &mut O) -> io::Result<Tally>
+fn say_fault(fault: &str, key: Key, text: &mut String) -> Result<Tally, AllocError>
+    ensures text { OnOk result
+        (string_bytes text.new ≡ string_bytes text.old ++ fault_at fault.now key) }
     ensures faults { IfOk result (λ tally. tally.faults ≡ 1) }
     ensures warnings { IfOk result (λ tally. tally.warnings ≡ 0) }
 {
-    writeln!(output, "fault: {fault} {key}")?;
+    writeln!(text, "fault: {fault} {key}")?;
     Ok(FAULT)
 }
 
 /// Says which was the last start, if one was.
-fn say_start<O: Write>(boot: u64, key: Key, output: &mut O) -> io::Result<()> {
+fn say_start(boot: u64, key: Key, text: &mut String) -> Result<(), AllocError>
+    ensures { OnOk result (string_bytes text.new ≡ string_bytes text.old ++ start_line boot key) }
+{
     match boot {
-        0 => writeln!(output, "note: {key}: no start yet"),
-        _ => writeln!(output, "note: {key}: the last start was boot {boot}"),
+        0 => writeln!(text, "note: {key}: no start yet"),
+        _ => writeln!(text, "note: {key}: the last start was boot {boot}"),
     }
 }
 
 /// Says what number a boot file has. It is a fault where no box starts with it.
-fn say_number<O: Write>(number: Option<u64>, key: Key, output: &mut O) -> io::Result<Tally>
+fn say_number(number: Option<u64>, key: Key, text: &mut String) -> Result<Tally, AllocError>
+    ensures text { OnOk result
+        (string_bytes text.new ≡ string_bytes text.old ++ number_line number key) }
     ensures faults { IfOk result
         (λ tally. tally.faults ≡ faults_of_start (boot_answer false number)) }
     ensures warnings { IfOk result (λ tally. tally.warnings ≡ 0) }
 {
     match number {
-        None => say_fault("boot 2 Damaged", key, output),
-        Some(u64::MAX) => say_fault("boot 3 BootsUsedUp", key, output),
+        None => say_fault("boot 2 Damaged", key, text),
+        Some(u64::MAX) => say_fault("boot 3 BootsUsedUp", key, text),
         Some(number) => {
-            say_start(number, key, output)?;
+            say_start(number, key, text)?;
             Ok(NOTHING)
         }
     }
@@ -62,72 +70,88 @@ fn is_open_to_others(mode: u32) -> bool
     mode % 0o100 != 0
 }
 
-/// Says who else may use a file of this mode.
-fn say_mode<O: Write>(mode: u32, key: Key, output: &mut O) -> io::Result<Tally>
-    ensures faults { IfOk result (λ tally. tally.faults ≡ 0) }
-    ensures warnings { IfOk result (λ tally. tally.warnings ≡ one_if (is_open_to_others mode)) }
+/// Says what mode a file has.
+fn say_mode_line(mode: u32, key: Key, text: &mut String) -> Result<(), AllocError>
+    ensures { OnOk result (string_bytes text.new ≡ string_bytes text.old ++ mode_line mode key) }
 {
-    if !is_open_to_others(mode) {
-        return Ok(NOTHING);
-    }
     let mode = mode % 0o1000;
     writeln!(
-        output,
+        text,
         "warning: {key}: its mode is {mode:o}, and 600 keeps others from it"
-    )?;
-    Ok(WARNING)
+    )
 }
 
-/// The path of a box's boot file.
-fn path_of(settings: &Settings, id: GatewayId) -> &str
-    ensures { result.now ≡ string_bytes (gateway_of settings.now id).boot_file }
+/// Says who else may use a file, where its mode is known.
+fn say_mode(mode: Option<u32>, key: Key, text: &mut String) -> Result<Tally, AllocError>
+    ensures text { OnOk result
+        (string_bytes text.new ≡ string_bytes text.old ++ mode_text mode key) }
+    ensures faults { IfOk result (λ tally. tally.faults ≡ 0) }
+    ensures warnings { IfOk result (λ tally. tally.warnings ≡ open_to mode) }
 {
-    settings.gateway(id).boot_file.as_str()
-}
-
-/// Looks at the boot file of a box, where one is named.
-pub(crate) fn say_boot_file<P: Surroundings, O: Write>(
-    around: &P,
-    settings: &Settings,
-    id: Option<GatewayId>,
-    output: &mut O,
-) -> io::Result<Tally>
-    ensures none { id ≡ None → IfOk result (λ tally. tally.faults ≡ 0) }
-{
-    match id {
-        Some(id) => {
-            let found = around.boot_file(path_of(settings, id));
-            say_found(found, key_of(id), output)
+    match mode {
+        Some(mode) if is_open_to_others(mode) => {
+            say_mode_line(mode, key, text)?;
+            Ok(WARNING)
         }
-        None => Ok(NOTHING),
+        Some(_) | None => Ok(NOTHING),
     }
 }
 
-/// Says what there is of a boot file. It is a fault where there is none, or it is no regular file.
-fn say_found<O: Write>(found: Found, key: Key, output: &mut O) -> io::Result<Tally>
-    ensures faults { IfOk result (λ tally. tally.faults ≡ faults_of found) }
-    ensures warnings { IfOk result (λ tally. tally.warnings ≡ open_count found) }
+/// Says whether a box runs on it.
+fn say_use(is_used: bool, key: Key, text: &mut String) -> Result<(), AllocError>
+    ensures { OnOk result (string_bytes text.new ≡ string_bytes text.old ++ use_text is_used key) }
 {
-    match found {
-        Found::Nothing => say_fault("file 1 NoFile", key, output),
-        Found::NoFile => say_number(None, key, output),
-        Found::File(seen) => say_seen(seen, key, output),
+    if is_used {
+        writeln!(text, "note: {key}: a gate runs on it")
+    } else {
+        Ok(())
     }
 }
 
 /// Says what was seen of a boot file: its number, who else may use it, and whether a box runs on it.
-fn say_seen<O: Write>(seen: Seen, key: Key, output: &mut O) -> io::Result<Tally>
+fn say_seen(seen: Seen, key: Key, text: &mut String) -> Result<Tally, AllocError>
+    ensures text { OnOk result
+        (string_bytes text.new ≡ string_bytes text.old ++ seen_text seen key) }
     ensures faults { IfOk result
         (λ tally. tally.faults ≡ faults_of_start (boot_answer false seen.number)) }
     ensures warnings { IfOk result (λ tally. tally.warnings ≡ open_to seen.mode) }
 {
-    let start = say_number(seen.number, key, output)?;
-    let use_of = match seen.mode {
-        Some(mode) => say_mode(mode, key, output)?,
-        None => NOTHING,
-    };
-    if seen.is_used {
-        writeln!(output, "note: {key}: a gate runs on it")?;
+    let number = say_number(seen.number, key, text)?;
+    let mode = say_mode(seen.mode, key, text)?;
+    say_use(seen.is_used, key, text)?;
+    Ok(Tally {
+        faults: number.faults,
+        warnings: mode.warnings,
+    })
+}
+
+/// Says what there is of a boot file. It is a fault where there is none, or it is no regular file.
+fn say_found(found: Found, key: Key, text: &mut String) -> Result<Tally, AllocError>
+    ensures text { OnOk result
+        (string_bytes text.new ≡ string_bytes text.old ++ found_text found key) }
+    ensures faults { IfOk result (λ tally. tally.faults ≡ faults_of found) }
+    ensures warnings { IfOk result (λ tally. tally.warnings ≡ open_count found) }
+{
+    match found {
+        Found::Nothing => say_fault("file 1 NoFile", key, text),
+        Found::NoFile => say_number(None, key, text),
+        Found::File(seen) => say_seen(seen, key, text),
     }
-    Ok(start.and(use_of))
+}
+
+/// Says what there is of the boot file of a box, where it was looked at.
+pub(crate) fn say_boot_file(
+    id: Option<GatewayId>,
+    found: Option<Found>,
+    text: &mut String,
+) -> Result<Tally, AllocError>
+    ensures text { OnOk result
+        (string_bytes text.new ≡ string_bytes text.old ++ boot_file_text id found) }
+    ensures faults { IfOk result (λ tally. tally.faults ≡ boot_file_faults id found) }
+    ensures warnings { IfOk result (λ tally. tally.warnings ≡ boot_file_warnings id found) }
+{
+    match (id, found) {
+        (Some(id), Some(found)) => say_found(found, key_of(id), text),
+        (Some(_), None) | (None, _) => Ok(NOTHING),
+    }
 }

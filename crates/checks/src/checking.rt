@@ -1,16 +1,18 @@
 //! Says every fault and every warning of settings.
-ghost use Rattle.std.specs.Io.KnownBytes.{Appends};
-ghost use Rattle.std.specs.Prelude.{◌≡◌, ◌⊎◌, ◌↔◌, IfOk, MatchResult, None, OnOk, [], true};
-ghost use Rattle.checks.specs.Doubts.{warnings_of};
-ghost use Rattle.checks.specs.Saying.{IsSaid, total_line};
-ghost use Rattle.checks.specs.Counts.{IsCleanText, IsGoodText, IsUndoubted, status_of};
+ghost use Rattle.std.specs.Prelude.{◌≡◌, ◌⊎◌, ◌++◌, IfOk, None, OnOk, string_bytes, true};
+ghost use Rattle.toml.specs.Parse.{parse_document};
+ghost use Rattle.checks.specs.Counts.{IsCleanText, IsGoodText};
+ghost use Rattle.checks.specs.Reports.{HasChecked, IsReport, IsReportOn, faults_in, held_faults};
+ghost use Rattle.checks.specs.Reports.{held_text, held_warnings, more_faults, more_text};
+ghost use Rattle.checks.specs.Reports.{more_warnings, report_text};
 
 use crate::boots::say_boot_file;
+use crate::outlets::{refuse, say};
 use crate::places::say_places;
-use crate::saying::{fault_count, say_faults, say_warnings};
+use crate::saying::{fault_count, say_faults, say_total, say_warnings};
+use crate::sights::sights_for;
 use crate::tallies::{NOTHING, Tally};
-use crate::{Request, Surroundings};
-use faults::Fault;
+use crate::{Request, Sights, Surroundings};
 use settings::Settings;
 use settings_file::{Look, look};
 use std::alloc::{AllocError, Global};
@@ -18,7 +20,7 @@ use std::io::Write;
 
 /// Says every fault and every warning of a text of settings on `output`, each on a line with its key, and at the end how
 /// many they are. The answer is the exit status: 0, or 1 where there is a fault (or, where it is strict, a warning), or
-/// `output` can't be written, which is told on `errors`.
+/// `output` can't be written, or memory is refused; the last two are told on `errors`.
 pub fn check<P: Surroundings, O: Write, E: Write>(
     alloc: Global,
     around: &P,
@@ -30,109 +32,131 @@ pub fn check<P: Surroundings, O: Write, E: Write>(
     ensures status { (result ≡ 0) ⊎ (result ≡ 1) }
     ensures accepts { result ≡ 0 → IsGoodText text.now }
     ensures strict { request.now.strict ≡ true → result ≡ 0 → IsCleanText text.now }
+    ensures said { HasChecked P.finds P.takes O.contents E.contents around.now text.now
+        request.now output.old output.new errors.old errors.new result }
 {
-    let tally = say_text(alloc, around, text, request, output);
-    status_of(tally, request.strict, errors)
-}
-
-/// The exit status of a look; why there was none is told on `errors`.
-fn status_of<E: Write>(checked: Result<Tally, Fault>, strict: bool, errors: &mut E) -> u8
-    ensures { MatchResult checked
-        (λ tally. result ≡ status_of tally.faults tally.warnings strict) (λ _. result ≡ 1) }
-{
-    match checked {
-        Ok(tally) => tally.status(strict),
-        Err(fault) => {
-            let _untold = writeln!(errors, "natpair: {fault}");
-            1
+    match report_of(alloc, around, text, request) {
+        Ok(report) => {
+            let status = report.tally.status(request.strict);
+            say(report.text.as_str(), status, output, errors)
         }
+        Err(_) => refuse(errors),
     }
 }
 
-/// Says all that is to be said of a text, and of the places and the boot file that the request names.
-fn say_text<P: Surroundings, O: Write>(
+/// What is said of a text, and how many faults and warnings that is.
+#[derive(Drop)]
+struct Report {
+    text: String,
+    tally: Tally,
+}
+
+/// All that is to be said of a text, and of what the request names.
+fn report_of<P: Surroundings>(
     alloc: Global,
     around: &P,
     text: &str,
     request: &Request<'_>,
-    output: &mut O,
-) -> Result<Tally, Fault>
-    ensures accepts { IfOk result (λ tally. tally.faults ≡ 0 → IsGoodText text.now) }
+) -> Result<Report, AllocError>
+    ensures accepts { IfOk result
+        (λ report. report.tally.faults ≡ 0 → IsGoodText text.now) }
     ensures clean { IfOk result
-        (λ tally. tally.faults ≡ 0 → tally.warnings ≡ 0 → IsCleanText text.now) }
+        (λ report. report.tally.faults ≡ 0 → report.tally.warnings ≡ 0 → IsCleanText text.now) }
     ensures good { request.now.id ≡ None → request.now.link ≡ None → IsGoodText text.now
-        → IfOk result (λ tally. tally.faults ≡ 0) }
+        → IfOk result (λ report. report.tally.faults ≡ 0) }
+    ensures report { IfOk result (λ report. IsReport P.finds P.takes around.now
+        (parse_document text.now) request.now (string_bytes report.text) report.tally.faults
+        report.tally.warnings) }
 {
-    let (seen, faults) = counted(alloc, text)?;
-    let more = say_look(alloc, around, &seen, request, output)?;
-    let all = Tally {
-        faults,
-        warnings: 0,
-    }
-    .and(more);
-    say_total(all, output)?;
-    Ok(all)
+    let seen = look(alloc, text)?;
+    report_on(alloc, around, &seen, request)
 }
 
-/// Says how many faults and warnings there are.
-fn say_total<O: Write>(tally: Tally, output: &mut O) -> Result<(), Fault>
-    ensures { OnOk result (Appends (O.contents output.old) (O.contents output.new)
-        (total_line tally.faults tally.warnings)) }
-{
-    let Tally { faults, warnings } = tally;
-    writeln!(output, "{faults} faults, {warnings} warnings")?;
-    output.flush()?;
-    Ok(())
-}
-
-/// Says each fault of a text, and of settings that it holds what there is beside these, which is counted.
-#[tactic(auto, using(crate::proofs::Lines::all_said))]
-fn say_look<P: Surroundings, O: Write>(
+/// The same of what is seen of a text.
+fn report_on<P: Surroundings>(
     alloc: Global,
     around: &P,
     seen: &Look,
     request: &Request<'_>,
-    output: &mut O,
-) -> Result<Tally, Fault>
-    ensures clean { IfOk result
-        (λ tally. tally.faults ≡ 0 → tally.warnings ≡ 0 → IsUndoubted seen.now) }
-    ensures none { request.now.id ≡ None → request.now.link ≡ None
-        → IfOk result (λ tally. tally.faults ≡ 0) }
-    ensures said { OnOk result (IsSaid seen.now (O.contents output.old) (O.contents output.new)) }
+) -> Result<Report, AllocError>
+    ensures { IfOk result (λ report. IsReportOn P.finds P.takes around.now seen.now request.now
+        (string_bytes report.text) report.tally.faults report.tally.warnings) }
 {
-    say_faults(seen, output)?;
+    let sights = sights_for(around, seen, request)?;
+    let mut text = String::new(alloc);
+    let tally = say_all(alloc, seen, request, &sights, &mut text)?;
+    Ok(Report { text, tally })
+}
+
+/// Says each fault of a text, of settings what there is beside these, and at the end how many they are.
+fn say_all(
+    alloc: Global,
+    seen: &Look,
+    request: &Request<'_>,
+    sights: &Sights,
+    text: &mut String,
+) -> Result<Tally, AllocError>
+    ensures text { OnOk result (string_bytes text.new
+        ≡ string_bytes text.old ++ report_text seen.now request.now sights.now) }
+    ensures faults { IfOk result
+        (λ tally. tally.faults ≡ faults_in seen.now request.now sights.now) }
+    ensures warnings { IfOk result
+        (λ tally. tally.warnings ≡ more_warnings seen.now request.now sights.now) }
+{
+    say_faults(seen, text)?;
+    let more = say_more(alloc, seen, request, sights, text)?;
+    let tally = Tally {
+        faults: fault_count(seen).saturating_add(more.faults),
+        warnings: more.warnings,
+    };
+    say_total(tally, text)?;
+    Ok(tally)
+}
+
+/// Says of settings what there is beside their faults.
+fn say_more(
+    alloc: Global,
+    seen: &Look,
+    request: &Request<'_>,
+    sights: &Sights,
+    text: &mut String,
+) -> Result<Tally, AllocError>
+    ensures text { OnOk result (string_bytes text.new
+        ≡ string_bytes text.old ++ more_text seen.now request.now sights.now) }
+    ensures faults { IfOk result
+        (λ tally. tally.faults ≡ more_faults seen.now request.now sights.now) }
+    ensures warnings { IfOk result
+        (λ tally. tally.warnings ≡ more_warnings seen.now request.now sights.now) }
+{
     match seen {
-        Look::Held(settings, _) => say_held(alloc, around, settings, request, output),
-        _ => Ok(NOTHING),
+        Look::Held(settings, _) => say_held(alloc, settings, request, sights, text),
+        Look::NotToml
+        | Look::UnknownKeys(_)
+        | Look::MissingKeys(_)
+        | Look::BadValues(_)
+        | Look::RangesOverlap
+        | Look::SameIds => Ok(NOTHING),
     }
 }
 
-/// Says each warning of settings, and what is to be said of the places and the boot file that the request names.
-fn say_held<P: Surroundings, O: Write>(
+/// Says each warning of settings, and what was found of the places and the boot file that the request names.
+#[tactic(auto, unfolding(crate::specs::Reports::held_text, crate::specs::Reports::held_faults, crate::specs::Reports::held_warnings))]
+fn say_held(
     alloc: Global,
-    around: &P,
     settings: &Settings,
     request: &Request<'_>,
-    output: &mut O,
-) -> Result<Tally, Fault>
-    ensures clean { IfOk result
-        (λ tally. tally.faults ≡ 0 → tally.warnings ≡ 0 → warnings_of settings.now ≡ []) }
-    ensures none { request.now.id ≡ None → request.now.link ≡ None
-        → IfOk result (λ tally. tally.faults ≡ 0) }
+    sights: &Sights,
+    text: &mut String,
+) -> Result<Tally, AllocError>
+    ensures text { OnOk result (string_bytes text.new
+        ≡ string_bytes text.old ++ held_text settings.now request.now sights.now) }
+    ensures faults { IfOk result
+        (λ tally. tally.faults ≡ held_faults settings.now request.now sights.now) }
+    ensures warnings { IfOk result
+        (λ tally. tally.warnings ≡ held_warnings settings.now request.now sights.now) }
 {
-    let warnings = say_warnings(alloc, settings, request.id, output)?;
-    let places = say_places(around, request, settings, output)?;
-    let boot_file = say_boot_file(around, settings, request.id, output)?;
+    let warnings = say_warnings(alloc, settings, request.id, text)?;
+    let places = say_places(settings, request, sights, text)?;
+    let boot_file = say_boot_file(request.id, sights.boot_file, text)?;
     Ok(warnings.and(places).and(boot_file))
-}
-
-/// What is seen of a text, and how many faults that is: none just where `settings_file::read` gives its settings.
-fn counted(alloc: Global, text: &str) -> Result<(Look, usize), AllocError>
-    ensures accepts { IfOk result (λ found. (found.1 ≡ 0) ↔ IsGoodText text.now) }
-    ensures clean { IfOk result
-        (λ found. found.1 ≡ 0 → IsUndoubted found.0 → IsCleanText text.now) }
-{
-    let found = look(alloc, text)?;
-    let count = fault_count(&found);
-    Ok((found, count))
 }

@@ -1,4 +1,6 @@
 //! Warnings.
+ghost use Rattle.std.specs.Prelude.{◌≡◌, Some};
+ghost use Rattle.checks.specs.Saying.{doubt_text, warning_text};
 
 use settings_file::Key;
 use std::fmt;
@@ -38,7 +40,10 @@ pub enum Doubt {
 
 impl Doubt {
     /// What a user is told.
-    pub fn as_str(self) -> &'static str {
+    #[tactic(auto, unfolding(crate::specs::Saying::doubt_text))]
+    pub fn as_str(self) -> &'static str
+        ensures { result.now ≡ doubt_text self }
+    {
         match self {
             Doubt::OnePort => "the range has one port, for one UDP and one TCP pair",
             Doubt::Martian =>
@@ -74,6 +79,8 @@ pub struct Warning {
 
 /// As `gateway_1.priority: as the other box's: the one with the greater address is Active`.
 impl fmt::Display for Warning {
+    ghost output = { λ warning. Some (warning_text warning) };
+
     fn fmt<W: fmt::Write>(&self, f: &mut fmt::Formatter<W>) -> fmt::Result {
         let Warning { key, doubt } = self;
         let text = doubt.as_str();

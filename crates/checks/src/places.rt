@@ -1,38 +1,47 @@
 //! Says what is wrong with the places of a box: its interfaces, and its address on the link.
-ghost use Rattle.std.specs.Prelude.{◌≡◌, nat_lt, IfOk, None};
-ghost use Rattle.addresses.specs.Address.{IsIn};
-ghost use Rattle.settings.specs.Parts.{interface_of};
-ghost use Rattle.checks.specs.Counts.{one_if};
-ghost use Rattle.checks.specs.Interfaces.{is_short};
+ghost use Rattle.std.specs.Prelude.{◌≡◌, ◌++◌, nat_lt, IfOk, None, OnOk, Some, option_map, string_bytes};
+ghost use Rattle.checks.specs.Counts.{capped, one_if};
+ghost use Rattle.checks.specs.Interfaces.{interface_line, interface_text, interface_warnings, is_short};
+ghost use Rattle.checks.specs.Interfaces.{lies_on, link_faults, link_line, link_on_text, link_text};
+ghost use Rattle.checks.specs.Interfaces.{link_warnings, mtu_text, no_address_line, side_name};
+ghost use Rattle.checks.specs.Reports.{places_faults, places_text, places_warnings};
 
 use crate::tallies::{FAULT, NOTHING, Tally, WARNING};
-use crate::{Request, Surroundings};
+use crate::{Request, Sights};
 use addresses::Ip;
-use faults::Fault;
 use nat_types::Side;
 use settings::Settings;
-use std::io::{self, Write};
-use std::net::Ipv4Addr;
+use std::alloc::AllocError;
 
 /// The least MTU with which an interface takes each frame of a box: 1,514 bytes with the Ethernet header.
 const LEAST_MTU: u32 = 1500;
 
-/// Looks at the interface of a side, where its name is given.
-fn say_interface<P: Surroundings, O: Write>(
-    around: &P,
+fn side_name(side: Side) -> &'static str
+    ensures { result.now ≡ side_name side }
+{
+    match side {
+        Side::Inside => "inside",
+        Side::Outside => "outside",
+    }
+}
+
+/// Says what was found of the interface of a side, where its name is given.
+fn say_interface(
     side: Side,
     name: Option<&str>,
-    output: &mut O,
-) -> Result<Tally, Fault>
+    mtu: Option<u32>,
+    text: &mut String,
+) -> Result<Tally, AllocError>
+    ensures text { OnOk result (string_bytes text.new ≡ string_bytes text.old
+        ++ interface_text side (option_map (λ name. name.now) name.entry) mtu) }
     ensures faults { IfOk result (λ tally. tally.faults ≡ 0) }
-    ensures none { name.entry ≡ None → IfOk result (λ tally. tally.warnings ≡ 0) }
+    ensures warnings { IfOk result (λ tally. tally.warnings
+        ≡ interface_warnings (option_map (λ name. name.now) name.entry) mtu) }
 {
-    let Some(name) = name else {
-        return Ok(NOTHING);
-    };
-    let mtu = around.mtu(name)?;
-    let tally = say_mtu(side, name, mtu, output)?;
-    Ok(tally)
+    match name {
+        Some(name) => say_mtu(side, name, mtu, text),
+        None => Ok(NOTHING),
+    }
 }
 
 /// Whether frames are too long for an interface.
@@ -42,82 +51,156 @@ fn is_short(mtu: u32) -> bool
     mtu < LEAST_MTU
 }
 
-/// Looks at the MTU of an interface; where it has none there is no such interface.
-fn say_mtu<O: Write>(side: Side, name: &str, mtu: Option<u32>, output: &mut O) -> io::Result<Tally>
+/// Says that frames are too long for an interface.
+fn say_short(side: Side, name: &str, mtu: u32, text: &mut String) -> Result<Tally, AllocError>
+    ensures text { OnOk result (string_bytes text.new ≡ string_bytes text.old
+        ++ interface_line side name.now (Some mtu)) }
     ensures faults { IfOk result (λ tally. tally.faults ≡ 0) }
-    ensures warnings { IfOk result (λ tally. tally.warnings ≡ one_if (is_short mtu)) }
+    ensures warnings { IfOk result (λ tally. tally.warnings ≡ 1) }
 {
-    match mtu {
-        Some(mtu) if is_short(mtu) => writeln!(
-            output,
-            "warning: {side} {name}: its MTU is {mtu}, and frames need 1500"
-        )?,
-        Some(_) => return Ok(NOTHING),
-        None => writeln!(output, "warning: {side} {name}: no such interface")?,
-    }
-    Ok(WARNING)
-}
-
-/// Whether an address on the link lies in the network of a side.
-fn say_link_on<O: Write>(
-    settings: &Settings,
-    side: Side,
-    ip: Ip,
-    output: &mut O,
-) -> io::Result<Tally>
-    ensures faults { IfOk result (λ tally. tally.faults ≡ 0) }
-    ensures warned { IsIn ip.0 (interface_of settings.now side).virtual_ip.0
-        (interface_of settings.now side).prefix_length
-        → IfOk result (λ tally. tally.warnings ≡ 1) }
-{
-    if !settings.interface(side).network().contains(ip) {
-        return Ok(NOTHING);
-    }
+    let side = side_name(side);
     writeln!(
-        output,
-        "warning: link {ip}: it lies in the network of the {side}, whose cable it goes down with"
+        text,
+        "warning: {side} {name}: its MTU is {mtu}, and frames need 1500"
     )?;
     Ok(WARNING)
 }
 
-/// Looks at an address on the link beside the networks of both sides.
-fn say_address<O: Write>(settings: &Settings, ip: Ip, output: &mut O) -> io::Result<Tally>
+/// Says that there is no such interface.
+fn say_absent(side: Side, name: &str, text: &mut String) -> Result<Tally, AllocError>
+    ensures text { OnOk result (string_bytes text.new ≡ string_bytes text.old
+        ++ interface_line side name.now None) }
     ensures faults { IfOk result (λ tally. tally.faults ≡ 0) }
+    ensures warnings { IfOk result (λ tally. tally.warnings ≡ 1) }
 {
-    let inside = say_link_on(settings, Side::Inside, ip, output)?;
-    let outside = say_link_on(settings, Side::Outside, ip, output)?;
+    let side = side_name(side);
+    writeln!(text, "warning: {side} {name}: no such interface")?;
+    Ok(WARNING)
+}
+
+/// Says what is wrong with the MTU of an interface; where it has none there is no such interface.
+fn say_mtu(side: Side, name: &str, mtu: Option<u32>, text: &mut String) -> Result<Tally, AllocError>
+    ensures text { OnOk result
+        (string_bytes text.new ≡ string_bytes text.old ++ mtu_text side name.now mtu) }
+    ensures faults { IfOk result (λ tally. tally.faults ≡ 0) }
+    ensures warnings { IfOk result (λ tally. tally.warnings ≡ one_if (is_short mtu)) }
+{
+    match mtu {
+        Some(mtu) if is_short(mtu) => say_short(side, name, mtu, text),
+        Some(_) => Ok(NOTHING),
+        None => say_absent(side, name, text),
+    }
+}
+
+/// Whether an address lies in the network of a side.
+#[tactic(auto, unfolding(settings_file::specs::Document::is_in))]
+fn lies_on(settings: &Settings, side: Side, ip: Ip) -> bool
+    ensures { result ≡ lies_on settings.now side ip }
+{
+    settings.interface(side).network().contains(ip)
+}
+
+/// Says that the link lies in the network of a side.
+fn say_link_line(side: Side, address: &str, text: &mut String) -> Result<(), AllocError>
+    ensures { OnOk result
+        (string_bytes text.new ≡ string_bytes text.old ++ link_line side address.now) }
+{
+    let side = side_name(side);
+    writeln!(
+        text,
+        "warning: link {address}: it lies in the network of the {side}, whose cable it goes down with"
+    )
+}
+
+/// Says whether an address on the link lies in the network of a side.
+fn say_link_on(
+    settings: &Settings,
+    side: Side,
+    address: &str,
+    ip: Ip,
+    text: &mut String,
+) -> Result<Tally, AllocError>
+    ensures text { OnOk result (string_bytes text.new ≡ string_bytes text.old
+        ++ link_on_text settings.now side address.now ip) }
+    ensures faults { IfOk result (λ tally. tally.faults ≡ 0) }
+    ensures warnings { IfOk result
+        (λ tally. tally.warnings ≡ one_if (lies_on settings.now side ip)) }
+{
+    if !lies_on(settings, side, ip) {
+        return Ok(NOTHING);
+    }
+    say_link_line(side, address, text)?;
+    Ok(WARNING)
+}
+
+/// Says in which networks an address on the link lies.
+fn say_address(
+    settings: &Settings,
+    address: &str,
+    ip: Ip,
+    text: &mut String,
+) -> Result<Tally, AllocError>
+    ensures text { OnOk result (string_bytes text.new ≡ string_bytes text.old
+        ++ link_text settings.now (Some address.now) (Some ip)) }
+    ensures faults { IfOk result (λ tally. tally.faults ≡ 0) }
+    ensures warnings { IfOk result (λ tally. tally.warnings
+        ≡ link_warnings settings.now (Some address.now) (Some ip)) }
+{
+    let inside = say_link_on(settings, Side::Inside, address, ip, text)?;
+    let outside = say_link_on(settings, Side::Outside, address, ip, text)?;
     Ok(inside.and(outside))
 }
 
-/// Looks at the box's own address on the link, where it is given.
-fn say_link<O: Write>(
-    settings: &Settings,
-    address: Option<&str>,
-    output: &mut O,
-) -> io::Result<Tally>
-    ensures none { address.entry ≡ None → IfOk result (λ tally. tally.faults ≡ 0) }
+/// Says of a text on the link that it is no address.
+fn say_no_address(address: &str, text: &mut String) -> Result<Tally, AllocError>
+    ensures text { OnOk result
+        (string_bytes text.new ≡ string_bytes text.old ++ no_address_line address.now) }
+    ensures faults { IfOk result (λ tally. tally.faults ≡ 1) }
+    ensures warnings { IfOk result (λ tally. tally.warnings ≡ 0) }
 {
-    let Some(text) = address else {
-        return Ok(NOTHING);
-    };
-    if let Ok(address) = text.parse::<Ipv4Addr>() {
-        return say_address(settings, Ip::new(address.octets()), output);
-    }
-    writeln!(output, "fault: link {text}: no IPv4 address")?;
+    writeln!(text, "fault: link {address}: no IPv4 address")?;
     Ok(FAULT)
 }
 
-/// Looks at all that the request names of a box's places.
-pub(crate) fn say_places<P: Surroundings, O: Write>(
-    around: &P,
-    request: &Request<'_>,
+/// Says what is wrong with the box's own address on the link, where it is given.
+fn say_link(
     settings: &Settings,
-    output: &mut O,
-) -> Result<Tally, Fault>
-    ensures none { request.now.link ≡ None → IfOk result (λ tally. tally.faults ≡ 0) }
+    address: Option<&str>,
+    ip: Option<Ip>,
+    text: &mut String,
+) -> Result<Tally, AllocError>
+    ensures text { OnOk result (string_bytes text.new ≡ string_bytes text.old
+        ++ link_text settings.now (option_map (λ text. text.now) address.entry) ip) }
+    ensures faults { IfOk result (λ tally. tally.faults
+        ≡ link_faults (option_map (λ text. text.now) address.entry) ip) }
+    ensures warnings { IfOk result (λ tally. tally.warnings
+        ≡ link_warnings settings.now (option_map (λ text. text.now) address.entry) ip) }
 {
-    let inside = say_interface(around, Side::Inside, request.inside, output)?;
-    let outside = say_interface(around, Side::Outside, request.outside, output)?;
-    let link = say_link(settings, request.link, output)?;
+    let Some(address) = address else {
+        return Ok(NOTHING);
+    };
+    match ip {
+        Some(ip) => say_address(settings, address, ip, text),
+        None => say_no_address(address, text),
+    }
+}
+
+/// Says what was found of the places that a request names.
+pub(crate) fn say_places(
+    settings: &Settings,
+    request: &Request<'_>,
+    sights: &Sights,
+    text: &mut String,
+) -> Result<Tally, AllocError>
+    ensures text { OnOk result (string_bytes text.new ≡ string_bytes text.old
+        ++ places_text settings.now request.now sights.now) }
+    ensures faults { IfOk result
+        (λ tally. tally.faults ≡ capped (places_faults request.now sights.now)) }
+    ensures warnings { IfOk result (λ tally. tally.warnings
+        ≡ capped (places_warnings settings.now request.now sights.now)) }
+{
+    let inside = say_interface(Side::Inside, request.inside, sights.inside, text)?;
+    let outside = say_interface(Side::Outside, request.outside, sights.outside, text)?;
+    let link = say_link(settings, request.link, sights.link, text)?;
     Ok(inside.and(outside).and(link))
 }

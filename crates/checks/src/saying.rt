@@ -1,35 +1,33 @@
 //! Says what was found in a text of settings, a line each.
-ghost use Rattle.std.specs.Prelude.{◌≡◌, IfOk, OnOk, flat_map};
-ghost use Rattle.std.specs.Io.KnownBytes.{Appends};
+ghost use Rattle.std.specs.Prelude.{◌≡◌, ◌++◌, IfOk, OnOk, flat_map, string_bytes};
 ghost use Rattle.checks.specs.Doubts.{warnings_of};
-ghost use Rattle.checks.specs.Saying.{fault_line, faults_text, key_line, path_line};
+ghost use Rattle.checks.specs.Saying.{fault_line, faults_text, key_line, path_line, total_line};
+ghost use Rattle.checks.specs.Saying.{warning_line};
 ghost use Rattle.checks.specs.Counts.{at_least_one, fault_count, is_of, left, stopping, stops};
 
 use crate::tallies::{NOTHING, Tally};
 use crate::{Doubt, Warning, warnings_of};
-use faults::Fault;
 use nat_types::GatewayId;
 use settings::Settings;
 use settings_file::{Key, Look, Section};
-use std::alloc::Global;
-use std::io::{self, Write};
+use std::alloc::{AllocError, Global};
 
-fn say_paths<O: Write>(paths: &[String], output: &mut O) -> io::Result<()>
-    ensures { OnOk result (Appends (O.contents output.old) (O.contents output.new)
-        (flat_map path_line paths.now)) }
+fn say_paths(paths: &[String], text: &mut String) -> Result<(), AllocError>
+    ensures { OnOk result (string_bytes text.new
+        ≡ string_bytes text.old ++ flat_map path_line paths.now) }
 {
     for path in paths {
-        writeln!(output, "fault: settings 6 UnknownKey {path}")?;
+        writeln!(text, "fault: settings 6 UnknownKey {path}")?;
     }
     Ok(())
 }
 
-fn say_keys<O: Write>(keys: &[Key], fault: &str, output: &mut O) -> io::Result<()>
-    ensures { OnOk result (Appends (O.contents output.old) (O.contents output.new)
-        (flat_map (key_line fault.now) keys.now)) }
+fn say_keys(keys: &[Key], fault: &str, text: &mut String) -> Result<(), AllocError>
+    ensures { OnOk result (string_bytes text.new
+        ≡ string_bytes text.old ++ flat_map (key_line fault.now) keys.now) }
 {
     for key in keys {
-        writeln!(output, "fault: settings {fault} {key}")?;
+        writeln!(text, "fault: settings {fault} {key}")?;
     }
     Ok(())
 }
@@ -53,26 +51,26 @@ pub(crate) fn fault_count(look: &Look) -> usize
 }
 
 /// Says a fault that is of no key.
-fn say_whole<O: Write>(fault: &str, output: &mut O) -> io::Result<()>
-    ensures { OnOk result (Appends (O.contents output.old) (O.contents output.new)
-        (fault_line fault.now)) }
+fn say_whole(fault: &str, text: &mut String) -> Result<(), AllocError>
+    ensures { OnOk result
+        (string_bytes text.new ≡ string_bytes text.old ++ fault_line fault.now) }
 {
-    writeln!(output, "fault: settings {fault}")
+    writeln!(text, "fault: settings {fault}")
 }
 
 /// Says each fault of a text.
-pub(crate) fn say_faults<O: Write>(look: &Look, output: &mut O) -> io::Result<()>
-    ensures { OnOk result (Appends (O.contents output.old) (O.contents output.new)
-        (faults_text look.now)) }
+pub(crate) fn say_faults(look: &Look, text: &mut String) -> Result<(), AllocError>
+    ensures { OnOk result
+        (string_bytes text.new ≡ string_bytes text.old ++ faults_text look.now) }
 {
     match look {
-        Look::NotToml => say_whole("1 NotToml", output),
-        Look::UnknownKeys(paths) => say_paths(paths.as_slice(), output),
-        Look::MissingKeys(keys) => say_keys(keys.as_slice(), "2 Missing", output),
-        Look::BadValues(keys) => say_keys(keys.as_slice(), "3 BadValue", output),
-        Look::RangesOverlap => say_whole("4 RangesOverlap", output),
-        Look::SameIds => say_whole("5 SameIds", output),
-        Look::Held(_, keys) => say_keys(keys.as_slice(), "7 CantWork", output),
+        Look::NotToml => say_whole("1 NotToml", text),
+        Look::UnknownKeys(paths) => say_paths(paths.as_slice(), text),
+        Look::MissingKeys(keys) => say_keys(keys.as_slice(), "2 Missing", text),
+        Look::BadValues(keys) => say_keys(keys.as_slice(), "3 BadValue", text),
+        Look::RangesOverlap => say_whole("4 RangesOverlap", text),
+        Look::SameIds => say_whole("5 SameIds", text),
+        Look::Held(_, keys) => say_keys(keys.as_slice(), "7 CantWork", text),
     }
 }
 
@@ -97,48 +95,75 @@ fn stops(id: Option<GatewayId>, warning: &Warning) -> bool
 }
 
 /// Says a warning: as a fault where it stops the box that is looked at.
-fn say_warning<O: Write>(warning: &Warning, is_stop: bool, output: &mut O) -> io::Result<()> {
-    if is_stop {
+fn say_warning(
+    id: Option<GatewayId>,
+    warning: &Warning,
+    text: &mut String,
+) -> Result<(), AllocError>
+    ensures { OnOk result
+        (string_bytes text.new ≡ string_bytes text.old ++ warning_line id warning.now) }
+{
+    if stops(id, warning) {
         let key = warning.key;
-        writeln!(output, "fault: socket 2 LongPath {key}")
+        writeln!(text, "fault: socket 2 LongPath {key}")
     } else {
-        writeln!(output, "warning: {warning}")
+        writeln!(text, "warning: {warning}")
     }
 }
 
 /// Says a list of warnings: as a fault what stops the box that is looked at.
-fn say_each<O: Write>(
+fn say_each(
     warnings: &[Warning],
     id: Option<GatewayId>,
-    output: &mut O,
-) -> io::Result<Tally>
-    ensures faults { IfOk result (λ tally. tally.faults ≡ stopping id warnings.now) }
-    ensures warnings { IfOk result (λ tally. tally.warnings ≡ left id warnings.now) }
+    text: &mut String,
+) -> Result<(), AllocError>
+    ensures { OnOk result (string_bytes text.new
+        ≡ string_bytes text.old ++ flat_map (warning_line id) warnings.now) }
+{
+    for warning in warnings {
+        say_warning(id, warning, text)?;
+    }
+    Ok(())
+}
+
+/// Counts a list of warnings: as a fault what stops the box that is looked at.
+fn count_each(warnings: &[Warning], id: Option<GatewayId>) -> Tally
+    ensures faults { result.faults ≡ stopping id warnings.now }
+    ensures warnings { result.warnings ≡ left id warnings.now }
 {
     let mut tally = NOTHING;
     for warning in warnings {
-        let is_stop = stops(id, warning);
-        say_warning(warning, is_stop, output)?;
-        if is_stop {
+        if stops(id, warning) {
             tally.faults += 1;
         } else {
             tally.warnings += 1;
         }
     }
-    Ok(tally)
+    tally
 }
 
 /// Says each warning of settings: as a fault what stops the box that is looked at.
-pub(crate) fn say_warnings<O: Write>(
+pub(crate) fn say_warnings(
     alloc: Global,
     settings: &Settings,
     id: Option<GatewayId>,
-    output: &mut O,
-) -> Result<Tally, Fault>
+    text: &mut String,
+) -> Result<Tally, AllocError>
+    ensures text { OnOk result (string_bytes text.new
+        ≡ string_bytes text.old ++ flat_map (warning_line id) (warnings_of settings.now)) }
     ensures faults { IfOk result (λ tally. tally.faults ≡ stopping id (warnings_of settings.now)) }
     ensures warnings { IfOk result (λ tally. tally.warnings ≡ left id (warnings_of settings.now)) }
 {
     let warnings = warnings_of(alloc, settings)?;
-    let tally = say_each(warnings.as_slice(), id, output)?;
-    Ok(tally)
+    say_each(warnings.as_slice(), id, text)?;
+    Ok(count_each(warnings.as_slice(), id))
+}
+
+/// Says how many faults and warnings there are.
+pub(crate) fn say_total(tally: Tally, text: &mut String) -> Result<(), AllocError>
+    ensures { OnOk result (string_bytes text.new
+        ≡ string_bytes text.old ++ total_line tally.faults tally.warnings) }
+{
+    let Tally { faults, warnings } = tally;
+    writeln!(text, "{faults} faults, {warnings} warnings")
 }

@@ -1,5 +1,5 @@
 //! What a box finds where it is to run.
-ghost use Rattle.std.specs.Prelude.{◌≡◌, ◌≤◌, length, take, IfSome, Some};
+ghost use Rattle.std.specs.Prelude.{◌≡◌, ◌≤◌, length, take, IfOk, IfSome, Some};
 ghost use Rattle.boot_store.specs.BootFile.{slot_number, greater, number_of};
 ghost use Rattle.checks.specs.BootFiles.{found_in};
 
@@ -35,14 +35,25 @@ pub enum Found {
 
 /// What a box finds where it is to run. It is looked at alone: none of it can be changed so.
 pub trait Surroundings {
+    ghost use Rattle.std.specs.Prelude.{List, Option, ℕ};
+    ghost use Rattle.checks.specs.declared.surroundings.Found.{Found};
+
+    /// What may be found at the path of a boot file.
+    ghost finds: { Self → List ℕ → Found → Type 0 };
+
+    /// Which MTU the interface of a name may have, where there is one.
+    ghost takes: { Self → List ℕ → Option ℕ → Type 0 };
+
     /// What there is at the path of a boot file.
-    fn boot_file(&self, path: &str) -> Found;
+    fn boot_file(&self, path: &str) -> Found
+        ensures { finds self.now path.now result };
 
     /// The MTU of the interface of this name, where there is one.
-    fn mtu(&self, name: &str) -> Result<Option<u32>, AllocError>;
+    fn mtu(&self, name: &str) -> Result<Option<u32>, AllocError>
+        ensures { IfOk result (takes self.now name.now) };
 }
 
-/// This machine.
+/// This machine: of what is found there nothing is known.
 #[derive(Clone, Copy)]
 pub struct ThisMachine<'a, R> {
     rt: &'a R,
@@ -58,6 +69,10 @@ impl<R: Files + AllocGlobal> Surroundings for ThisMachine<'_, R>
 where
     R::File: Lockable,
 {
+    ghost finds = { λ _ _ _. Unit {0} };
+
+    ghost takes = { λ _ _ _. Unit {0} };
+
     fn boot_file(&self, path: &str) -> Found {
         match opened(self.rt, path) {
             Err(_) => Found::Nothing,

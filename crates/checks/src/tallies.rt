@@ -1,5 +1,5 @@
 //! How many faults and warnings there are.
-ghost use Rattle.std.specs.Prelude.{◌≡◌, ◌+◌};
+ghost use Rattle.std.specs.Prelude.{◌≡◌, ◌⊎◌, ◌+◌};
 ghost use Rattle.checks.specs.Counts.{capped, status_of};
 
 /// How many faults and warnings were said.
@@ -23,7 +23,8 @@ impl Tally {
 
     /// The exit status: 1 where there is a fault, or, where it is strict, a warning.
     pub(crate) fn status(self, strict: bool) -> u8
-        ensures { result ≡ status_of self.faults self.warnings strict }
+        ensures status { result ≡ status_of self.faults self.warnings strict }
+        ensures either { (result ≡ 0) ⊎ (result ≡ 1) }
     {
         if self.faults > 0 || (strict && self.warnings > 0) {
             1

@@ -1,12 +1,8 @@
-use Rattle.std.proofs.Common.{◌≡◌, ◌+◌, ◌≤◌, drop}
-use Rattle.checks.specs.Counts.{stopping, left}
+use Rattle.std.proofs.Common.{◌≡◌, ◌++◌, take, flat_map, string_bytes}
+use Rattle.checks.specs.Saying.{warning_line}
 use Rattle.checks.proofs.saying.say_each.Given as goal
 
--- those so far, and those that are left, are all
+-- those so far are said
 abbrev pub invariant-loop-warning : goal.invariant-loop-warning
-invariant-loop-warning g l = record {
-  few_faults : l.tally.faults ≤ l.warning-index;
-  few_warnings : l.tally.warnings ≤ l.warning-index;
-  faults : l.tally.faults + stopping l.id (drop l.warning-index l.warnings) ≡ stopping l.id l.warnings;
-  warnings : l.tally.warnings + left l.id (drop l.warning-index l.warnings) ≡ left l.id l.warnings;
-}
+invariant-loop-warning l =
+    string_bytes l.text ≡ string_bytes l.fn.text ++ flat_map (warning_line l.id) (take l.warning-index l.warnings)

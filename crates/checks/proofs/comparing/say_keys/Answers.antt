@@ -1,0 +1,8 @@
+use Rattle.checks.specs.Comparing.{differing_line}
+use Rattle.checks.proofs.Lines.{line_more}
+use Rattle.checks.proofs.comparing.say_keys.Goals as goal
+
+pub loop-key-preserved : goal.loop-key-preserved
+loop-key-preserved c =
+    let l = c.loop-key in
+    line_more differing_line _ _ _ c.args.keys.now l.key-index _ c.loop-key-test.true l.invariant c.in_ok-say_key.ensures

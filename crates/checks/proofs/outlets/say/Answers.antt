@@ -1,0 +1,13 @@
+use Rattle.std.proofs.Common.{inl, inr, refl}
+use Rattle.checks.proofs.Parts.{begun}
+use Rattle.checks.proofs.outlets.say.Goals as goal
+
+pub returns-in-Ok-clause-said : goal.returns-in-Ok-clause-said
+returns-in-Ok-clause-said g c = inl (record { written = c.in-Ok.ensures; untold = refl; is_status = refl })
+
+pub returns-in-Err-clause-said : goal.returns-in-Err-clause-said
+returns-in-Err-clause-said g c = inr (record {
+  begun = c.in-Err.ensures;
+  told = begun _ _ _ _ c.tell_not_written-untold.ensures;
+  is_one = refl;
+})

@@ -1,0 +1,4 @@
+use Rattle.checks.proofs.places.say_short.Goals as goal
+
+pub returns-clause-text : goal.returns-clause-text
+returns-clause-text c = rw (← c.side_name-side.ensures) c.in_ok-writeln.ensures.bytes
