@@ -1,9 +1,10 @@
 -- What is said of the keys in which the settings of two texts differ.
-use Rattle.std.specs.Prelude.{◌≡◌, ◌⊎◌, ℕ, nat_lt, Bool, true, false, List, ◌++◌, Option, IfSome, codes, decimal, length}
+use Rattle.std.specs.Prelude.{◌≡◌, ◌⊎◌, ℕ, nat_lt, Bool, true, false, List, ◌++◌, Option, Result, IfSome, OnOk, codes, decimal, length}
 use Rattle.std.specs.Io.KnownBytes.{Appends}
 use Rattle.std.specs.List.{flat_map}
 use Rattle.settings.specs.declared.whole.Settings.{Settings}
 use Rattle.toml.specs.Parse.{parse_document}
+use Rattle.faults.specs.Faults.{of_setting}
 use Rattle.faults.specs.Texts.{fault_text, line_of}
 use Rattle.faults.specs.declared.faults.Fault.{Fault}
 use Rattle.faults.specs.declared.faults.Fault.TheVariants.{File}
@@ -74,3 +75,9 @@ file_line false text path = codes "natpair: " ++ (text ++ (codes " (" ++ (path +
 -- just that line was written, where the fault's text is known
 abbrev pub TellsOf : Fault → List ℕ → Option (List ℕ) → Option (List ℕ) → Type 0
 TellsOf fault path old new = IfSome (fault_text fault) (λ text. Appends old new (file_line (names_file fault) text path))
+
+-- a text holds no settings, for this fault, which was told so of its file, where that wasn't refused
+pub record IsToldOf (text path : List ℕ) (old new : Option (List ℕ)) {T E : Type 0} (told : Result T E) : Type 0 where
+  pub fault : SettingFault
+  pub why : Tells (parse_document text) fault
+  pub is_told : OnOk told (TellsOf (of_setting fault) path old new)

@@ -1,8 +1,8 @@
 //! Says in what the settings of two files differ.
-ghost use Rattle.std.specs.Prelude.{◌≡◌, ◌⊎◌, ◌++◌, IfNone, IfOk, IfSome, OnOk, flat_map, length, string_bytes};
+ghost use Rattle.std.specs.Prelude.{◌≡◌, ◌⊎◌, ◌++◌, IfErr, IfOk, OnOk, flat_map, length, string_bytes};
 ghost use Rattle.toml.specs.Parse.{parse_document};
 ghost use Rattle.settings_file.specs.Settings.{IsReadFrom};
-ghost use Rattle.checks.specs.Comparing.{AreCompared, HasCompared, HasNone, TellsOf};
+ghost use Rattle.checks.specs.Comparing.{AreCompared, HasCompared, IsToldOf, TellsOf};
 ghost use Rattle.checks.specs.Comparing.{differing_line, differing_total, keys_text, names_file};
 ghost use Rattle.checks.specs.Comparing.{status_of_keys};
 ghost use Rattle.checks.specs.Differences.{differing, word_of};
@@ -31,7 +31,7 @@ pub fn compare<O: Write, E: Write>(
     ensures said { HasCompared O.contents E.contents one.entry.text.now other.entry.text.now
         output.old output.new errors.old errors.new result }
 {
-    let (Some(one), Some(other)) = (
+    let (Ok(one), Ok(other)) = (
         settings_in(alloc, one, errors),
         settings_in(alloc, other, errors),
     ) else {
@@ -92,18 +92,20 @@ fn names_file(fault: &Fault) -> bool
     }
 }
 
-/// The settings of a text; why there are none is told on `errors`.
-fn settings_in<E: Write>(alloc: Global, source: Source<'_>, errors: &mut E) -> Option<Settings>
-    ensures some { IfSome result (IsReadFrom (parse_document source.entry.text.now)) }
-    ensures none { IfNone result (HasNone source.entry.text.now) }
-    ensures untold { IfSome result (λ _. errors.new ≡ errors.old) }
+/// The settings of a text; why there are none is told on `errors`, which may be refused.
+fn settings_in<E: Write>(
+    alloc: Global,
+    source: Source<'_>,
+    errors: &mut E,
+) -> Result<Settings, io::Result<()>>
+    ensures ok { IfOk result (IsReadFrom (parse_document source.entry.text.now)) }
+    ensures untold { OnOk result (errors.new ≡ errors.old) }
+    ensures err { IfErr result (IsToldOf source.entry.text.now source.entry.path.now
+        (E.contents errors.old) (E.contents errors.new)) }
 {
     match settings_file::read(alloc, source.text) {
-        Ok(settings) => Some(settings),
-        Err(fault) => {
-            tell_of(&Fault::from(fault), source.path, errors);
-            None
-        }
+        Ok(settings) => Ok(settings),
+        Err(fault) => Err(told_of(&Fault::from(fault), source.path, errors)),
     }
 }
 
