@@ -4,4 +4,5 @@ pub mod Filters
 pub mod Tasks
 pub mod Faults
 pub mod Arguments
+pub mod Helps
 pub mod Entries

@@ -140,15 +140,13 @@ sim_app = with_script (new_app (codes "sim"))
 abbrev pub loop_app : App
 loop_app = with_script (new_app (codes "loop"))
 
--- the program, which has a version, of which one command has to be named, and which has no command `help`
+-- the same, with a version, and one of the commands below it has to be named, none of which is `help`
+abbrev pub wanting_command : App → App
+wanting_command a = record a { top = record a.top { disable_help_subcommand = true; has_version = true; subcommand_required = true } }
+
+-- the program
 abbrev pub top_app : App
-top_app = record (new_app (codes "natpair")) {
-  top = record (new_app (codes "natpair")).top {
-    disable_help_subcommand = true;
-    has_version = true;
-    subcommand_required = true;
-  };
-}
+top_app = wanting_command (new_app (codes "natpair"))
 
 -- what is said to a box that runs, below other commands
 abbrev pub with_words : App → App

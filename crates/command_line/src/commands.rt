@@ -1,11 +1,11 @@
 //! The commands.
-ghost use Rattle.std.specs.Prelude.{◌≡◌, false, IfOk, Some};
+ghost use Rattle.std.specs.Prelude.{◌≡◌, IfOk};
 ghost use Rattle.clap.specs.Words.{app_of};
-ghost use Rattle.clap.specs.declared.builder.command.Command.TheViews.{out-Command as fields_of};
-ghost use Rattle.command_line.specs.Entries.{about_for, about_of, app_for, app_in, bare_app, line_about};
+ghost use Rattle.command_line.specs.Entries.{app_for, app_in, bare_app, bare_help, help_for, help_in, line_help};
 ghost use Rattle.command_line.specs.Line.{line_app};
 
 use crate::VERSION;
+use crate::builders::Builder;
 use crate::options::{Argument, Form};
 use clap::Command;
 use clap::builder::ValueParser;
@@ -40,7 +40,7 @@ const ENTRIES: [Entry; 10] = [
     Entry::Loop,
 ];
 
-/// What clap is told of a command: its name, what help says of it, what stands below its options, and what it takes.
+/// What is told of a command: its name, what help says of it, what stands below its options, and what it takes.
 #[derive(Clone, Copy)]
 pub(crate) struct Outline<'a> {
     name: &'a str,
@@ -325,10 +325,10 @@ static LOOP: Outline<'static> = Outline {
     arguments: RUN,
 };
 
-/// What clap is told of a command.
-fn outline_of<'a>(entry: Entry) -> &'a Outline<'a>
+/// What is told of a command.
+fn outline_of(entry: Entry) -> &'static Outline<'static>
     ensures app { app_in result.now ≡ app_for entry }
-    ensures about { result.now.about.now ≡ about_for entry }
+    ensures help { help_in result.now ≡ help_for entry }
 {
     match entry {
         Entry::Init => &INIT,
@@ -344,44 +344,46 @@ fn outline_of<'a>(entry: Entry) -> &'a Outline<'a>
     }
 }
 
-/// The command of an entry. What help says of it comes last: of that `clap` tells nothing once an argument is added.
-fn command<'a>(alloc: Global, entry: Entry) -> Result<Command<'a>, AllocError>
-    ensures app { IfOk result (λ c. app_of c ≡ app_for entry) }
-    ensures local { IfOk result (λ c. (fields_of c).has_globals ≡ false) }
-    ensures about { IfOk result (λ c. about_of c ≡ Some (about_for entry)) }
+/// The command of an entry.
+fn command<B: Builder>(alloc: Global, entry: Entry) -> Result<B, AllocError>
+    ensures { IfOk result (λ c. B.tells c (app_for entry) (help_for entry)) }
 {
     let outline = outline_of(entry);
-    let mut command = Command::new(alloc, outline.name);
+    let mut command = B::named(alloc, outline.name);
     for argument in outline.arguments {
-        command = command.arg(argument.arg(alloc))?;
+        command = command.takes(alloc, argument)?;
     }
-    Ok(command.about(outline.about).after_help(outline.below))
+    Ok(command.says(outline.about, outline.below))
 }
 
 /// The program with all its commands.
-fn commands<'a>(alloc: Global) -> Result<Command<'a>, AllocError>
-    ensures { IfOk result (λ c. app_of c ≡ bare_app) }
+fn commands<B: Builder>(alloc: Global) -> Result<B, AllocError>
+    ensures { IfOk result (λ c. B.tells c bare_app bare_help) }
 {
-    let mut program = Command::new(alloc, "natpair");
+    let mut program = B::named(alloc, "natpair");
     for entry in &ENTRIES {
         let command = command(alloc, *entry)?;
-        program = program.subcommand(command)?;
+        program = program.has(command)?;
     }
     Ok(program)
 }
 
+/// The program, with what its help says, and its version.
+fn program<B: Builder>(alloc: Global) -> Result<B, AllocError>
+    ensures { IfOk result (λ c. B.tells c line_app line_help) }
+{
+    let program: B = commands(alloc)?;
+    Ok(
+        program.wants_command(VERSION).says(
+            "A pair of IPv4 NAT gateways that share an inside and an outside address by VRRP",
+            "Example: natpair sim S.toml day.script\n`natpair COMMAND --help` tells a command's options.",
+        ),
+    )
+}
+
 /// The command line.
 pub(crate) fn line<'a>(alloc: Global) -> Result<Command<'a>, AllocError>
-    ensures app { IfOk result (λ c. app_of c ≡ line_app) }
-    ensures about { IfOk result (λ c. about_of c ≡ Some line_about) }
+    ensures { IfOk result (λ c. app_of c ≡ line_app) }
 {
-    let line = commands(alloc)?
-        .version(VERSION)
-        .disable_help_subcommand(true)
-        .subcommand_required(true)
-        .about("A pair of IPv4 NAT gateways that share an inside and an outside address by VRRP")
-        .after_help(
-            "Example: natpair sim S.toml day.script\n`natpair COMMAND --help` tells a command's options.",
-        );
-    Ok(line)
+    program(alloc)
 }

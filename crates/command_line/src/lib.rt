@@ -1,6 +1,7 @@
 //! The command line of `natpair`: its commands, their options, and the task that words ask for.
 #![tactic(auto)]
 
+mod builders;
 mod commands;
 mod faults;
 mod filters;

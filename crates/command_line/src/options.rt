@@ -1,6 +1,6 @@
 //! The options and words that the commands take.
 ghost use Rattle.std.specs.Prelude.{◌≡◌, false, Some};
-ghost use Rattle.clap.specs.Words.{rule_of};
+ghost use Rattle.clap.specs.Words.{new_rule, rule_of};
 ghost use Rattle.command_line.specs.Arguments.{action_for, is_needed, rule_for};
 
 use clap::builder::ValueParser;
@@ -56,8 +56,24 @@ impl<'a> Argument<'a> {
         ensures local { result.global ≡ false }
         ensures help { result.help ≡ Some self.now.2 }
     {
+        self.told(Arg::new(alloc, self.1))
+    }
+
+    /// An argument of this name, of which this is told: nothing else of it changes.
+    fn told(&self, arg: Arg<'a>) -> Arg<'a>
+        ensures rule { rule_of arg.entry ≡ new_rule self.now.1.now
+            → rule_of result ≡ rule_for self.now }
+        ensures others { result ≡ record arg.entry {
+          help = Some self.now.2;
+          action = Some (action_for self.now.0);
+          required = is_needed self.now.0;
+          long = result.long;
+          default_vals = result.default_vals;
+          value_parser = result.value_parser;
+        } }
+    {
         let Argument(form, name, help) = *self;
-        let arg = Arg::new(alloc, name)
+        let arg = arg
             .help(help)
             .action(form.action())
             .required(form.is_needed());

@@ -5,7 +5,8 @@ use Rattle.faults.specs.Jobs.{IsJobOf}
 use Rattle.faults.specs.declared.faults.Fault.{Fault}
 use Rattle.faults.specs.declared.faults.Fault.TheVariants.{NoMemory, NotWritten}
 use Rattle.faults.specs.declared.jobs.Job.{Job}
-use Rattle.std.specs.Prelude.{List}
+use Rattle.std.specs.Prelude.{List, OnOk, length}
+use Rattle.commands.specs.Meters.{HasHeard, HasHeardScript, Reads}
 use Rattle.frame_sim.specs.Tapes.{TakesOn}
 use Rattle.simulation.specs.Status.{RunsScript}
 use Rattle.simulation.specs.Tapes.{IsTapedRun}
@@ -29,3 +30,14 @@ known (Err fault) (inr is) = ap status_of is
 pub isnt_1 : {A : Type 0} (n : ℕ) → n ≡ 1 → (n ≡ 0) ⊎ (n ≡ 3) → A
 isnt_1 n is (inl zero_is) = absurd (let bad : 1 ≡ 0 = sym is ∙ zero_is in cc)
 isnt_1 n is (inr three_is) = absurd (let bad : 1 ≡ 3 = sym is ∙ three_is in cc)
+
+-- who watches it heard of a script's run
+pub heard_of : {C E X : Type 0} (r : Result ℕ X) (reads : Reads C) (contents : E → Option (List ℕ)) (text script : List ℕ) (job : Job) (clock : C)
+    (before after last : E) (status : ℕ) → IsJobOf text script job → OnOk r (HasHeard reads contents (length job.events.items) clock before after)
+    → r ≡ Ok status → last ≡ after → HasHeardScript reads contents text script clock before last
+heard_of {E = E} {X = X} r reads contents text script job clock before after last status held heard is same = record {
+  job = job;
+  is = held;
+  heard = subst (λ (e : E). HasHeard reads contents (length job.events.items) clock before e) (sym same)
+      (subst (λ (x : Result ℕ X). OnOk x (HasHeard reads contents (length job.events.items) clock before after)) is heard);
+}

@@ -1,5 +1,5 @@
--- What a task that is done has done at a site.
-use Rattle.std.specs.Prelude.{◌≡◌, ℕ, List, Option, MatchOption, Bool, true, false, Some, string_bytes}
+-- What a task has done, at a site and by a host.
+use Rattle.std.specs.Prelude.{◌≡◌, ◌⊎◌, ℕ, List, Option, MatchOption, Bool, true, false, Some, string_bytes}
 use Rattle.command_line.specs.declared.tasks.Task.{Task}
 use Rattle.command_line.specs.declared.tasks.Task.TheVariants as task
 use Rattle.checks.specs.Counts.{AreAlike, IsCleanText, IsGoodText}
@@ -11,6 +11,7 @@ use Rattle.box_words.specs.Deeds.{Does, HasListed, HasReported, HasSaid, HasSync
 use Rattle.box_words.specs.Said.{said_off, said_side, said_stop}
 use Rattle.commands.specs.Asked.{filter_of, form_of}
 use Rattle.commands.specs.Ends.{Loops}
+use Rattle.commands.specs.Hosts.{Scene, Scope, Works, compared, looked, plan_of, scope_of, served, text_at, written}
 
 -- a box is asked how it stands, and its report written, or until it is synced
 abbrev pub IsAskedSo : {S : Type 0} → Does S → Bool → StatusWords → Option (List ℕ) → Option (List ℕ) → S → S → Type 0
@@ -27,66 +28,91 @@ pub record AreRead {S : Type 0} (does : Does S) (first second text other : List 
   pub first_read : does before (read first text) between
   pub second_read : does between (read second other) after
 
--- just the file that is named was read, and its text is good, or, where it is strict, clean
-pub record HasChecked {S : Type 0} (does : Does S) (settings : List ℕ) (strict : Bool) (before after : S) : Type 0 where
-  pub text : List ℕ
-  pub is_read : does before (read settings text) after
-  pub good : IsGoodText text
-  pub clean : strict ≡ true → IsCleanText text
+-- nothing is printed
+abbrev pub IsUnprinted : {S O E : Type 0} → Scene S O E → Scene S O E → Type 0
+IsUnprinted before after = after.output ≡ before.output
 
--- just the files that are named were read, the settings first, and their texts are alike
-pub record HasCompared {S : Type 0} (does : Does S) (settings other : List ℕ) (before after : S) : Type 0 where
-  pub one : List ℕ
-  pub two : List ℕ
-  pub are_read : AreRead does settings other one two before after
-  pub alike : AreAlike one two
+-- a file that is named couldn't be read: the status is 1, and nothing is printed
+abbrev pub IsUnread : {S O E : Type 0} → ℕ → Scene S O E → Scene S O E → Type 0
+IsUnread status before after = (status ≡ 1) × IsUnprinted before after
 
--- settings were checked, or compared with others
-abbrev pub HasLooked : {S : Type 0} → Does S → CheckWords → S → S → Type 0
-HasLooked does words before after =
-    MatchOption words.other (HasChecked does (string_bytes words.settings) words.strict before after)
-    (λ other. HasCompared does (string_bytes words.settings) (string_bytes other) before after)
+module _ {S O E : Type 0} (does : Does S) (works : Works) (prints : O → Option (List ℕ)) (tells : E → Option (List ℕ)) where
+  -- just the file that is named was read, and its text looked at so, with this status: 0 only where it is good, or, where that
+  -- is strict, clean
+  pub record IsLookedAt (settings : List ℕ) (scope : Scope) (status : ℕ) (before after : Scene S O E) : Type 0 where
+    pub text : List ℕ
+    pub is_read : does before.site (read settings text) after.site
+    pub work : works (looked text scope) (written prints before.output after.output) (written tells before.errors after.errors) status
+    pub good : status ≡ 0 → IsGoodText text
+    pub clean : scope.strict ≡ true → status ≡ 0 → IsCleanText text
 
--- Just the boot file that is named was made; or the settings that are named were read, and then just the box that is named was said
--- just what the words say, and heard it, or took it; or was asked, and answered, and its answer was written; or the files that are
--- named were read, and looked at. Other tasks do nothing of this.
-abbrev pub Acts : {S : Type 0} → Does S → Task → Option (List ℕ) → Option (List ℕ) → S → S → Type 0
-Acts does (task.Init file) old new before after = does before (made (string_bytes file)) after
-Acts does (task.Status words) old new before after = IsAsked does words old new before after
-Acts does (task.Pairs words) old new before after =
-    HasListed does (string_bytes words.settings) words.id (filter_of words) old new before after
-Acts does (task.Stop settings id) old new before after = HasSaid does (string_bytes settings) id (Some said_stop) before after
-Acts does (task.PeerOff words) old new before after =
-    HasTaken does (string_bytes words.settings) words.id (Some (said_off words.boot words.force)) before after
-Acts does (task.Side settings id side up) old new before after =
-    HasSaid does (string_bytes settings) id (Some (said_side side up)) before after
-Acts does (task.Check words) old new before after = HasLooked does words before after
-Acts does (task.Gate words) old new before after = Unit {0}
-Acts does (task.Sim files) old new before after = Unit {0}
-Acts does (task.Loop files) old new before after = Unit {0}
-Acts does task.Version old new before after = Unit {0}
+  -- just the files that are named were read, the settings first, and their texts compared, with this status: 0 only where they
+  -- are alike
+  pub record AreCompared (settings other : List ℕ) (status : ℕ) (before after : Scene S O E) : Type 0 where
+    pub one : List ℕ
+    pub two : List ℕ
+    pub are_read : AreRead does settings other one two before.site after.site
+    pub work : works (compared (text_at settings one) (text_at other two)) (written prints before.output after.output)
+        (written tells before.errors after.errors) status
+    pub alike : status ≡ 0 → AreAlike one two
 
--- the script's run is that of the files that are named
-pub record HasRunOf {S : Type 0} (does : Does S) (files : RunWords) (old new : Option (List ℕ)) (status : ℕ) (before after : S) : Type 0 where
+  -- so it is, or the file can't be read
+  abbrev pub HasChecked : List ℕ → Scope → ℕ → Scene S O E → Scene S O E → Type 0
+  HasChecked settings scope status before after = IsUnread status before after ⊎ IsLookedAt settings scope status before after
+
+  abbrev pub HasCompared : List ℕ → List ℕ → ℕ → Scene S O E → Scene S O E → Type 0
+  HasCompared settings other status before after = IsUnread status before after ⊎ AreCompared settings other status before after
+
+  -- settings were checked, or compared with others, as words ask
+  abbrev pub HasLooked : CheckWords → ℕ → Scene S O E → Scene S O E → Type 0
+  HasLooked words status before after =
+      MatchOption words.other (HasChecked (string_bytes words.settings) (scope_of words) status before after)
+      (λ other. HasCompared (string_bytes words.settings) (string_bytes other) status before after)
+
+-- what is told of the run of a script, by the texts of its settings and of the script
+abbrev pub Hearing : Type 0 → Type 1
+Hearing E = List ℕ → List ℕ → E → E → Type 0
+
+-- just the files that are named were read, the settings first, and the script run with this status; so much of it was told
+pub record HasRunOf {S O E : Type 0} (does : Does S) (prints : O → Option (List ℕ)) (hears : Hearing E) (files : RunWords) (status : ℕ) (before after : Scene S O E) : Type 0 where
   pub text : List ℕ
   pub script : List ℕ
-  pub are_read : AreRead does (string_bytes files.settings) (string_bytes files.script) text script before after
-  pub run : RunsScript text script old new status
+  pub are_read : AreRead does (string_bytes files.settings) (string_bytes files.script) text script before.site after.site
+  pub run : RunsScript text script (prints before.output) (prints after.output) status
+  pub told : hears text script before.errors after.errors
 
--- and through sockets
-pub record HasLoopOf {S : Type 0} (does : Does S) (files : RunWords) (old new : Option (List ℕ)) (status : ℕ) (before after : S) : Type 0 where
+-- and through sockets: of that nothing is told but its output
+pub record HasLoopOf {S O E : Type 0} (does : Does S) (prints : O → Option (List ℕ)) (files : RunWords) (status : ℕ) (before after : Scene S O E) : Type 0 where
   pub text : List ℕ
   pub script : List ℕ
-  pub are_read : AreRead does (string_bytes files.settings) (string_bytes files.script) text script before after
-  pub run : Loops text script old new status
+  pub are_read : AreRead does (string_bytes files.settings) (string_bytes files.script) text script before.site after.site
+  pub run : Loops text script (prints before.output) (prints after.output) status
+  pub quiet : after.errors ≡ before.errors
 
--- a script was run as the task says. Other tasks run none
-abbrev pub Runs : {S : Type 0} → Does S → Task → Option (List ℕ) → Option (List ℕ) → ℕ → S → S → Type 0
-Runs does (task.Sim files) old new status before after = HasRunOf does files old new status before after
-Runs does (task.Loop files) old new status before after = HasLoopOf does files old new status before after
-Runs does other old new status before after = Unit {0}
-
--- Of a script that nobody watches nothing is told but its output. Of other tasks this says nothing.
-abbrev pub IsQuiet : {E : Type 0} → Task → E → E → Type 0
-IsQuiet (task.Sim files) before after = after ≡ before
-IsQuiet other before after = Unit {0}
+-- What is done for a task that ends with this status. A status of 0 says of `init` that just the boot file that is named was made; of
+-- `stop`, `peer-off`, `side`, `status` and `pairs` that the settings that are named were read, and then just the box that is named was
+-- said just what the words say, and heard it, or took it, or was asked, and answered, and its answer was written. A status of 0 or 3 says
+-- of `sim` and `loop` that just the files that are named were read, and the script run. Whatever the status, `check` looks at just what the
+-- words say, as they say it; `gate` has a gateway run as they say; neither `gate` nor the version does anything at the site; and `init`,
+-- `stop`, `peer-off`, `side` and `status --until synced` print nothing.
+module _ {S O E : Type 0} (does : Does S) (works : Works) (prints : O → Option (List ℕ)) (tells : E → Option (List ℕ)) (hears : Hearing E) where
+  abbrev pub Acts : Task → ℕ → Scene S O E → Scene S O E → Type 0
+  Acts (task.Init file) status before after =
+      IsUnprinted before after × (status ≡ 0 → does before.site (made (string_bytes file)) after.site)
+  Acts (task.Check words) status before after = HasLooked does works prints tells words status before after
+  Acts (task.Gate words) status before after =
+      works (served (plan_of words)) (written prints before.output after.output) (written tells before.errors after.errors) status
+      × (after.site ≡ before.site)
+  Acts (task.Status words) status before after = (words.until_synced ≡ true → IsUnprinted before after)
+      × (status ≡ 0 → IsAsked does words (prints before.output) (prints after.output) before.site after.site)
+  Acts (task.Pairs words) status before after = status ≡ 0
+      → HasListed does (string_bytes words.settings) words.id (filter_of words) (prints before.output) (prints after.output) before.site after.site
+  Acts (task.Stop settings id) status before after =
+      IsUnprinted before after × (status ≡ 0 → HasSaid does (string_bytes settings) id (Some said_stop) before.site after.site)
+  Acts (task.PeerOff words) status before after = IsUnprinted before after
+      × (status ≡ 0 → HasTaken does (string_bytes words.settings) words.id (Some (said_off words.boot words.force)) before.site after.site)
+  Acts (task.Side settings id side up) status before after =
+      IsUnprinted before after × (status ≡ 0 → HasSaid does (string_bytes settings) id (Some (said_side side up)) before.site after.site)
+  Acts (task.Sim files) status before after = (status ≡ 0) ⊎ (status ≡ 3) → HasRunOf does prints hears files status before after
+  Acts (task.Loop files) status before after = (status ≡ 0) ⊎ (status ≡ 3) → HasLoopOf does prints files status before after
+  Acts task.Version status before after = after.site ≡ before.site

@@ -55,3 +55,8 @@ pub record HasHeardScript {C E : Type 0} (reads : Reads C) (contents : E → Opt
   pub job : Job
   pub is : IsJobOf text script job
   pub heard : HasHeard reads contents (length job.events.items) clock before after
+
+-- of a script that is watched so much was heard; of one that isn't, nothing is told
+abbrev pub Watches : {C E : Type 0} → Bool → Reads C → (E → Option (List ℕ)) → C → List ℕ → List ℕ → E → E → Type 0
+Watches is_watched reads contents clock text script before after =
+    (is_watched ≡ true → HasHeardScript reads contents text script clock before after) × (is_watched ≡ false → after ≡ before)

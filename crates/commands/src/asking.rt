@@ -1,17 +1,17 @@
 //! What is asked of settings, and of a running gateway.
-ghost use Rattle.std.specs.Prelude.{◌≡◌, ◌⊎◌, IfSome, option_map, string_bytes, unwrap_or};
+ghost use Rattle.std.specs.Prelude.{◌≡◌, ◌⊎◌, IfSome, option_map, string_bytes, true, unwrap_or};
 ghost use Rattle.commands.specs.Acts.{HasChecked, HasCompared, HasLooked, IsAsked};
 ghost use Rattle.commands.specs.Asked.{filter_of, form_of};
+ghost use Rattle.commands.specs.Hosts.{scene, scope_in};
 ghost use Rattle.box_words.specs.Deeds.{HasListed, read};
 
 use crate::commands::text_of;
-use boot_file::Lockable;
+use crate::hosts::Host;
 use box_words::{Site, await_synced, pairs, status};
-use checks::{Request, Source, ThisMachine, check, compare, tell_of};
+use checks::{Request, Source, tell_of};
 use command_line::{CheckWords, PairsWords, StatusWords};
 use report_texts::Filter;
 use std::alloc::Global;
-use std::fs::Files;
 use std::io::Write;
 use std::rt::Clock;
 
@@ -19,64 +19,57 @@ use std::rt::Clock;
 const PATIENCE: u32 = 60;
 
 /// Looks at settings, or in what they differ from others.
-pub(crate) fn look_at<R: Files + AllocGlobal, S: Site, O: Write, E: Write>(
-    rt: &R,
+pub(crate) fn look_at<S: Site, H: Host, O: Write, E: Write>(
     site: &mut S,
+    host: &H,
     words: &CheckWords,
     output: &mut O,
     errors: &mut E,
 ) -> u8
-where
-    R::File: Lockable,
     ensures status { (result ≡ 0) ⊎ (result ≡ 1) }
-    ensures looked { result ≡ 0 → HasLooked S.does words.now site.old site.new }
+    ensures looked { HasLooked S.does (H.works host.now) O.contents E.contents words.now result
+        (scene site.old output.old errors.old) (scene site.new output.new errors.new) }
 {
     let settings = words.settings.as_str();
     match &words.other {
-        Some(other) => {
-            let (alloc, other) = (rt.alloc(), other.as_str());
-            look_at_both(alloc, site, settings, other, output, errors)
-        }
-        None => look_at_one(rt, site, settings, &request_of(words), output, errors),
+        Some(other) => look_at_both(site, host, settings, other.as_str(), output, errors),
+        None => look_at_one(site, host, settings, &request_of(words), output, errors),
     }
 }
 
 /// Looks at the settings in a file.
-fn look_at_one<R: Files + AllocGlobal, S: Site, O: Write, E: Write>(
-    rt: &R,
+fn look_at_one<S: Site, H: Host, O: Write, E: Write>(
     site: &mut S,
+    host: &H,
     settings: &str,
     request: &Request<'_>,
     output: &mut O,
     errors: &mut E,
 ) -> u8
-where
-    R::File: Lockable,
     ensures status { (result ≡ 0) ⊎ (result ≡ 1) }
-    ensures checked { result ≡ 0
-        → HasChecked S.does settings.now request.now.strict site.old site.new }
+    ensures checked { HasChecked S.does (H.works host.now) O.contents E.contents settings.now
+        (scope_in request.now) result (scene site.old output.old errors.old)
+        (scene site.new output.new errors.new) }
 {
     match site.text(settings) {
-        Ok(text) => {
-            let around = ThisMachine::new(rt);
-            check(rt.alloc(), &around, text.as_str(), request, output, errors)
-        }
+        Ok(text) => host.look(text.as_str(), request, output, errors),
         Err(fault) => fault.tell(errors),
     }
 }
 
 /// Looks in what the settings in two files differ.
-fn look_at_both<S: Site, O: Write, E: Write>(
-    alloc: Global,
+fn look_at_both<S: Site, H: Host, O: Write, E: Write>(
     site: &mut S,
+    host: &H,
     settings: &str,
     other: &str,
     output: &mut O,
     errors: &mut E,
 ) -> u8
     ensures status { (result ≡ 0) ⊎ (result ≡ 1) }
-    ensures compared { result ≡ 0
-        → HasCompared S.does settings.now other.now site.old site.new }
+    ensures compared { HasCompared S.does (H.works host.now) O.contents E.contents settings.now
+        other.now result (scene site.old output.old errors.old)
+        (scene site.new output.new errors.new) }
 {
     let one = text_at(site, settings, errors);
     let two = text_at(site, other, errors);
@@ -91,13 +84,14 @@ fn look_at_both<S: Site, O: Write, E: Write>(
         path: other,
         text: two.as_str(),
     };
-    compare(alloc, one, two, output, errors)
+    host.compare(one, two, output, errors)
 }
 
 /// The text of a file; why there is none is told on `errors`.
 fn text_at<S: Site, E: Write>(site: &mut S, path: &str, errors: &mut E) -> Option<String>
-    ensures { IfSome result
+    ensures read { IfSome result
         (λ text. S.does site.old (read path.now (string_bytes text)) site.new) }
+    ensures quiet { IfSome result (λ _. errors.new ≡ errors.old) }
 {
     match site.text(path) {
         Ok(text) => Some(text),
@@ -138,6 +132,7 @@ pub(crate) fn state_of<R: Clock + AllocGlobal, S: Site, O: Write, E: Write>(
     ensures status { (result ≡ 0) ⊎ (result ≡ 1) }
     ensures asked { result ≡ 0 → IsAsked S.does words.now (O.contents output.old)
         (O.contents output.new) site.old site.new }
+    ensures unprinted { words.now.until_synced ≡ true → output.new ≡ output.old }
 {
     let settings = words.settings.as_str();
     if words.until_synced {

@@ -1,20 +1,24 @@
 //! The commands.
-ghost use Rattle.std.specs.Prelude.{◌≡◌, ◌⊎◌, ◌≤◌, false, map, option_map, string_bytes};
+ghost use Rattle.std.specs.Prelude.{◌≡◌, ◌⊎◌, ◌≤◌, map, option_map, string_bytes};
 ghost use Rattle.command_line.specs.Line.{AskVersion, MayAskVersion};
 ghost use Rattle.command_line.specs.Tasks.{FoundsAtZero};
 ghost use Rattle.commands.specs.Words.{AreRefused};
 ghost use Rattle.commands.specs.Asked.{format_of};
-ghost use Rattle.commands.specs.Acts.{Acts, IsQuiet, Runs};
+ghost use Rattle.commands.specs.Acts.{Acts};
 ghost use Rattle.commands.specs.Ends.{AreDone, Ends};
+ghost use Rattle.commands.specs.Hosts.{scene};
+ghost use Rattle.commands.specs.Meters.{Watches};
 
 use crate::asking::{look_at, pairs_of, state_of};
+use crate::hosts::{Host, ThisHost};
 use crate::runs::{repeat, sim};
 use crate::versions::tell_version;
 use boot_file::{Blocks, Lockable};
 use box_words::{Machine, Site, peer_off, side, stop};
 use command_line::{GateWords, Task, WayWords, command};
-use gate::{Start, WayTexts, gate, init};
+use gate::{Start, WayTexts, init};
 use journal::Format;
+use rounds::{Clockwork, Stopwatch};
 use std::fs::Files;
 use std::io::Write;
 use std::net::Net;
@@ -39,6 +43,7 @@ pub fn act<
 where
     R::File: Blocks + Lockable + AsRawFd,
     ensures usage { result ≡ 2 → AreRefused (map string_bytes words.now) }
+    ensures unprinted { result ≡ 2 → output.new ≡ output.old }
     ensures refused { AreRefused (map string_bytes words.now)
         → ¬ (MayAskVersion (map string_bytes words.now)) → (result ≡ 1) ⊎ (result ≡ 2) }
     ensures version { AskVersion (map string_bytes words.now)
@@ -49,37 +54,44 @@ where
 {
     match command(rt.alloc(), words) {
         Ok(task) => {
-            let mut site = Machine::new(rt);
-            done(rt, &mut site, &task, is_watched, output, errors)
+            let (mut site, host, clock) = (Machine::new(rt), ThisHost(rt), Stopwatch::start(rt));
+            done(rt, &mut site, &host, clock, &task, is_watched, output, errors)
         }
         Err(fault) => fault.tell(errors),
     }
 }
 
-/// Does a task: files are read, boxes are spoken to, and boot files made, at a site.
+/// Does a task: files are read, boxes are spoken to, and boot files made, at a site; a host looks at settings and runs
+/// gateways; and who watches a script hears by a clock how far it is.
 fn done<
-    R: Files + Net + Clock + RandomSource + Eprint + Env + Input + AllocGlobal,
+    R: Files + Net + Clock + AllocGlobal,
     S: Site,
+    H: Host,
+    C: Clockwork + Drop,
     O: Write,
     E: Write,
->(rt: &R, site: &mut S, task: &Task, is_watched: bool, output: &mut O, errors: &mut E) -> u8
-where
-    R::File: Blocks + Lockable + AsRawFd,
+>(
+    rt: &R,
+    site: &mut S,
+    host: &H,
+    clock: C,
+    task: &Task,
+    is_watched: bool,
+    output: &mut O,
+    errors: &mut E,
+) -> u8
     requires found { FoundsAtZero task.now }
     ensures status { (result ≡ 0) ⊎ ((result ≡ 1) ⊎ (result ≡ 3)) }
     ensures done { (result ≡ 0) ⊎ (result ≡ 3)
         → Ends (O.contents output.old) (O.contents output.new) task.now result }
-    ensures acts { result ≡ 0 → Acts S.does task.now (O.contents output.old)
-        (O.contents output.new) site.old site.new }
-    ensures runs { (result ≡ 0) ⊎ (result ≡ 3) → Runs S.does task.now (O.contents output.old)
-        (O.contents output.new) result site.old site.new }
-    ensures quiet { is_watched ≡ false → (result ≡ 0) ⊎ (result ≡ 3)
-        → IsQuiet task.now errors.old errors.new }
+    ensures acts { Acts S.does (H.works host.now) O.contents E.contents
+        (Watches is_watched C.reads E.contents clock) task.now result
+        (scene site.old output.old errors.old) (scene site.new output.new errors.new) }
 {
     match task {
         Task::Init(file) => init(rt.alloc(), site, file.as_str(), errors),
-        Task::Check(words) => look_at(rt, site, words, output, errors),
-        Task::Gate(words) => gate(rt, &start_of(words), output, errors),
+        Task::Check(words) => look_at(site, host, words, output, errors),
+        Task::Gate(words) => host.serve(&start_of(words), output, errors),
         Task::Status(words) => state_of(rt, site, words, output, errors),
         Task::Pairs(words) => pairs_of(rt.alloc(), site, words, output, errors),
         Task::Stop(settings, id) => stop(rt.alloc(), site, settings.as_str(), *id, errors),
@@ -101,7 +113,7 @@ where
             side: told,
             up,
         } => side(rt.alloc(), site, settings.as_str(), *id, *told, *up, errors),
-        Task::Sim(files) => sim(rt, site, files, is_watched, output, errors),
+        Task::Sim(files) => sim(rt, site, clock, files, is_watched, output, errors),
         Task::Loop(files) => repeat(rt, site, files, output, errors),
         Task::Version => tell_version(output, errors),
     }

@@ -4,6 +4,7 @@
 mod asking;
 mod capture_files;
 mod commands;
+mod hosts;
 mod meters;
 mod runs;
 mod versions;

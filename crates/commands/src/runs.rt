@@ -8,8 +8,9 @@ ghost use Rattle.simulation.specs.Status.{RunsScript};
 ghost use Rattle.simulation.specs.Tapes.{IsTapedRun};
 ghost use Rattle.simulation.specs.Watched.{IsToldAll, WatchesScript};
 ghost use Rattle.commands.specs.Acts.{AreRead, HasLoopOf, HasRunOf};
-ghost use Rattle.commands.specs.Ends.{HasLoop, HasRun, Loops};
-ghost use Rattle.commands.specs.Meters.{HasHeard, HasHeardScript, Hears, telling};
+ghost use Rattle.commands.specs.Ends.{Loops};
+ghost use Rattle.commands.specs.Hosts.{scene};
+ghost use Rattle.commands.specs.Meters.{HasHeard, HasHeardScript, Hears, Watches, telling};
 
 use crate::capture_files::{capture_at, ended, unmade};
 use crate::meters::Meter;
@@ -18,7 +19,7 @@ use command_line::RunWords;
 use faults::{Fault, Job, job_of};
 use frame_sim::Tape;
 use loopback_run::{Channel, Loopback, PortFault, run_loop};
-use rounds::{Clockwork, Stopwatch};
+use rounds::Clockwork;
 use settings::Settings;
 use settings_file::{SettingFault, port_clash_of_both};
 use simulation::{Unwatched, simulate, simulate_watched};
@@ -28,22 +29,20 @@ use std::io::Write;
 use std::net::Net;
 use std::rt::Clock;
 
-/// Runs the script of one file with the settings of another.
-pub(crate) fn sim<R: Files + Clock + AllocGlobal, S: Site, O: Write, E: Write>(
+/// Runs the script of one file with the settings of another, and says how far it is by a clock where somebody watches.
+pub(crate) fn sim<R: Files + AllocGlobal, S: Site, C: Clockwork + Drop, O: Write, E: Write>(
     rt: &R,
     site: &mut S,
+    clock: C,
     files: &RunWords,
     is_watched: bool,
     output: &mut O,
     errors: &mut E,
 ) -> u8
     ensures status { (result ≡ 0) ⊎ ((result ≡ 1) ⊎ (result ≡ 3)) }
-    ensures run { (result ≡ 0) ⊎ (result ≡ 3) → HasRun (O.contents output.old)
-        (O.contents output.new) result }
-    ensures named { (result ≡ 0) ⊎ (result ≡ 3) → HasRunOf S.does files.now
-        (O.contents output.old) (O.contents output.new) result site.old site.new }
-    ensures quiet { is_watched ≡ false → (result ≡ 0) ⊎ (result ≡ 3)
-        → errors.new ≡ errors.old }
+    ensures named { (result ≡ 0) ⊎ (result ≡ 3) → HasRunOf S.does O.contents
+        (Watches is_watched C.reads E.contents clock) files.now result
+        (scene site.old output.old errors.old) (scene site.new output.new errors.new) }
 {
     match texts(site, files) {
         Ok((settings, script)) => {
@@ -51,10 +50,9 @@ pub(crate) fn sim<R: Files + Clock + AllocGlobal, S: Site, O: Write, E: Write>(
             match &files.capture {
                 Some(path) => {
                     let path = path.as_str();
-                    sim_captured(rt, settings, script, path, is_watched, output, errors)
+                    sim_captured(rt, clock, settings, script, path, is_watched, output, errors)
                 }
                 None => {
-                    let clock = Stopwatch::start(rt);
                     let alloc = rt.alloc();
                     simulated(alloc, clock, settings, script, is_watched, output, errors)
                 }
@@ -133,8 +131,9 @@ fn metered<C: Clockwork, O: Write, E: Write>(
 }
 
 /// Runs a script, with its capture in a file, which is begun once both texts are read.
-fn sim_captured<R: Files + Clock + AllocGlobal, O: Write, E: Write>(
+fn sim_captured<R: Files + AllocGlobal, C: Clockwork + Drop, O: Write, E: Write>(
     rt: &R,
+    clock: C,
     settings: &str,
     script: &str,
     path: &str,
@@ -145,13 +144,15 @@ fn sim_captured<R: Files + Clock + AllocGlobal, O: Write, E: Write>(
     ensures status { (result ≡ 0) ⊎ ((result ≡ 1) ⊎ (result ≡ 3)) }
     ensures run { (result ≡ 0) ⊎ (result ≡ 3) → RunsScript settings.now script.now
         (O.contents output.old) (O.contents output.new) result }
+    ensures heard { is_watched ≡ true → (result ≡ 0) ⊎ (result ≡ 3)
+        → HasHeardScript C.reads E.contents settings.now script.now clock errors.old errors.new }
     ensures quiet { is_watched ≡ false → (result ≡ 0) ⊎ (result ≡ 3)
         → errors.new ≡ errors.old }
 {
     match job_of(rt.alloc(), settings, script) {
         Ok(job) => match capture_at(rt, path, &job) {
             Ok(mut capture) => {
-                let (alloc, clock) = (rt.alloc(), Stopwatch::start(rt));
+                let alloc = rt.alloc();
                 let run = taped(alloc, clock, &job, is_watched, &mut capture, output, errors);
                 ended(rt.alloc(), run, capture.end(), path, errors)
             }
@@ -220,10 +221,8 @@ pub(crate) fn repeat<R: Files + Net + Clock + AllocGlobal, S: Site, O: Write, E:
     errors: &mut E,
 ) -> u8
     ensures status { (result ≡ 0) ⊎ ((result ≡ 1) ⊎ (result ≡ 3)) }
-    ensures run { (result ≡ 0) ⊎ (result ≡ 3) → HasLoop (O.contents output.old)
-        (O.contents output.new) result }
-    ensures named { (result ≡ 0) ⊎ (result ≡ 3) → HasLoopOf S.does files.now
-        (O.contents output.old) (O.contents output.new) result site.old site.new }
+    ensures named { (result ≡ 0) ⊎ (result ≡ 3) → HasLoopOf S.does O.contents files.now result
+        (scene site.old output.old errors.old) (scene site.new output.new errors.new) }
 {
     match texts(site, files) {
         Ok((settings, script)) => {
@@ -250,6 +249,7 @@ fn repeated<R: Net + Clock + AllocGlobal, O: Write, E: Write>(
     ensures status { (result ≡ 0) ⊎ ((result ≡ 1) ⊎ (result ≡ 3)) }
     ensures run { (result ≡ 0) ⊎ (result ≡ 3) → Loops settings.now script.now
         (O.contents output.old) (O.contents output.new) result }
+    ensures quiet { (result ≡ 0) ⊎ (result ≡ 3) → errors.new ≡ errors.old }
 {
     let mut passage = Loopback::new(rt);
     run_loop(rt.alloc(), settings, script, &mut passage, output, errors)
@@ -267,6 +267,7 @@ fn repeat_captured<R: Files + Net + Clock + AllocGlobal, O: Write, E: Write>(
     ensures status { (result ≡ 0) ⊎ ((result ≡ 1) ⊎ (result ≡ 3)) }
     ensures run { (result ≡ 0) ⊎ (result ≡ 3) → Loops settings.now script.now
         (O.contents output.old) (O.contents output.new) result }
+    ensures quiet { (result ≡ 0) ⊎ (result ≡ 3) → errors.new ≡ errors.old }
 {
     let mut passage = Loopback::new(rt);
     match opened(rt.alloc(), settings, script, &mut passage) {

@@ -1,19 +1,24 @@
-use Rattle.std.proofs.Common.{◌∙◌, ap}
-use Rattle.std.proofs.lemmas.List.{drop_more}
-use Rattle.clap.specs.Words.{App}
-use Rattle.command_line.specs.Arguments.{with_all}
-use Rattle.command_line.proofs.Arguments.{no_globals, one_more}
+use Rattle.std.proofs.lemmas.List.{drop_all, drop_more}
+use Rattle.clap.specs.Words.{new_app}
+use Rattle.command_line.specs.Helps.{new_help}
+use Rattle.command_line.proofs.Arguments.{all_told, one_told}
 use Rattle.command_line.proofs.commands.command.Goals as goal
 
 pub loop-argument-init : goal.loop-argument-init
-loop-argument-init c =
+loop-argument-init g c =
     let outline = c.outline_of-outline in
-    (ap (λ (a : App). with_all a outline.result.now.arguments.now) c.new-command.ensures.app ∙ outline.ensures.app, c.new-command.ensures.local)
+    (new_app outline.result.now.name.now, new_help outline.result.now.name.now, c.named-command.ensures, outline.ensures.app, outline.ensures.help)
 
 pub loop-argument-preserved : goal.loop-argument-preserved
-loop-argument-preserved c =
+loop-argument-preserved g c =
     let l = c.loop-argument in
+    let had = l.invariant in
     let next = drop_more c.outline_of-outline.result.now.arguments.now l.argument-index _ c.loop-argument-test.true in
-    let added = c.in_ok-command.ensures in
-    let own = c.arg.ensures.local in
-    (one_more _ _ _ _ _ _ _ next (added.shape own) c.arg.ensures.rule l.invariant.0, no_globals _ _ _ added.globals l.invariant.1 own)
+    one_told g.B.Builder.tells c.in_ok-command.command had.0 _ had.1 _ _ _ _ _ _ next (c.in_ok-command.ensures had.0 had.1 had.2) had.3 had.4
+
+pub returns : goal.returns
+returns g c =
+    let l = c.loop-argument in
+    let had = l.invariant in
+    all_told g.B.Builder.tells c.says.result had.0 _ had.1 _ _ _ _ (drop_all l.argument-index _ c.loop-argument-test.false) had.3 had.4
+    (c.says.ensures had.0 had.1 had.2)

@@ -1,12 +1,12 @@
-use Rattle.std.proofs.Common.{◌≡◌, drop, false}
-use Rattle.clap.specs.Words.{app_of}
-use Rattle.clap.specs.declared.builder.command.Command.TheViews.{out-Command as fields_of}
+use Rattle.std.proofs.Common.{◌≡◌, drop}
+use Rattle.clap.specs.Words.{App}
 use Rattle.command_line.specs.Arguments.{with_all}
-use Rattle.command_line.specs.Entries.{app_for}
+use Rattle.command_line.specs.Entries.{app_for, help_for}
+use Rattle.command_line.specs.Helps.{Help, with_arguments, with_texts}
 use Rattle.command_line.proofs.commands.command.Given as goal
 
--- with the arguments that are left it is the command of the entry
+-- with the arguments that are left, and its texts, it is the command of the entry
 abbrev pub invariant-loop-argument : goal.invariant-loop-argument
-invariant-loop-argument l =
-    (with_all (app_of l.command) (drop l.argument-index l.outline.arguments.now) ≡ app_for l.fn.entry)
-    × ((fields_of l.command).has_globals ≡ false)
+invariant-loop-argument g l = (a : App) × (h : Help) × g.B.Builder.tells l.command a h
+    × (with_all a (drop l.argument-index l.outline.arguments.now) ≡ app_for l.fn.entry)
+    × (with_texts (with_arguments h (drop l.argument-index l.outline.arguments.now)) l.outline.about.now l.outline.below.now ≡ help_for l.fn.entry)

@@ -1,22 +1,24 @@
-use Rattle.std.proofs.Common.{◌∙◌, ap, sym}
+use Rattle.std.proofs.Common.{codes, refl}
 use Rattle.std.proofs.lemmas.List.{drop_all, drop_more}
-use Rattle.clap.specs.Words.{App, app_of}
-use Rattle.command_line.specs.Entries.{with_each}
+use Rattle.clap.specs.Words.{new_app}
+use Rattle.command_line.specs.Helps.{new_help}
 use Rattle.command_line.specs.declared.commands.TheConstants.{ENTRIES}
-use Rattle.command_line.proofs.Arguments.{one_entry}
+use Rattle.command_line.proofs.Arguments.{all_commands, one_entry}
 use Rattle.command_line.proofs.commands.commands.Goals as goal
 
 pub loop-entry-init : goal.loop-entry-init
-loop-entry-init c = ap (λ (a : App). with_each a ENTRIES) c.new-program.ensures.app
+loop-entry-init g c = (new_app (codes "natpair"), new_help (codes "natpair"), c.named-program.ensures, refl, refl)
 
 pub loop-entry-preserved : goal.loop-entry-preserved
-loop-entry-preserved c =
+loop-entry-preserved g c =
     let l = c.loop-entry in
+    let had = l.invariant in
     let next = drop_more ENTRIES l.entry-index _ c.loop-entry-test.true in
-    let command = c.in_ok-command.ensures in
-    one_entry _ _ _ (app_of c.in_ok-command.command) _ _ _ next (c.in_ok-program.ensures.shape command.local) command.app l.invariant
+    one_entry g.B.Builder.tells c.in_ok-program.program had.0 had.1 _ _ _ next
+    (c.in_ok-program.ensures had.0 _ had.1 _ had.2 c.in_ok-command.ensures) had.3 had.4
 
 pub returns : goal.returns
-returns c =
+returns g c =
     let l = c.loop-entry in
-    ap (with_each (app_of l.program)) (sym (drop_all l.entry-index ENTRIES c.loop-entry-test.false)) ∙ l.invariant
+    let had = l.invariant in
+    all_commands g.B.Builder.tells l.program had.0 had.1 _ (drop_all l.entry-index ENTRIES c.loop-entry-test.false) had.3 had.4 had.2

@@ -22,12 +22,12 @@ is_plain = refl
 
 pub returns-in-Ok-clause-taken : goal.returns-in-Ok-clause-taken
 returns-in-Ok-clause-taken c =
-    let line = c.in_ok-line.ensures.app in
+    let line = c.in_ok-line.ensures in
     ap (λ (a : App). fault_of a (map string_bytes c.args.words.now)) (sym line) ∙ c.in-Ok.ensures.kinds (ap is_simple_and_free line ∙ is_free)
 
 pub returns-in-Ok-clause-numbers : goal.returns-in-Ok-clause-numbers
 returns-in-Ok-clause-numbers c =
-    let line = c.in_ok-line.ensures.app in
+    let line = c.in_ok-line.ensures in
     let words = map string_bytes c.args.words.now in
     let taken : Takes words = ap (λ (a : App). fault_of a words) (sym line) ∙ c.in-Ok.ensures.kinds (ap is_simple_and_free line ∙ is_free) in
     let values : subcommand_rows_of c.in-Ok.matches ≡ entered_by words =
@@ -36,7 +36,7 @@ returns-in-Ok-clause-numbers c =
 
 pub returns-in-Ok-clause-one : goal.returns-in-Ok-clause-one
 returns-in-Ok-clause-one c =
-    let line = c.in_ok-line.ensures.app in
+    let line = c.in_ok-line.ensures in
     let words = map string_bytes c.args.words.now in
     let taken : Takes words = ap (λ (a : App). fault_of a words) (sym line) ∙ c.in-Ok.ensures.kinds (ap is_simple_and_free line ∙ is_free) in
     let values : subcommand_rows_of c.in-Ok.matches ≡ entered_by words =
@@ -45,7 +45,7 @@ returns-in-Ok-clause-one c =
 
 pub returns-in-Ok-clause-values : goal.returns-in-Ok-clause-values
 returns-in-Ok-clause-values c =
-    let line = c.in_ok-line.ensures.app in
+    let line = c.in_ok-line.ensures in
     let words = map string_bytes c.args.words.now in
     (c.in-Ok.ensures.matches (ap is_simple line ∙ is_plain)).1 ∙ ap (λ (a : App). subcommand_of a words) line
 
@@ -76,7 +76,7 @@ refuses words e NoMemory h kinds = tt
 
 pub returns-in-Err-clause-err : goal.returns-in-Err-clause-err
 returns-in-Err-clause-err c =
-    let line = c.in_ok-line.ensures.app in
+    let line = c.in_ok-line.ensures in
     let words = map string_bytes c.args.words.now in
     let kinds : HasKind (faults_of words) c.in-Err.error =
     subst (λ (ks : Kinds). HasKind ks c.in-Err.error) (ap (λ (a : App). fault_of a words) line) (c.in-Err.ensures.kinds (ap is_simple_and_free line ∙ is_free)) in

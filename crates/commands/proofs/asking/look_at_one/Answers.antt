@@ -1,9 +1,14 @@
+use Rattle.std.proofs.Common.{◌∙◌, inl, inr, refl}
 use Rattle.commands.proofs.asking.look_at_one.Goals as goal
 
 pub returns-in-Ok-clause-checked : goal.returns-in-Ok-clause-checked
-returns-in-Ok-clause-checked g c h = record {
+returns-in-Ok-clause-checked g c = inr (record {
   text = _;
   is_read = c.in-Ok.ensures.read;
-  good = rw c.as_str.ensures.value at (c.check.ensures.accepts h);
-  clean = λ strict. rw c.as_str.ensures.value at (c.check.ensures.strict strict h);
-}
+  work = rw c.as_str.ensures.value at c.look.ensures.works;
+  good = λ none. rw c.as_str.ensures.value at (c.look.ensures.accepts none);
+  clean = λ strict none. rw c.as_str.ensures.value at (c.look.ensures.strict strict none);
+})
+
+pub returns-clause-checked : goal.returns-clause-checked
+returns-clause-checked g c = inl (c.tell.ensures ∙ c.in-Err.ensures.status, refl)

@@ -1,3 +1,4 @@
+use Rattle.std.proofs.Common.{refl}
 use Rattle.commands.proofs.Statuses.{is_0}
 use Rattle.std.specs.Prelude.{string_bytes}
 use Rattle.commands.proofs.Looking.{looked}
@@ -9,12 +10,12 @@ returns-in-Init-clause-done g c h = rw c.in-Init.is (is_0 _ c.init.ensures.statu
 pub returns-in-Check-clause-done : goal.returns-in-Check-clause-done
 returns-in-Check-clause-done g c h =
     let none = is_0 _ c.look_at.ensures.status h in
-    rw c.in-Check.is (none, looked _ _ string_bytes _ _ _ _ (c.look_at.ensures.looked none))
+    rw c.in-Check.is (none, looked _ _ _ _ _ _ string_bytes _ _ _ _ c.look_at.ensures.looked none)
 
 pub returns-in-Gate-clause-done : goal.returns-in-Gate-clause-done
 returns-in-Gate-clause-done g c h =
-    let none = is_0 _ c.gate.ensures.status h in
-    rw c.in-Gate.is (none, rw (← c.start_of.ensures.id, ← c.start_of.ensures.rounds, ← c.start_of.ensures.found, ← c.start_of.ensures.track, ← c.start_of.ensures.until_eof) (c.gate.ensures.served none))
+    let none = is_0 _ c.serve.ensures.status h in
+    rw c.in-Gate.is (none, rw (← c.start_of.ensures.id, ← c.start_of.ensures.rounds, ← c.start_of.ensures.found, ← c.start_of.ensures.track, ← c.start_of.ensures.until_eof) (c.serve.ensures.served none))
 
 pub returns-in-Status-clause-done : goal.returns-in-Status-clause-done
 returns-in-Status-clause-done g c h = rw c.in-Status.is (is_0 _ c.state_of.ensures.status h)
@@ -31,28 +32,56 @@ returns-in-PeerOff-clause-done g c h = rw c.in-PeerOff.is (is_0 _ c.peer_off.ens
 pub returns-in-Side-clause-done : goal.returns-in-Side-clause-done
 returns-in-Side-clause-done g c h = rw c.in-Side.is (is_0 _ c.side.ensures.status h)
 
+pub returns-in-Sim-clause-done : goal.returns-in-Sim-clause-done
+returns-in-Sim-clause-done g c h =
+    let ran = c.sim.ensures.named h in
+    rw c.in-Sim.is (record { text = ran.text; script = ran.script; run = ran.run })
+
+pub returns-in-Loop-clause-done : goal.returns-in-Loop-clause-done
+returns-in-Loop-clause-done g c h =
+    let ran = c.repeat.ensures.named h in
+    rw c.in-Loop.is (record { text = ran.text; script = ran.script; run = ran.run })
+
 pub returns-in-Version-clause-done : goal.returns-in-Version-clause-done
 returns-in-Version-clause-done g c h =
     let none = is_0 _ c.tell_version.ensures.status h in
     rw c.in-Version.is (none, c.tell_version.ensures.printed none)
 
 pub returns-in-Init-clause-acts : goal.returns-in-Init-clause-acts
-returns-in-Init-clause-acts g c h = rw c.in-Init.is (rw c.as_str.ensures.value at (c.init.ensures.made h))
+returns-in-Init-clause-acts g c = rw c.in-Init.is (refl, λ h. rw c.as_str.ensures.value at (c.init.ensures.made h))
 
 pub returns-in-Check-clause-acts : goal.returns-in-Check-clause-acts
-returns-in-Check-clause-acts g c h = rw c.in-Check.is (c.look_at.ensures.looked h)
+returns-in-Check-clause-acts g c = rw c.in-Check.is c.look_at.ensures.looked
+
+pub returns-in-Gate-clause-acts : goal.returns-in-Gate-clause-acts
+returns-in-Gate-clause-acts g c =
+    let start = c.start_of.ensures in
+    rw c.in-Gate.is (
+      rw (start.settings, start.id, start.rounds, start.found, start.inside, start.outside, start.link, start.track, start.until_eof, start.log, start.format, start.capture, start.notify)
+      at c.serve.ensures.works,
+      refl,
+    )
 
 pub returns-in-Status-clause-acts : goal.returns-in-Status-clause-acts
-returns-in-Status-clause-acts g c h = rw c.in-Status.is (c.state_of.ensures.asked h)
+returns-in-Status-clause-acts g c = rw c.in-Status.is (c.state_of.ensures.unprinted, c.state_of.ensures.asked)
 
 pub returns-in-Pairs-clause-acts : goal.returns-in-Pairs-clause-acts
-returns-in-Pairs-clause-acts g c h = rw c.in-Pairs.is (c.pairs_of.ensures.listed h)
+returns-in-Pairs-clause-acts g c = rw c.in-Pairs.is c.pairs_of.ensures.listed
 
 pub returns-in-Stop-clause-acts : goal.returns-in-Stop-clause-acts
-returns-in-Stop-clause-acts g c h = rw c.in-Stop.is (rw c.as_str-in-Stop.ensures.value at (c.stop.ensures.said h))
+returns-in-Stop-clause-acts g c = rw c.in-Stop.is (refl, λ h. rw c.as_str-in-Stop.ensures.value at (c.stop.ensures.said h))
 
 pub returns-in-PeerOff-clause-acts : goal.returns-in-PeerOff-clause-acts
-returns-in-PeerOff-clause-acts g c h = rw c.in-PeerOff.is (rw c.as_str-settings.ensures.value at (c.peer_off.ensures.taken h))
+returns-in-PeerOff-clause-acts g c = rw c.in-PeerOff.is (refl, λ h. rw c.as_str-settings.ensures.value at (c.peer_off.ensures.taken h))
 
 pub returns-in-Side-clause-acts : goal.returns-in-Side-clause-acts
-returns-in-Side-clause-acts g c h = rw c.in-Side.is (rw c.as_str-in-Side.ensures.value at (c.side.ensures.said h))
+returns-in-Side-clause-acts g c = rw c.in-Side.is (refl, λ h. rw c.as_str-in-Side.ensures.value at (c.side.ensures.said h))
+
+pub returns-in-Sim-clause-acts : goal.returns-in-Sim-clause-acts
+returns-in-Sim-clause-acts g c = rw c.in-Sim.is c.sim.ensures.named
+
+pub returns-in-Loop-clause-acts : goal.returns-in-Loop-clause-acts
+returns-in-Loop-clause-acts g c = rw c.in-Loop.is c.repeat.ensures.named
+
+pub returns-in-Version-clause-acts : goal.returns-in-Version-clause-acts
+returns-in-Version-clause-acts g c = rw c.in-Version.is refl

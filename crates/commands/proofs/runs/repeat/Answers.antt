@@ -6,6 +6,7 @@ returns-in-Some-clause-named g c h = record {
   script = _;
   are_read = c.in-Ok.ensures.read;
   run = rw (c.as_str-settings.ensures.value, c.as_str-script.ensures.value) at (c.repeat_captured.ensures.run h);
+  quiet = c.repeat_captured.ensures.quiet h;
 }
 
 pub returns-in-Ok-clause-named : goal.returns-in-Ok-clause-named
@@ -14,4 +15,5 @@ returns-in-Ok-clause-named g c h = record {
   script = _;
   are_read = c.in-Ok.ensures.read;
   run = rw (c.as_str-settings.ensures.value, c.as_str-script.ensures.value) at (c.repeated.ensures.run h);
+  quiet = c.repeated.ensures.quiet h;
 }

@@ -1,5 +1,5 @@
 use Rattle.std.proofs.Common.{◌∙◌}
-use Rattle.commands.proofs.Taping.{isnt_1, run_of}
+use Rattle.commands.proofs.Taping.{heard_of, isnt_1, run_of}
 use Rattle.commands.proofs.runs.sim_captured.Goals as goal
 
 pub returns-in-Ok-capture_at-clause-run : goal.returns-in-Ok-capture_at-clause-run
@@ -10,3 +10,10 @@ returns-clause-run g c done = isnt_1 _ (c.tell.ensures ∙ c.in-Err.ensures.know
 
 pub returns-clause-quiet : goal.returns-clause-quiet
 returns-clause-quiet g c unwatched done = isnt_1 _ (c.tell.ensures ∙ c.in-Err.ensures.known) done
+
+pub returns-in-Ok-capture_at-clause-heard : goal.returns-in-Ok-capture_at-clause-heard
+returns-in-Ok-capture_at-clause-heard g c watched h =
+    heard_of _ _ _ _ _ _ _ _ _ _ _ c.in-Ok.ensures.job (c.taped-run.ensures.heard watched) (c.ended.ensures.run h) (c.ended.ensures.quiet h)
+
+pub returns-clause-heard : goal.returns-clause-heard
+returns-clause-heard g c watched done = isnt_1 _ (c.tell.ensures ∙ c.in-Err.ensures.known) done

@@ -1,0 +1,93 @@
+//! Who is told of commands.
+ghost use Rattle.std.specs.Prelude.{◌≡◌, IfOk, Some, false, true};
+ghost use Rattle.clap.specs.Words.{App, app_of, new_app, with_rule, with_subcommand};
+ghost use Rattle.clap.specs.declared.builder.command.Command.TheViews.{out-Command as fields_of};
+ghost use Rattle.command_line.specs.Arguments.{rule_for};
+ghost use Rattle.command_line.specs.Helps.{Help, new_help, with_argument, with_command, with_texts};
+ghost use Rattle.command_line.specs.Line.{wanting_command};
+
+use crate::options::Argument;
+use clap::Command;
+use std::alloc::{AllocError, Global};
+
+/// A command in the making: which words it takes, and what its help says.
+pub(crate) trait Builder: Sized + Drop {
+    ghost use Rattle.clap.specs.Words.{App};
+    ghost use Rattle.command_line.specs.Helps.{Help};
+
+    /// It takes words so, and its help says this.
+    ghost tells: { Self → App → Help → Type 0 };
+
+    /// A command of this name, of which no more is told.
+    fn named(alloc: Global, name: &'static str) -> Self
+        ensures { tells result (new_app name.entry.now) (new_help name.entry.now) };
+
+    /// It takes an argument more.
+    fn takes(self, alloc: Global, argument: &Argument<'static>) -> Result<Self, AllocError>
+        ensures { IfOk result (λ c. (a : App) → (h : Help) → tells self a h
+            → tells c (with_rule a (rule_for argument.now)) (with_argument h argument.now)) };
+
+    /// It has a command below it more.
+    fn has(self, command: Self) -> Result<Self, AllocError>
+        ensures { IfOk result (λ c. (a b : App) → (h k : Help) → tells self a h
+            → tells command b k → tells c (with_subcommand a b.top) (with_command h k)) };
+
+    /// One of the commands below it has to be named, none of which is `help`; and it has a version.
+    fn wants_command(self, version: &'static str) -> Self
+        ensures { (a : App) → (h : Help) → tells self a h
+            → tells result (wanting_command a) h };
+
+    /// What help says of it, and what stands below the options there.
+    fn says(self, about: &'static str, below: &'static str) -> Self
+        ensures { (a : App) → (h : Help) → tells self a h
+            → tells result a (with_texts h about.entry.now below.entry.now) };
+}
+
+/// A command with these texts, and no other change.
+fn with_texts<'a>(command: Command<'a>, about: &'static str, below: &'static str) -> Command<'a>
+    ensures { fields_of result ≡ record (fields_of command.entry) {
+      about = Some about.entry;
+      after_help = Some below.entry;
+    } }
+{
+    command.about(about).after_help(below)
+}
+
+/// A command that wants one of those below it, and has a version, with no other change.
+fn wanting_command<'a>(command: Command<'a>, version: &'static str) -> Command<'a>
+    ensures { fields_of result ≡ record (fields_of command.entry) {
+      version = Some version.entry;
+      disable_help_subcommand = true;
+      subcommand_required = true;
+    } }
+{
+    command
+        .version(version)
+        .disable_help_subcommand(true)
+        .subcommand_required(true)
+}
+
+/// `clap` says of its commands which words they take, and not what help prints of them: of that nothing is claimed.
+impl<'a> Builder for Command<'a> {
+    ghost tells = { λ c a _. (app_of c ≡ a) × ((fields_of c).has_globals ≡ false) };
+
+    fn named(alloc: Global, name: &'static str) -> Command<'a> {
+        Command::new(alloc, name)
+    }
+
+    fn takes(self, alloc: Global, argument: &Argument<'static>) -> Result<Command<'a>, AllocError> {
+        self.arg(argument.arg(alloc))
+    }
+
+    fn has(self, command: Command<'a>) -> Result<Command<'a>, AllocError> {
+        self.subcommand(command)
+    }
+
+    fn wants_command(self, version: &'static str) -> Command<'a> {
+        wanting_command(self, version)
+    }
+
+    fn says(self, about: &'static str, below: &'static str) -> Command<'a> {
+        with_texts(self, about, below)
+    }
+}

@@ -1,0 +1,128 @@
+-- What the program works on, and what is asked of a host beside the deeds at a site.
+use Rattle.std.specs.Prelude.{ℕ, Bool, List, Option, option_map, string_bytes}
+use Rattle.nat_types.specs.declared.gateways.GatewayId.{GatewayId}
+use Rattle.checks.specs.declared.requests.Request.{Request}
+use Rattle.checks.specs.declared.requests.Source.{Source}
+use Rattle.command_line.specs.declared.words.CheckWords.{CheckWords}
+use Rattle.command_line.specs.declared.words.GateWords.{GateWords}
+use Rattle.gate.specs.declared.running.Start.{Start}
+use Rattle.journal.specs.declared.lines.Format.{Format}
+use Rattle.commands.specs.Asked.{format_of}
+
+-- what is looked at beside a text of settings, and whether a warning counts
+pub record Scope : Type 0 where
+  pub id : Option GatewayId
+  pub strict : Bool
+  pub inside : Option (List ℕ)
+  pub outside : Option (List ℕ)
+  pub link : Option (List ℕ)
+
+-- as words have it
+abbrev pub scope_of : CheckWords → Scope
+scope_of words = record {
+  id = words.id;
+  strict = words.strict;
+  inside = option_map string_bytes words.inside;
+  outside = option_map string_bytes words.outside;
+  link = option_map string_bytes words.link;
+}
+
+-- and as it is asked of `check`
+abbrev pub scope_in : Request → Scope
+scope_in request = record {
+  id = request.id;
+  strict = request.strict;
+  inside = option_map (λ text. text.now) request.inside;
+  outside = option_map (λ text. text.now) request.outside;
+  link = option_map (λ text. text.now) request.link;
+}
+
+-- how a gateway is run
+pub record Plan : Type 0 where
+  pub settings : List ℕ
+  pub id : GatewayId
+  pub rounds : Option ℕ
+  pub found : Bool
+  pub inside : List ℕ
+  pub outside : List ℕ
+  pub link : List ℕ
+  pub track : Bool
+  pub until_eof : Bool
+  pub log : Option (List ℕ)
+  pub format : Format
+  pub capture : Option (List ℕ)
+  pub notify : Option (List ℕ)
+
+-- as words have it
+abbrev pub plan_of : GateWords → Plan
+plan_of words = record {
+  settings = string_bytes words.settings;
+  id = words.id;
+  rounds = words.rounds;
+  found = words.found;
+  inside = string_bytes words.ways.inside;
+  outside = string_bytes words.ways.outside;
+  link = string_bytes words.ways.link;
+  track = words.track;
+  until_eof = words.until_eof;
+  log = option_map string_bytes words.log;
+  format = format_of words.pairs;
+  capture = option_map string_bytes words.capture;
+  notify = option_map string_bytes words.notify;
+}
+
+-- and as it is asked of `gate`
+abbrev pub plan_in : Start → Plan
+plan_in start = record {
+  settings = start.settings.now;
+  id = start.id;
+  rounds = start.rounds;
+  found = start.found;
+  inside = start.ways.inside.now;
+  outside = start.ways.outside.now;
+  link = start.ways.link.now;
+  track = start.track;
+  until_eof = start.until_eof;
+  log = option_map (λ text. text.now) start.log;
+  format = start.format;
+  capture = option_map (λ text. text.now) start.capture;
+  notify = option_map (λ text. text.now) start.notify;
+}
+
+-- a file's path and its text
+pub record Text : Type 0 where
+  pub path : List ℕ
+  pub bytes : List ℕ
+
+abbrev pub text_at : List ℕ → List ℕ → Text
+text_at path bytes = record { path = path; bytes = bytes }
+
+abbrev pub text_in : Source → Text
+text_in source = text_at source.path.now source.text.now
+
+-- a text of settings is looked at; two are compared; a gateway is run
+pub data Work : Type 0 where
+  looked : List ℕ → Scope → Work
+  compared : Text → Text → Work
+  served : Plan → Work
+
+-- what a writer held before, and what it holds then
+pub record Written : Type 0 where
+  pub before : Option (List ℕ)
+  pub after : Option (List ℕ)
+
+abbrev pub written : {W : Type 0} → (W → Option (List ℕ)) → W → W → Written
+written contents before after = record { before = contents before; after = contents after }
+
+-- what a work may print, what it may tell, and with which status
+abbrev pub Works : Type 1
+Works = Work → Written → Written → ℕ → Type 0
+
+-- where a task is done: a site, the output, and who is told of faults
+pub record Scene (S O E : Type 0) : Type 0 where
+  pub site : S
+  pub output : O
+  pub errors : E
+
+abbrev pub scene : {S O E : Type 0} → S → O → E → Scene S O E
+scene site output errors = record { site = site; output = output; errors = errors }

@@ -1,0 +1,111 @@
+//! Who looks at settings and runs gateways.
+ghost use Rattle.std.specs.Prelude.{◌≡◌, ◌⊎◌, IsTrue, true};
+ghost use Rattle.nat_types.specs.declared.gateways.GatewayId.TheVariants.{Zero};
+ghost use Rattle.checks.specs.Counts.{AreAlike, IsCleanText, IsGoodText};
+ghost use Rattle.gate.specs.Served.{HasServed};
+ghost use Rattle.commands.specs.Hosts.{Work, Written, compared, looked, plan_in, scope_in, served, text_in, written};
+
+use boot_file::{Blocks, Lockable};
+use checks::{Request, Source, ThisMachine, check, compare};
+use gate::{Start, gate};
+use std::fs::Files;
+use std::io::Write;
+use std::net::Net;
+use std::os::fd::AsRawFd;
+use std::random::RandomSource;
+use std::rt::{Clock, Env};
+
+/// Who looks at settings and runs gateways, each once it is asked, and says what comes of it.
+pub(crate) trait Host {
+    ghost use Rattle.std.specs.Prelude.{ℕ};
+    ghost use Rattle.commands.specs.Hosts.{Work, Written};
+
+    /// What a work may print, what it may tell, and with which status.
+    ghost works: { Self → Work → Written → Written → ℕ → Type 0 };
+
+    /// Looks at a text of settings.
+    fn look<O: Write, E: Write>(
+        &self,
+        text: &str,
+        request: &Request<'_>,
+        output: &mut O,
+        errors: &mut E,
+    ) -> u8
+        ensures works { works self.now (looked text.now (scope_in request.now))
+            (written O.contents output.old output.new) (written E.contents errors.old errors.new)
+            result }
+        ensures status { (result ≡ 0) ⊎ (result ≡ 1) }
+        ensures accepts { result ≡ 0 → IsGoodText text.now }
+        ensures strict { request.now.strict ≡ true → result ≡ 0 → IsCleanText text.now };
+
+    /// Compares two texts of settings.
+    fn compare<O: Write, E: Write>(
+        &self,
+        one: Source<'_>,
+        other: Source<'_>,
+        output: &mut O,
+        errors: &mut E,
+    ) -> u8
+        ensures works { works self.now (compared (text_in one.entry) (text_in other.entry))
+            (written O.contents output.old output.new) (written E.contents errors.old errors.new)
+            result }
+        ensures status { (result ≡ 0) ⊎ (result ≡ 1) }
+        ensures alike { result ≡ 0 → AreAlike one.entry.text.now other.entry.text.now };
+
+    /// Runs a gateway.
+    fn serve<O: Write, E: Write>(
+        &self,
+        start: &Start<'_>,
+        output: &mut O,
+        errors: &mut E,
+    ) -> u8
+        requires found { IsTrue start.now.found → start.now.id ≡ Zero }
+        ensures works { works self.now (served (plan_in start.now))
+            (written O.contents output.old output.new) (written E.contents errors.old errors.new)
+            result }
+        ensures status { (result ≡ 0) ⊎ (result ≡ 1) }
+        ensures served { result ≡ 0 → HasServed start.now.id start.now.rounds start.now.found
+            start.now.track start.now.until_eof (O.contents output.old) (O.contents output.new) };
+}
+
+/// This machine: more of what it does isn't known.
+#[derive(Drop)]
+pub(crate) struct ThisHost<'a, R>(pub(crate) &'a R);
+
+impl<R: Files + Net + Clock + RandomSource + Eprint + Env + Input + AllocGlobal> Host
+    for ThisHost<'_, R>
+where
+    R::File: Blocks + Lockable + AsRawFd,
+{
+    ghost works = { λ _ _ _ _ _. Unit {0} };
+
+    fn look<O: Write, E: Write>(
+        &self,
+        text: &str,
+        request: &Request<'_>,
+        output: &mut O,
+        errors: &mut E,
+    ) -> u8 {
+        let around = ThisMachine::new(self.0);
+        check(self.0.alloc(), &around, text, request, output, errors)
+    }
+
+    fn compare<O: Write, E: Write>(
+        &self,
+        one: Source<'_>,
+        other: Source<'_>,
+        output: &mut O,
+        errors: &mut E,
+    ) -> u8 {
+        compare(self.0.alloc(), one, other, output, errors)
+    }
+
+    fn serve<O: Write, E: Write>(
+        &self,
+        start: &Start<'_>,
+        output: &mut O,
+        errors: &mut E,
+    ) -> u8 {
+        gate(self.0, start, output, errors)
+    }
+}
