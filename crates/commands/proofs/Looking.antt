@@ -1,5 +1,5 @@
 -- What was looked at, where nothing is known of the site and the host.
-use Rattle.std.proofs.Common.{◌≡◌, ◌∙◌, ◌⊎◌, inl, inr, sym, List, ℕ, Option, Some, None}
+use Rattle.std.proofs.Common.{◌≡◌, ◌∙◌, inl, inr, sym, List, ℕ, Option, Some, None}
 use Rattle.std.specs.Prelude.{MatchOption}
 use Rattle.box_words.specs.Deeds.{Does}
 use Rattle.commands.specs.Acts.{HasChecked, HasCompared}

@@ -55,7 +55,9 @@ where
     match command(rt.alloc(), words) {
         Ok(task) => {
             let (mut site, host, clock) = (Machine::new(rt), ThisHost(rt), Stopwatch::start(rt));
-            done(rt, &mut site, &host, clock, &task, is_watched, output, errors)
+            done(
+                rt, &mut site, &host, clock, &task, is_watched, output, errors,
+            )
         }
         Err(fault) => fault.tell(errors),
     }

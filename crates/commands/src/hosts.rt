@@ -53,12 +53,7 @@ pub(crate) trait Host {
         ensures alike { result ≡ 0 → AreAlike one.entry.text.now other.entry.text.now };
 
     /// Runs a gateway.
-    fn serve<O: Write, E: Write>(
-        &self,
-        start: &Start<'_>,
-        output: &mut O,
-        errors: &mut E,
-    ) -> u8
+    fn serve<O: Write, E: Write>(&self, start: &Start<'_>, output: &mut O, errors: &mut E) -> u8
         requires found { IsTrue start.now.found → start.now.id ≡ Zero }
         ensures works { works self.now (served (plan_in start.now))
             (written O.contents output.old output.new) (written E.contents errors.old errors.new)
@@ -100,12 +95,7 @@ where
         compare(self.0.alloc(), one, other, output, errors)
     }
 
-    fn serve<O: Write, E: Write>(
-        &self,
-        start: &Start<'_>,
-        output: &mut O,
-        errors: &mut E,
-    ) -> u8 {
+    fn serve<O: Write, E: Write>(&self, start: &Start<'_>, output: &mut O, errors: &mut E) -> u8 {
         gate(self.0, start, output, errors)
     }
 }

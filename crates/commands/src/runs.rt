@@ -50,7 +50,9 @@ pub(crate) fn sim<R: Files + AllocGlobal, S: Site, C: Clockwork + Drop, O: Write
             match &files.capture {
                 Some(path) => {
                     let path = path.as_str();
-                    sim_captured(rt, clock, settings, script, path, is_watched, output, errors)
+                    sim_captured(
+                        rt, clock, settings, script, path, is_watched, output, errors,
+                    )
                 }
                 None => {
                     let alloc = rt.alloc();

@@ -10,5 +10,5 @@ returns-in-Ok-clause-checked g c = inr (record {
   clean = λ strict none. rw c.as_str.ensures.value at (c.look.ensures.strict strict none);
 })
 
-pub returns-clause-checked : goal.returns-clause-checked
-returns-clause-checked g c = inl (c.tell.ensures ∙ c.in-Err.ensures.status, refl)
+pub returns-in-Err-clause-checked : goal.returns-in-Err-clause-checked
+returns-in-Err-clause-checked g c = inl (c.tell.ensures ∙ c.in-Err.ensures.status, refl)

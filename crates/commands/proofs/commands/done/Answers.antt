@@ -58,7 +58,7 @@ returns-in-Gate-clause-acts g c =
     let start = c.start_of.ensures in
     rw c.in-Gate.is (
       rw (start.settings, start.id, start.rounds, start.found, start.inside, start.outside, start.link, start.track, start.until_eof, start.log, start.format, start.capture, start.notify)
-      at c.serve.ensures.works,
+          at c.serve.ensures.works,
       refl,
     )
 
