@@ -1,5 +1,5 @@
 -- What is said of the keys in which the settings of two texts differ.
-use Rattle.std.specs.Prelude.{◌≡◌, ◌⊎◌, ℕ, nat_lt, Bool, true, false, List, ◌++◌, Option, Result, IfSome, OnOk, codes, decimal, length}
+use Rattle.std.specs.Prelude.{◌≡◌, ◌⊎◌, ℕ, nat_lt, Bool, true, false, List, ◌++◌, Option, Result, OnOk, codes, decimal, length}
 use Rattle.std.specs.Io.KnownBytes.{Appends}
 use Rattle.std.specs.List.{flat_map}
 use Rattle.settings.specs.declared.whole.Settings.{Settings}
@@ -72,9 +72,9 @@ abbrev pub file_line : Bool → List ℕ → List ℕ → List ℕ
 file_line true text path = line_of text
 file_line false text path = codes "natpair: " ++ (text ++ (codes " (" ++ (path ++ codes ")\n")))
 
--- just that line was written, where the fault's text is known
+-- just that line was written
 abbrev pub TellsOf : Fault → List ℕ → Option (List ℕ) → Option (List ℕ) → Type 0
-TellsOf fault path old new = IfSome (fault_text fault) (λ text. Appends old new (file_line (names_file fault) text path))
+TellsOf fault path old new = Appends old new (file_line (names_file fault) (fault_text fault) path)
 
 -- a text holds no settings, for this fault, which was told so of its file, where that wasn't refused
 pub record IsToldOf (text path : List ℕ) (old new : Option (List ℕ)) {T E : Type 0} (told : Result T E) : Type 0 where
