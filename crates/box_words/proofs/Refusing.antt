@@ -1,5 +1,5 @@
 -- One end asked for, before others.
-use Rattle.std.proofs.Common.{◌≡◌, ◌⊎◌, inl, inr, refl, ℕ, Bool, true, false, List, [], ◌∷◌, Option, None, Some}
+use Rattle.std.proofs.Common.{inl, inr, refl, Bool, [], ◌∷◌, Option, None, Some}
 use Rattle.sockets.specs.declared.ends.End.{End}
 use Rattle.box_words.specs.Ends.{IsFirstRefused, IsAsked}
 

@@ -1,5 +1,5 @@
 -- What an operator's command does at a site.
-use Rattle.std.specs.Prelude.{◌≡◌, ◌++◌, ℕ, List, [], ◌∷◌, Option, Some, None, true, Ok, string_bytes, if◌then◌else◌}
+use Rattle.std.specs.Prelude.{◌≡◌, ◌≢◌, ◌⊎◌, ◌++◌, ℕ, zero, suc, List, [], ◌∷◌, Option, Some, None, true, Ok, string_bytes, if◌then◌else◌}
 use Rattle.std.specs.Io.KnownBytes.{Appends}
 use Rattle.std.specs.List.{flat_map}
 use Rattle.toml.specs.Parse.{parse_document}
@@ -24,13 +24,15 @@ use Rattle.report_texts.specs.declared.pairs.Filter.{Filter}
 use Rattle.box_words.specs.declared.asking.Form.{Form}
 use Rattle.box_words.specs.declared.asking.Form.TheVariants as form
 
--- a file was read, which has this text; a boot file was made; a box that is reached so was said this word, and heard it; or was
--- said it, and gave this answer. What was said, or answered, may be none
+-- a file was read, which has this text, or couldn't be; a boot file was made; a box that is reached so was said this word, and heard
+-- it; or was said it, and gave this answer, or none heard it. What was said, or answered, may be none
 pub data Deed : Type 0 where
   read : List ℕ → List ℕ → Deed
+  unread : List ℕ → Deed
   made : List ℕ → Deed
   said : Paths → Option Word → Deed
   asked : Paths → Option Word → Option Content → Deed
+  unsaid : Paths → Option Word → Deed
 
 -- what a deed is to a site, and what the site is then
 abbrev pub Does : Type 0 → Type 1
@@ -64,6 +66,36 @@ pub record HasTaken {S : Type 0} (does : Does S) (settings : List ℕ) (id : Gat
   pub reached : IsReached does settings id path before between
   pub taken : does between (asked path word (Some heard)) after
 
+-- the settings at a path couldn't be read; or they were, and nothing else was done
+abbrev pub IsUnreached : {S : Type 0} → Does S → List ℕ → S → S → Type 0
+IsUnreached does settings before after = does before (unread settings) after ⊎ ((text : List ℕ) × does before (read settings text) after)
+
+-- nobody heard the word; or the answer is another than that it was heard
+abbrev pub IsInVain : {S : Type 0} → Does S → Paths → Option Word → S → S → Type 0
+IsInVain does path word before after = does before (unsaid path word) after
+    ⊎ ((answer : Option Content) × ((answer ≢ Some heard) × does before (asked path word answer) after))
+
+-- nobody heard the word; or some answer came
+abbrev pub IsAsked : {S : Type 0} → Does S → Paths → Option Word → S → S → Type 0
+IsAsked does path word before after = does before (unsaid path word) after ⊎ ((answer : Option Content) × does before (asked path word answer) after)
+
+-- this was done at just that box, which was reached; and nothing else was done
+pub record IsDoneAt {S : Type 0} (does : Does S) (settings : List ℕ) (id : GatewayId) (done : Paths → S → S → Type 0) (before after : S) : Type 0 where
+  pub path : Paths
+  pub between : S
+  pub reached : IsReached does settings id path before between
+  pub done_it : done path between after
+
+-- no box was reached; or just that box was said this word in vain; and nothing else was done
+abbrev pub HasFailed : {S : Type 0} → Does S → List ℕ → GatewayId → Option Word → S → S → Type 0
+HasFailed does settings id word before after = IsUnreached does settings before after
+    ⊎ IsDoneAt does settings id (λ path. IsInVain does path word) before after
+
+-- no box was reached; or just that box was asked this, whatever came of it; and nothing else was done
+abbrev pub HasAsked : {S : Type 0} → Does S → List ℕ → GatewayId → Option Word → S → S → Type 0
+HasAsked does settings id word before after = IsUnreached does settings before after
+    ⊎ IsDoneAt does settings id (λ path. IsAsked does path word) before after
+
 -- a box was asked how it stands, and answered by this report
 pub record Reports {S : Type 0} (does : Does S) (path : Paths) (report : Report) (before after : S) : Type 0 where
   pub bytes : List ℕ
@@ -91,19 +123,35 @@ pub record HasReported {S : Type 0} (does : Does S) (settings : List ℕ) (id : 
   pub reports : Reports does path report between after
   pub written : Appends old new (text_of form report)
 
--- at last a box was asked how it stands, and answered that it is synced
-pub record IsSyncedAt {S : Type 0} (does : Does S) (path : Paths) (after : S) : Type 0 where
+-- a box was asked how it stands, and answered that it is synced
+pub record IsSyncedAt {S : Type 0} (does : Does S) (path : Paths) (before after : S) : Type 0 where
   pub report : Report
-  pub before : S
   pub reports : Reports does path report before after
   pub synced : report.gateway.synced ≡ true
 
--- at last just that box was asked how it stands, and answered that it is synced
-pub record HasSynced {S : Type 0} (does : Does S) (settings : List ℕ) (id : GatewayId) (before after : S) : Type 0 where
-  pub path : Paths
+-- a box was asked so many times how it stands, whatever came of it
+abbrev pub IsAskedTimes : {S : Type 0} → Does S → Paths → ℕ → S → S → Type 0
+IsAskedTimes does path zero before after = after ≡ before
+IsAskedTimes {S} does path (suc times) before after =
+    (middle : S) × (IsAskedTimes does path times before middle × IsAsked does path (Some Status) middle after)
+
+-- the same, some number of times
+abbrev pub IsWaitedFor : {S : Type 0} → Does S → Paths → S → S → Type 0
+IsWaitedFor does path before after = (times : ℕ) × IsAskedTimes does path times before after
+
+-- a box was asked how it stands, until it answered that it is synced
+pub record IsAwaited {S : Type 0} (does : Does S) (path : Paths) (before after : S) : Type 0 where
   pub between : S
-  pub reached : IsReached does settings id path before between
-  pub synced : IsSyncedAt does path after
+  pub waited : IsWaitedFor does path before between
+  pub synced : IsSyncedAt does path between after
+
+-- just that box was asked how it stands, until it answered that it is synced; and nothing else was done
+abbrev pub HasSynced : {S : Type 0} → Does S → List ℕ → GatewayId → S → S → Type 0
+HasSynced does settings id before after = IsDoneAt does settings id (IsAwaited does) before after
+
+-- no box was reached; or just that box was asked how it stands, some number of times; and nothing else was done
+abbrev pub HasWaited : {S : Type 0} → Does S → List ℕ → GatewayId → S → S → Type 0
+HasWaited does settings id before after = IsUnreached does settings before after ⊎ IsDoneAt does settings id (IsWaitedFor does) before after
 
 -- the key behind which the next page begins, where others follow
 abbrev pub next_of : Page → Option Key
@@ -119,6 +167,17 @@ abbrev pub AreListed : {S : Type 0} → Does S → Paths → List Page → S →
 AreListed does path [] before after = after ≡ before
 AreListed {S = S} does path (page ∷ earlier) before after =
     (middle : S) × (AreListed does path earlier before middle × Lists does path (next_behind earlier) page middle after)
+
+-- some pages, as many as there were; and then one was asked for, whatever came of it
+pub record IsBroken {S : Type 0} (does : Does S) (path : Paths) (before after : S) : Type 0 where
+  pub pages : List Page
+  pub between : S
+  pub listed : AreListed does path pages before between
+  pub last : IsAsked does path (Some (Pairs (next_behind pages))) between after
+
+-- no box was reached; or just that box was asked for its pages, one behind the other, up to some page; and nothing else was done
+abbrev pub HasBroken : {S : Type 0} → Does S → List ℕ → GatewayId → S → S → Type 0
+HasBroken does settings id before after = IsUnreached does settings before after ⊎ IsDoneAt does settings id (IsBroken does) before after
 
 -- the lines of a page's pairs that pass a filter
 abbrev pub page_lines : Filter → Page → List ℕ

@@ -1,12 +1,13 @@
 //! What an operator asks of a running box.
-ghost use Rattle.std.specs.Prelude.{◌≡◌, ◌⊎◌, ◌≤◌, ◌*◌, IfOk, None, OnOk, take};
+ghost use Rattle.std.specs.Prelude.{◌≡◌, ◌⊎◌, ◌≤◌, ◌*◌, IfOk, None, OnErr, OnOk, Some, take};
 ghost use Rattle.std.specs.Io.KnownBytes.{Appends};
 ghost use Rattle.std.specs.Duration.{as_nanos};
 ghost use Rattle.control.specs.Answers.{answer_of};
 ghost use Rattle.control.specs.Words.{word_of};
-ghost use Rattle.box_words.specs.Deeds.{HasListed, HasPage, HasPages, HasReported, HasSynced};
-ghost use Rattle.box_words.specs.Deeds.{IsSyncedAt, Lists, Reports, asked as deed_asked};
-ghost use Rattle.box_words.specs.Deeds.{next_of, text_of};
+ghost use Rattle.control.specs.declared.words.Word.TheVariants as words;
+ghost use Rattle.box_words.specs.Deeds.{HasAsked, HasBroken, HasListed, HasPage, HasPages, HasReported};
+ghost use Rattle.box_words.specs.Deeds.{HasSynced, HasWaited, IsAsked, IsAwaited, IsBroken, IsSyncedAt};
+ghost use Rattle.box_words.specs.Deeds.{IsWaitedFor, Lists, Reports, asked as deed_asked, next_of, text_of, unsaid};
 
 use crate::refusals::BoxFault;
 use crate::saying::{Line, line_to};
@@ -50,6 +51,8 @@ pub fn status<S: Site, O: Write, E: Write>(
     ensures status { (result ≡ 0) ⊎ (result ≡ 1) }
     ensures reported { result ≡ 0 → HasReported S.does settings.now id form (O.contents output.old)
         (O.contents output.new) site.old site.new }
+    ensures asked { result ≡ 1
+        → HasAsked S.does settings.now id (Some words.Status) site.old site.new }
 {
     match written(alloc, site, settings, id, form, output) {
         Ok(()) => 0,
@@ -65,8 +68,10 @@ fn written<S: Site, O: Write>(
     form: Form,
     output: &mut O,
 ) -> Result<(), BoxFault>
-    ensures { OnOk result (HasReported S.does settings.now id form (O.contents output.old)
-        (O.contents output.new) site.old site.new) }
+    ensures reported { OnOk result (HasReported S.does settings.now id form
+        (O.contents output.old) (O.contents output.new) site.old site.new) }
+    ensures asked { OnErr result
+        (HasAsked S.does settings.now id (Some words.Status) site.old site.new) }
 {
     let line = line_to(alloc, site, settings, id)?;
     let report = reported(alloc, site, &line)?;
@@ -97,7 +102,10 @@ fn write_report<O: Write>(output: &mut O, form: Form, report: &Report) -> io::Re
 
 /// The report of the box at a line's end.
 fn reported<S: Site>(alloc: Global, site: &mut S, line: &Line) -> Result<Report, BoxFault>
-    ensures { IfOk result (λ report. Reports S.does line.now.path report site.old site.new) }
+    ensures reports { IfOk result
+        (λ report. Reports S.does line.now.path report site.old site.new) }
+    ensures asked { OnErr result
+        (IsAsked S.does line.now.path (Some words.Status) site.old site.new) }
 {
     let mut room = [0; ROOM];
     let count = asked(alloc, site, line, &spelled_status(), &mut room)?;
@@ -118,6 +126,8 @@ pub(crate) fn asked<S: Site>(
     ensures within { IfOk result (λ count. count ≤ 4096) }
     ensures asked { IfOk result (λ count. S.does site.old (deed_asked line.now.path
         (word_of word.now) (answer_of (take count room.new))) site.new) }
+    ensures unsaid { OnErr result
+        (S.does site.old (unsaid line.now.path (word_of word.now)) site.new) }
 {
     match site.ask(&line.path, word, room) {
         Ok(count) => Ok(count),
@@ -137,6 +147,7 @@ pub fn await_synced<R: Clock + AllocGlobal, S: Site, E: Write>(
 ) -> u8
     ensures status { (result ≡ 0) ⊎ (result ≡ 1) }
     ensures synced { result ≡ 0 → HasSynced S.does settings.now id site.old site.new }
+    ensures waited { result ≡ 1 → HasWaited S.does settings.now id site.old site.new }
 {
     match awaited(rt, site, settings, id, seconds) {
         Ok(()) => 0,
@@ -152,7 +163,8 @@ fn awaited<R: Clock + AllocGlobal, S: Site>(
     id: GatewayId,
     seconds: u32,
 ) -> Result<(), BoxFault>
-    ensures { OnOk result (HasSynced S.does settings.now id site.old site.new) }
+    ensures synced { OnOk result (HasSynced S.does settings.now id site.old site.new) }
+    ensures waited { OnErr result (HasWaited S.does settings.now id site.old site.new) }
 {
     let line = line_to(rt.alloc(), site, settings, id)?;
     awaited_at(rt, site, &line, seconds)
@@ -165,7 +177,8 @@ fn awaited_at<R: Clock + AllocGlobal, S: Site>(
     line: &Line,
     seconds: u32,
 ) -> Result<(), BoxFault>
-    ensures { OnOk result (IsSyncedAt S.does line.now.path site.new) }
+    ensures synced { OnOk result (IsAwaited S.does line.now.path site.old site.new) }
+    ensures waited { OnErr result (IsWaitedFor S.does line.now.path site.old site.new) }
 {
     let limit = limit_of(seconds);
     let start = Instant::now(rt).ok();
@@ -197,7 +210,9 @@ fn has_passed<R: Clock>(rt: &R, start: Option<Instant>, limit: Duration) -> bool
 
 /// Asks the box at a line's end whether it is synced.
 fn synced<S: Site>(alloc: Global, site: &mut S, line: &Line) -> Result<(), BoxFault>
-    ensures { OnOk result (IsSyncedAt S.does line.now.path site.new) }
+    ensures synced { OnOk result (IsSyncedAt S.does line.now.path site.old site.new) }
+    ensures asked { OnErr result
+        (IsAsked S.does line.now.path (Some words.Status) site.old site.new) }
 {
     let report = reported(alloc, site, line)?;
     if report.is_synced() {
@@ -221,6 +236,7 @@ pub fn pairs<S: Site, O: Write, E: Write>(
     ensures status { (result ≡ 0) ⊎ (result ≡ 1) }
     ensures listed { result ≡ 0 → HasListed S.does settings.now id filter.now
         (O.contents output.old) (O.contents output.new) site.old site.new }
+    ensures broken { result ≡ 1 → HasBroken S.does settings.now id site.old site.new }
 {
     match listed(alloc, site, settings, id, filter, output) {
         Ok(()) => 0,
@@ -236,8 +252,9 @@ fn listed<S: Site, O: Write>(
     filter: &Filter,
     output: &mut O,
 ) -> Result<(), BoxFault>
-    ensures { OnOk result (HasListed S.does settings.now id filter.now (O.contents output.old)
-        (O.contents output.new) site.old site.new) }
+    ensures listed { OnOk result (HasListed S.does settings.now id filter.now
+        (O.contents output.old) (O.contents output.new) site.old site.new) }
+    ensures broken { OnErr result (HasBroken S.does settings.now id site.old site.new) }
 {
     let line = line_to(alloc, site, settings, id)?;
     listed_at(alloc, site, &line, filter, output)?;
@@ -253,8 +270,9 @@ fn listed_at<S: Site, O: Write>(
     filter: &Filter,
     output: &mut O,
 ) -> Result<(), BoxFault>
-    ensures { OnOk result (HasPages S.does line.now.path None filter.now (O.contents output.old)
-        (O.contents output.new) site.old site.new) }
+    ensures listed { OnOk result (HasPages S.does line.now.path None filter.now
+        (O.contents output.old) (O.contents output.new) site.old site.new) }
+    ensures broken { OnErr result (IsBroken S.does line.now.path site.old site.new) }
 {
     let mut next = written_page(alloc, site, line, None, filter, output)?;
     for _ in 0..u64::MAX {
@@ -275,8 +293,10 @@ fn written_page<S: Site, O: Write>(
     filter: &Filter,
     output: &mut O,
 ) -> Result<Option<Key>, BoxFault>
-    ensures { IfOk result (λ next. HasPage S.does line.now.path behind next filter.now
+    ensures page { IfOk result (λ next. HasPage S.does line.now.path behind next filter.now
         (O.contents output.old) (O.contents output.new) site.old site.new) }
+    ensures asked { OnErr result
+        (IsAsked S.does line.now.path (Some (words.Pairs behind)) site.old site.new) }
 {
     let page = page_behind(alloc, site, line, behind)?;
     write_pairs(output, &page, filter)?;
@@ -297,7 +317,10 @@ fn page_behind<S: Site>(
     line: &Line,
     behind: Option<Key>,
 ) -> Result<Page, BoxFault>
-    ensures { IfOk result (λ page. Lists S.does line.now.path behind page site.old site.new) }
+    ensures lists { IfOk result
+        (λ page. Lists S.does line.now.path behind page site.old site.new) }
+    ensures asked { OnErr result
+        (IsAsked S.does line.now.path (Some (words.Pairs behind)) site.old site.new) }
 {
     let mut room = [0; ROOM];
     let count = match behind {

@@ -1,9 +1,9 @@
 //! The words that an operator says to a running box.
-ghost use Rattle.std.specs.Prelude.{◌≡◌, ◌<◌, ◌⊎◌, IfOk, IsErrOf, OnOk, Some, length, option_map, string_bytes};
+ghost use Rattle.std.specs.Prelude.{◌≡◌, ◌≢◌, ◌<◌, ◌⊎◌, IfOk, IsErrOf, OnErr, OnOk, Some, length, option_map, string_bytes};
 ghost use Rattle.control.specs.Answers.{content_of, heard};
 ghost use Rattle.control.specs.Paths.{IsBeside, socket_of};
 ghost use Rattle.control.specs.Words.{word_of};
-ghost use Rattle.box_words.specs.Deeds.{HasSaid, HasTaken, IsBoxOf};
+ghost use Rattle.box_words.specs.Deeds.{HasFailed, HasSaid, HasTaken, IsBoxOf, IsUnreached};
 ghost use Rattle.box_words.specs.Faults.{TellsSocket};
 ghost use Rattle.box_words.specs.Said.{off_bytes, said_off as meaning_off, said_side, said_stop};
 ghost use Rattle.settings.specs.Parts.{gateway_of};
@@ -33,6 +33,8 @@ pub fn peer_off<S: Site, E: Write>(
 ) -> u8
     ensures status { (result ≡ 0) ⊎ (result ≡ 1) }
     ensures taken { result ≡ 0 → HasTaken S.does settings.now id
+        (Some (meaning_off boot forced)) site.old site.new }
+    ensures failed { result ≡ 1 → HasFailed S.does settings.now id
         (Some (meaning_off boot forced)) site.old site.new }
 {
     let word = OffWord::of(boot, forced);
@@ -80,7 +82,10 @@ fn said_off<S: Site>(
     id: GatewayId,
     word: &[u8],
 ) -> Result<(), BoxFault>
-    ensures { OnOk result (HasTaken S.does settings.now id (word_of word.now) site.old site.new) }
+    ensures taken { OnOk result
+        (HasTaken S.does settings.now id (word_of word.now) site.old site.new) }
+    ensures failed { OnErr result
+        (HasFailed S.does settings.now id (word_of word.now) site.old site.new) }
 {
     let line = line_to(alloc, site, settings, id)?;
     let mut room = [0; 4_096];
@@ -90,7 +95,8 @@ fn said_off<S: Site>(
 
 /// Whether a box has taken a word, by its answer; or why it doesn't.
 fn taken_by(alloc: Global, line: &Line, answer: Option<Answer<'_>>) -> Result<(), BoxFault>
-    ensures { OnOk result (option_map content_of answer.entry ≡ Some heard) }
+    ensures taken { OnOk result (option_map content_of answer.entry ≡ Some heard) }
+    ensures other { OnErr result (option_map content_of answer.entry ≢ Some heard) }
 {
     match answer {
         Some(Answer::Heard) => Ok(()),
@@ -111,6 +117,8 @@ pub fn stop<S: Site, E: Write>(
     ensures status { (result ≡ 0) ⊎ (result ≡ 1) }
     ensures said { result ≡ 0
         → HasSaid S.does settings.now id (Some said_stop) site.old site.new }
+    ensures failed { result ≡ 1
+        → HasFailed S.does settings.now id (Some said_stop) site.old site.new }
 {
     match said(alloc, site, settings, id, &spelled_stop()) {
         Ok(()) => 0,
@@ -132,6 +140,8 @@ pub fn side<S: Site, E: Write>(
     ensures status { (result ≡ 0) ⊎ (result ≡ 1) }
     ensures said { result ≡ 0
         → HasSaid S.does settings.now id (Some (said_side side up)) site.old site.new }
+    ensures failed { result ≡ 1
+        → HasFailed S.does settings.now id (Some (said_side side up)) site.old site.new }
 {
     match said(alloc, site, settings, id, &side_word(side, up)) {
         Ok(()) => 0,
@@ -154,7 +164,10 @@ fn said<S: Site>(
     id: GatewayId,
     word: &[u8],
 ) -> Result<(), BoxFault>
-    ensures { OnOk result (HasSaid S.does settings.now id (word_of word.now) site.old site.new) }
+    ensures said { OnOk result
+        (HasSaid S.does settings.now id (word_of word.now) site.old site.new) }
+    ensures failed { OnErr result
+        (HasFailed S.does settings.now id (word_of word.now) site.old site.new) }
 {
     let line = line_to(alloc, site, settings, id)?;
     match site.say(&line.path, word) {
@@ -189,6 +202,7 @@ pub(crate) fn line_to<S: Site>(
     ensures reached { IfOk result (λ line. IsBoxOf S.does settings.now id
         (string_bytes line.boot_file) site.old site.new) }
     ensures beside { IfOk result (λ line. IsBeside (string_bytes line.boot_file) line.path) }
+    ensures unreached { OnErr result (IsUnreached S.does settings.now site.old site.new) }
 {
     let text = site.text(settings)?;
     let settings = settings_file::read(alloc, text.as_str())?;

@@ -1,9 +1,9 @@
 //! Where an operator's commands work.
-ghost use Rattle.std.specs.Prelude.{◌≡◌, ◌≤◌, IfErr, IfOk, OnOk, length, string_bytes, take};
+ghost use Rattle.std.specs.Prelude.{◌≡◌, ◌≤◌, IfErr, IfOk, OnErr, OnOk, length, string_bytes, take};
 ghost use Rattle.control.specs.Answers.{answer_of};
 ghost use Rattle.control.specs.Words.{word_of};
 ghost use Rattle.faults.specs.Faults.{IsUnread, status_of};
-ghost use Rattle.box_words.specs.Deeds.{Deed, asked, made, read, said};
+ghost use Rattle.box_words.specs.Deeds.{Deed, asked, made, read, said, unread, unsaid};
 
 use boot_file::{Blocks, FileFault};
 use control::{ControlPath, NoSocket};
@@ -20,6 +20,7 @@ pub trait Site {
     fn text(&mut self, path: &str) -> Result<String, Fault>
         ensures read { IfOk result
             (λ text. does self.old (read path.now (string_bytes text)) self.new) }
+        ensures unread { OnErr result (does self.old (unread path.now) self.new) }
         ensures told { IfErr result (IsUnread path.now) }
         ensures status { IfErr result (λ fault. status_of fault ≡ 1) };
 
@@ -29,13 +30,17 @@ pub trait Site {
 
     /// Says a word to the box whose control socket lies there, and waits until it is heard.
     fn say(&mut self, path: &ControlPath, word: &[u8]) -> Result<(), NoSocket>
-        ensures said { OnOk result (does self.old (said path.now (word_of word.now)) self.new) };
+        ensures said { OnOk result (does self.old (said path.now (word_of word.now)) self.new) }
+        ensures unsaid { OnErr result
+            (does self.old (unsaid path.now (word_of word.now)) self.new) };
 
     /// Says a word to the box whose control socket lies there, and waits for its answer, which is so many bytes of the room.
     fn ask(&mut self, path: &ControlPath, word: &[u8], room: &mut [u8]) -> Result<usize, NoSocket>
         ensures within { IfOk result (λ count. count ≤ length room.new) }
         ensures asked { IfOk result (λ count. does self.old
-            (asked path.now (word_of word.now) (answer_of (take count room.new))) self.new) };
+            (asked path.now (word_of word.now) (answer_of (take count room.new))) self.new) }
+        ensures unsaid { OnErr result
+            (does self.old (unsaid path.now (word_of word.now)) self.new) };
 }
 
 /// This machine: of what is done there nothing is known.
