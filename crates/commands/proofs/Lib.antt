@@ -3,5 +3,6 @@ mod Asked
 mod Refusing
 mod Passing
 mod Taping
+mod Recording
 mod Looking
 mod Hearing

@@ -1,5 +1,5 @@
 -- What a task has done, at a site and by a host.
-use Rattle.std.specs.Prelude.{◌≡◌, ◌⊎◌, ℕ, List, Option, MatchOption, Bool, true, false, Some, string_bytes}
+use Rattle.std.specs.Prelude.{◌≡◌, ◌⊎◌, ℕ, List, Option, IfSome, MatchOption, Bool, true, false, Some, string_bytes}
 use Rattle.command_line.specs.declared.tasks.Task.{Task}
 use Rattle.command_line.specs.declared.tasks.Task.TheVariants as task
 use Rattle.checks.specs.Counts.{AreAlike, IsCleanText, IsGoodText}
@@ -11,7 +11,7 @@ use Rattle.box_words.specs.Deeds.{Does, HasListed, HasReported, HasSaid, HasSync
 use Rattle.box_words.specs.Said.{said_off, said_side, said_stop}
 use Rattle.commands.specs.Asked.{filter_of, form_of}
 use Rattle.commands.specs.Ends.{Loops}
-use Rattle.commands.specs.Hosts.{Scene, Scope, Works, compared, looked, plan_of, scope_of, served, text_at, written}
+use Rattle.commands.specs.Hosts.{Scene, Scope, Works, Written, compared, looked, plan_of, scope_of, served, text_at, written}
 
 -- a box is asked how it stands, and its report written, or until it is synced
 abbrev pub IsAskedSo : {S : Type 0} → Does S → Bool → StatusWords → Option (List ℕ) → Option (List ℕ) → S → S → Type 0
@@ -73,29 +73,40 @@ module _ {S O E : Type 0} (does : Does S) (works : Works) (prints : O → Option
 abbrev pub Hearing : Type 0 → Type 1
 Hearing E = List ℕ → List ℕ → E → E → Type 0
 
--- just the files that are named were read, the settings first, and the script run with this status; so much of it was told
-pub record HasRunOf {S O E : Type 0} (does : Does S) (prints : O → Option (List ℕ)) (hears : Hearing E) (files : RunWords) (status : ℕ) (before after : Scene S O E) : Type 0 where
+-- what is taken down of a run in the file at a path, by these texts
+abbrev pub Capturing : Type 1
+Capturing = List ℕ → List ℕ → List ℕ → Written → ℕ → Type 0
+
+abbrev pub LoopCapturing : Type 1
+LoopCapturing = List ℕ → List ℕ → List ℕ → Type 0
+
+-- just the files that are named were read, the settings first, and the script run with this status; so much of it was told, and,
+-- where the words name a file for that, taken down there
+pub record HasRunOf {S O E : Type 0} (does : Does S) (prints : O → Option (List ℕ)) (hears : Hearing E) (captures : Capturing) (files : RunWords) (status : ℕ) (before after : Scene S O E) : Type 0 where
   pub text : List ℕ
   pub script : List ℕ
   pub are_read : AreRead does (string_bytes files.settings) (string_bytes files.script) text script before.site after.site
   pub run : RunsScript text script (prints before.output) (prints after.output) status
   pub told : hears text script before.errors after.errors
+  pub captured : IfSome files.capture (λ path. captures (string_bytes path) text script (written prints before.output after.output) status)
 
 -- and through sockets: of that nothing is told but its output
-pub record HasLoopOf {S O E : Type 0} (does : Does S) (prints : O → Option (List ℕ)) (files : RunWords) (status : ℕ) (before after : Scene S O E) : Type 0 where
+pub record HasLoopOf {S O E : Type 0} (does : Does S) (prints : O → Option (List ℕ)) (captures : LoopCapturing) (files : RunWords) (status : ℕ) (before after : Scene S O E) : Type 0 where
   pub text : List ℕ
   pub script : List ℕ
   pub are_read : AreRead does (string_bytes files.settings) (string_bytes files.script) text script before.site after.site
   pub run : Loops text script (prints before.output) (prints after.output) status
   pub quiet : after.errors ≡ before.errors
+  pub captured : IfSome files.capture (λ path. captures (string_bytes path) text script)
 
 -- What is done for a task that ends with this status. A status of 0 says of `init` that just the boot file that is named was made; of
 -- `stop`, `peer-off`, `side`, `status` and `pairs` that the settings that are named were read, and then just the box that is named was
 -- said just what the words say, and heard it, or took it, or was asked, and answered, and its answer was written. A status of 0 or 3 says
--- of `sim` and `loop` that just the files that are named were read, and the script run. Whatever the status, `check` looks at just what the
+-- of `sim` and `loop` that just the files that are named were read, and the script run, and taken down where that is asked for. Whatever the status, `check` looks at just what the
 -- words say, as they say it; `gate` has a gateway run as they say; neither `gate` nor the version does anything at the site; and `init`,
 -- `stop`, `peer-off`, `side` and `status --until synced` print nothing.
-module _ {S O E : Type 0} (does : Does S) (works : Works) (prints : O → Option (List ℕ)) (tells : E → Option (List ℕ)) (hears : Hearing E) where
+module _ {S O E : Type 0} (does : Does S) (works : Works) (prints : O → Option (List ℕ)) (tells : E → Option (List ℕ)) (hears : Hearing E)
+    (captures : Capturing) (loop_captures : LoopCapturing) where
   abbrev pub Acts : Task → ℕ → Scene S O E → Scene S O E → Type 0
   Acts (task.Init file) status before after =
       IsUnprinted before after × (status ≡ 0 → does before.site (made (string_bytes file)) after.site)
@@ -113,6 +124,6 @@ module _ {S O E : Type 0} (does : Does S) (works : Works) (prints : O → Option
       × (status ≡ 0 → HasTaken does (string_bytes words.settings) words.id (Some (said_off words.boot words.force)) before.site after.site)
   Acts (task.Side settings id side up) status before after =
       IsUnprinted before after × (status ≡ 0 → HasSaid does (string_bytes settings) id (Some (said_side side up)) before.site after.site)
-  Acts (task.Sim files) status before after = (status ≡ 0) ⊎ (status ≡ 3) → HasRunOf does prints hears files status before after
-  Acts (task.Loop files) status before after = (status ≡ 0) ⊎ (status ≡ 3) → HasLoopOf does prints files status before after
+  Acts (task.Sim files) status before after = (status ≡ 0) ⊎ (status ≡ 3) → HasRunOf does prints hears captures files status before after
+  Acts (task.Loop files) status before after = (status ≡ 0) ⊎ (status ≡ 3) → HasLoopOf does prints loop_captures files status before after
   Acts task.Version status before after = after.site ≡ before.site

@@ -6,6 +6,7 @@ ghost use Rattle.commands.specs.Words.{AreRefused};
 ghost use Rattle.commands.specs.Asked.{format_of};
 ghost use Rattle.commands.specs.Acts.{Acts};
 ghost use Rattle.commands.specs.Ends.{AreDone, Ends};
+ghost use Rattle.commands.specs.Captures.{IsCaptured, IsLoopCaptured};
 ghost use Rattle.commands.specs.Hosts.{scene};
 ghost use Rattle.commands.specs.Meters.{Watches};
 
@@ -65,14 +66,7 @@ where
 
 /// Does a task: files are read, boxes are spoken to, and boot files made, at a site; a host looks at settings and runs
 /// gateways; and who watches a script hears by a clock how far it is.
-fn done<
-    R: Files + Net + Clock + AllocGlobal,
-    S: Site,
-    H: Host,
-    C: Clockwork + Drop,
-    O: Write,
-    E: Write,
->(
+fn done<R: Net + Clock + AllocGlobal, S: Site, H: Host, C: Clockwork + Drop, O: Write, E: Write>(
     rt: &R,
     site: &mut S,
     host: &H,
@@ -87,7 +81,9 @@ fn done<
     ensures done { (result ≡ 0) ⊎ (result ≡ 3)
         → Ends (O.contents output.old) (O.contents output.new) task.now result }
     ensures acts { Acts S.does (H.works host.now) O.contents E.contents
-        (Watches is_watched C.reads E.contents clock) task.now result
+        (Watches is_watched C.reads E.contents clock)
+        (IsCaptured H.Record.takes (H.begins host.now) (H.ends host.now))
+        (IsLoopCaptured H.Record.takes (H.begins host.now) (H.ends host.now)) task.now result
         (scene site.old output.old errors.old) (scene site.new output.new errors.new) }
 {
     match task {
@@ -115,8 +111,17 @@ fn done<
             side: told,
             up,
         } => side(rt.alloc(), site, settings.as_str(), *id, *told, *up, errors),
-        Task::Sim(files) => sim(rt, site, clock, files, is_watched, output, errors),
-        Task::Loop(files) => repeat(rt, site, files, output, errors),
+        Task::Sim(files) => sim(
+            rt.alloc(),
+            site,
+            host,
+            clock,
+            files,
+            is_watched,
+            output,
+            errors,
+        ),
+        Task::Loop(files) => repeat(rt, site, host, files, output, errors),
         Task::Version => tell_version(output, errors),
     }
 }

@@ -1,27 +1,48 @@
-//! Who looks at settings and runs gateways.
-ghost use Rattle.std.specs.Prelude.{◌≡◌, ◌⊎◌, IsTrue, true};
+//! Who looks at settings, runs gateways and takes runs down.
+ghost use Rattle.std.specs.Prelude.{◌≡◌, ◌⊎◌, IfOk, IsTrue, OnOk, true};
 ghost use Rattle.nat_types.specs.declared.gateways.GatewayId.TheVariants.{Zero};
 ghost use Rattle.checks.specs.Counts.{AreAlike, IsCleanText, IsGoodText};
 ghost use Rattle.gate.specs.Served.{HasServed};
 ghost use Rattle.commands.specs.Hosts.{Work, Written, compared, looked, plan_in, scope_in, served, text_in, written};
 
+use crate::capture_files::capture_at;
 use boot_file::{Blocks, Lockable};
 use checks::{Request, Source, ThisMachine, check, compare};
+use faults::Job;
+use frame_sim::Tape;
 use gate::{Start, gate};
+use simulation::Capture;
 use std::fs::Files;
-use std::io::Write;
+use std::io::{self, BufWriter, Write};
 use std::net::Net;
 use std::os::fd::AsRawFd;
 use std::random::RandomSource;
 use std::rt::{Clock, Env};
 
-/// Who looks at settings and runs gateways, each once it is asked, and says what comes of it.
+/// Who looks at settings, runs gateways, and takes runs down in files.
 pub(crate) trait Host {
-    ghost use Rattle.std.specs.Prelude.{ℕ};
+    ghost use Rattle.std.specs.Prelude.{ℕ, List};
     ghost use Rattle.commands.specs.Hosts.{Work, Written};
 
     /// What a work may print, what it may tell, and with which status.
     ghost works: { Self → Work → Written → Written → ℕ → Type 0 };
+
+    /// What takes a run down.
+    type Record: Tape + Drop;
+
+    /// It was begun in the file at a path.
+    ghost begins: { Self → List ℕ → Self.Record → Type 0 };
+
+    /// It was ended.
+    ghost ends: { Self → Self.Record → Type 0 };
+
+    /// Begins to take a run down in the file at a path, once what is to be run is read.
+    fn begin(&self, path: &str, job: &Job) -> io::Result<Self::Record>
+        ensures { IfOk result (λ tape. begins self.now path.now tape) };
+
+    /// Ends it.
+    fn end(&self, tape: Self::Record) -> io::Result<()>
+        ensures { OnOk result (ends self.now tape) };
 
     /// Looks at a text of settings.
     fn look<O: Write, E: Write>(
@@ -73,6 +94,20 @@ where
     R::File: Blocks + Lockable + AsRawFd,
 {
     ghost works = { λ _ _ _ _ _. Unit {0} };
+
+    type Record = Capture<BufWriter<R::File>>;
+
+    ghost begins = { λ _ _ _. Unit {0} };
+
+    ghost ends = { λ _ _. Unit {0} };
+
+    fn begin(&self, path: &str, job: &Job) -> io::Result<Capture<BufWriter<R::File>>> {
+        capture_at(self.0, path, job)
+    }
+
+    fn end(&self, mut tape: Capture<BufWriter<R::File>>) -> io::Result<()> {
+        tape.end()
+    }
 
     fn look<O: Write, E: Write>(
         &self,

@@ -3,16 +3,19 @@ ghost use Rattle.std.specs.Prelude.{◌≡◌, ◌⊎◌, IfErr, IfOk, None, Ok,
 ghost use Rattle.faults.specs.Faults.{status_of};
 ghost use Rattle.faults.specs.Jobs.{IsJobOf};
 ghost use Rattle.loopback_run.specs.Loops.{IsLoop};
+ghost use Rattle.loopback_run.specs.Tapes.{IsTapedLoop};
 ghost use Rattle.settings_file.specs.Clashes.{clash_of_both};
 ghost use Rattle.simulation.specs.Status.{RunsScript};
 ghost use Rattle.simulation.specs.Tapes.{IsTapedRun};
 ghost use Rattle.simulation.specs.Watched.{IsToldAll, WatchesScript};
 ghost use Rattle.commands.specs.Acts.{AreRead, HasLoopOf, HasRunOf};
 ghost use Rattle.commands.specs.Ends.{Loops};
-ghost use Rattle.commands.specs.Hosts.{scene};
+ghost use Rattle.commands.specs.Captures.{IsCaptured, IsLoopCaptured};
+ghost use Rattle.commands.specs.Hosts.{scene, written};
 ghost use Rattle.commands.specs.Meters.{HasHeard, HasHeardScript, Hears, Watches, telling};
 
-use crate::capture_files::{capture_at, ended, unmade};
+use crate::capture_files::{ended, unmade};
+use crate::hosts::Host;
 use crate::meters::Meter;
 use box_words::Site;
 use command_line::RunWords;
@@ -24,15 +27,15 @@ use settings::Settings;
 use settings_file::{SettingFault, port_clash_of_both};
 use simulation::{Unwatched, simulate, simulate_watched};
 use std::alloc::Global;
-use std::fs::Files;
 use std::io::Write;
 use std::net::Net;
 use std::rt::Clock;
 
 /// Runs the script of one file with the settings of another, and says how far it is by a clock where somebody watches.
-pub(crate) fn sim<R: Files + AllocGlobal, S: Site, C: Clockwork + Drop, O: Write, E: Write>(
-    rt: &R,
+pub(crate) fn sim<S: Site, H: Host, C: Clockwork + Drop, O: Write, E: Write>(
+    alloc: Global,
     site: &mut S,
+    host: &H,
     clock: C,
     files: &RunWords,
     is_watched: bool,
@@ -41,7 +44,8 @@ pub(crate) fn sim<R: Files + AllocGlobal, S: Site, C: Clockwork + Drop, O: Write
 ) -> u8
     ensures status { (result ≡ 0) ⊎ ((result ≡ 1) ⊎ (result ≡ 3)) }
     ensures named { (result ≡ 0) ⊎ (result ≡ 3) → HasRunOf S.does O.contents
-        (Watches is_watched C.reads E.contents clock) files.now result
+        (Watches is_watched C.reads E.contents clock)
+        (IsCaptured H.Record.takes (H.begins host.now) (H.ends host.now)) files.now result
         (scene site.old output.old errors.old) (scene site.new output.new errors.new) }
 {
     match texts(site, files) {
@@ -51,13 +55,10 @@ pub(crate) fn sim<R: Files + AllocGlobal, S: Site, C: Clockwork + Drop, O: Write
                 Some(path) => {
                     let path = path.as_str();
                     sim_captured(
-                        rt, clock, settings, script, path, is_watched, output, errors,
+                        alloc, host, clock, settings, script, path, is_watched, output, errors,
                     )
                 }
-                None => {
-                    let alloc = rt.alloc();
-                    simulated(alloc, clock, settings, script, is_watched, output, errors)
-                }
+                None => simulated(alloc, clock, settings, script, is_watched, output, errors),
             }
         }
         Err(fault) => fault.tell(errors),
@@ -133,8 +134,9 @@ fn metered<C: Clockwork, O: Write, E: Write>(
 }
 
 /// Runs a script, with its capture in a file, which is begun once both texts are read.
-fn sim_captured<R: Files + AllocGlobal, C: Clockwork + Drop, O: Write, E: Write>(
-    rt: &R,
+fn sim_captured<H: Host, C: Clockwork + Drop, O: Write, E: Write>(
+    alloc: Global,
+    host: &H,
     clock: C,
     settings: &str,
     script: &str,
@@ -150,15 +152,18 @@ fn sim_captured<R: Files + AllocGlobal, C: Clockwork + Drop, O: Write, E: Write>
         → HasHeardScript C.reads E.contents settings.now script.now clock errors.old errors.new }
     ensures quiet { is_watched ≡ false → (result ≡ 0) ⊎ (result ≡ 3)
         → errors.new ≡ errors.old }
+    ensures captured { (result ≡ 0) ⊎ (result ≡ 3) → IsCaptured H.Record.takes
+        (H.begins host.now) (H.ends host.now) path.now settings.now script.now
+        (written O.contents output.old output.new) result }
 {
-    match job_of(rt.alloc(), settings, script) {
-        Ok(job) => match capture_at(rt, path, &job) {
-            Ok(mut capture) => {
-                let alloc = rt.alloc();
-                let run = taped(alloc, clock, &job, is_watched, &mut capture, output, errors);
-                ended(rt.alloc(), run, capture.end(), path, errors)
+    match job_of(alloc, settings, script) {
+        Ok(job) => match host.begin(path, &job) {
+            Ok(mut tape) => {
+                let run = taped(alloc, clock, &job, is_watched, &mut tape, output, errors);
+                let written = host.end(tape);
+                ended(alloc, run, written, path, errors)
             }
-            Err(error) => unmade(rt.alloc(), &error, path, errors),
+            Err(error) => unmade(alloc, &error, path, errors),
         },
         Err(fault) => fault.tell(errors),
     }
@@ -215,15 +220,17 @@ fn taped_metered<C: Clockwork, T: Tape, O: Write, E: Write>(
 }
 
 /// Runs the script of one file with the settings of another, over the own loopback ports of both gateways.
-pub(crate) fn repeat<R: Files + Net + Clock + AllocGlobal, S: Site, O: Write, E: Write>(
+pub(crate) fn repeat<R: Net + Clock + AllocGlobal, S: Site, H: Host, O: Write, E: Write>(
     rt: &R,
     site: &mut S,
+    host: &H,
     files: &RunWords,
     output: &mut O,
     errors: &mut E,
 ) -> u8
     ensures status { (result ≡ 0) ⊎ ((result ≡ 1) ⊎ (result ≡ 3)) }
-    ensures named { (result ≡ 0) ⊎ (result ≡ 3) → HasLoopOf S.does O.contents files.now result
+    ensures named { (result ≡ 0) ⊎ (result ≡ 3) → HasLoopOf S.does O.contents
+        (IsLoopCaptured H.Record.takes (H.begins host.now) (H.ends host.now)) files.now result
         (scene site.old output.old errors.old) (scene site.new output.new errors.new) }
 {
     match texts(site, files) {
@@ -231,7 +238,7 @@ pub(crate) fn repeat<R: Files + Net + Clock + AllocGlobal, S: Site, O: Write, E:
             let (settings, script) = (settings.as_str(), script.as_str());
             match &files.capture {
                 Some(path) => {
-                    repeat_captured(rt, settings, script, path.as_str(), output, errors)
+                    repeat_captured(rt, host, settings, script, path.as_str(), output, errors)
                 }
                 None => repeated(rt, settings, script, output, errors),
             }
@@ -258,8 +265,9 @@ fn repeated<R: Net + Clock + AllocGlobal, O: Write, E: Write>(
 }
 
 /// Runs a script over sockets, with its capture in a file, which is begun once both texts are read and the sockets are had.
-fn repeat_captured<R: Files + Net + Clock + AllocGlobal, O: Write, E: Write>(
+fn repeat_captured<R: Net + Clock + AllocGlobal, H: Host, O: Write, E: Write>(
     rt: &R,
+    host: &H,
     settings: &str,
     script: &str,
     path: &str,
@@ -270,13 +278,16 @@ fn repeat_captured<R: Files + Net + Clock + AllocGlobal, O: Write, E: Write>(
     ensures run { (result ≡ 0) ⊎ (result ≡ 3) → Loops settings.now script.now
         (O.contents output.old) (O.contents output.new) result }
     ensures quiet { (result ≡ 0) ⊎ (result ≡ 3) → errors.new ≡ errors.old }
+    ensures captured { (result ≡ 0) ⊎ (result ≡ 3) → IsLoopCaptured H.Record.takes
+        (H.begins host.now) (H.ends host.now) path.now settings.now script.now }
 {
     let mut passage = Loopback::new(rt);
     match opened(rt.alloc(), settings, script, &mut passage) {
-        Ok(job) => match capture_at(rt, path, &job) {
-            Ok(mut capture) => {
-                let run = looped(rt.alloc(), &job, &mut passage, &mut capture, output);
-                ended(rt.alloc(), run, capture.end(), path, errors)
+        Ok(job) => match host.begin(path, &job) {
+            Ok(mut tape) => {
+                let run = looped(rt.alloc(), &job, &mut passage, &mut tape, output);
+                let written = host.end(tape);
+                ended(rt.alloc(), run, written, path, errors)
             }
             Err(error) => unmade(rt.alloc(), &error, path, errors),
         },
@@ -329,6 +340,8 @@ fn looped<P: Channel, T: Tape, O: Write>(
         passage.old passage.new (O.contents output.old) (O.contents output.new)) }
     ensures status { IfOk result (λ status. (status ≡ 0) ⊎ (status ≡ 3)) }
     ensures known { IfErr result (λ fault. status_of fault ≡ 1) }
+    ensures taped { OnOk result (IsTapedLoop P.passes T.takes job.now.settings
+        job.now.events.items passage.old passage.new tape.old tape.new) }
 {
     let events = job.events.as_slice();
     loopback_run::play(alloc, &job.settings, events, passage, tape, output)

@@ -10,6 +10,7 @@ returns-in-Some-clause-named g c h = record {
     λ watched. rw (c.as_str-settings.ensures.value, c.as_str-script.ensures.value) at (c.sim_captured.ensures.heard watched h),
     λ unwatched. c.sim_captured.ensures.quiet unwatched h,
   );
+  captured = rw c.in-Some.is (rw (c.as_str-settings.ensures.value, c.as_str-script.ensures.value, c.as_str-path.ensures.value) at (c.sim_captured.ensures.captured h));
 }
 
 pub returns-in-Ok-clause-named : goal.returns-in-Ok-clause-named
@@ -22,4 +23,5 @@ returns-in-Ok-clause-named g c h = record {
     λ watched. rw (c.as_str-settings.ensures.value, c.as_str-script.ensures.value) at (c.simulated.ensures.heard watched h),
     λ unwatched. c.simulated.ensures.quiet unwatched h,
   );
+  captured = rw c.in-None.is tt;
 }
