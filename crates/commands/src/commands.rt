@@ -86,41 +86,25 @@ fn done<R: Net + Clock + AllocGlobal, S: Site, H: Host, C: Clockwork + Drop, O: 
         (IsLoopCaptured H.Record.takes (H.begins host.now) (H.ends host.now)) task.now result
         (scene site.old output.old errors.old) (scene site.new output.new errors.new) }
 {
+    let alloc = rt.alloc();
     match task {
-        Task::Init(file) => init(rt.alloc(), site, file.as_str(), errors),
+        Task::Init(file) => init(alloc, site, file.as_str(), errors),
         Task::Check(words) => look_at(site, host, words, output, errors),
         Task::Gate(words) => host.serve(&start_of(words), output, errors),
         Task::Status(words) => state_of(rt, site, words, output, errors),
-        Task::Pairs(words) => pairs_of(rt.alloc(), site, words, output, errors),
-        Task::Stop(settings, id) => stop(rt.alloc(), site, settings.as_str(), *id, errors),
+        Task::Pairs(words) => pairs_of(alloc, site, words, output, errors),
+        Task::Stop(settings, id) => stop(alloc, site, settings.as_str(), *id, errors),
         Task::PeerOff(words) => {
             let (settings, boot) = (words.settings.as_str(), words.boot);
-            peer_off(
-                rt.alloc(),
-                site,
-                settings,
-                words.id,
-                boot,
-                words.force,
-                errors,
-            )
+            peer_off(alloc, site, settings, words.id, boot, words.force, errors)
         }
         Task::Side {
             settings,
             id,
             side: told,
             up,
-        } => side(rt.alloc(), site, settings.as_str(), *id, *told, *up, errors),
-        Task::Sim(files) => sim(
-            rt.alloc(),
-            site,
-            host,
-            clock,
-            files,
-            is_watched,
-            output,
-            errors,
-        ),
+        } => side(alloc, site, settings.as_str(), *id, *told, *up, errors),
+        Task::Sim(files) => sim(alloc, site, host, clock, files, is_watched, output, errors),
         Task::Loop(files) => repeat(rt, site, host, files, output, errors),
         Task::Version => tell_version(output, errors),
     }
