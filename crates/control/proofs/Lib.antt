@@ -2,3 +2,4 @@ mod Rooms
 mod Parts
 mod Coming
 mod Answering
+mod Turns

@@ -1,7 +1,7 @@
 //! The end at which words are heard.
 ghost use Rattle.std.specs.Prelude.{◌≡◌, ◌-◌, ◌≤◌, ◌<◌, ◌||◌, ◌⊎◌, true, false, length, remove, vec_len, is_some, IfOk, IfSome, IsNone};
 ghost use Rattle.control.specs.Attending.{IsToldOrCounted, unanswered_after, with_more, with_room};
-ghost use Rattle.control.specs.Heard.{AreHeard, IsWord};
+ghost use Rattle.control.specs.Heard.{AreHeard, IsBySpeaker, IsWord};
 ghost use Rattle.control.specs.Saying.{CameFrom, Says};
 
 use crate::folders::{Machine, ready};
@@ -198,8 +198,10 @@ impl Control {
 
 /// A word of those who are waited for, one after the other. Who said something else and who has gone is no longer waited
 /// for, and counted.
-fn word_among(callers: &mut Vec<UnixStream>, refused: &mut u64, room: &mut [u8]) -> Heard
+fn word_among<S: Read + Drop>(callers: &mut Vec<S>, refused: &mut u64, room: &mut [u8]) -> Heard
     ensures heard { AreHeard result (vec_len callers.new) room.new }
+    ensures speaker { IsBySpeaker S.remaining callers.old.items result callers.new.items
+        room.new }
     ensures fewer { vec_len callers.new ≤ vec_len callers.old }
     ensures counted { refused.new
         ≡ with_more refused.old (vec_len callers.old - vec_len callers.new) }
@@ -218,7 +220,7 @@ fn word_among(callers: &mut Vec<UnixStream>, refused: &mut u64, room: &mut [u8])
 }
 
 /// Where as many are waited for as may be, who was waited for longest is refused.
-fn make_room(callers: &mut Vec<UnixStream>, refused: &mut u64)
+fn make_room<S: Drop>(callers: &mut Vec<S>, refused: &mut u64)
     ensures callers { callers.new.items ≡ with_room callers.old.items }
     ensures counted { refused.new
         ≡ with_more refused.old (vec_len callers.old - vec_len callers.new) }
@@ -231,7 +233,7 @@ fn make_room(callers: &mut Vec<UnixStream>, refused: &mut u64)
 }
 
 /// A caller is no longer waited for, and has no answer.
-fn refuse(callers: &mut Vec<UnixStream>, at: usize, refused: &mut u64)
+fn refuse<S: Drop>(callers: &mut Vec<S>, at: usize, refused: &mut u64)
     requires { at < vec_len callers.old }
     ensures others { callers.new.items ≡ remove callers.old.items at }
     ensures counted { refused.new ≡ with_more refused.old 1 }

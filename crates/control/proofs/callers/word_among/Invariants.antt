@@ -1,11 +1,12 @@
-use Rattle.std.proofs.Common.{◌≡◌, ◌+◌, ◌-◌, ◌≤◌, vec_len}
+use Rattle.std.proofs.Common.{◌≡◌, ◌+◌, ◌-◌, ◌≤◌, drop, vec_len}
 use Rattle.control.specs.Attending.{with_more}
 use Rattle.control.proofs.callers.word_among.Given as goal
 
 -- each turn one more is silent, or one fewer is waited for
 abbrev pub invariant-loop-turn : goal.invariant-loop-turn
-invariant-loop-turn l = record {
+invariant-loop-turn g l = record {
   looked_at : l.silent + (vec_len l.fn.callers - vec_len l.callers) ≡ l._turn;
   fewer : vec_len l.callers ≤ vec_len l.fn.callers;
+  rest : drop l.silent l.callers.items ≡ drop l._turn l.fn.callers.items;
   counted : l.refused ≡ with_more l.fn.refused (vec_len l.fn.callers - vec_len l.callers);
 }
