@@ -2,7 +2,7 @@
 
 use cases_words::Case;
 use report_texts::{write_json, write_metrics, write_people};
-use reports::{Bytes, LONGEST, ReadFault, Report};
+use reports::{ReadFault, Report};
 use std::io;
 
 /// A report of bytes, of which nothing is said.
@@ -53,38 +53,26 @@ fn part_of(bytes: &[u8], from: usize, count: usize) -> &[u8] {
     behind.get(..count).unwrap_or(behind)
 }
 
-/// A copy of bytes in a place that has room for one more.
-#[derive(Drop)]
-struct Copied {
-    room: [u8; LONGEST],
-    count: usize,
-}
-
-fn copy_of(bytes: &Bytes) -> Copied {
-    let mut room = [0; LONGEST];
-    for (place, byte) in room.iter_mut().zip(bytes.as_slice()) {
-        *place = *byte;
-    }
-    Copied {
-        room,
-        count: bytes.len(),
-    }
+/// A copy of a report's bytes.
+fn bytes_of(report: &Report, case: &mut Case) -> Vec<u8> {
+    let copied = Vec::from_slice(case.alloc, report.bytes().as_slice());
+    case.or_none(copied)
 }
 
 /// How many of the shorter lengths are refused, and whether one more byte is.
 pub(crate) fn tell_cuts(report: &Report, case: &mut Case) {
-    let copied = copy_of(&report.bytes());
-    case.say("refused: ", count_refused(&copied));
-    case.say(" of ", copied.count);
-    let longer = part_of(&copied.room, 0, copied.count.saturating_add(1));
-    case.say(", one more byte ", read_of(longer).is_err());
+    let mut bytes = bytes_of(report, case);
+    case.say("refused: ", count_refused(bytes.as_slice()));
+    case.say(" of ", bytes.len());
+    case.keep(bytes.push(0));
+    case.say(", one more byte ", read_of(bytes.as_slice()).is_err());
     case.end();
 }
 
-fn count_refused(copied: &Copied) -> u32 {
+fn count_refused(bytes: &[u8]) -> u32 {
     let mut refused = 0u32;
-    for length in 0..copied.count {
-        if read_of(part_of(&copied.room, 0, length)).is_err() {
+    for length in 0..bytes.len() {
+        if read_of(&bytes[..length]).is_err() {
             refused = refused.saturating_add(1);
         }
     }
@@ -93,14 +81,14 @@ fn count_refused(copied: &Copied) -> u32 {
 
 /// What bytes are read as of which one is another.
 pub(crate) fn tell_changed(report: &Report, case: &mut Case) {
-    let mut copied = copy_of(&report.bytes());
+    let mut bytes = bytes_of(report, case);
     let at = case.count();
     let byte = case.byte();
-    match copied.room.get_mut(at) {
+    match bytes.get_mut(at) {
         Some(place) => *place = byte,
         None => case.fault(),
     }
-    tell_read(report, part_of(&copied.room, 0, copied.count), case);
+    tell_read(report, bytes.as_slice(), case);
 }
 
 fn tell_read(report: &Report, bytes: &[u8], case: &mut Case) {

@@ -1,9 +1,9 @@
 //! A frame cut at every length, and with every byte changed to every other value: how many of these are
 //! sent on, and how many steps note something.
 
-use crate::takers::step;
+use crate::gates::Gate;
 use cases_words::Case;
-use gateway::{Event, Gateway, Out, Outcome};
+use gateway::{Event, Out, Outcome};
 use nat_types::Side;
 
 /// What came of so many frames of a side.
@@ -37,13 +37,19 @@ impl Trial {
     }
 
     /// The clock goes on, and a frame comes.
-    fn hand_in(&mut self, gateway: &mut Gateway, frame: &[u8], out: &mut Out, case: &mut Case) {
+    pub(crate) fn hand_in<G: Gate>(
+        &mut self,
+        gateway: &mut G,
+        frame: &[u8],
+        out: &mut Out,
+        case: &mut Case,
+    ) {
         if let Some(moment) = self.next {
-            step(gateway, Event::Tick(moment), out, case);
+            gateway.step(Event::Tick(moment), out, case);
             self.next = Some(moment.saturating_add(100));
         }
         self.all = self.all.saturating_add(1);
-        if step(gateway, Event::Frame(self.side, frame), out, case) == Outcome::Sent {
+        if gateway.step(Event::Frame(self.side, frame), out, case) == Outcome::Sent {
             self.sent = self.sent.saturating_add(1);
         }
         if !out.notes().is_empty() {
@@ -52,23 +58,10 @@ impl Trial {
     }
 }
 
-/// The frame at every length below its own, from no byte on.
-pub(crate) fn cut(
-    trial: &mut Trial,
-    gateway: &mut Gateway,
-    frame: &[u8],
-    out: &mut Out,
-    case: &mut Case,
-) {
-    for length in 0..frame.len() {
-        trial.hand_in(gateway, &frame[..length], out, case);
-    }
-}
-
 /// The frame with one byte changed, each to each other value; and at which bytes a changed frame is sent.
-pub(crate) fn change(
+pub(crate) fn change<G: Gate>(
     trial: &mut Trial,
-    gateway: &mut Gateway,
+    gateway: &mut G,
     frame: &mut [u8],
     out: &mut Out,
     case: &mut Case,
@@ -86,9 +79,9 @@ pub(crate) fn change(
 }
 
 /// The frame with this byte changed to each other value. Afterwards it is as it was.
-fn change_at(
+fn change_at<G: Gate>(
     trial: &mut Trial,
-    gateway: &mut Gateway,
+    gateway: &mut G,
     frame: &mut [u8],
     at: usize,
     out: &mut Out,

@@ -1,5 +1,6 @@
 //! What the lines of a file set up: the settings, and a gateway.
 
+use crate::gates::Gate;
 use crate::takers::Taker;
 use anyhow::Result;
 use cases_words::{Actor, Case};
@@ -7,14 +8,14 @@ use settings::Settings;
 use std::{fs, mem};
 
 /// What the lines so far have set up. It goes by `end`.
-pub(crate) struct Desk {
+pub(crate) struct Desk<G> {
     rt: HostRuntime,
     settings: Option<Settings>,
-    taker: Option<Taker>,
+    taker: Option<Taker<G>>,
 }
 
-impl Desk {
-    pub(crate) fn new(rt: HostRuntime) -> Desk {
+impl<G: Gate> Desk<G> {
+    pub(crate) fn new(rt: HostRuntime) -> Desk<G> {
         Desk {
             rt,
             settings: None,
@@ -51,7 +52,7 @@ impl Desk {
     }
 }
 
-impl Actor for Desk {
+impl<G: Gate> Actor for Desk<G> {
     /// Does what a line says.
     ///
     /// - `settings FILE`: how the gateways below are set up
@@ -71,7 +72,7 @@ impl Actor for Desk {
 }
 
 /// Lets a gateway go, if it is there.
-fn end_if_there(taker: Option<Taker>) {
+fn end_if_there<G: Gate>(taker: Option<Taker<G>>) {
     if let Some(taker) = taker {
         taker.end();
     }

@@ -5,6 +5,7 @@
 mod broken;
 mod changing;
 mod desks;
+mod gates;
 mod letters;
 mod stations;
 mod takers;
@@ -12,9 +13,10 @@ mod telling;
 mod values;
 mod words;
 
-use anyhow::Result;
+use anyhow::{Result, bail};
 use cases_words::{Case, play};
 use desks::Desk;
+use gateway::Gateway;
 use stations::Station;
 use values::Reports;
 
@@ -31,7 +33,9 @@ const FORGED: [&str; 8] = [
 ];
 
 fn try_gateway(rt: &HostRuntime, case: &mut Case) -> Result<()> {
-    let mut station = Station::new(rt.alloc())?;
+    let Some(mut station) = Station::<Gateway>::new(rt.alloc()) else {
+        bail!("no memory");
+    };
     let tried = play(rt, "gateway.cases", &mut station, case);
     station.end();
     tried
@@ -40,7 +44,7 @@ fn try_gateway(rt: &HostRuntime, case: &mut Case) -> Result<()> {
 fn try_forged(rt: &HostRuntime, file: &str, case: &mut Case) -> Result<()> {
     case.say("== ", file);
     case.end();
-    let mut desk = Desk::new(*rt);
+    let mut desk = Desk::<Gateway>::new(*rt);
     let tried = play(rt, file, &mut desk, case);
     desk.end();
     tried

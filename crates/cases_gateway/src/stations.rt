@@ -1,10 +1,10 @@
 //! A gateway whose report and pages are taken.
 
+use crate::gates::Gate;
 use crate::values::blank;
 use crate::words::state_of;
-use anyhow::Result;
 use cases_words::{Actor, Case};
-use gateway::{Event, Gateway, Hashers, Out};
+use gateway::{Event, Out};
 use nat_types::{GatewayId, Key, Side};
 use report_texts::{Filter, write_pairs, write_people};
 use reports::{GatewayReport, Page, Sides};
@@ -19,65 +19,31 @@ const FRAME: [u8; 44] = [
 ];
 
 /// Gateway 0 of the sample settings, founded in boot 1, and its sides as they were seen. It goes by `end`.
-pub(crate) struct Station {
+pub(crate) struct Station<G> {
     alloc: Global,
     sides: Sides,
     out: Out,
-    gateway: Gateway,
+    gateway: G,
 }
 
-fn founded(alloc: Global) -> Result<Gateway> {
-    let settings = Settings::sample(alloc)?;
-    let gateway = begun(alloc, &settings);
-    drop(settings);
-    gateway
-}
-
-fn begun(alloc: Global, settings: &Settings) -> Result<Gateway> {
-    let hashers = Hashers::fixed();
-    Ok(Gateway::new(alloc, settings, GatewayId::Zero, 1, true, hashers)?)
-}
-
-/// One step, of which nothing is said.
-fn step(gateway: &mut Gateway, event: Event<'_>, out: &mut Out) -> Result<()> {
-    out.clear();
-    let _outcome = gateway.step(event, out)?;
-    Ok(())
-}
-
-/// The sides as they are seen first, of which nothing is said.
-fn sides_of(gateway: &Gateway) -> Sides {
-    rounds::sides_of(gateway)
-}
-
-/// The sides are seen again, of which nothing is said.
-fn look(sides: &mut Sides, gateway: &Gateway) {
-    rounds::look_again(sides, gateway);
-}
-
-/// What a report says of the gateway, and nothing is said of that.
-fn state_of_gateway(gateway: &Gateway) -> Result<GatewayReport> {
-    Ok(rounds::gateway_report(gateway)?)
-}
-
-/// The page behind a key, once it was written as bytes and read back; nothing is said of it.
-fn page_behind(alloc: Global, gateway: &Gateway, last: Option<Key>) -> Result<Page> {
-    let page = rounds::page_behind(alloc, gateway, last)?;
+/// The page behind a key, once it was written as bytes and read back.
+fn page_behind<G: Gate>(alloc: Global, gateway: &G, last: Option<Key>) -> Option<Page> {
+    let page = gateway.page_behind(alloc, last)?;
     let bytes = page.bytes();
     drop(page);
-    read_page(alloc, bytes.as_slice())
+    Page::read(alloc, bytes.as_slice()).ok()
 }
 
-fn read_page(alloc: Global, bytes: &[u8]) -> Result<Page> {
-    Ok(Page::read(alloc, bytes)?)
-}
-
-impl Station {
-    pub(crate) fn new(alloc: Global) -> Result<Station> {
-        let gateway = founded(alloc)?;
-        Ok(Station {
+impl<G: Gate> Station<G> {
+    /// None where there is no memory.
+    pub(crate) fn new(alloc: Global) -> Option<Station<G>> {
+        let settings = Settings::sample(alloc).ok()?;
+        let begun = G::begun(alloc, &settings, GatewayId::Zero, 1, true);
+        drop(settings);
+        let gateway = begun?;
+        Some(Station {
             alloc,
-            sides: sides_of(&gateway),
+            sides: gateway.sides(),
             out: Out::new(alloc),
             gateway,
         })
@@ -96,8 +62,8 @@ impl Station {
     }
 
     fn step(&mut self, event: Event<'_>, case: &mut Case) {
-        case.keep(step(&mut self.gateway, event, &mut self.out));
-        look(&mut self.sides, &self.gateway);
+        self.gateway.step(event, &mut self.out, case);
+        self.gateway.look(&mut self.sides);
     }
 
     fn take(&mut self, case: &mut Case) {
@@ -120,9 +86,9 @@ impl Station {
     }
 
     fn tell(&self, case: &mut Case) {
-        match state_of_gateway(&self.gateway) {
-            Ok(state) => self.tell_state(state, case),
-            Err(_) => case.fault(),
+        match self.gateway.report() {
+            Some(state) => self.tell_state(state, case),
+            None => case.fault(),
         }
     }
 
@@ -140,20 +106,20 @@ impl Station {
         let mut last = None;
         for _ in 0..10 {
             match page_behind(self.alloc, &self.gateway, last) {
-                Ok(page) => {
+                Some(page) => {
                     tell_page(&page, &filter, case);
                     last = page.last();
                     if !page.has_more() {
                         break;
                     }
                 }
-                Err(_) => case.fault(),
+                None => case.fault(),
             }
         }
     }
 }
 
-impl Actor for Station {
+impl<G: Gate> Actor for Station<G> {
     /// Does what a line says.
     ///
     /// - `tick MOMENT`, `side SIDE up|down`, `datagram HEX`: a step, and the sides are looked at

@@ -1,29 +1,29 @@
 //! The gateway of a case.
 
-use crate::changing::{Trial, change, cut};
+use crate::changing::{Trial, change};
+use crate::gates::Gate;
 use crate::letters::spelled;
-use crate::telling::{tell, tell_owned};
+use crate::telling::tell;
 use cases_words::Case;
-use gateway::{Event, Gateway, Hashers, Out, Outcome, Reason};
-use nat_types::{GatewayId, Pair};
+use gateway::{Event, Out, Outcome, Reason};
+use nat_types::GatewayId;
 use settings::Settings;
-use std::alloc::Global;
 
 /// A gateway, and the datagram that came to it last. It goes by `end`.
-pub(crate) struct Taker {
+pub(crate) struct Taker<G> {
     id: GatewayId,
-    gateway: Gateway,
+    gateway: G,
     last: Vec<u8>,
     out: Out,
 }
 
-impl Taker {
+impl<G: Gate> Taker<G> {
     /// As `0 boot 1 founded`: a gateway of that number in that boot; none where there is no such gateway.
-    pub(crate) fn new(settings: &Settings, case: &mut Case) -> Option<Taker> {
+    pub(crate) fn new(settings: &Settings, case: &mut Case) -> Option<Taker<G>> {
         let id = case.gateway();
         let boot = after("boot", case);
         let found = case.left() == 1;
-        match begun(case.alloc, settings, id, boot, found) {
+        match G::begun(case.alloc, settings, id, boot, found) {
             Some(gateway) => Some(Taker {
                 id,
                 gateway,
@@ -72,14 +72,14 @@ impl Taker {
             "cuts" => self.cuts(case),
             "frame-cuts" => self.frame_cuts(case),
             "frame-changes" => self.frame_changes(case),
-            "table" => self.table(case),
+            "table" => self.gateway.table(case),
             _ => case.fault(),
         }
     }
 
     /// One step; prints what comes of it, and what is told.
     fn step(&mut self, event: Event<'_>, case: &mut Case) {
-        let outcome = step(&mut self.gateway, event, &mut self.out, case);
+        let outcome = self.gateway.step(event, &mut self.out, case);
         tell(outcome, &self.out, case);
     }
 
@@ -104,7 +104,7 @@ impl Taker {
     /// The last datagram comes once more.
     fn again(&mut self, case: &mut Case) {
         let event = Event::Datagram(self.last.as_slice());
-        let outcome = step(&mut self.gateway, event, &mut self.out, case);
+        let outcome = self.gateway.step(event, &mut self.out, case);
         tell(outcome, &self.out, case);
     }
 
@@ -126,22 +126,19 @@ impl Taker {
     /// Whether a datagram is dropped as a wrong one, with nothing told.
     fn drops(&mut self, bytes: &[u8], case: &mut Case) -> bool {
         let event = Event::Datagram(bytes);
-        let outcome = step(&mut self.gateway, event, &mut self.out, case);
+        let outcome = self.gateway.step(event, &mut self.out, case);
         outcome == Outcome::Dropped(Reason::BadDatagram) && has_told_nothing(&self.out)
     }
 
-    /// A frame comes in cut at every length.
+    /// A frame comes in cut at every length below its own, from no byte on.
     fn frame_cuts(&mut self, case: &mut Case) {
         let side = case.side();
-        let frame = case.bytes();
+        let bytes = case.bytes();
+        let frame = bytes.as_slice();
         let mut trial = Trial::new(side, pace_in(case));
-        cut(
-            &mut trial,
-            &mut self.gateway,
-            frame.as_slice(),
-            &mut self.out,
-            case,
-        );
+        for length in 0..frame.len() {
+            trial.hand_in(&mut self.gateway, &frame[..length], &mut self.out, case);
+        }
         trial.tell(case);
     }
 
@@ -159,66 +156,6 @@ impl Taker {
         );
         trial.tell(case);
     }
-
-    /// How far it is, what it knows of the other, its pairs, and the runs of ports that it owns.
-    fn table(&self, case: &mut Case) {
-        let is_synced = self.gateway.synced();
-        case.put(if is_synced { "  synced" } else { "  unsynced" });
-        case.say(", knows boot ", self.gateway.known_peer());
-        case.end();
-        match self.gateway.translating() {
-            Ok(translating) => self.tell_pairs(translating.as_slice(), case),
-            Err(_) => case.fault(),
-        }
-        match self.gateway.owned() {
-            Ok(ports) => tell_owned(ports.as_slice(), case),
-            Err(_) => case.fault(),
-        }
-    }
-
-    fn tell_pairs(&self, translating: &[Pair], case: &mut Case) {
-        match self.gateway.pairs() {
-            Ok(pairs) => {
-                for pair in pairs.as_slice() {
-                    case.say("  ", *pair);
-                    let translates = translating.contains(pair);
-                    case.put(if translates {
-                        " translates\n"
-                    } else {
-                        " waits\n"
-                    });
-                }
-            }
-            Err(_) => case.fault(),
-        }
-    }
-}
-
-/// A gateway as it begins. It says nothing of the gateway, so that what a caller has to show stays
-/// small.
-fn begun(
-    alloc: Global,
-    settings: &Settings,
-    id: GatewayId,
-    boot: u64,
-    found: bool,
-) -> Option<Gateway> {
-    if boot == 0 || (found && id == GatewayId::One) {
-        return None;
-    }
-    Gateway::new(alloc, settings, id, boot, found, Hashers::fixed()).ok()
-}
-
-/// One step, of which nothing is said either.
-pub(crate) fn step(
-    gateway: &mut Gateway,
-    event: Event<'_>,
-    out: &mut Out,
-    case: &mut Case,
-) -> Outcome {
-    out.clear();
-    let stepped = gateway.step(event, out).ok();
-    case.or(stepped, Outcome::Done)
 }
 
 /// The number behind a word.

@@ -3,6 +3,7 @@
 use addresses::Port;
 use cases_words::Case;
 use gateway::{Out, Outcome};
+use nat_types::Pair;
 
 /// What came of a step and how many frames were sent; then the notes; then the datagram.
 pub(crate) fn tell(outcome: Outcome, out: &Out, case: &mut Case) {
@@ -40,6 +41,28 @@ fn tell_outcome(outcome: Outcome, case: &mut Case) {
         Outcome::Waiting => case.put("  waiting"),
         Outcome::Done => case.put("  done"),
         Outcome::Dropped(reason) => case.say("  dropped ", reason.number()),
+    }
+}
+
+/// The pairs, a line each, and whether they translate.
+pub(crate) fn tell_pairs<E: Drop>(
+    pairs: Result<Vec<Pair>, E>,
+    translating: &[Pair],
+    case: &mut Case,
+) {
+    match pairs {
+        Ok(pairs) => {
+            for pair in pairs.as_slice() {
+                case.say("  ", *pair);
+                let translates = translating.contains(pair);
+                case.put(if translates {
+                    " translates\n"
+                } else {
+                    " waits\n"
+                });
+            }
+        }
+        Err(_) => case.fault(),
     }
 }
 
