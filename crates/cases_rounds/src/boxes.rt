@@ -1,7 +1,7 @@
 //! The two boxes, whose links lead to each other.
 
 use crate::failures;
-use crate::memory::Letter;
+use crate::gates::Gate;
 use crate::stations::Station;
 use cases_words::{Actor, Case};
 use nat_types::GatewayId;
@@ -9,14 +9,14 @@ use settings::Settings;
 use std::mem;
 
 /// The boxes that are there, and the settings of both. They are let go by `end` alone.
-pub(crate) struct Boxes {
+pub(crate) struct Boxes<G> {
     settings: Settings,
-    zero: Option<Station>,
-    one: Option<Station>,
+    zero: Option<Station<G>>,
+    one: Option<Station<G>>,
 }
 
-impl Boxes {
-    pub(crate) fn new(settings: Settings) -> Boxes {
+impl<G: Gate> Boxes<G> {
+    pub(crate) fn new(settings: Settings) -> Boxes<G> {
         Boxes {
             settings,
             zero: None,
@@ -36,7 +36,7 @@ impl Boxes {
         end_if_there(one);
     }
 
-    fn at(&mut self, id: GatewayId) -> &mut Option<Station> {
+    fn at(&mut self, id: GatewayId) -> &mut Option<Station<G>> {
         match id {
             GatewayId::Zero => &mut self.zero,
             GatewayId::One => &mut self.one,
@@ -56,8 +56,7 @@ impl Boxes {
         match case.word() {
             "box" => self.start(id, case),
             "off" => self.put(id, None),
-            "rounds" => self.run(id, case),
-            "serves" => self.serve(id, case),
+            "rounds" | "serves" => self.run(id, case),
             _ => match self.at(id).as_mut() {
                 Some(station) => station.prepare(case),
                 None => case.fault(),
@@ -66,7 +65,7 @@ impl Boxes {
     }
 
     /// What is there takes the place of what was there.
-    fn put(&mut self, id: GatewayId, station: Option<Station>) {
+    fn put(&mut self, id: GatewayId, station: Option<Station<G>>) {
         end_if_there(mem::replace(self.at(id), station));
     }
 
@@ -80,37 +79,17 @@ impl Boxes {
         self.put(id, station);
     }
 
-    /// A box runs rounds; what it sends on the link comes to the other, if that is there.
+    /// A box runs as the line says; what it sends on the link comes to the other, if that is there.
     fn run(&mut self, id: GatewayId, case: &mut Case) {
-        match self.at(id).as_mut() {
-            Some(station) => {
-                let letters = station.run(case);
-                self.pass_on(id, letters, case);
-            }
-            None => case.fault(),
-        }
-    }
-
-    /// A box runs to its end; what it sends on the link comes to the other.
-    fn serve(&mut self, id: GatewayId, case: &mut Case) {
-        match self.at(id).as_mut() {
-            Some(station) => {
-                let letters = station.serve(case);
-                self.pass_on(id, letters, case);
-            }
-            None => case.fault(),
-        }
-    }
-
-    /// The datagrams of a box come to the other, if that is there.
-    fn pass_on(&mut self, from: GatewayId, letters: Vec<Letter>, case: &mut Case) {
-        if let Some(station) = self.at(from.other()).as_mut() {
-            station.wire.add(letters, case);
+        case.back();
+        match id {
+            GatewayId::Zero => run(&mut self.zero, &mut self.one, case),
+            GatewayId::One => run(&mut self.one, &mut self.zero, case),
         }
     }
 }
 
-impl Actor for Boxes {
+impl<G: Gate> Actor for Boxes<G> {
     /// Does what a line says.
     ///
     /// - `I ..`: what happens to box I (`happen`)
@@ -118,7 +97,7 @@ impl Actor for Boxes {
     fn act(&mut self, case: &mut Case) {
         case.title("", "\n");
         if case.word() == "fail" {
-            failures::run(&self.settings, case);
+            failures::run::<G>(&self.settings, case);
         } else {
             case.back();
             let id = case.gateway();
@@ -127,8 +106,19 @@ impl Actor for Boxes {
     }
 }
 
+/// A box runs; what it sends on the link comes to the other, if that is there.
+fn run<G: Gate>(own: &mut Option<Station<G>>, other: &mut Option<Station<G>>, case: &mut Case) {
+    let Some(own) = own.as_mut() else {
+        return case.fault();
+    };
+    own.run(case);
+    if let Some(other) = other.as_mut() {
+        other.wire.bring_from(&own.wire, case);
+    }
+}
+
 /// Lets a box go, if it is there.
-fn end_if_there(station: Option<Station>) {
+fn end_if_there<G: Gate>(station: Option<Station<G>>) {
     if let Some(station) = station {
         station.end();
     }

@@ -1,5 +1,6 @@
 //! Rounds of which something fails: a call of the wire, or to write.
 
+use crate::gates::Gate;
 use crate::stations::{Orders, Station};
 use cases_words::Case;
 use nat_types::{GatewayId, Side};
@@ -30,8 +31,8 @@ const SHORT: [u8; 1] = [0];
 /// - `errors`: there is no room for their lines
 /// - `output`: what they write there is refused
 /// - a number: the call of the wire with that number fails
-pub(crate) fn run(settings: &Settings, case: &mut Case) {
-    match Station::new(case.alloc, settings, GatewayId::Zero, 1, true) {
+pub(crate) fn run<G: Gate>(settings: &Settings, case: &mut Case) {
+    match Station::<G>::new(case.alloc, settings, GatewayId::Zero, 1, true) {
         Some(mut station) => {
             make_ready(&mut station, case);
             fail(&mut station, case);
@@ -41,7 +42,7 @@ pub(crate) fn run(settings: &Settings, case: &mut Case) {
     }
 }
 
-fn fail(station: &mut Station, case: &mut Case) {
+fn fail<G: Gate>(station: &mut Station<G>, case: &mut Case) {
     match case.word() {
         "errors" => run_untold(station, case),
         "output" => run_endless(station, case),
@@ -53,7 +54,7 @@ fn fail(station: &mut Station, case: &mut Case) {
 }
 
 /// A first round, after which both sides are Active. Then three frames come.
-fn make_ready(station: &mut Station, case: &mut Case) {
+fn make_ready<G: Gate>(station: &mut Station<G>, case: &mut Case) {
     let _lines = station.go_on(1, 360, true);
     station.bring(Place::Side(Side::Inside), &OUT, case);
     station.bring(Place::Side(Side::Outside), &BACK, case);
@@ -83,7 +84,7 @@ impl Write for Shut {
 }
 
 /// The rounds, where no line for the operator can be written. It is left out.
-fn run_untold(station: &mut Station, case: &mut Case) {
+fn run_untold<G: Gate>(station: &mut Station<G>, case: &mut Case) {
     let lines = RefCell::new(Vec::new(case.alloc));
     let mut written = Vec::new(case.alloc);
     case.keep(station.serve_into(ORDERS, &lines, true, &mut written));
@@ -93,7 +94,7 @@ fn run_untold(station: &mut Station, case: &mut Case) {
 }
 
 /// The rounds, where `end` can't be written. All else is done before.
-fn run_endless(station: &mut Station, case: &mut Case) {
+fn run_endless<G: Gate>(station: &mut Station<G>, case: &mut Case) {
     let lines = RefCell::new(Vec::new(case.alloc));
     let ended = station.serve_into(ORDERS, &lines, false, &mut Shut);
     station.wire.count(case);

@@ -5,6 +5,7 @@
 mod answers;
 mod boxes;
 mod failures;
+mod gates;
 mod memory;
 mod pages;
 mod stations;
@@ -13,6 +14,7 @@ mod supervisors;
 use anyhow::Result;
 use boxes::Boxes;
 use cases_words::{Case, play};
+use gateway::Gateway;
 use settings::Settings;
 use std::fs;
 
@@ -23,7 +25,7 @@ fn read_settings(rt: &HostRuntime) -> Result<Settings> {
 }
 
 fn try_all(rt: &HostRuntime, case: &mut Case) -> Result<()> {
-    let mut boxes = Boxes::new(read_settings(rt)?);
+    let mut boxes = Boxes::<Gateway>::new(read_settings(rt)?);
     let tried = play(rt, "rounds.cases", &mut boxes, case);
     boxes.end();
     tried

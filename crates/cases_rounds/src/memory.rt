@@ -80,19 +80,6 @@ impl Memory {
         self.round = 0;
     }
 
-    /// Copies of what was sent on the link.
-    pub(crate) fn sent_on_link(&self, case: &mut Case) -> Vec<Letter> {
-        let mut letters = Vec::new(self.alloc);
-        for letter in &self.sent {
-            if letter.place == Place::Link {
-                let place = letter.place;
-                let bytes = case.or_none(letter.bytes.clone());
-                case.keep(letters.push(Letter { place, bytes }));
-            }
-        }
-        letters
-    }
-
     /// The next datagram that is to come, if one is.
     fn next(&mut self, room: &mut [u8; LONGEST]) -> Option<(Place, usize)>
         ensures within { IfSome result (λ datagram. datagram.1 ≤ 4096) }
@@ -121,10 +108,14 @@ impl Memory {
         self.sent.push(letter).map_err(|_| SendFault::Failed)
     }
 
-    /// These datagrams come, after those that are to come already.
-    pub(crate) fn add(&mut self, letters: Vec<Letter>, case: &mut Case) {
-        for letter in letters {
-            case.keep(self.coming.push(letter));
+    /// What another wire sent on the link comes, after what is to come already.
+    pub(crate) fn bring_from(&mut self, other: &Memory, case: &mut Case) {
+        for letter in &other.sent {
+            if letter.place == Place::Link {
+                let place = letter.place;
+                let bytes = case.or_none(letter.bytes.clone());
+                case.keep(self.coming.push(Letter { place, bytes }));
+            }
         }
     }
 

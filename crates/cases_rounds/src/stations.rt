@@ -1,15 +1,15 @@
 //! A box whose wire lies in memory.
 
+use crate::gates::Gate;
 use crate::memory::{Letter, Limit, Memory, Outage, Steps};
-use crate::pages::{Page, Patience};
+use crate::pages::Page;
 use crate::supervisors::Alive;
 use cases_words::Case;
-use gateway::{Gateway, Hashers};
-use journal::{Format, Journal, Unhindered};
+use journal::{Format, Unhindered};
 use nat_types::{GatewayId, Side};
-use rounds::{Identity, run_rounds, serve};
+use rounds::Identity;
 use settings::Settings;
-use sockets::{Failing, Place, Wire};
+use sockets::{Failing, Place};
 use std::alloc::Global;
 use std::cell::RefCell;
 use std::io::{self, Write};
@@ -18,15 +18,15 @@ use std::io::{self, Write};
 const DIGEST: u64 = 7;
 
 /// A gateway with its wire and its clock, and who sees to it. It is let go by `end` alone.
-pub(crate) struct Station {
-    gateway: Gateway,
+pub(crate) struct Station<G> {
+    gateway: G,
     identity: Identity,
     pub(crate) wire: Memory,
     clock: Steps,
     pub(crate) alive: Alive,
 }
 
-impl Station {
+impl<G: Gate> Station<G> {
     /// A gateway of that number in that boot, at moment 0; none where there is no such gateway.
     pub(crate) fn new(
         alloc: Global,
@@ -34,8 +34,8 @@ impl Station {
         id: GatewayId,
         boot: u64,
         found: bool,
-    ) -> Option<Station> {
-        let gateway = begun(alloc, settings, id, boot, found)?;
+    ) -> Option<Station<G>> {
+        let gateway = G::begun(alloc, settings, id, boot, found)?;
         let digest = DIGEST;
         Some(Station {
             gateway,
@@ -114,22 +114,43 @@ impl Station {
         let lines = RefCell::new(Vec::new(self.wire.alloc));
         self.clock.pace = pace;
         self.wire.begin();
-        run_on(self, rounds, track, &lines);
+        let page = Page {
+            lines: &lines,
+            is_shut: false,
+        };
+        self.gateway.go_on(
+            &mut self.wire,
+            &mut self.clock,
+            rounds,
+            track,
+            self.identity,
+            &mut self.alive,
+            &Unhindered::new(page, Format::Text),
+        );
         self.wire.outages.clear();
         lines.into_inner()
     }
 
-    /// Runs rounds as the next words say, and prints what comes of them. What is answered was sent on the link.
-    pub(crate) fn run(&mut self, case: &mut Case) -> Vec<Letter> {
+    /// Runs as the next words say, and prints what comes of it.
+    ///
+    /// - `rounds N M`, `rounds N M untracked`: rounds, and no end
+    /// - `serves ..`: the box runs to its end (`orders_in`)
+    pub(crate) fn run(&mut self, case: &mut Case) {
+        if case.is_first("rounds", "serves") {
+            self.run_on(case);
+        } else {
+            self.serve(case);
+        }
+    }
+
+    fn run_on(&mut self, case: &mut Case) {
         let (rounds, pace) = (case.times(), case.number());
         let lines = self.go_on(rounds, pace, case.left() == 0);
         self.wire.show(case);
         case.text(lines.as_slice());
-        self.wire.sent_on_link(case)
     }
 
-    /// Runs the box to its end as the next words say, and prints what comes of it. What is answered was sent on the link.
-    pub(crate) fn serve(&mut self, case: &mut Case) -> Vec<Letter> {
+    fn serve(&mut self, case: &mut Case) {
         let lines = RefCell::new(Vec::new(self.wire.alloc));
         let mut output = Vec::new(self.wire.alloc);
         let orders = orders_in(case);
@@ -138,7 +159,6 @@ impl Station {
         case.text(lines.into_inner().as_slice());
         case.text(output.as_slice());
         self.alive.show(case);
-        self.wire.sent_on_link(case)
     }
 
     /// Runs the box to its end, with a writer for the output, and lines for the operator, which may have no room.
@@ -153,9 +173,8 @@ impl Station {
         self.wire.begin();
         self.alive.begin();
         let log = Unhindered::new(Page { lines, is_shut }, Format::Text);
-        served(
+        self.gateway.serve(
             self.wire.alloc,
-            &mut self.gateway,
             &mut self.wire,
             &mut self.clock,
             self.identity,
@@ -230,30 +249,9 @@ fn place_in(case: &mut Case) -> Place {
     case.pick(&PLACES, Place::Link)
 }
 
-/// So many rounds of a box.
-fn run_on(station: &mut Station, rounds: u32, track: bool, lines: &RefCell<Vec<u8>>) {
-    let page = Page {
-        lines,
-        is_shut: false,
-    };
-    let log = Unhindered::new(page, Format::Text);
-    run_rounds(
-        station.wire.alloc,
-        &mut station.gateway,
-        &mut station.wire,
-        &mut station.clock,
-        &Patience::new(None),
-        Some(rounds),
-        track,
-        station.identity,
-        &mut station.alive,
-        &log,
-    );
-}
-
 /// A box is run to its end over a wire whose call with that number fails.
-fn serve_failing(
-    station: &mut Station,
+fn serve_failing<G: Gate>(
+    station: &mut Station<G>,
     number: u64,
     orders: Orders,
     lines: &RefCell<Vec<u8>>,
@@ -266,9 +264,8 @@ fn serve_failing(
     let log = Unhindered::new(page, Format::Text);
     let alloc = station.wire.alloc;
     let mut wire = Failing::new(&mut station.wire, number);
-    served(
+    station.gateway.serve(
         alloc,
-        &mut station.gateway,
         &mut wire,
         &mut station.clock,
         station.identity,
@@ -277,39 +274,4 @@ fn serve_failing(
         output,
         &log,
     )
-}
-
-/// A gateway as it begins. It says nothing of the gateway, so that what a caller has to show stays
-/// small.
-fn begun(
-    alloc: Global,
-    settings: &Settings,
-    id: GatewayId,
-    boot: u64,
-    found: bool,
-) -> Option<Gateway> {
-    if boot == 0 || (found && id == GatewayId::One) {
-        return None;
-    }
-    Gateway::new(alloc, settings, id, boot, found, Hashers::fixed()).ok()
-}
-
-/// A box is run to its end. It says nothing of the gateway either.
-fn served<W: Wire, O: Write, L: Journal>(
-    alloc: Global,
-    gateway: &mut Gateway,
-    wire: &mut W,
-    clock: &mut Steps,
-    identity: Identity,
-    alive: &mut Alive,
-    orders: Orders,
-    output: &mut O,
-    log: &L,
-) -> io::Result<()> {
-    let until = Patience::new(orders.told);
-    let rounds = orders.rounds;
-    serve(
-        alloc, gateway, wire, clock, &until, rounds, true, identity, alive, output, log,
-    )?;
-    Ok(())
 }
