@@ -1,5 +1,6 @@
 //! Both gateways of a pair, and the datagrams between them. Each has a clock of its own.
 
+use crate::gates::Gate;
 use crate::stations::{ACTIVE, Station};
 use addresses::Protocol;
 use cases_words::Case;
@@ -9,21 +10,21 @@ use settings::Settings;
 pub(crate) const PATIENCE: u32 = 20_000;
 
 /// A gateway with pairs, and one that starts with an empty table. They go by `end`.
-pub(crate) struct Both {
-    pub(crate) zero: Station,
-    pub(crate) one: Station,
+pub(crate) struct Both<G> {
+    pub(crate) zero: Station<G>,
+    pub(crate) one: Station<G>,
     /// The second one's clock, in centiseconds; the first one's is `ACTIVE` more.
     pub(crate) moment: u64,
 }
 
-impl Both {
+impl<G: Gate> Both<G> {
     /// A founded gateway with so many pairs, and one that starts.
     pub(crate) fn ready(
         settings: &Settings,
         protocol: Protocol,
         pairs: u32,
         case: &mut Case,
-    ) -> Option<Both> {
+    ) -> Option<Both<G>> {
         let zero = Station::ready(settings, protocol, pairs, case)?;
         match Station::second(settings, case) {
             Some(one) => Some(Both {
@@ -44,7 +45,7 @@ impl Both {
         protocol: Protocol,
         pairs: u32,
         case: &mut Case,
-    ) -> Option<Both> {
+    ) -> Option<Both<G>> {
         let mut both = Both::ready(settings, protocol, pairs, case)?;
         both.load(case);
         Some(both)
@@ -85,7 +86,7 @@ impl Both {
 }
 
 /// What the first one told last, the other takes; it takes what that answers, and so on.
-pub(crate) fn converse(first: &mut Station, other: &mut Station, case: &mut Case) {
+pub(crate) fn converse<G: Gate>(first: &mut Station<G>, other: &mut Station<G>, case: &mut Case) {
     for _ in 0..PATIENCE {
         if !first.tells() {
             break;

@@ -3,6 +3,7 @@
 
 use crate::boxes::{Both, PATIENCE};
 use crate::clocks::computed;
+use crate::gates::Gate;
 use crate::packets::{FIN, Kind, LONGEST, OPENING, PORTS, SYN, frame_of, set_flags, set_pair};
 use crate::stations::ACTIVE;
 use addresses::Protocol;
@@ -95,8 +96,8 @@ impl Watch {
 }
 
 /// Both gateways, and what their steps took.
-struct Churn {
-    both: Both,
+struct Churn<G> {
+    both: Both<G>,
     watch: Watch,
 }
 
@@ -137,7 +138,7 @@ impl Frames {
     }
 }
 
-impl Churn {
+impl<G: Gate> Churn<G> {
     /// A packet comes to the first gateway.
     fn hand(&mut self, rt: &HostRuntime, side: Side, frame: &[u8; LONGEST], case: &mut Case) {
         let start = self.watch.now(rt, case);
@@ -286,9 +287,14 @@ fn tell_flows(spent: u128, flows: u128, case: &mut Case) {
 }
 
 /// Prints what flows cost that come and go, in so many rounds; or, where the watch is on, the longest of their steps.
-pub(crate) fn report_churn(rt: &HostRuntime, settings: &Settings, is_on: bool, case: &mut Case) {
+pub(crate) fn report_churn<G: Gate>(
+    rt: &HostRuntime,
+    settings: &Settings,
+    is_on: bool,
+    case: &mut Case,
+) {
     let (rounds, endpoints) = (case.times(), case.times().min(PORTS));
-    let Some(both) = Both::synced(settings, Protocol::Tcp, 0, case) else {
+    let Some(both) = Both::<G>::synced(settings, Protocol::Tcp, 0, case) else {
         return;
     };
     let watch = Watch::new(is_on);

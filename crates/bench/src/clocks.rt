@@ -26,6 +26,11 @@ pub(crate) fn since(rt: &HostRuntime, start: Option<Instant>, case: &mut Case) -
     }
 }
 
+/// The nanoseconds for each of so many since a moment, rounded down.
+pub(crate) fn each(rt: &HostRuntime, start: Option<Instant>, count: u32, case: &mut Case) -> u128 {
+    since(rt, start, case) / u128::from(count.max(1))
+}
+
 /// The processor's time of this thread, in nanoseconds.
 pub(crate) fn computed(rt: &HostRuntime, case: &mut Case) -> u128 {
     match rt.thread_cpu_time() {

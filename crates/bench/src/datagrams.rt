@@ -1,13 +1,11 @@
 //! What datagrams of the link cost to make, to read and to take, and what it costs to push and to drain a whole batch.
 
-use crate::shares::each;
+use crate::clocks::{each, now, since};
 use addresses::{Port, Protocol};
+use cases_words::{Case, beside};
 use link::{Link, parse, write};
 use nat_types::{GatewayId, Key, Record};
-use std::alloc::AllocError;
-use std::io;
-use std::rt::Clock;
-use std::time::Instant;
+use std::alloc::{AllocError, Global};
 
 /// The places of a gateway's link where both ranges have 20,000 ports.
 const CAPACITY: usize = 160_066;
@@ -21,111 +19,171 @@ const ENTRY: Record = Record::Accept(Key {
 });
 
 /// Writes the datagram that is due on this tick, and nothing where none is.
-fn send(link: &mut Link, now: u64, out: &mut Vec<u8>) -> Result<(), AllocError> {
+fn send(link: &mut Link, moment: u64, out: &mut Vec<u8>, case: &mut Case) {
     out.clear();
     if link.wanted() != 0 {
-        return Ok(());
+        return;
     }
-    if let Some(datagram) = link.tick(now, true) {
-        write(&datagram, out)?;
+    if let Some(datagram) = link.tick(moment, true) {
+        case.keep(write(&datagram, out));
+        drop(datagram);
     }
-    Ok(())
 }
 
 /// Sends one datagram over: how many records were taken.
 fn pass(
     from: &mut Link,
     to: &mut Link,
-    now: u64,
+    moment: u64,
     bytes: &mut Vec<u8>,
-) -> Result<usize, AllocError> {
-    send(from, now, bytes)?;
-    match to.take(bytes.as_slice(), now) {
-        Ok(taken) => Ok(taken.records.len()),
-        Err(_) => Ok(0),
+    case: &mut Case,
+) -> usize {
+    send(from, moment, bytes, case);
+    match to.take(bytes.as_slice(), moment) {
+        Ok(taken) => taken.records.len(),
+        Err(_) => 0,
     }
 }
 
-fn making<R: Clock>(rt: &R, link: &mut Link, bytes: &mut Vec<u8>, count: u32) -> io::Result<u128> {
-    let start = Instant::now(rt)?;
+fn making(
+    rt: &HostRuntime,
+    link: &mut Link,
+    bytes: &mut Vec<u8>,
+    count: u32,
+    case: &mut Case,
+) -> u128 {
+    let start = now(rt, case);
     for number in 0..count {
-        send(link, 1000 + u64::from(number) * 10, bytes)?;
+        send(link, 1000 + u64::from(number) * 10, bytes, case);
     }
-    each(rt, start, count)
+    each(rt, start, count, case)
 }
 
-fn reading<R: Clock>(rt: &R, bytes: &[u8], count: u32) -> io::Result<u128> {
+fn reading(rt: &HostRuntime, bytes: &[u8], count: u32, case: &mut Case) -> u128 {
     let mut read = 0u32;
-    let start = Instant::now(rt)?;
+    let start = now(rt, case);
     for _ in 0..count {
         if parse(bytes).is_ok() {
             read = read.saturating_add(1);
         }
     }
-    each(rt, start, read)
+    each(rt, start, read, case)
 }
 
-fn taking<R: Clock>(rt: &R, link: &mut Link, bytes: &[u8], count: u32) -> io::Result<u128> {
+fn taking(rt: &HostRuntime, link: &mut Link, bytes: &[u8], count: u32, case: &mut Case) -> u128 {
     let mut taken = 0u32;
-    let start = Instant::now(rt)?;
+    let start = now(rt, case);
     for _ in 0..count {
         if link.take(bytes, 1000).is_ok() {
             taken = taken.saturating_add(1);
         }
     }
-    each(rt, start, taken)
+    each(rt, start, taken, case)
 }
 
-fn pushing<R: Clock>(rt: &R, link: &mut Link, count: u32) -> io::Result<u128> {
+fn pushing(rt: &HostRuntime, link: &mut Link, count: u32, case: &mut Case) -> u128 {
     let mut pushed = 0u32;
-    let start = Instant::now(rt)?;
+    let start = now(rt, case);
     for _ in 0..count {
         if link.push(ENTRY).is_ok() {
             pushed = pushed.saturating_add(1);
         }
     }
-    each(rt, start, pushed)
+    each(rt, start, pushed, case)
 }
 
-/// Microseconds until all that was pushed is taken and known to be, and how many records that were.
-fn draining<R: Clock>(
-    rt: &R,
-    from: &mut Link,
-    to: &mut Link,
-    bytes: &mut Vec<u8>,
-) -> io::Result<(u128, usize)> {
+/// What was pushed is sent until all of it is taken and known to be; how many records that were.
+fn drain(from: &mut Link, to: &mut Link, bytes: &mut Vec<u8>, case: &mut Case) -> usize {
     let mut drained = 0usize;
-    let start = Instant::now(rt)?;
     for number in 0..BATCH {
-        let now = 5_000_000 + u64::from(number) * 10;
-        let count = pass(from, to, now, bytes)?;
+        let moment = 5_000_000 + u64::from(number) * 10;
+        let count = pass(from, to, moment, bytes, case);
         if count == 0 {
             break;
         }
         drained = drained.saturating_add(count);
-        pass(to, from, now, bytes)?;
+        pass(to, from, moment, bytes, case);
     }
-    Ok((start.elapsed(rt)?.as_nanos() / 1000, drained))
+    drained
 }
 
-/// Prints what each of them costs, over so many.
-pub(crate) fn measure<R: Print + AllocGlobal + Clock>(rt: &R, count: u32) -> io::Result<()> {
-    let mut zero = Link::new(rt.alloc(), GatewayId::Zero, 1, CAPACITY)?;
-    let mut one = Link::new(rt.alloc(), GatewayId::One, 1, CAPACITY)?;
-    let mut bytes = Vec::new(rt.alloc());
-    pass(&mut zero, &mut one, 0, &mut bytes)?;
-    pass(&mut one, &mut zero, 0, &mut bytes)?;
-    let made = making(rt, &mut zero, &mut bytes, count)?;
-    let read = reading(rt, bytes.as_slice(), count)?;
-    let taken = taking(rt, &mut one, bytes.as_slice(), count)?;
-    println!(rt; "no records: {made} ns made, {read} ns parsed, {taken} ns taken")?;
-    let pushed = pushing(rt, &mut zero, BATCH)?;
-    println!(rt; "a push: {pushed} ns")?;
-    let made = making(rt, &mut zero, &mut bytes, count)?;
-    let read = reading(rt, bytes.as_slice(), count)?;
-    println!(rt; "64 records: {made} ns made, {read} ns parsed")?;
-    let (drained, records) = draining(rt, &mut zero, &mut one, &mut bytes)?;
-    println!(rt; "drained: {drained} us for {records} records")?;
-    let again = taking(rt, &mut one, bytes.as_slice(), count)?;
-    println!(rt; "the last again: {again} ns")
+/// Both ends, as they begin.
+fn ends(alloc: Global) -> Result<(Link, Link), AllocError> {
+    let zero = Link::new(alloc, GatewayId::Zero, 1, CAPACITY)?;
+    beside(zero, Link::new(alloc, GatewayId::One, 1, CAPACITY))
+}
+
+/// Prints what each of them costs, over so many as the next word says.
+pub(crate) fn measure(rt: &HostRuntime, case: &mut Case) {
+    match ends(case.alloc) {
+        Ok((mut zero, mut one)) => {
+            measure_between(rt, &mut zero, &mut one, case);
+            drop(zero);
+            drop(one);
+        }
+        Err(_) => case.fault(),
+    }
+}
+
+fn measure_between(rt: &HostRuntime, zero: &mut Link, one: &mut Link, case: &mut Case) {
+    let count = case.times();
+    let mut bytes = Vec::new(case.alloc);
+    pass(zero, one, 0, &mut bytes, case);
+    pass(one, zero, 0, &mut bytes, case);
+    tell_made(rt, "no records: ", zero, &mut bytes, count, case);
+    tell_taken(rt, " ns parsed, ", one, bytes.as_slice(), count, case);
+    case.put(" taken\n");
+    let pushed = pushing(rt, zero, BATCH, case);
+    case.say("a push: ", pushed);
+    case.put(" ns\n");
+    tell_made(rt, "64 records: ", zero, &mut bytes, count, case);
+    case.put(" ns parsed\n");
+    tell_drained(rt, zero, one, &mut bytes, case);
+    tell_taken(rt, "the last again: ", one, bytes.as_slice(), count, case);
+    case.end();
+}
+
+/// What a datagram costs to make and to read.
+fn tell_made(
+    rt: &HostRuntime,
+    text: &str,
+    link: &mut Link,
+    bytes: &mut Vec<u8>,
+    count: u32,
+    case: &mut Case,
+) {
+    let made = making(rt, link, bytes, count, case);
+    let read = reading(rt, bytes.as_slice(), count, case);
+    case.say(text, made);
+    case.say(" ns made, ", read);
+}
+
+/// What it costs to take.
+fn tell_taken(
+    rt: &HostRuntime,
+    text: &str,
+    link: &mut Link,
+    bytes: &[u8],
+    count: u32,
+    case: &mut Case,
+) {
+    let taken = taking(rt, link, bytes, count, case);
+    case.say(text, taken);
+    case.put(" ns");
+}
+
+/// How long it takes until all that was pushed is taken.
+fn tell_drained(
+    rt: &HostRuntime,
+    zero: &mut Link,
+    one: &mut Link,
+    bytes: &mut Vec<u8>,
+    case: &mut Case,
+) {
+    let start = now(rt, case);
+    let records = drain(zero, one, bytes, case);
+    let spent = since(rt, start, case);
+    case.say("drained: ", spent / 1000);
+    case.say(" us for ", records);
+    case.put(" records\n");
 }

@@ -2,6 +2,7 @@
 
 use crate::boxes::Both;
 use crate::clocks::{now, since, tell_held, tell_sent};
+use crate::gates::Gate;
 use crate::packets::{Kind, LONGEST, OPENING, PORTS, frame_of, set_pair};
 use crate::stations::{ACTIVE, Station};
 use addresses::Protocol;
@@ -26,9 +27,9 @@ fn kind_in(case: &mut Case) -> Kind {
 }
 
 /// Prints what each of so many packets costs, and how many were sent on. They are of as many pairs in turn.
-fn measure(
+fn measure<G: Gate>(
     rt: &HostRuntime,
-    station: &mut Station,
+    station: &mut Station<G>,
     kind: Kind,
     count: u32,
     pairs: u32,
@@ -49,20 +50,20 @@ fn measure(
 }
 
 /// Prints what packets of one kind cost.
-pub(crate) fn report_kind(rt: &HostRuntime, settings: &Settings, case: &mut Case) {
+pub(crate) fn report_kind<G: Gate>(rt: &HostRuntime, settings: &Settings, case: &mut Case) {
     let kind = kind_in(case);
     let (count, pairs) = (case.times(), case.times());
-    if let Some(mut station) = Station::ready(settings, kind.protocol, pairs, case) {
+    if let Some(mut station) = Station::<G>::ready(settings, kind.protocol, pairs, case) {
         measure(rt, &mut station, kind, count, pairs, case);
         station.end();
     }
 }
 
 /// Prints what packets of one kind cost a gateway whose pairs another one has loaded.
-pub(crate) fn report_synced(rt: &HostRuntime, settings: &Settings, case: &mut Case) {
+pub(crate) fn report_synced<G: Gate>(rt: &HostRuntime, settings: &Settings, case: &mut Case) {
     let kind = kind_in(case);
     let (count, pairs) = (case.times(), case.times());
-    if let Some(mut both) = Both::synced(settings, kind.protocol, pairs, case) {
+    if let Some(mut both) = Both::<G>::synced(settings, kind.protocol, pairs, case) {
         measure(rt, &mut both.zero, kind, count, pairs, case);
         both.end();
     }
@@ -82,7 +83,7 @@ fn kind_of(number: u32) -> Kind {
     }
 }
 
-impl Both {
+impl<G: Gate> Both<G> {
     /// A packet of a new flow: its pair is proposed and accepted, and the packet goes. Whether it did.
     fn opens(&mut self, frame: &[u8; LONGEST], case: &mut Case) -> bool {
         let Both { zero, one, .. } = self;
@@ -116,9 +117,9 @@ impl Both {
 }
 
 /// Prints what a new flow costs a pair of gateways, of so many flows.
-pub(crate) fn report_new(rt: &HostRuntime, settings: &Settings, case: &mut Case) {
+pub(crate) fn report_new<G: Gate>(rt: &HostRuntime, settings: &Settings, case: &mut Case) {
     let count = case.times();
-    if let Some(mut both) = Both::synced(settings, Protocol::Udp, 0, case) {
+    if let Some(mut both) = Both::<G>::synced(settings, Protocol::Udp, 0, case) {
         let start = now(rt, case);
         let sent = both.open_all(count, case);
         both.end();
@@ -128,10 +129,10 @@ pub(crate) fn report_new(rt: &HostRuntime, settings: &Settings, case: &mut Case)
 }
 
 /// The same of a gateway that is alone.
-pub(crate) fn report_lone(rt: &HostRuntime, settings: &Settings, case: &mut Case) {
+pub(crate) fn report_lone<G: Gate>(rt: &HostRuntime, settings: &Settings, case: &mut Case) {
     let count = case.times();
     let start = now(rt, case);
-    if let Some(station) = Station::ready(settings, Protocol::Udp, count, case) {
+    if let Some(station) = Station::<G>::ready(settings, Protocol::Udp, count, case) {
         station.end();
     }
     let spent = since(rt, start, case);
@@ -139,9 +140,9 @@ pub(crate) fn report_lone(rt: &HostRuntime, settings: &Settings, case: &mut Case
 }
 
 /// Prints what a round of ticks costs a pair of gateways with so many pairs of TCP, with its datagrams.
-pub(crate) fn report_pair(rt: &HostRuntime, settings: &Settings, case: &mut Case) {
+pub(crate) fn report_pair<G: Gate>(rt: &HostRuntime, settings: &Settings, case: &mut Case) {
     let (count, pairs) = (case.times(), case.times());
-    if let Some(mut both) = Both::synced(settings, Protocol::Tcp, pairs, case) {
+    if let Some(mut both) = Both::<G>::synced(settings, Protocol::Tcp, pairs, case) {
         let start = now(rt, case);
         both.tick_often(count, case);
         let held = both.one.entry_count();
@@ -152,7 +153,7 @@ pub(crate) fn report_pair(rt: &HostRuntime, settings: &Settings, case: &mut Case
 }
 
 /// So many ticks, at each of which the clock goes on by so many centiseconds.
-fn tick_alone(station: &mut Station, count: u32, by: u64, case: &mut Case) {
+fn tick_alone<G: Gate>(station: &mut Station<G>, count: u32, by: u64, case: &mut Case) {
     let mut moment = ACTIVE;
     for _ in 0..count {
         moment = moment.saturating_add(by);
@@ -162,9 +163,14 @@ fn tick_alone(station: &mut Station, count: u32, by: u64, case: &mut Case) {
 
 /// Prints what a tick costs a gateway with so many pairs of TCP, none of which is idle: at each the clock goes on
 /// by so many centiseconds, or stands.
-pub(crate) fn report_ticks(rt: &HostRuntime, settings: &Settings, by: u64, case: &mut Case) {
+pub(crate) fn report_ticks<G: Gate>(
+    rt: &HostRuntime,
+    settings: &Settings,
+    by: u64,
+    case: &mut Case,
+) {
     let (count, pairs) = (case.times(), case.times());
-    if let Some(mut station) = Station::ready(settings, Protocol::Tcp, pairs, case) {
+    if let Some(mut station) = Station::<G>::ready(settings, Protocol::Tcp, pairs, case) {
         let start = now(rt, case);
         tick_alone(&mut station, count, by, case);
         let held = station.entry_count();

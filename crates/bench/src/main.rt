@@ -24,18 +24,19 @@ mod churn;
 mod clocks;
 mod datagrams;
 mod flows;
+mod gates;
 mod many;
 mod neighbours;
 mod packets;
 mod ports;
 mod rewriting;
-mod shares;
 mod stations;
 
 use anyhow::{Result, bail};
 use cases_words::Case;
 use churn::report_churn;
 use flows::{report_kind, report_lone, report_new, report_pair, report_synced, report_ticks};
+use gateway::Gateway;
 use many::report_many;
 use ports::report_ports;
 use settings::Settings;
@@ -44,47 +45,29 @@ use std::env;
 
 /// A gateway starts, and ends.
 fn start(settings: &Settings, case: &mut Case) {
-    if let Some(station) = Station::founded(settings, case) {
+    if let Some(station) = Station::<Gateway>::founded(settings, case) {
         station.end();
     }
-}
-
-/// A crate below the gateway.
-enum Part {
-    Arp,
-    Link,
-    Wire,
-}
-
-/// What the calls of a part cost, over so many of each as the next word says.
-fn report_part(rt: &HostRuntime, part: Part, case: &mut Case) {
-    let count = case.times();
-    let measured = match part {
-        Part::Arp => neighbours::measure(rt, count),
-        Part::Link => datagrams::measure(rt, count),
-        Part::Wire => rewriting::measure(rt, count),
-    };
-    case.keep(measured);
 }
 
 /// What a command prints.
 fn report(rt: &HostRuntime, settings: &Settings, case: &mut Case) {
     match case.word() {
-        "kind" => report_kind(rt, settings, case),
-        "synced" => report_synced(rt, settings, case),
-        "new" => report_new(rt, settings, case),
-        "lone" => report_lone(rt, settings, case),
-        "pair" => report_pair(rt, settings, case),
-        "idle" => report_ticks(rt, settings, 1, case),
-        "still" => report_ticks(rt, settings, 0, case),
-        "ports" => report_ports(settings, case),
-        "churn" => report_churn(rt, settings, false, case),
-        "longest" => report_churn(rt, settings, true, case),
-        "many" => report_many(rt, settings, case),
+        "kind" => report_kind::<Gateway>(rt, settings, case),
+        "synced" => report_synced::<Gateway>(rt, settings, case),
+        "new" => report_new::<Gateway>(rt, settings, case),
+        "lone" => report_lone::<Gateway>(rt, settings, case),
+        "pair" => report_pair::<Gateway>(rt, settings, case),
+        "idle" => report_ticks::<Gateway>(rt, settings, 1, case),
+        "still" => report_ticks::<Gateway>(rt, settings, 0, case),
+        "ports" => report_ports::<Gateway>(settings, case),
+        "churn" => report_churn::<Gateway>(rt, settings, false, case),
+        "longest" => report_churn::<Gateway>(rt, settings, true, case),
+        "many" => report_many::<Gateway>(rt, settings, case),
         "start" => start(settings, case),
-        "arp" => report_part(rt, Part::Arp, case),
-        "link" => report_part(rt, Part::Link, case),
-        "wire" => report_part(rt, Part::Wire, case),
+        "arp" => neighbours::measure(rt, case),
+        "link" => datagrams::measure(rt, case),
+        "wire" => rewriting::measure(rt, case),
         _ => case.fault(),
     }
 }

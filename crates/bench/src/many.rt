@@ -3,6 +3,7 @@
 
 use crate::boxes::Both;
 use crate::clocks::{now, since};
+use crate::gates::Gate;
 use crate::stations::{ACTIVE, Station};
 use addresses::Protocol;
 use cases_words::Case;
@@ -26,7 +27,7 @@ fn tell_micros(nanoseconds: u128, case: &mut Case) {
 }
 
 /// The tick at which all pairs of a gateway are idle.
-fn idle(rt: &HostRuntime, station: &mut Station, case: &mut Case) -> u128 {
+fn idle<G: Gate>(rt: &HostRuntime, station: &mut Station<G>, case: &mut Case) -> u128 {
     let start = now(rt, case);
     station.tick(ACTIVE + REST, case);
     let spent = since(rt, start, case);
@@ -37,7 +38,7 @@ fn idle(rt: &HostRuntime, station: &mut Station, case: &mut Case) -> u128 {
 }
 
 /// Ticks of a gateway all of whose pairs are idle, and none of which it may let go. The first such tick isn't counted.
-fn rest(rt: &HostRuntime, station: &mut Station, case: &mut Case) -> u128 {
+fn rest<G: Gate>(rt: &HostRuntime, station: &mut Station<G>, case: &mut Case) -> u128 {
     let pairs = station.entry_count();
     station.tick(ACTIVE + REST, case);
     let start = now(rt, case);
@@ -52,9 +53,9 @@ fn rest(rt: &HostRuntime, station: &mut Station, case: &mut Case) -> u128 {
 }
 
 /// Opens so many pairs, and lets them idle.
-fn open_and_idle(rt: &HostRuntime, settings: &Settings, pairs: u32, case: &mut Case) {
+fn open_and_idle<G: Gate>(rt: &HostRuntime, settings: &Settings, pairs: u32, case: &mut Case) {
     let start = now(rt, case);
-    if let Some(mut station) = Station::ready(settings, Protocol::Udp, pairs, case) {
+    if let Some(mut station) = Station::<G>::ready(settings, Protocol::Udp, pairs, case) {
         let opened = since(rt, start, case);
         let idled = idle(rt, &mut station, case);
         station.end();
@@ -68,8 +69,8 @@ fn open_and_idle(rt: &HostRuntime, settings: &Settings, pairs: u32, case: &mut C
 }
 
 /// Loads so many pairs into a gateway that starts, and lets both rest.
-fn load_and_rest(rt: &HostRuntime, settings: &Settings, pairs: u32, case: &mut Case) {
-    if let Some(mut both) = Both::ready(settings, Protocol::Udp, pairs, case) {
+fn load_and_rest<G: Gate>(rt: &HostRuntime, settings: &Settings, pairs: u32, case: &mut Case) {
+    if let Some(mut both) = Both::<G>::ready(settings, Protocol::Udp, pairs, case) {
         tell_load(rt, &mut both, pairs, case);
         tell(pairs, "idle pairs, the peer silent", case);
         tell_rest(rt, &mut both.zero, case);
@@ -80,7 +81,7 @@ fn load_and_rest(rt: &HostRuntime, settings: &Settings, pairs: u32, case: &mut C
 }
 
 /// What the steps of both cost until the second one has loaded all pairs, and how many ticks each had.
-fn tell_load(rt: &HostRuntime, both: &mut Both, pairs: u32, case: &mut Case) {
+fn tell_load<G: Gate>(rt: &HostRuntime, both: &mut Both<G>, pairs: u32, case: &mut Case) {
     let start = now(rt, case);
     let ticks = both.load(case);
     let spent = since(rt, start, case);
@@ -93,7 +94,7 @@ fn tell_load(rt: &HostRuntime, both: &mut Both, pairs: u32, case: &mut Case) {
     case.put(" ticks\n");
 }
 
-fn tell_rest(rt: &HostRuntime, station: &mut Station, case: &mut Case) {
+fn tell_rest<G: Gate>(rt: &HostRuntime, station: &mut Station<G>, case: &mut Case) {
     let spent = rest(rt, station, case);
     tell_micros(spent, case);
     case.say(" for ", TICKS);
@@ -101,10 +102,10 @@ fn tell_rest(rt: &HostRuntime, station: &mut Station, case: &mut Case) {
 }
 
 /// Prints what many pairs cost, for each of the numbers of pairs.
-pub(crate) fn report_many(rt: &HostRuntime, settings: &Settings, case: &mut Case) {
+pub(crate) fn report_many<G: Gate>(rt: &HostRuntime, settings: &Settings, case: &mut Case) {
     for _ in 0..case.left() {
         let pairs = case.times();
-        open_and_idle(rt, settings, pairs, case);
-        load_and_rest(rt, settings, pairs, case);
+        open_and_idle::<G>(rt, settings, pairs, case);
+        load_and_rest::<G>(rt, settings, pairs, case);
     }
 }

@@ -1,11 +1,9 @@
 //! What a renewal, a stranger and a look-up cost in a full cache.
 
-use crate::shares::each;
+use crate::clocks::{each, now};
 use addresses::{Ip, Mac};
 use arp::Cache;
-use std::io;
-use std::rt::Clock;
-use std::time::Instant;
+use cases_words::Case;
 
 /// The entries that a cache has room for.
 const FULL: u32 = 1024;
@@ -24,31 +22,56 @@ fn mac() -> Mac {
     Mac([2, 0, 0, 0, 0, 1])
 }
 
-/// Prints what each of them costs, over so many.
-pub(crate) fn measure<R: Print + AllocGlobal + Clock>(rt: &R, count: u32) -> io::Result<()> {
-    let mut cache = Cache::new(rt.alloc(), &[])?;
-    let start = Instant::now(rt)?;
+fn learn_strangers(rt: &HostRuntime, cache: &mut Cache, count: u32, case: &mut Case) -> u128 {
+    let start = now(rt, case);
     for number in 0..count {
         cache.learn(stranger(number), mac(), u64::from(number));
     }
-    let learn = each(rt, start, count)?;
-    for number in 0..FULL {
-        cache.learn(host(number), mac(), u64::from(number));
-    }
-    let start = Instant::now(rt)?;
+    each(rt, start, count, case)
+}
+
+fn learn_hosts(rt: &HostRuntime, cache: &mut Cache, count: u32, case: &mut Case) -> u128 {
+    let start = now(rt, case);
     for number in 0..count {
         cache.learn(host(number), mac(), u64::from(number));
     }
-    let renewal = each(rt, start, count)?;
-    let start = Instant::now(rt)?;
+    each(rt, start, count, case)
+}
+
+/// Looks the hosts up, and prints what that costs and how many were known.
+fn tell_known(rt: &HostRuntime, cache: &Cache, count: u32, case: &mut Case) {
     let mut known = 0u32;
+    let start = now(rt, case);
     for number in 0..count {
         if cache.mac_of(host(number), u64::from(count)).is_some() {
             known = known.saturating_add(1);
         }
     }
-    let look_up = each(rt, start, count)?;
-    println!(rt;
-        "{renewal} ns a renewal, {learn} ns a stranger, {look_up} ns a look-up, {known} of {count} known"
-    )
+    let look_up = each(rt, start, count, case);
+    case.put(look_up);
+    case.say(" ns a look-up, ", known);
+    case.say(" of ", count);
+    case.put(" known\n");
+}
+
+fn measure_in(rt: &HostRuntime, cache: &mut Cache, case: &mut Case) {
+    let count = case.times();
+    let strangers = learn_strangers(rt, cache, count, case);
+    learn_hosts(rt, cache, FULL, case);
+    let renewal = learn_hosts(rt, cache, count, case);
+    case.put(renewal);
+    case.say(" ns a renewal, ", strangers);
+    case.put(" ns a stranger, ");
+    tell_known(rt, cache, count, case);
+}
+
+/// Prints what each of them costs, over so many as the next word says.
+pub(crate) fn measure(rt: &HostRuntime, case: &mut Case) {
+    match Cache::new(case.alloc, &[]) {
+        Ok(mut cache) => {
+            measure_in(rt, &mut cache, case);
+            drop(cache);
+        }
+        Err(_) => case.fault(),
+    }
 }

@@ -2,6 +2,7 @@
 //! once or not at all, so that its instructions are what the first run takes more.
 
 use crate::boxes::{Both, converse};
+use crate::gates::Gate;
 use crate::packets::{Kind, OPENING, frame_of, set_pair};
 use crate::stations::{ACTIVE, Station};
 use addresses::{Port, Protocol};
@@ -28,7 +29,7 @@ const UNEVEN: PortRanges = PortRanges {
     host_limit: None,
 };
 
-impl Both {
+impl<G: Gate> Both<G> {
     /// Both clocks go on until both gateways are Active.
     fn wake(&mut self, case: &mut Case) {
         for _ in 0..BOTH_ACTIVE / 10 {
@@ -80,19 +81,19 @@ impl Both {
 }
 
 /// The ports are asked for, and granted so many times: once, or not at all.
-fn grant(count: u32, case: &mut Case) {
+fn grant<G: Gate>(count: u32, case: &mut Case) {
     match Settings::sample(case.alloc) {
         Ok(mut settings) => {
             settings.ports = UNEVEN;
-            grant_by(&settings, count, case);
+            grant_by::<G>(&settings, count, case);
             drop(settings);
         }
         Err(_) => case.fault(),
     }
 }
 
-fn grant_by(settings: &Settings, count: u32, case: &mut Case) {
-    if let Some(mut both) = Both::ready(settings, Protocol::Udp, PAIRS, case) {
+fn grant_by<G: Gate>(settings: &Settings, count: u32, case: &mut Case) {
+    if let Some(mut both) = Both::<G>::ready(settings, Protocol::Udp, PAIRS, case) {
         both.want(case);
         take_often(&mut both.zero, &both.one, count, case);
         tell_entries(&both.zero, case);
@@ -101,8 +102,8 @@ fn grant_by(settings: &Settings, count: u32, case: &mut Case) {
 }
 
 /// A batch of no pairs begins, and its first datagram is taken so many times: once, or not at all.
-fn begin(settings: &Settings, count: u32, case: &mut Case) {
-    if let Some(mut both) = Both::ready(settings, Protocol::Udp, 0, case) {
+fn begin<G: Gate>(settings: &Settings, count: u32, case: &mut Case) {
+    if let Some(mut both) = Both::<G>::ready(settings, Protocol::Udp, 0, case) {
         both.begin(case);
         take_often(&mut both.one, &both.zero, count, case);
         tell_entries(&both.one, case);
@@ -111,8 +112,8 @@ fn begin(settings: &Settings, count: u32, case: &mut Case) {
 }
 
 /// A batch begins, and is taken whole, where the count isn't 0.
-fn load(settings: &Settings, count: u32, case: &mut Case) {
-    if let Some(mut both) = Both::ready(settings, Protocol::Udp, PAIRS, case) {
+fn load<G: Gate>(settings: &Settings, count: u32, case: &mut Case) {
+    if let Some(mut both) = Both::<G>::ready(settings, Protocol::Udp, PAIRS, case) {
         both.begin(case);
         both.take_batch(count, case);
         tell_entries(&both.one, case);
@@ -121,23 +122,23 @@ fn load(settings: &Settings, count: u32, case: &mut Case) {
 }
 
 /// A gateway takes what the other told last, so many times.
-fn take_often(station: &mut Station, other: &Station, count: u32, case: &mut Case) {
+fn take_often<G: Gate>(station: &mut Station<G>, other: &Station<G>, count: u32, case: &mut Case) {
     for _ in 0..count {
         station.take(other, case);
     }
 }
 
-fn tell_entries(station: &Station, case: &mut Case) {
+fn tell_entries<G: Gate>(station: &Station<G>, case: &mut Case) {
     case.put(station.entry_count());
     case.put(" entries\n");
 }
 
 /// Does what the next word says so many times, and prints how many entries the table then has.
-pub(crate) fn report_ports(settings: &Settings, case: &mut Case) {
+pub(crate) fn report_ports<G: Gate>(settings: &Settings, case: &mut Case) {
     match case.word() {
-        "want" => grant(case.times(), case),
-        "begin" => begin(settings, case.times(), case),
-        "batch" => load(settings, case.times(), case),
+        "want" => grant::<G>(case.times(), case),
+        "begin" => begin::<G>(settings, case.times(), case),
+        "batch" => load::<G>(settings, case.times(), case),
         _ => case.fault(),
     }
 }

@@ -4,13 +4,11 @@ ghost use Rattle.std.specs.Prelude.{IsTrue};
 ghost use Rattle.icmp.specs.Query.{IsTranslatable};
 ghost use Rattle.ipv4.specs.Header.{IsIpv4};
 
-use crate::shares::each;
+use crate::clocks::{each, now};
 use addresses::{Ip, Port, Protocol};
+use cases_words::Case;
 use icmp::Kind;
 use ipv4::{Ipv4View, Transport};
-use std::io;
-use std::rt::Clock;
-use std::time::Instant;
 use sums::sum;
 
 /// The longest packet of an Ethernet frame.
@@ -21,41 +19,27 @@ const CHANGED: usize = 40;
 
 const OUTSIDE: Ip = Ip(0xc000_0201);
 
-/// The first bytes of such a packet, up to its ports, without a header checksum.
-fn start_of(protocol: Protocol, size: u16) -> [u8; 24] {
-    let [high, low] = size.to_be_bytes();
-    [
-        0x45,
-        0,
-        high,
-        low,
-        0,
-        1,
-        0,
-        0,
-        64,
-        protocol.number(),
-        0,
-        0,
-        192,
-        168,
-        1,
-        10,
-        198,
-        51,
-        100,
-        7,
-        0x13,
-        0x88,
-        0,
-        53,
-    ]
-}
+/// The first bytes of such a packet, up to its ports, without its length, its protocol and a header checksum.
+const START: [u8; 24] = [
+    0x45, 0, 0, 0, 0, 1, 0, 0, 64, 0, 0, 0, 192, 168, 1, 10, 198, 51, 100, 7, 0x13, 0x88, 0, 53,
+];
+
+/// What is measured: each protocol, with short packets and long ones.
+const KINDS: [(Protocol, u16); 6] = [
+    (Protocol::Udp, 44),
+    (Protocol::Udp, 1500),
+    (Protocol::Tcp, 44),
+    (Protocol::Tcp, 1500),
+    (Protocol::Icmp, 44),
+    (Protocol::Icmp, 1500),
+];
 
 /// A packet of that many bytes from 192.168.1.10:5000 to 198.51.100.7:53, its payload zeros.
 fn packet_of(protocol: Protocol, size: u16) -> [u8; LONGEST] {
     let mut packet = [0; LONGEST];
-    packet[..24].copy_from_slice(&start_of(protocol, size));
+    packet[..24].copy_from_slice(&START);
+    packet[2..4].copy_from_slice(&size.to_be_bytes());
+    packet[9] = protocol.number();
     let [high, low] = (65535 - sum(&packet[..20])).to_be_bytes();
     packet[10] = high;
     packet[11] = low;
@@ -101,33 +85,32 @@ fn is_sent_anew(packet: &mut [u8; LONGEST], fresh: &[u8; LONGEST], size: usize) 
     is_sent(&mut packet[..size.min(LONGEST)])
 }
 
-/// Nanoseconds for each of so many packets, rounded down, among them the copy of the bytes that a
-/// translation changes.
-fn cost_of(rt: &impl Clock, protocol: Protocol, size: u16, count: u32) -> io::Result<(u128, u32)> {
+/// Prints the nanoseconds for each of so many packets, rounded down, among them the copy of the bytes that a translation
+/// changes; and how many were sent on.
+fn tell_cost(rt: &HostRuntime, protocol: Protocol, size: u16, count: u32, case: &mut Case) {
     let fresh = packet_of(protocol, size);
     let mut packet = fresh;
     let mut sent = 0u32;
-    let start = Instant::now(rt)?;
+    let start = now(rt, case);
     for _ in 0..count {
         if is_sent_anew(&mut packet, &fresh, usize::from(size)) {
             sent = sent.saturating_add(1);
         }
     }
-    Ok((each(rt, start, count)?, sent))
+    let spent = each(rt, start, count, case);
+    case.put(spent);
+    case.say(" ns a packet, ", sent);
+    case.say(" of ", count);
+    case.put(" sent\n");
 }
 
-/// Prints what each kind of packet costs, over so many.
-pub(crate) fn measure<R: Print + Clock>(rt: &R, count: u32) -> io::Result<()> {
-    for (protocol, size) in [
-        (Protocol::Udp, 44),
-        (Protocol::Udp, 1500),
-        (Protocol::Tcp, 44),
-        (Protocol::Tcp, 1500),
-        (Protocol::Icmp, 44),
-        (Protocol::Icmp, 1500),
-    ] {
-        let (each, sent) = cost_of(rt, protocol, size, count)?;
-        println!(rt; "{protocol} {size} bytes: {each} ns a packet, {sent} of {count} sent")?;
+/// Prints what each kind of packet costs, over so many as the next word says.
+pub(crate) fn measure(rt: &HostRuntime, case: &mut Case) {
+    let count = case.times();
+    for (protocol, size) in &KINDS {
+        case.put(*protocol);
+        case.say(" ", *size);
+        case.put(" bytes: ");
+        tell_cost(rt, *protocol, *size, count, case);
     }
-    Ok(())
 }

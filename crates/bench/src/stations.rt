@@ -1,35 +1,35 @@
 //! The gateway that is measured. Nothing here says what a step does, so that what a caller has to
 //! show stays small. Where memory is refused the line is wrong.
 
+use crate::gates::Gate;
 use crate::packets::{HEADER, Kind, LONGEST, OPENING, PORTS, frame_of, set_pair};
 use addresses::Protocol;
 use cases_words::Case;
-use gateway::{Event, Gateway, Hashers, Out, Outcome};
+use gateway::{Event, Out, Outcome};
 use nat_types::{GatewayId, NoteKind, Side};
 use settings::Settings;
-use std::alloc::Global;
 
 /// When its routers are Active, in centiseconds.
 pub(crate) const ACTIVE: u64 = 360;
 
 /// A gateway, and what it told last. It goes by `end`.
-pub(crate) struct Station {
-    gateway: Gateway,
+pub(crate) struct Station<G> {
+    gateway: G,
     out: Out,
 }
 
-impl Station {
+impl<G: Gate> Station<G> {
     /// Gateway 0 as it is founded.
-    pub(crate) fn founded(settings: &Settings, case: &mut Case) -> Option<Station> {
-        Station::of(begun(case.alloc, settings, GatewayId::Zero), case)
+    pub(crate) fn founded(settings: &Settings, case: &mut Case) -> Option<Station<G>> {
+        Station::of(G::begun(case.alloc, settings, GatewayId::Zero), case)
     }
 
     /// Gateway 1 as it begins.
-    pub(crate) fn second(settings: &Settings, case: &mut Case) -> Option<Station> {
-        Station::of(begun(case.alloc, settings, GatewayId::One), case)
+    pub(crate) fn second(settings: &Settings, case: &mut Case) -> Option<Station<G>> {
+        Station::of(G::begun(case.alloc, settings, GatewayId::One), case)
     }
 
-    fn of(gateway: Option<Gateway>, case: &mut Case) -> Option<Station> {
+    fn of(gateway: Option<G>, case: &mut Case) -> Option<Station<G>> {
         match gateway {
             Some(gateway) => Some(Station {
                 gateway,
@@ -56,7 +56,7 @@ impl Station {
         protocol: Protocol,
         pairs: u32,
         case: &mut Case,
-    ) -> Option<Station> {
+    ) -> Option<Station<G>> {
         let mut station = Station::founded(settings, case)?;
         station.tick(ACTIVE, case);
         station.open(protocol, pairs.min(PORTS), case);
@@ -66,20 +66,20 @@ impl Station {
 
     /// The clock goes on.
     pub(crate) fn tick(&mut self, moment: u64, case: &mut Case) {
-        step(&mut self.gateway, Event::Tick(moment), &mut self.out, case);
+        self.gateway.step(Event::Tick(moment), &mut self.out, case);
     }
 
     /// Takes the datagrams that the other gateway told last. What it tells of its own with the last of them is there then.
-    pub(crate) fn take(&mut self, other: &Station, case: &mut Case) {
+    pub(crate) fn take(&mut self, other: &Station<G>, case: &mut Case) {
         for datagram in other.out.datagrams() {
             let event = Event::Datagram(datagram);
-            step(&mut self.gateway, event, &mut self.out, case);
+            self.gateway.step(event, &mut self.out, case);
         }
     }
 
     /// Whether its table is loaded.
     pub(crate) fn is_synced(&self) -> bool {
-        self.gateway.synced()
+        self.gateway.is_synced()
     }
 
     /// How many entries its table has: nothing is listed.
@@ -134,7 +134,7 @@ impl Station {
     ) -> Outcome {
         let bytes = &frame[..(HEADER + usize::from(size)).min(LONGEST)];
         let event = Event::Frame(side, bytes);
-        step(&mut self.gateway, event, &mut self.out, case)
+        self.gateway.step(event, &mut self.out, case)
     }
 }
 
@@ -143,23 +143,5 @@ fn other(protocol: Protocol) -> Protocol {
     match protocol {
         Protocol::Icmp | Protocol::Tcp => Protocol::Udp,
         Protocol::Udp => Protocol::Tcp,
-    }
-}
-
-/// A gateway in its first boot; gateway 0 is founded.
-fn begun(alloc: Global, settings: &Settings, id: GatewayId) -> Option<Gateway> {
-    let founds = id == GatewayId::Zero;
-    Gateway::new(alloc, settings, id, 1, founds, Hashers::fixed()).ok()
-}
-
-/// One step, by a cleared `Out`.
-fn step(gateway: &mut Gateway, event: Event<'_>, out: &mut Out, case: &mut Case) -> Outcome {
-    out.clear();
-    match gateway.step(event, out) {
-        Ok(outcome) => outcome,
-        Err(_) => {
-            case.fault();
-            Outcome::Done
-        }
     }
 }
