@@ -1,5 +1,6 @@
 //! What shows of a gateway, and of what it told.
 
+use crate::gates::Gate;
 use addresses::Port;
 use anyhow::Result;
 use gateway::{Gateway, Out};
@@ -43,25 +44,40 @@ impl Shown {
             && self.sent.as_slice() == other.sent.as_slice()
             && self.notes.as_slice() == other.notes.as_slice()
     }
-}
 
-/// What shows now, asked for once more where memory is refused.
-pub(crate) fn observe(alloc: Global, gateway: &Gateway, out: &Out) -> Result<Shown> {
-    match observe_once(alloc, gateway, out) {
-        Ok(seen) => Ok(seen),
-        Err(_refused) => observe_once(alloc, gateway, out),
+    /// Lists all but what the gateway knows.
+    fn fill(&mut self, alloc: Global, gateway: &Gateway, out: &Out) -> Result<()> {
+        self.pairs = gateway.pairs()?;
+        self.translating = gateway.translating()?;
+        self.owned = gateway.owned()?;
+        self.sent = sent_by(alloc, out)?;
+        self.notes = Vec::from_slice(alloc, out.notes())?;
+        Ok(())
     }
 }
 
-fn observe_once(alloc: Global, gateway: &Gateway, out: &Out) -> Result<Shown> {
-    Ok(Shown {
+/// What shows now, asked for once more where memory is refused.
+pub(crate) fn observe<G: Gate>(alloc: Global, gateway: &G, out: &Out) -> Result<Shown> {
+    match gateway.shown(alloc, out) {
+        Ok(seen) => Ok(seen),
+        Err(_refused) => gateway.shown(alloc, out),
+    }
+}
+
+/// What shows now.
+pub(crate) fn observe_once(alloc: Global, gateway: &Gateway, out: &Out) -> Result<Shown> {
+    let mut shown = Shown {
         standing: standing_of(gateway),
-        pairs: gateway.pairs()?,
-        translating: gateway.translating()?,
-        owned: gateway.owned()?,
-        sent: sent_by(alloc, out)?,
-        notes: Vec::from_slice(alloc, out.notes())?,
-    })
+        pairs: Vec::new(alloc),
+        translating: Vec::new(alloc),
+        owned: Vec::new(alloc),
+        sent: Vec::new(alloc),
+        notes: Vec::new(alloc),
+    };
+    match shown.fill(alloc, gateway, out) {
+        Ok(()) => Ok(shown),
+        Err(refused) => Err(refused),
+    }
 }
 
 fn standing_of(gateway: &Gateway) -> Standing {

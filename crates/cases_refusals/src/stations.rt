@@ -1,12 +1,13 @@
 //! A gateway whose steps are asked for again where memory is refused.
 
+use crate::gates::Gate;
 use crate::shown::{Shown, observe};
 use anyhow::{Context, Result, bail};
-use gateway::{Event, Gateway, Hashers, NoMemory, Out, Outcome};
-use nat_types::{GatewayId, Side};
+use gateway::{Event, Hashers, NoMemory, Out, Outcome};
+use nat_types::Side;
 use settings::Settings;
 use std::alloc::Global;
-use std::io::Write;
+use std::io::{self, Write};
 
 /// "hi" by UDP from 192.168.1.10 to 198.51.100.7:53, without a checksum, so that it is whole whatever its source port is.
 const PACKET: &str =
@@ -19,28 +20,27 @@ const SOURCE_PORT: usize = 34;
 const FIRST_PORT: u16 = 10_000;
 
 /// A gateway, and what it told. It goes by `end`.
-pub(crate) struct Station {
+pub(crate) struct Station<G> {
     alloc: Global,
-    gateway: Gateway,
+    gateway: G,
     out: Out,
 }
 
-impl Station {
+impl<G: Gate> Station<G> {
     /// Gateway 0 of the sample settings in this boot, founded or not.
-    pub(crate) fn new(alloc: Global, hashers: Hashers, boot: u64, found: bool) -> Result<Station> {
-        let settings = match Settings::sample(alloc) {
-            Ok(settings) => settings,
-            Err(_refused) => Settings::sample(alloc)?,
-        };
-        let gateway = match started(alloc, &settings, hashers, boot, found) {
-            Ok(gateway) => gateway,
-            Err(_refused) => started(alloc, &settings, hashers, boot, found)?,
-        };
-        let out = Out::new(alloc);
+    pub(crate) fn new(
+        alloc: Global,
+        hashers: Hashers,
+        boot: u64,
+        found: bool,
+    ) -> Result<Station<G>> {
+        let settings = sample(alloc)?;
+        let started = started(alloc, &settings, hashers, boot, found);
+        drop(settings);
         Ok(Station {
             alloc,
-            gateway,
-            out,
+            gateway: started?,
+            out: Out::new(alloc),
         })
     }
 
@@ -83,9 +83,7 @@ impl Station {
     }
 
     fn frame<O: Write>(&mut self, rest: &str, output: &mut O) -> Result<()> {
-        let (side, digits) = rest.split_once(' ').context("no side")?;
-        let side = side_named(side)?;
-        let bytes = bytes_of(self.alloc, digits)?;
+        let (side, bytes) = frame_in(self.alloc, rest)?;
         let event = Event::Frame(side, bytes.as_slice());
         step(self.alloc, &mut self.gateway, event, &mut self.out, output)
     }
@@ -102,27 +100,35 @@ impl Station {
     }
 
     fn plain<O: Write>(&mut self, rest: &str, output: &mut O) -> Result<()> {
-        let (side, digits) = rest.split_once(' ').context("no side")?;
-        let side = side_named(side)?;
-        let bytes = bytes_of(self.alloc, digits)?;
+        let (side, bytes) = frame_in(self.alloc, rest)?;
         let event = Event::Frame(side, bytes.as_slice());
-        let outcome = again(&mut self.gateway, event, &mut self.out)?;
-        tell_outcome(output, outcome)
+        let outcome = again(&mut self.gateway, event, &mut self.out);
+        drop(bytes);
+        tell_outcome(output, outcome?)
     }
 
     fn pairs<O: Write>(&mut self, count: &str, output: &mut O) -> Result<()> {
+        let count = count.parse::<u16>()?;
         let mut frame = bytes_of(self.alloc, PACKET)?;
-        for number in 0..count.parse::<u16>()? {
-            set_source_port(&mut frame, FIRST_PORT.wrapping_add(number));
-            self.out = Out::new(self.alloc);
-            let event = Event::Frame(Side::Inside, frame.as_slice());
-            again(&mut self.gateway, event, &mut self.out)?;
-        }
-        let found = match self.gateway.pairs() {
-            Ok(pairs) => pairs.len(),
-            Err(_refused) => self.gateway.pairs()?.len(),
+        let opened = self.open(frame.as_mut_slice(), count);
+        drop(frame);
+        opened?;
+        let found = match self.gateway.pair_count() {
+            Ok(found) => found,
+            Err(_refused) => self.gateway.pair_count()?,
         };
         writeln!(output, "  {found} pairs")?;
+        Ok(())
+    }
+
+    /// The frame comes from each of so many ports.
+    fn open(&mut self, frame: &mut [u8], count: u16) -> Result<(), NoMemory> {
+        for number in 0..count {
+            set_source_port(frame, FIRST_PORT.wrapping_add(number));
+            self.out = Out::new(self.alloc);
+            let event = Event::Frame(Side::Inside, frame);
+            again(&mut self.gateway, event, &mut self.out)?;
+        }
         Ok(())
     }
 
@@ -147,6 +153,13 @@ fn side_named(word: &str) -> Result<Side> {
     }
 }
 
+/// As `inside 00005e..`: a side, and a frame of it.
+fn frame_in(alloc: Global, rest: &str) -> Result<(Side, Vec<u8>)> {
+    let (side, digits) = rest.split_once(' ').context("no side")?;
+    let side = side_named(side)?;
+    Ok((side, bytes_of(alloc, digits)?))
+}
+
 /// The bytes of hexadecimal digits, asked for once more where memory is refused.
 fn bytes_of(alloc: Global, digits: &str) -> Result<Vec<u8>> {
     match hex::decode(alloc, digits) {
@@ -155,68 +168,90 @@ fn bytes_of(alloc: Global, digits: &str) -> Result<Vec<u8>> {
     }
 }
 
-/// A gateway, of which nothing is said, so that what a caller has to show stays small.
-fn started(
+/// The sample settings, asked for once more where memory is refused.
+fn sample(alloc: Global) -> Result<Settings> {
+    match Settings::sample(alloc) {
+        Ok(settings) => Ok(settings),
+        Err(_refused) => Ok(Settings::sample(alloc)?),
+    }
+}
+
+/// A gateway as it begins, asked for once more where memory is refused.
+fn started<G: Gate>(
     alloc: Global,
     settings: &Settings,
     hashers: Hashers,
     boot: u64,
     found: bool,
-) -> Result<Gateway> {
-    if boot == 0 {
-        bail!("boots are counted from 1");
+) -> Result<G> {
+    match G::started(alloc, settings, hashers, boot, found) {
+        Ok(gateway) => Ok(gateway),
+        Err(_refused) => G::started(alloc, settings, hashers, boot, found),
     }
-    let gateway = Gateway::new(alloc, settings, GatewayId::Zero, boot, found, hashers)?;
-    Ok(gateway)
-}
-
-/// One step, of which nothing is said either.
-fn once(gateway: &mut Gateway, event: Event<'_>, out: &mut Out) -> Result<Outcome, NoMemory> {
-    gateway.step(event, out)
 }
 
 /// One step, asked for once more where memory is refused.
-fn again(gateway: &mut Gateway, event: Event<'_>, out: &mut Out) -> Result<Outcome, NoMemory> {
-    match once(gateway, event, out) {
+fn again<G: Gate>(gateway: &mut G, event: Event<'_>, out: &mut Out) -> Result<Outcome, NoMemory> {
+    match gateway.once(event, out) {
         Ok(outcome) => Ok(outcome),
-        Err(NoMemory) => once(gateway, event, out),
+        Err(NoMemory) => gateway.once(event, out),
     }
 }
 
 /// Takes an event; where a growth is refused nothing has changed, and it takes the event then.
-fn step<O: Write>(
+fn step<G: Gate, O: Write>(
     alloc: Global,
-    gateway: &mut Gateway,
+    gateway: &mut G,
     event: Event<'_>,
     out: &mut Out,
     output: &mut O,
 ) -> Result<()> {
     let before = observe(alloc, gateway, out)?;
-    match once(gateway, event, out) {
+    let stepped = step_from(&before, alloc, gateway, event, out, output);
+    drop(before);
+    stepped
+}
+
+/// The same, from what shows before.
+fn step_from<G: Gate, O: Write>(
+    before: &Shown,
+    alloc: Global,
+    gateway: &mut G,
+    event: Event<'_>,
+    out: &mut Out,
+    output: &mut O,
+) -> Result<()> {
+    match gateway.once(event, out) {
         Ok(outcome) => tell_outcome(output, outcome),
         Err(NoMemory) => {
             writeln!(output, "  refused")?;
-            tell_change(output, &before, &observe(alloc, gateway, out)?)?;
-            tell_outcome(output, once(gateway, event, out)?)
+            let after = observe(alloc, gateway, out)?;
+            let is_same = before.is_same(&after);
+            drop(after);
+            tell_change(output, is_same)?;
+            tell_outcome(output, gateway.once(event, out)?)
         }
     }
 }
 
-fn tell_change<O: Write>(output: &mut O, before: &Shown, after: &Shown) -> Result<()> {
-    if !before.is_same(after) {
+fn tell_change<O: Write>(output: &mut O, is_same: bool) -> Result<()> {
+    if !is_same {
         writeln!(output, "  something changed")?;
     }
     Ok(())
 }
 
 fn tell_outcome<O: Write>(output: &mut O, outcome: Outcome) -> Result<()> {
+    Ok(write_outcome(output, outcome)?)
+}
+
+fn write_outcome<O: Write>(output: &mut O, outcome: Outcome) -> io::Result<()> {
     match outcome {
-        Outcome::Sent => writeln!(output, "  sent")?,
-        Outcome::Waiting => writeln!(output, "  waiting")?,
-        Outcome::Done => writeln!(output, "  done")?,
-        Outcome::Dropped(reason) => writeln!(output, "  dropped {}", reason.number())?,
+        Outcome::Sent => writeln!(output, "  sent"),
+        Outcome::Waiting => writeln!(output, "  waiting"),
+        Outcome::Done => writeln!(output, "  done"),
+        Outcome::Dropped(reason) => writeln!(output, "  dropped {}", reason.number()),
     }
-    Ok(())
 }
 
 fn tell_frames<O: Write>(output: &mut O, out: &Out) -> Result<()> {
