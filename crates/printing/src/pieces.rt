@@ -74,25 +74,47 @@ impl<O: Write> Takes for O {
     }
 }
 
-/// Writes some of these bytes, those at the front, and says how many; none where writing was interrupted.
-fn put_some<T: Takes>(output: &mut T, bytes: &[u8]) -> io::Result<usize>
-    ensures bound { WritesAtMost result bytes.now }
-    ensures bytes { WriteAppends (T.held output.old) (T.held output.new) result bytes.now }
-    ensures asked { IsOfOneWrite T.answers output.old bytes.now result output.new }
-{
-    judged(output.take(bytes))
+/// What is written to so that each answer is judged.
+trait Puts {
+    ghost use Rattle.std.specs.Prelude.{ℕ, List, Option, Result};
+    ghost use Rattle.std.specs.Io.KnownBytes.{WriteAppends};
+    ghost use Rattle.std.specs.Io.{WritesAtMost};
+    ghost use Rattle.std.specs.declared.io.Error.{Error};
+    ghost use Rattle.printing.specs.Writes.{IsOfOneWrite};
+
+    /// What it holds, where that is known.
+    ghost holds: { Self → Option (List ℕ) };
+
+    /// What may be answered where it is asked once, and what it is then.
+    ghost asks: { Self → List ℕ → Result ℕ Error → Self → Type 0 };
+
+    /// Writes some of these bytes, those at the front, and says how many; none where writing was interrupted.
+    fn put_some(&mut self, bytes: &[u8]) -> io::Result<usize>
+        ensures bound { WritesAtMost result bytes.now }
+        ensures bytes { WriteAppends (holds self.old) (holds self.new) result bytes.now }
+        ensures asked { IsOfOneWrite asks self.old bytes.now result self.new };
+}
+
+impl<T: Takes> Puts for T {
+    ghost holds = { T.held };
+
+    ghost asks = { T.answers };
+
+    fn put_some(&mut self, bytes: &[u8]) -> io::Result<usize> {
+        judged(self.take(bytes))
+    }
 }
 
 /// Writes bytes.
-fn put<O: Write>(output: &mut O, bytes: &[u8]) -> io::Result<()>
-    ensures { Prints (O.contents output.old) result (O.contents output.new) bytes.now }
+fn put<P: Puts>(output: &mut P, bytes: &[u8]) -> io::Result<()>
+    ensures { Prints (P.holds output.old) result (P.holds output.new) bytes.now }
 {
     let mut rest = bytes;
     for _ in 0..u64::MAX {
         if rest.is_empty() {
             return Ok(());
         }
-        let count = put_some(output, rest)?;
+        let count = output.put_some(rest)?;
         rest = &rest[count..];
     }
     Err(ErrorKind::Other.into())
