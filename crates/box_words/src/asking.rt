@@ -51,6 +51,7 @@ pub fn status<S: Site, O: Write, E: Write>(
     ensures status { (result ≡ 0) ⊎ (result ≡ 1) }
     ensures reported { result ≡ 0 → HasReported S.does settings.now id form (O.contents output.old)
         (O.contents output.new) site.old site.new }
+    ensures quiet { result ≡ 0 → E.contents errors.new ≡ E.contents errors.old }
     ensures asked { result ≡ 1
         → HasAsked S.does settings.now id (Some words.Status) site.old site.new }
 {
@@ -147,6 +148,7 @@ pub fn await_synced<R: Clock + AllocGlobal, S: Site, E: Write>(
 ) -> u8
     ensures status { (result ≡ 0) ⊎ (result ≡ 1) }
     ensures synced { result ≡ 0 → HasSynced S.does settings.now id site.old site.new }
+    ensures quiet { result ≡ 0 → E.contents errors.new ≡ E.contents errors.old }
     ensures waited { result ≡ 1 → HasWaited S.does settings.now id site.old site.new }
 {
     match awaited(rt, site, settings, id, seconds) {
@@ -236,6 +238,7 @@ pub fn pairs<S: Site, O: Write, E: Write>(
     ensures status { (result ≡ 0) ⊎ (result ≡ 1) }
     ensures listed { result ≡ 0 → HasListed S.does settings.now id filter.now
         (O.contents output.old) (O.contents output.new) site.old site.new }
+    ensures quiet { result ≡ 0 → E.contents errors.new ≡ E.contents errors.old }
     ensures broken { result ≡ 1 → HasBroken S.does settings.now id site.old site.new }
 {
     match listed(alloc, site, settings, id, filter, output) {

@@ -1,6 +1,8 @@
 //! The words that an operator says to a running box.
 ghost use Rattle.std.specs.Prelude.{◌≡◌, ◌≢◌, ◌<◌, ◌⊎◌, IfOk, IsErrOf, OnErr, OnOk, Some, length, option_map, string_bytes};
-ghost use Rattle.control.specs.Answers.{content_of, heard};
+ghost use Rattle.box_words.specs.declared.refusals.BoxFault.TheVariants as faults;
+ghost use Rattle.control.specs.Answers.{content_of, heard, refused};
+ghost use Rattle.control.specs.declared.answers.PeerOffRefusal.{PeerOffRefusal as Reason};
 ghost use Rattle.control.specs.Paths.{IsBeside, socket_of};
 ghost use Rattle.control.specs.Words.{word_of};
 ghost use Rattle.box_words.specs.Deeds.{HasFailed, HasSaid, HasTaken, IsBoxOf, IsUnreached};
@@ -32,6 +34,7 @@ pub fn peer_off<S: Site, E: Write>(
     errors: &mut E,
 ) -> u8
     ensures status { (result ≡ 0) ⊎ (result ≡ 1) }
+    ensures quiet { result ≡ 0 → E.contents errors.new ≡ E.contents errors.old }
     ensures taken { result ≡ 0 → HasTaken S.does settings.now id
         (Some (meaning_off boot forced)) site.old site.new }
     ensures failed { result ≡ 1 → HasFailed S.does settings.now id
@@ -97,6 +100,8 @@ fn said_off<S: Site>(
 fn taken_by(alloc: Global, line: &Line, answer: Option<Answer<'_>>) -> Result<(), BoxFault>
     ensures taken { OnOk result (option_map content_of answer.entry ≡ Some heard) }
     ensures other { OnErr result (option_map content_of answer.entry ≢ Some heard) }
+    ensures reason { (why : Reason) → option_map content_of answer.entry ≡ Some (refused why)
+        → IsErrOf result (faults.PeerOff (record { 0 = why })) }
 {
     match answer {
         Some(Answer::Heard) => Ok(()),
@@ -117,6 +122,7 @@ pub fn stop<S: Site, E: Write>(
     ensures status { (result ≡ 0) ⊎ (result ≡ 1) }
     ensures said { result ≡ 0
         → HasSaid S.does settings.now id (Some said_stop) site.old site.new }
+    ensures quiet { result ≡ 0 → E.contents errors.new ≡ E.contents errors.old }
     ensures failed { result ≡ 1
         → HasFailed S.does settings.now id (Some said_stop) site.old site.new }
 {
@@ -140,6 +146,7 @@ pub fn side<S: Site, E: Write>(
     ensures status { (result ≡ 0) ⊎ (result ≡ 1) }
     ensures said { result ≡ 0
         → HasSaid S.does settings.now id (Some (said_side side up)) site.old site.new }
+    ensures quiet { result ≡ 0 → E.contents errors.new ≡ E.contents errors.old }
     ensures failed { result ≡ 1
         → HasFailed S.does settings.now id (Some (said_side side up)) site.old site.new }
 {

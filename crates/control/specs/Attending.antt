@@ -2,6 +2,7 @@
 use Rattle.std.specs.Prelude.{ℕ, Bool, ◌≡◌, ◌⊎◌, ◌+◌, ◌-◌, ◌^◌, ◌==◌, min, nat_le, List, length, drop, Option, Result, Ok, Err, if◌then◌else◌}
 use Rattle.std.specs.Io.KnownBytes.{Appends}
 use Rattle.control.specs.Lines.{IsBegun}
+use Rattle.std.specs.declared.io.Error.{Error}
 
 -- somebody whose word was handed on waits for its answer; how many callers were refused, and how many went unanswered
 pub record Attending : Type 0 where
@@ -26,3 +27,8 @@ IsToldOrCounted before after answer count count2 =
 -- eight are waited for at most: where there are as many, the one that was waited for longest makes room
 abbrev pub with_room : {T : Type 0} → List T → List T
 with_room callers = if nat_le 8 (length callers) then drop 1 callers else callers
+
+-- one write was answered so, and so many went unanswered then
+abbrev pub IsOfOneWrite : {S : Type 0} → (S → List ℕ → Result ℕ Error → S → Type 0) → S → List ℕ → ℕ → ℕ → S → Type 0
+IsOfOneWrite answers before bytes count count2 after =
+    (answer : Result ℕ Error) × (answers before bytes answer after × (count2 ≡ unanswered_after answer (length bytes) count))

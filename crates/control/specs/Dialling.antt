@@ -12,9 +12,9 @@ abbrev pub patience : ℕ
 patience = 2000000000
 
 -- just connected to the socket at this path; then each call that hears waits 2 seconds at most, and then each that says
-pub record IsDialled {L : Type 0} (reaches : List ℕ → L → Type 0) (limits : L → Limit → L → Type 0) (path : Paths) (line : L) : Type 0 where
+pub record IsDialled {D L : Type 0} (dials : D → List ℕ → L → D → Type 0) (limits : L → Limit → L → Type 0) (path : Paths) (before after : D) (line : L) : Type 0 where
   pub first : L
   pub between : L
-  pub reached : reaches path.socket first
+  pub reached : dials before path.socket first after
   pub hears : limits first (hears_within patience) between
   pub says : limits between (says_within patience) line

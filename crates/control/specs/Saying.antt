@@ -1,5 +1,9 @@
 -- What a caller has said, and what he is answered.
-use Rattle.std.specs.Prelude.{ℕ, Bool, true, false, ◌≡◌, ◌<◌, ◌≤◌, ◌⊎◌, List, [], ◌∷◌, ◌++◌, length, take, Option, Some}
+use Rattle.std.specs.Prelude.{ℕ, Bool, true, false, ◌≡◌, ◌≢◌, ◌<◌, ◌≤◌, ◌⊎◌, List, [], ◌∷◌, ◌++◌, length, take, Option, None, Some, is_some, Result, Ok, Err}
+use Rattle.std.specs.IoError.{error_kind}
+use Rattle.std.specs.declared.io.Error.{Error}
+use Rattle.std.specs.declared.io.ErrorKind.TheVariants.{WouldBlock}
+use Rattle.control.specs.Words.{word_of}
 use Rattle.std.specs.Io.KnownBytes.{Consumes}
 use Rattle.std.specs.List.{concat}
 use Rattle.control.specs.Answers.{Content, answer_of, heard}
@@ -19,6 +23,15 @@ abbrev pub CameFrom : Said → Option (List ℕ) → Option (List ℕ) → List 
 CameFrom Nothing before after room = Unit {0}
 CameFrom (Word count) before after room = Consumes before after (take count room)
 CameFrom NoWord before after room = Unit {0}
+
+-- by the answer of a read and the room that it was read into: a word, or none; nothing yet where it would block
+abbrev pub IsSaidBy : Result ℕ Error → List ℕ → Said → Type 0
+IsSaidBy (Ok n) room what = (is_some (word_of (take n room)) ≡ true → what ≡ Word n) × (is_some (word_of (take n room)) ≡ false → what ≡ NoWord)
+IsSaidBy (Err e) room what = (error_kind e ≡ WouldBlock → what ≡ Nothing) × (error_kind e ≢ WouldBlock → what ≡ NoWord)
+
+-- one read was answered so
+abbrev pub IsOfOneRead : {S : Type 0} → (S → List ℕ → Result ℕ Error → S → Type 0) → S → List ℕ → Said → S → Type 0
+IsOfOneRead answers before room what after = (answer : Result ℕ Error) × (answers before room answer after × IsSaidBy answer room what)
 
 -- the answer that a word is taken, and no other
 abbrev pub is_heard : Option Content → Bool

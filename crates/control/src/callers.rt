@@ -1,8 +1,8 @@
 //! The end at which words are heard.
 ghost use Rattle.std.specs.Prelude.{◌≡◌, ◌-◌, ◌≤◌, ◌<◌, ◌||◌, ◌⊎◌, true, false, length, remove, vec_len, is_some, IfOk, IfSome, IsNone};
-ghost use Rattle.control.specs.Attending.{IsToldOrCounted, unanswered_after, with_more, with_room};
+ghost use Rattle.control.specs.Attending.{IsOfOneWrite, IsToldOrCounted, unanswered_after, with_more, with_room};
 ghost use Rattle.control.specs.Heard.{AreHeard, IsBySpeaker, IsWord};
-ghost use Rattle.control.specs.Saying.{CameFrom, Says};
+ghost use Rattle.control.specs.Saying.{CameFrom, IsOfOneRead, Says};
 
 use crate::folders::{Machine, ready};
 use crate::{ControlPath, NoSocket, word_of};
@@ -242,12 +242,73 @@ fn refuse<S: Drop>(callers: &mut Vec<S>, at: usize, refused: &mut u64)
     *refused = refused.saturating_add(1);
 }
 
+/// A caller who is told something.
+trait Calls {
+    ghost use Rattle.std.specs.Prelude.{ℕ, List, Option, Result};
+    ghost use Rattle.std.specs.Io.KnownBytes.{WriteAppends};
+    ghost use Rattle.std.specs.declared.io.Error.{Error};
+
+    /// What he was told so far, where that is known.
+    ghost held: { Self → Option (List ℕ) };
+
+    /// What one write of these bytes may answer, and what he is then.
+    ghost answers: { Self → List ℕ → Result ℕ Error → Self → Type 0 };
+
+    /// Tells him some of these bytes, those at the front, by one write, and says how many.
+    fn tell(&mut self, bytes: &[u8]) -> io::Result<usize>
+        ensures bytes { WriteAppends (held self.old) (held self.new) result bytes.now }
+        ensures answered { answers self.old bytes.now result self.new };
+}
+
+/// Of what a writer answers nothing more is known.
+impl<O: Write> Calls for O {
+    ghost held = { O.contents };
+
+    ghost answers = { λ _ _ _ _. Unit {0} };
+
+    fn tell(&mut self, bytes: &[u8]) -> io::Result<usize> {
+        self.write(bytes)
+    }
+}
+
+/// A caller who may say something.
+trait Speaks {
+    ghost use Rattle.std.specs.Prelude.{ℕ, List, Option, Result};
+    ghost use Rattle.std.specs.Io.{ReadsAtMost};
+    ghost use Rattle.std.specs.Io.KnownBytes.{ReadConsumes};
+    ghost use Rattle.std.specs.declared.io.Error.{Error};
+
+    /// What he is to say, where that is known.
+    ghost rest: { Self → Option (List ℕ) };
+
+    /// What one read may answer, by the room as it is then, and what he is then.
+    ghost answers: { Self → List ℕ → Result ℕ Error → Self → Type 0 };
+
+    /// What he says next, by one read: so many bytes of the room.
+    fn hear(&mut self, room: &mut [u8]) -> io::Result<usize>
+        ensures bound { ReadsAtMost result room.new }
+        ensures bytes { ReadConsumes (rest self.old) (rest self.new) result room.new }
+        ensures answered { answers self.old room.new result self.new };
+}
+
+/// Of what a reader answers nothing more is known.
+impl<S: Read> Speaks for S {
+    ghost rest = { S.remaining };
+
+    ghost answers = { λ _ _ _ _. Unit {0} };
+
+    fn hear(&mut self, room: &mut [u8]) -> io::Result<usize> {
+        self.read(room)
+    }
+}
+
 /// Answers a caller by one write. How many went unanswered then: one more, where he hasn't the whole answer.
-fn answered<S: Write>(caller: &mut S, bytes: &[u8], before: u64) -> u64
-    ensures { IsToldOrCounted (S.contents caller.old) (S.contents caller.new) bytes.now before
+fn answered<S: Calls>(caller: &mut S, bytes: &[u8], before: u64) -> u64
+    ensures told { IsToldOrCounted (S.held caller.old) (S.held caller.new) bytes.now before
         result }
+    ensures asked { IsOfOneWrite S.answers caller.old bytes.now before result caller.new }
 {
-    unanswered_after(caller.write(bytes), bytes.len(), before)
+    unanswered_after(caller.tell(bytes), bytes.len(), before)
 }
 
 /// How many went unanswered, once an answer of so many bytes was written.
@@ -261,11 +322,12 @@ fn unanswered_after(written: io::Result<usize>, length: usize, before: u64) -> u
 }
 
 /// What a caller has said by now, as far as there is room.
-fn asked<S: Read>(caller: &mut S, room: &mut [u8]) -> Said
+fn asked<S: Speaks>(caller: &mut S, room: &mut [u8]) -> Said
     ensures says { Says result room.new }
-    ensures came { CameFrom result (S.remaining caller.old) (S.remaining caller.new) room.new }
+    ensures came { CameFrom result (S.rest caller.old) (S.rest caller.new) room.new }
+    ensures once { IsOfOneRead S.answers caller.old room.new result caller.new }
 {
-    match caller.read(room) {
+    match caller.hear(room) {
         Ok(count) if word_of(&room[..count]).is_some() => Said::Word(count),
         Err(error) if error.kind() == ErrorKind::WouldBlock => Said::Nothing,
         Ok(_) | Err(_) => Said::NoWord,

@@ -29,20 +29,36 @@ pub(crate) trait Line {
         ensures does { does self.old (hearing result room.new) self.new };
 }
 
-/// A line that can be made: to the socket at a path, and with limits to how long its calls wait.
-pub(crate) trait Dial: Sized {
+/// Who makes lines: to the socket at a path.
+pub(crate) trait Dials<L> {
     ghost use Rattle.std.specs.Prelude.{ℕ, List};
-    ghost use Rattle.control.specs.Dialling.{Limit};
 
-    /// Which lines are those to the socket at a path, just made.
-    ghost reaches: { List ℕ → Self → Type 0 };
+    /// Which line is made to the socket at a path, and what he is then.
+    ghost dials: { Self → List ℕ → L → Self → Type 0 };
+
+    /// A line to the socket at a path.
+    fn dial(&mut self, socket: &str) -> io::Result<L>
+        ensures { IfOk result (λ line. dials self.old socket.now line self.new) };
+}
+
+/// The system.
+#[derive(Drop)]
+pub(crate) struct SystemDials<'a, R>(pub(crate) &'a R);
+
+impl<R: Net> Dials<UnixStream> for SystemDials<'_, R> {
+    ghost dials = { λ _ _ _ _. Unit {0} };
+
+    fn dial(&mut self, socket: &str) -> io::Result<UnixStream> {
+        UnixStream::connect(self.0, socket)
+    }
+}
+
+/// A line with limits to how long its calls wait.
+pub(crate) trait Dial: Sized {
+    ghost use Rattle.control.specs.Dialling.{Limit};
 
     /// What a limit is to a line, and what the line is then.
     ghost limits: { Self → Limit → Self → Type 0 };
-
-    /// A line to the socket at a path.
-    fn dial<R: Net>(rt: &R, socket: &str) -> io::Result<Self>
-        ensures { IfOk result (reaches socket.now) };
 
     /// Has each call that hears wait so long at most.
     fn limit_hearing(&mut self, limit: Duration) -> io::Result<()>
@@ -68,13 +84,7 @@ impl<S: Read + Write> Line for S {
 
 /// The system's, of which nothing is known.
 impl Dial for UnixStream {
-    ghost reaches = { λ _ _. Unit {0} };
-
     ghost limits = { λ _ _ _. Unit {0} };
-
-    fn dial<R: Net>(rt: &R, socket: &str) -> io::Result<UnixStream> {
-        UnixStream::connect(rt, socket)
-    }
 
     fn limit_hearing(&mut self, limit: Duration) -> io::Result<()> {
         self.set_read_timeout(Some(limit))

@@ -5,7 +5,7 @@ ghost use Rattle.control.specs.Answers.{answer_of};
 ghost use Rattle.control.specs.Dialling.{IsDialled, patience};
 ghost use Rattle.control.specs.Saying.{Comes, IsAnswered, IsCut, IsLost, Tells, is_heard};
 
-use crate::lines::{Dial, Line};
+use crate::lines::{Dial, Dials, Line, SystemDials};
 use crate::{Answer, ControlPath};
 use std::io;
 use std::net::Net;
@@ -35,7 +35,7 @@ impl From<io::Error> for NoSocket {
 /// `NoSocket` where no box listens there, the caller may not speak to it, or it doesn't answer in time that the word is
 /// taken. Whether it took the word isn't known then.
 pub fn say<R: Net>(rt: &R, path: &ControlPath, word: &[u8]) -> Result<(), NoSocket> {
-    say_at::<UnixStream>(&mut connected(rt, path)?, word)
+    say_at::<UnixStream>(&mut connected(&mut SystemDials(rt), path)?, word)
 }
 
 /// Says a word, once, and waits until it is taken.
@@ -79,7 +79,7 @@ pub fn ask<R: Net>(
     ensures within { IfOk result (λ count. count ≤ length room.new) }
     ensures some { IfOk result (λ count. 0 < count) }
 {
-    ask_at::<UnixStream>(&mut connected(rt, path)?, word, room)
+    ask_at::<UnixStream>(&mut connected(&mut SystemDials(rt), path)?, word, room)
 }
 
 /// Says a word, once, and waits for its answer.
@@ -110,10 +110,10 @@ fn exchange<L: Line>(line: &mut L, word: &[u8], room: &mut [u8]) -> io::Result<u
 }
 
 /// A line to the box whose control socket lies there; at each end 2 seconds are waited at most.
-fn connected<R: Net, L: Dial + Drop>(rt: &R, path: &ControlPath) -> io::Result<L>
-    ensures { IfOk result (IsDialled L.reaches L.limits path.now) }
+fn connected<D: Dials<L>, L: Dial + Drop>(dials: &mut D, path: &ControlPath) -> io::Result<L>
+    ensures { IfOk result (λ line. IsDialled D.dials L.limits path.now dials.old dials.new line) }
 {
-    let mut line = L::dial(rt, path.socket())?;
+    let mut line = dials.dial(path.socket())?;
     line.limit_hearing(patience())?;
     line.limit_saying(patience())?;
     Ok(line)

@@ -14,14 +14,14 @@ pub trait Reads {
     ghost use Rattle.std.specs.IoError.{error_kind};
     ghost use Rattle.std.specs.declared.io.ErrorKind.{ErrorKind};
 
-    /// What may be answered of the file at a path: its bytes, or why it can't be read.
-    ghost answers: { Self → List ℕ → Result (List ℕ) ErrorKind → Type 0 };
+    /// What may be answered of the file at a path, its bytes or why it can't be read, and what the reader is then.
+    ghost answers: { Self → List ℕ → Result (List ℕ) ErrorKind → Self → Type 0 };
 
     /// The bytes of the file at a path.
-    fn read(&self, path: &str) -> io::Result<Vec<u8>>
-        ensures bytes { IfOk result (λ bytes. answers self.now path.now (Ok bytes.items)) }
+    fn read(&mut self, path: &str) -> io::Result<Vec<u8>>
+        ensures bytes { IfOk result (λ bytes. answers self.old path.now (Ok bytes.items) self.new) }
         ensures cause { IfErr result
-            (λ error. answers self.now path.now (Err (error_kind error))) };
+            (λ error. answers self.old path.now (Err (error_kind error)) self.new) };
 }
 
 /// The system, of whose answers nothing is known.
@@ -29,9 +29,9 @@ pub trait Reads {
 pub struct SystemReads<'a, R>(pub &'a R);
 
 impl<R: Files + AllocGlobal> Reads for SystemReads<'_, R> {
-    ghost answers = { λ _ _ _. Unit {0} };
+    ghost answers = { λ _ _ _ _. Unit {0} };
 
-    fn read(&self, path: &str) -> io::Result<Vec<u8>> {
+    fn read(&mut self, path: &str) -> io::Result<Vec<u8>> {
         fs::read(self.0, path)
     }
 }
@@ -45,7 +45,7 @@ pub fn text_of<R: Files + AllocGlobal>(rt: &R, path: &str) -> Result<String, Fau
     ensures told { IfErr result (IsUnread path.now) }
     ensures status { IfErr result (λ fault. status_of fault ≡ 1) }
 {
-    text_by(rt.alloc(), &SystemReads(rt), path)
+    text_by(rt.alloc(), &mut SystemReads(rt), path)
 }
 
 /// The text of the file at a path, by who reads it.
@@ -53,9 +53,11 @@ pub fn text_of<R: Files + AllocGlobal>(rt: &R, path: &str) -> Result<String, Fau
 /// # Errors
 ///
 /// The same.
-pub fn text_by<R: Reads>(alloc: Global, files: &R, path: &str) -> Result<String, Fault>
-    ensures text { IfOk result (λ text. R.answers files.now path.now (Ok (string_bytes text))) }
-    ensures told { IfErr result (TellsUnread (R.answers files.now path.now) path.now) }
+pub fn text_by<R: Reads>(alloc: Global, files: &mut R, path: &str) -> Result<String, Fault>
+    ensures text { IfOk result
+        (λ text. R.answers files.old path.now (Ok (string_bytes text)) files.new) }
+    ensures told { IfErr result
+        (TellsUnread (λ answer. R.answers files.old path.now answer files.new) path.now) }
     ensures status { IfErr result (λ fault. status_of fault ≡ 1) }
 {
     match files.read(path) {

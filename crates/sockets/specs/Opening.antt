@@ -10,30 +10,30 @@ use Rattle.sockets.specs.declared.ways.Way.{Way}
 use Rattle.sockets.specs.declared.ways.Way.TheVariants as way
 
 -- a socket was just bound at an end
-pub record IsBoundAt {S : Type 0} (bound : SocketAddr → S → Type 0) (end : End) (s : S) : Type 0 where
+pub record IsBoundAt {B S : Type 0} (binds : B → SocketAddr → S → B → Type 0) (before after : B) (end : End) (s : S) : Type 0 where
   pub address : SocketAddr
   pub address_is : IsSocketOf end address
-  pub is_bound : bound address s
+  pub is_bound : binds before address s after
 
 -- it was bound at the own end, and then connected to the other
-pub record IsJoined {S : Type 0} (bound : SocketAddr → S → Type 0) (connects : S → SocketAddr → S → Type 0) (ends : Ends) (s : S) : Type 0 where
+pub record IsJoined {B S : Type 0} (binds : B → SocketAddr → S → B → Type 0) (connects : S → SocketAddr → S → Type 0) (before after : B) (ends : Ends) (s : S) : Type 0 where
   pub first : S
-  pub own : IsBoundAt bound ends.own first
+  pub own : IsBoundAt binds before after ends.own first
   pub address : SocketAddr
   pub address_is : IsSocketOf ends.other address
   pub is_connected : connects first address s
 
 -- this is what a way needs: on the loopback address the place has these ports
-abbrev pub IsOpened : {S : Type 0} → (SocketAddr → S → Type 0) → (S → SocketAddr → S → Type 0) → Way → ℕ × ℕ → Socket S → Type 0
-IsOpened bound connects way.Loopback ports (socket.Connected s) = IsJoined bound connects (are_on_loopback ports) s
-IsOpened bound connects way.Loopback ports (socket.Open s other) = ⊥
-IsOpened bound connects way.Loopback ports (socket.Descriptor number) = ⊥
-IsOpened bound connects (way.Udp ends) ports (socket.Connected s) = IsJoined bound connects ends s
-IsOpened bound connects (way.Udp ends) ports (socket.Open s other) = ⊥
-IsOpened bound connects (way.Udp ends) ports (socket.Descriptor number) = ⊥
-IsOpened bound connects (way.Vxlan ends network) ports (socket.Connected s) = ⊥
-IsOpened bound connects (way.Vxlan ends network) ports (socket.Open s other) = IsBoundAt bound ends.own s × IsSocketOf ends.other other
-IsOpened bound connects (way.Vxlan ends network) ports (socket.Descriptor number) = ⊥
-IsOpened bound connects (way.Descriptor number) ports (socket.Connected s) = ⊥
-IsOpened bound connects (way.Descriptor number) ports (socket.Open s other) = ⊥
-IsOpened bound connects (way.Descriptor number) ports (socket.Descriptor found) = found ≡ pos number
+abbrev pub IsOpened : {B S : Type 0} → (B → SocketAddr → S → B → Type 0) → (S → SocketAddr → S → Type 0) → B → B → Way → ℕ × ℕ → Socket S → Type 0
+IsOpened binds connects before after way.Loopback ports (socket.Connected s) = IsJoined binds connects before after (are_on_loopback ports) s
+IsOpened binds connects before after way.Loopback ports (socket.Open s other) = ⊥
+IsOpened binds connects before after way.Loopback ports (socket.Descriptor number) = ⊥
+IsOpened binds connects before after (way.Udp ends) ports (socket.Connected s) = IsJoined binds connects before after ends s
+IsOpened binds connects before after (way.Udp ends) ports (socket.Open s other) = ⊥
+IsOpened binds connects before after (way.Udp ends) ports (socket.Descriptor number) = ⊥
+IsOpened binds connects before after (way.Vxlan ends network) ports (socket.Connected s) = ⊥
+IsOpened binds connects before after (way.Vxlan ends network) ports (socket.Open s other) = IsBoundAt binds before after ends.own s × IsSocketOf ends.other other
+IsOpened binds connects before after (way.Vxlan ends network) ports (socket.Descriptor number) = ⊥
+IsOpened binds connects before after (way.Descriptor number) ports (socket.Connected s) = ⊥
+IsOpened binds connects before after (way.Descriptor number) ports (socket.Open s other) = ⊥
+IsOpened binds connects before after (way.Descriptor number) ports (socket.Descriptor found) = (found ≡ pos number) × (after ≡ before)

@@ -14,19 +14,36 @@ use std::io::{self, ErrorKind};
 use std::net::{Net, SocketAddr};
 use std::os::fd::RawFd;
 
-/// A UDP socket, as far as it is bound and connected.
+/// Who binds sockets.
+trait Binds<S> {
+    ghost use Rattle.std.specs.declared.net.socket_addr.SocketAddr.{SocketAddr};
+
+    /// Which socket is bound at an address, and what he is then.
+    ghost binds: { Self → SocketAddr → S → Self → Type 0 };
+
+    /// A socket at this address.
+    fn bind_at(&mut self, own: SocketAddr) -> io::Result<S>
+        ensures { IfOk result (λ s. binds self.old own s self.new) };
+}
+
+/// The system.
+#[derive(Drop)]
+struct SystemBinds<'a, R>(&'a R);
+
+impl<R: Net> Binds<UdpSocket> for SystemBinds<'_, R> {
+    ghost binds = { λ _ _ _ _. Unit {0} };
+
+    fn bind_at(&mut self, own: SocketAddr) -> io::Result<UdpSocket> {
+        UdpSocket::bind(self.0, own)
+    }
+}
+
+/// A UDP socket, as far as it is connected.
 trait Bind: Sized {
     ghost use Rattle.std.specs.declared.net.socket_addr.SocketAddr.{SocketAddr};
 
-    /// Which sockets are those just bound at an address.
-    ghost bound: { SocketAddr → Self → Type 0 };
-
     /// What it is to a socket to be connected to an address, and what the socket is then.
     ghost connects: { Self → SocketAddr → Self → Type 0 };
-
-    /// A socket at this address.
-    fn bind_at<R: Net>(net: &R, own: SocketAddr) -> io::Result<Self>
-        ensures { IfOk result (bound own) };
 
     /// Has it hear this address alone, as far as the system has it, and send there.
     fn connect_to(&mut self, other: SocketAddr) -> io::Result<()>
@@ -35,13 +52,7 @@ trait Bind: Sized {
 
 /// The system's, of which nothing is known.
 impl Bind for UdpSocket {
-    ghost bound = { λ _ _. Unit {0} };
-
     ghost connects = { λ _ _ _. Unit {0} };
-
-    fn bind_at<R: Net>(net: &R, own: SocketAddr) -> io::Result<UdpSocket> {
-        UdpSocket::bind(net, own)
-    }
 
     fn connect_to(&mut self, other: SocketAddr) -> io::Result<()> {
         self.connect(other)
@@ -78,7 +89,7 @@ impl Channel {
     ) -> io::Result<Channel>
         ensures { IfOk result (λ c. c.traffic ≡ nothing_yet) }
     {
-        let mut socket = opened(net, way, ports)?;
+        let mut socket = opened(&mut SystemBinds(net), way, ports)?;
         socket.register(registry, token)?;
         Ok(Channel {
             socket,
@@ -136,14 +147,18 @@ fn settled(received: io::Result<Arrived>) -> Result<Option<Arrived>, WireFault>
 }
 
 /// What a way needs. On the loopback address the place has these ports: its own, and the other.
-fn opened<R: Net, S: Bind + Drop>(net: &R, way: Way, ports: (u16, u16)) -> io::Result<Socket<S>>
-    ensures { IfOk result (IsOpened S.bound S.connects way ports) }
+fn opened<B: Binds<S>, S: Bind + Drop>(
+    net: &mut B,
+    way: Way,
+    ports: (u16, u16),
+) -> io::Result<Socket<S>>
+    ensures { IfOk result (IsOpened B.binds S.connects net.old net.new way ports) }
 {
     match way {
         Way::Loopback => Ok(Socket::Connected(joined(net, Ends::on_loopback(ports))?)),
         Way::Udp(ends) => Ok(Socket::Connected(joined(net, ends)?)),
         Way::Vxlan(ends, _) => {
-            let socket = S::bind_at(net, ends.own.socket())?;
+            let socket = net.bind_at(ends.own.socket())?;
             Ok(Socket::Open(socket, ends.other.socket()))
         }
         Way::Descriptor(number) => Ok(Socket::Descriptor(RawFd::from(number))),
@@ -151,10 +166,10 @@ fn opened<R: Net, S: Bind + Drop>(net: &R, way: Way, ports: (u16, u16)) -> io::R
 }
 
 /// A socket at the own end that hears the other alone, as far as the system has it.
-fn joined<R: Net, S: Bind + Drop>(net: &R, ends: Ends) -> io::Result<S>
-    ensures { IfOk result (IsJoined S.bound S.connects ends) }
+fn joined<B: Binds<S>, S: Bind + Drop>(net: &mut B, ends: Ends) -> io::Result<S>
+    ensures { IfOk result (IsJoined B.binds S.connects net.old net.new ends) }
 {
-    let mut socket = S::bind_at(net, ends.own.socket())?;
+    let mut socket = net.bind_at(ends.own.socket())?;
     socket.connect_to(ends.other.socket())?;
     Ok(socket)
 }
