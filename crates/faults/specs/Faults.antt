@@ -42,18 +42,18 @@ Tells refusal path cause (File fault) = IsAbout refusal path cause fault
 Tells refusal path cause NoMemory = Unit {0}
 Tells refusal path cause other = ⊥
 
--- why the file at this path isn't had as a text: it can't be read, it is none, or there is no memory
+-- why the file at this path isn't had as a text: it can't be read, for a cause; it is none; or there is no memory
 abbrev pub IsUnread : List ℕ → Fault → Type 0
-IsUnread path (File fault) = (fault.refusal ≡ NoFile) × (string_bytes fault.path ≡ path)
+IsUnread path (File fault) = (cause : ErrorKind) × IsAbout NoFile path (Some cause) fault
 IsUnread path NotText = Unit {0}
 IsUnread path NoMemory = Unit {0}
 IsUnread path other = ⊥
 
--- the same by what was answered: this cause, or bytes that are no UTF-8
+-- the same by what was answered, once: this cause, bytes that are no UTF-8, or whatever cause where there is no memory
 abbrev pub TellsUnread : (Result (List ℕ) ErrorKind → Type 0) → List ℕ → Fault → Type 0
 TellsUnread answers path (File fault) = (cause : ErrorKind) × (answers (Err cause) × IsAbout NoFile path (Some cause) fault)
 TellsUnread answers path NotText = (bytes : List ℕ) × (answers (Ok bytes) × (¬ (IsUtf8 bytes)))
-TellsUnread answers path NoMemory = Unit {0}
+TellsUnread answers path NoMemory = (cause : ErrorKind) × answers (Err cause)
 TellsUnread answers path other = ⊥
 
 -- the fault of a run that isn't printed

@@ -34,7 +34,3 @@ fault_text fault.NotWritten = codes "file 3 NotWritten output"
 fault_text fault.NotText = codes "file 4 NotText"
 fault_text (fault.NoSocket port) = codes "socket 1 NoSocket 127.0.0.1:" ++ decimal port
 fault_text fault.NoMemory = codes "memory 1 NoMemory"
-
--- the line that tells it
-abbrev pub line_of : List ℕ → List ℕ
-line_of text = codes "natpair: " ++ text ++ codes "\n"

@@ -3,11 +3,12 @@ ghost use Rattle.std.specs.Prelude.{◌≡◌};
 
 use crate::{FileFault, PrintFault, Refusal};
 use nat_types::NoMemory;
+use outlets::{Tells, tell};
 use scripts::ScriptFault;
 use settings_file::SettingFault;
 use std::alloc::{AllocError, Global};
 use std::fmt;
-use std::io::{self, ErrorKind, Write};
+use std::io::{self, ErrorKind};
 use thiserror::Error;
 
 /// Why the program ends without its work done.
@@ -53,11 +54,11 @@ impl fmt::Display for Fault {
 }
 
 impl Fault {
-    ghost use Rattle.std.specs.Prelude.{◌≡◌, ◌≢◌, None, OnOk, Some};
-    ghost use Rattle.std.specs.Io.KnownBytes.{Appends};
+    ghost use Rattle.std.specs.Prelude.{◌≡◌, ◌≢◌, None, Some};
     ghost use Rattle.std.specs.IoError.{error_kind};
     ghost use Rattle.faults.specs.Faults.{IsOfFile, Tells, status_of};
-    ghost use Rattle.faults.specs.Texts.{fault_text, line_of};
+    ghost use Rattle.faults.specs.Texts.{fault_text};
+    ghost use Rattle.outlets.specs.Telling.{IsTold};
     ghost use Rattle.faults.specs.declared.files.Refusal.TheVariants as refusals;
     ghost use Rattle.faults.specs.declared.faults.Fault.TheVariants as faults;
 
@@ -72,20 +73,13 @@ impl Fault {
     }
 
     /// Tells of the fault on a line behind `natpair: `, and gives its exit status. Where even that can't be
-    /// written, the status alone tells.
-    pub fn tell<E: Write>(&self, errors: &mut E) -> u8
-        ensures { result ≡ status_of self.now }
+    /// told, the status alone tells.
+    pub fn tell<E: Tells>(&self, alloc: Global, errors: &mut E) -> u8
+        ensures status { result ≡ status_of self.now }
+        ensures told { IsTold E.tells errors.old (fault_text self.now) errors.new }
     {
-        let _ = self.show(errors);
+        tell(alloc, self, errors);
         self.status()
-    }
-
-    /// Writes that line.
-    fn show<E: Write>(&self, errors: &mut E) -> io::Result<()>
-        ensures told { OnOk result (Appends (E.contents errors.old) (E.contents errors.new)
-            (line_of (fault_text self.now))) }
-    {
-        writeln!(errors, "natpair: {self}")
     }
 
     /// The fault of words that couldn't be read.

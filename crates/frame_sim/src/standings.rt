@@ -1,6 +1,6 @@
 //! Prints the tables of a world.
 ghost use Rattle.std.specs.Prelude.{◌≡◌};
-ghost use Rattle.printing.specs.Printed.{Prints};
+ghost use Rattle.outlets.specs.Printed.{Prints};
 ghost use Rattle.frame_sim.specs.Texts.{gateway_lines, standing_of, world_lines};
 ghost use Rattle.frame_sim.specs.World.{gateway_at};
 

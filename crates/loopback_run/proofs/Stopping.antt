@@ -14,8 +14,8 @@ use Rattle.faults.specs.declared.prints.PrintFault.{PrintFault}
 use Rattle.faults.specs.declared.prints.PrintFault.TheVariants as prints
 use Rattle.frame_sim.specs.Status.{IsNew}
 use Rattle.printing.specs.Lines.{Counts, no_counts}
-use Rattle.printing.specs.Printed.{IsBegun, IsPart}
-use Rattle.printing.proofs.Offered.{begun_more, part_begun, part_kept, part_more}
+use Rattle.outlets.specs.Printed.{IsBegun, IsPart}
+use Rattle.outlets.proofs.Offered.{begun_more, part_begun, part_kept, part_more}
 use Rattle.frame_sim.specs.Texts.{world_lines}
 use Rattle.loopback_run.specs.Runs.{HasTurned}
 use Rattle.loopback_run.proofs.Turning.{Turning}

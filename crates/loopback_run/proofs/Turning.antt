@@ -12,8 +12,8 @@ use Rattle.loopback_run.specs.declared.passage.Passed.{Passed}
 use Rattle.loopback_run.specs.declared.passage.Passed.TheVariants.{Received, Lost}
 use Rattle.loopback_run.specs.Parcels.{Message}
 use Rattle.printing.specs.Lines.{Counts, no_counts}
-use Rattle.printing.specs.Printed.{IsPart}
-use Rattle.printing.proofs.Offered.{part_more, part_whole}
+use Rattle.outlets.specs.Printed.{IsPart}
+use Rattle.outlets.proofs.Offered.{part_more, part_whole}
 use Rattle.loopback_run.specs.Runs.{HasTurned}
 use Rattle.loopback_run.specs.Texts.{counts_then, counts_through, turn_lines, turns_lines}
 use Rattle.loopback_run.specs.Turns.{AreTurns, HasSent, IsTurn, Passes, TakesTurn, Turn, handed, is_lost, is_refusal, left, lost, received, step_of, steps_in, without}

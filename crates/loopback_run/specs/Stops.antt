@@ -1,6 +1,7 @@
 -- What a run through a passage leaves where a fault ends it.
 use Rattle.std.specs.Prelude.{◌≡◌, ◌⊎◌, ◌<◌, ℕ, List, Option, None, take}
 use Rattle.settings.specs.declared.whole.Settings.{Settings}
+use Rattle.settings_file.specs.Clashes.{clash_of_both}
 use Rattle.nat_types.specs.declared.events.WorldEvent.{WorldEvent}
 use Rattle.loopback_run.specs.declared.ports.PortFault.{PortFault}
 use Rattle.loopback_run.specs.declared.ports.PortFault.TheVariants as ports
@@ -10,7 +11,7 @@ use Rattle.faults.specs.declared.faults.Fault.TheVariants.{Setting, BadLine, Not
 use Rattle.scripts.specs.Script.{first_bad_line}
 use Rattle.faults.specs.declared.jobs.Job.{Job}
 use Rattle.faults.specs.Jobs.{IsJobOf}
-use Rattle.printing.specs.Printed.{IsBegun}
+use Rattle.outlets.specs.Printed.{IsBegun}
 use Rattle.loopback_run.specs.Texts.{loop_lines}
 use Rattle.loopback_run.specs.Turns.{AreTurns, Passes, Turn}
 use Rattle.loopback_run.specs.Loops.{TellsLoop}
@@ -60,11 +61,12 @@ StopsLoop passes contents settings events before after output printed others = �
 
 -- ---- a script's run
 
--- both texts are good, and hold this job
+-- both texts are good, and hold this job, none of whose ports stands twice
 pub record HoldJob (text script : List ℕ) : Type 0 where
   pub job : Job
   pub is : IsJobOf text script job
   pub good : first_bad_line script ≡ None
+  pub apart : clash_of_both job.settings ≡ None
 
 -- how a passage is opened, and how it is refused its ports
 abbrev pub Opens : Type 0 → Type 1
@@ -100,6 +102,11 @@ Leaves opens refuses passes contents text script before after output printed NoM
     ⊎ (IsRefused refuses text script before after output printed ports.NoMemory
     ⊎ IsStopped opens passes contents text script before after output printed NoMemory)
 Leaves opens refuses passes contents text script before after output printed others = ⊥
+
+-- this fault ended the run: it is told, and this is what it leaves
+pub record FailsBy {P O : Type 0} (opens : Opens P) (refuses : Refuses P) (passes : Passes P) (contents : Contents O) (text script : List ℕ) (before after : P) (output printed : O) (fault : Fault) : Type 0 where
+  pub told : TellsLoop text script fault
+  pub leaves : Leaves opens refuses passes contents text script before after output printed fault
 
 -- a fault ended the run: which, and what it leaves
 pub record FailsScript {P O : Type 0} (opens : Opens P) (refuses : Refuses P) (passes : Passes P) (contents : Contents O) (text script : List ℕ) (before after : P) (output printed : O) : Type 0 where

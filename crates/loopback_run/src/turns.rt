@@ -3,21 +3,24 @@ ghost use Rattle.std.specs.Prelude.{◌≡◌, ◌⊎◌, ◌||◌, None, IfOk, 
 ghost use Rattle.output.specs.Output.{none_told};
 ghost use Rattle.frame_sim.specs.Runs.{Answers};
 ghost use Rattle.faults.specs.Faults.{status_of};
+ghost use Rattle.faults.specs.Texts.{fault_text};
 ghost use Rattle.scripts.specs.Script.{first_bad_line};
 ghost use Rattle.faults.specs.declared.faults.Fault.TheVariants as faults;
-ghost use Rattle.printing.specs.Printed.{Prints};
+ghost use Rattle.outlets.specs.Printed.{Prints};
+ghost use Rattle.outlets.specs.Telling.{IsToldOf};
 ghost use Rattle.loopback_run.specs.Runs.{HasTurned, TakesTurns};
 ghost use Rattle.loopback_run.specs.Texts.{counts_then, turn_lines};
 ghost use Rattle.loopback_run.specs.Turns.{HasSent, TakesTurn, handed, is_lost, is_refusal, of_port};
 ghost use Rattle.loopback_run.specs.Loops.{IsLoop, LoopsScript, TellsLoop};
 ghost use Rattle.loopback_run.specs.Tapes.{AreTaped, IsTapedLoop, TapesScript, TapesTurn};
-ghost use Rattle.loopback_run.specs.Stops.{FailsScript, HaveBegun, HoldJob, Leaves, Stops, StopsLoop, Untouched};
+ghost use Rattle.loopback_run.specs.Stops.{FailsBy, FailsScript, HaveBegun, HoldJob, Leaves, Stops, StopsLoop, Untouched};
 
 use crate::{Channel, Passed, PortFault};
 use faults::{Fault, job_of};
 use frame_sim::{Step, Tape, Untaped, World};
 use gateway::Out;
 use nat_types::WorldEvent;
+use outlets::Tells;
 use printing::Printer;
 use settings::Settings;
 use settings_file::{SettingFault, port_clash_of_both};
@@ -29,7 +32,7 @@ use std::io::{self, Write};
 /// through the passage. Where it is lost, its event is left out: that is printed, and the world doesn't take it.
 ///
 /// The answer is the exit status: 0, 3 where an event was refused, or 1 for a fault, which is told on `errors`.
-pub fn run_loop<P: Channel, O: Write, E: Write>(
+pub fn run_loop<P: Channel, O: Write, E: Tells>(
     alloc: Global,
     settings: &str,
     script: &str,
@@ -46,10 +49,13 @@ pub fn run_loop<P: Channel, O: Write, E: Write>(
     ensures untouched { (HoldJob settings.now script.now → ⊥)
         → Untouched passage.old passage.new output.old output.new }
     ensures quiet { (result ≡ 0) ⊎ (result ≡ 3) → errors.new ≡ errors.old }
+    ensures told { result ≡ 1 → IsToldOf E.tells fault_text (FailsBy P.opens P.refuses P.passes
+        O.contents settings.now script.now passage.old passage.new output.old output.new)
+        errors.old errors.new }
 {
     match loop_script(alloc, settings, script, passage, output) {
         Ok(status) => status,
-        Err(fault) => fault.tell(errors),
+        Err(fault) => fault.tell(alloc, errors),
     }
 }
 

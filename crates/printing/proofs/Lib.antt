@@ -1,3 +1,1 @@
-mod Parts
 mod Splits
-pub mod Offered

@@ -1,3 +1,1 @@
-pub mod Printed
 pub mod Lines
-pub mod Writes

@@ -1,12 +1,12 @@
 //! Prints pairs, notes, and the words of both.
 ghost use Rattle.std.specs.Prelude.{◌≡◌, ◌++◌, codes};
 ghost use Rattle.printing.specs.Lines.{id_text, note_line, pair_text, protocol_text, side_text};
-ghost use Rattle.printing.specs.Printed.{Prints};
+ghost use Rattle.outlets.specs.Printed.{Prints};
 
-use crate::pieces::put_all;
 use addresses::Protocol;
 use itoa::Buffer;
 use nat_types::{GatewayId, Note, NoteKind, Pair, Side};
+use outlets::put_all;
 use std::io::{self, Write};
 
 pub(crate) fn id_text(id: GatewayId) -> &'static str

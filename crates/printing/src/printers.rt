@@ -1,12 +1,12 @@
 //! Prints what each event of a run gave, in order.
 ghost use Rattle.std.specs.Prelude.{◌≡◌, ◌⊎◌, ◌++◌, List, ℕ, OnErr, OnOk};
 ghost use Rattle.printing.specs.Lines.{answer_text, counts_after, event_line, gateway_of, lost_line, no_counts, one_more, sent_by, step_lines, with_event, with_sent};
-ghost use Rattle.printing.specs.Printed.{Prints};
+ghost use Rattle.outlets.specs.Printed.{Prints};
 
-use crate::pieces::put_all;
 use crate::told::told;
 use itoa::Buffer;
 use nat_types::{GatewayId, WorldEvent};
+use outlets::put_all;
 use output::Out;
 use spec_step::Outcome;
 use std::io::{self, Write};

@@ -1,13 +1,13 @@
 //! Prints how a gateway stands.
 ghost use Rattle.std.specs.Prelude.{◌≡◌, IfOk, flat_map};
 ghost use Rattle.printing.specs.Lines.{begins, ended, follows, held_line, owned_line, owned_lines, standing_text, table_lines};
-ghost use Rattle.printing.specs.Printed.{Prints};
+ghost use Rattle.outlets.specs.Printed.{Prints};
 
 use crate::notes::{end_with_pair, id_text};
-use crate::pieces::put_all;
 use addresses::Port;
 use itoa::Buffer;
 use nat_types::{GatewayId, Pair};
+use outlets::put_all;
 use std::io::{self, Write};
 
 /// How a gateway stands.

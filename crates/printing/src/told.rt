@@ -1,12 +1,13 @@
 //! Prints what a step told.
 ghost use Rattle.std.specs.Prelude.{◌≡◌, OnOk, flat_map};
 ghost use Rattle.printing.specs.Lines.{frame_line, link_line, link_lines, more, note_line, told_lines};
-ghost use Rattle.printing.specs.Printed.{Prints};
+ghost use Rattle.outlets.specs.Printed.{Prints};
 
 use crate::notes::{id_text, note, side_text};
-use crate::pieces::{put_all, put_hex};
+use crate::pieces::put_hex;
 use itoa::Buffer;
 use nat_types::{GatewayId, Note, Side};
+use outlets::put_all;
 use output::Out;
 use std::io::{self, Write};
 

@@ -1,5 +1,5 @@
 -- A run on a new world.
-use Rattle.std.proofs.Common.{◌≡◌, ◌⊎◌, inl, inr, ◌++◌, ◌∙◌, ℕ, List, [], ◌∷◌, Option, IfOk, OnErr, OnOk, Result, Ok, Err, take, drop, ap, sym, subst, refl}
+use Rattle.std.proofs.Common.{◌≡◌, ◌≢◌, ◌⊎◌, inl, inr, ◌++◌, ◌∙◌, ℕ, List, [], ◌∷◌, Option, None, IfErr, IfOk, OnErr, OnOk, Result, Ok, Err, take, drop, ap, sym, subst, refl}
 use Rattle.std.proofs.lemmas.List.{append_assoc, append-nil, take-append-drop}
 use Rattle.settings.specs.declared.whole.Settings.{Settings}
 use Rattle.frame_sim.specs.declared.events.Step.{Step}
@@ -8,10 +8,13 @@ use Rattle.frame_sim.specs.World.{World}
 use Rattle.frame_sim.specs.Runs.{AreSteps}
 use Rattle.frame_sim.specs.Status.{IsNew}
 use Rattle.frame_sim.specs.Tapes.{TakesOn}
+use Rattle.faults.specs.declared.faults.Fault.{Fault}
+use Rattle.faults.specs.declared.faults.Fault.TheVariants.{Words, Setting, BadLine, File, NotWritten, NotText, NoSocket, NoMemory}
 use Rattle.faults.specs.declared.jobs.Job.{Job}
-use Rattle.faults.specs.Jobs.{IsJobOf}
+use Rattle.faults.specs.Jobs.{IsJobOf, TellsRun}
+use Rattle.scripts.specs.Script.{first_bad_line}
 use Rattle.frame_sim.specs.World.{founding}
-use Rattle.simulation.specs.Stops.{Begins, BeginsScript, HasBegun, HasBegunScript}
+use Rattle.simulation.specs.Stops.{Begins, BeginsScript, Leaves}
 use Rattle.simulation.specs.Tapes.{IsTapedRun, TapesSteps}
 
 -- what holds of the value of a result holds by what follows from it
@@ -58,6 +61,24 @@ pub begins_script : {X E : Type 0} (r : Result X E) (text script : List ℕ) (jo
     → IsJobOf text script job → OnErr r (Begins (founding job.settings) job.events.items o o2) → OnErr r (BeginsScript text script o o2)
 begins_script (Ok x) text script job o o2 is h = tt
 begins_script (Err e) text script job o o2 is h = script_begins text script job o o2 is h
+
+-- a fault of the texts leaves the output as it was
+pub leaves_texts : (text script : List ℕ) (o : Option (List ℕ)) (fault : Fault) → TellsRun text script fault → fault ≢ NotWritten → Leaves text script o o fault
+leaves_texts text script o Words told read = absurd told
+leaves_texts text script o (Setting why) told read = refl
+leaves_texts text script o (BadLine n) told read = refl
+leaves_texts text script o (File why) told read = absurd told
+leaves_texts text script o NotWritten told read = absurd (read refl)
+leaves_texts text script o NotText told read = absurd told
+leaves_texts text script o (NoSocket port) told read = absurd told
+leaves_texts text script o NoMemory told read = inl refl
+
+-- and one of the run of good texts a beginning
+pub leaves_begun : {X : Type 0} (r : Result X Fault) (text script : List ℕ) (job : Job) (o o2 : Option (List ℕ)) → IsJobOf text script job → first_bad_line script ≡ None
+    → IfErr r (λ fault. (fault ≡ NotWritten) ⊎ (fault ≡ NoMemory)) → OnErr r (Begins (founding job.settings) job.events.items o o2) → IfErr r (Leaves text script o o2)
+leaves_begun (Ok x) text script job o o2 is good which h = tt
+leaves_begun (Err fault) text script job o o2 is good (inl which) h = rw which (record { job = job; is = is; good = good; begun = h })
+leaves_begun (Err fault) text script job o o2 is good (inr which) h = rw which (script_begins text script job o o2 is h)
 
 -- what is so after every Err
 pub on_err : {X E Q : Type 0} (r : Result X E) → Q → OnErr r Q

@@ -1,12 +1,15 @@
 -- What is printed where a fault ends a run.
-use Rattle.std.specs.Prelude.{◌≡◌, ◌⊎◌, ℕ, List, Option}
+use Rattle.std.specs.Prelude.{◌≡◌, ◌⊎◌, ℕ, List, Option, None}
 use Rattle.nat_types.specs.declared.events.WorldEvent.{WorldEvent}
+use Rattle.faults.specs.declared.faults.Fault.{Fault}
+use Rattle.faults.specs.declared.faults.Fault.TheVariants.{Setting, BadLine, NotWritten, NoMemory}
 use Rattle.faults.specs.declared.jobs.Job.{Job}
-use Rattle.faults.specs.Jobs.{IsJobOf}
+use Rattle.faults.specs.Jobs.{IsJobOf, TellsRun}
+use Rattle.scripts.specs.Script.{first_bad_line}
 use Rattle.frame_sim.specs.declared.events.Step.{Step}
 use Rattle.frame_sim.specs.Runs.{AreSteps}
 use Rattle.frame_sim.specs.World.{World, founding}
-use Rattle.printing.specs.Printed.{IsBegun}
+use Rattle.outlets.specs.Printed.{IsBegun}
 use Rattle.simulation.specs.Texts.{run_lines}
 
 -- a beginning of the text of the steps that these events take, in order, from a world
@@ -29,3 +32,24 @@ pub record HasBegunScript (text script : List ℕ) (before after : Option (List 
 -- that, or the output is as it was
 abbrev pub BeginsScript : List ℕ → List ℕ → Option (List ℕ) → Option (List ℕ) → Type 0
 BeginsScript text script before after = (after ≡ before) ⊎ HasBegunScript text script before after
+
+-- both texts are good, and of the run of their events the output has a beginning, or is as it was
+pub record IsStopped (text script : List ℕ) (before after : Option (List ℕ)) : Type 0 where
+  pub job : Job
+  pub is : IsJobOf text script job
+  pub good : first_bad_line script ≡ None
+  pub begun : Begins (founding job.settings) job.events.items before after
+
+-- What a fault leaves: one of the texts the output as it was, and refused output a run that was stopped. Memory may be wanted
+-- before it or in it.
+abbrev pub Leaves : List ℕ → List ℕ → Option (List ℕ) → Option (List ℕ) → Fault → Type 0
+Leaves text script before after (Setting fault) = after ≡ before
+Leaves text script before after (BadLine n) = after ≡ before
+Leaves text script before after NotWritten = IsStopped text script before after
+Leaves text script before after NoMemory = BeginsScript text script before after
+Leaves text script before after others = ⊥
+
+-- this fault ended the run: it is told, and this is what it leaves
+pub record FailsBy (text script : List ℕ) (before after : Option (List ℕ)) (fault : Fault) : Type 0 where
+  pub told : TellsRun text script fault
+  pub leaves : Leaves text script before after fault

@@ -1,7 +1,7 @@
 //! Prints the steps of a run.
 ghost use Rattle.std.specs.Prelude.{◌≡◌, length};
 ghost use Rattle.printing.specs.Lines.{no_counts};
-ghost use Rattle.printing.specs.Printed.{Prints};
+ghost use Rattle.outlets.specs.Printed.{Prints};
 ghost use Rattle.simulation.specs.Texts.{steps_lines};
 
 use frame_sim::Step;

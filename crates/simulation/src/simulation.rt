@@ -4,15 +4,17 @@ ghost use Rattle.frame_sim.specs.Runs.{AreSteps};
 ghost use Rattle.faults.specs.Faults.{status_of};
 ghost use Rattle.scripts.specs.Script.{first_bad_line};
 ghost use Rattle.faults.specs.Jobs.{TellsRun};
+ghost use Rattle.faults.specs.Texts.{fault_text};
 ghost use Rattle.frame_sim.specs.Status.{has_refusal, run_status};
 ghost use Rattle.frame_sim.specs.Tapes.{AreTaken};
-ghost use Rattle.printing.specs.Printed.{Prints};
+ghost use Rattle.outlets.specs.Printed.{Prints};
+ghost use Rattle.outlets.specs.Telling.{IsToldOf};
 ghost use Rattle.frame_sim.specs.World.{founding};
 ghost use Rattle.simulation.specs.Status.{RunsScript};
 ghost use Rattle.simulation.specs.Tapes.{IsTapedRun, TapesScript, TapesSteps};
 ghost use Rattle.simulation.specs.Texts.{run_lines};
-ghost use Rattle.simulation.specs.Watched.{IsToldAll, WatchesScript};
-ghost use Rattle.simulation.specs.Stops.{Begins, BeginsScript};
+ghost use Rattle.simulation.specs.Watched.{IsToldAll, IsToldPart, IsToldSome, OverhearsScript, WatchesScript};
+ghost use Rattle.simulation.specs.Stops.{Begins, BeginsScript, FailsBy, Leaves};
 ghost use Rattle.faults.specs.declared.faults.Fault.TheVariants as faults;
 
 use crate::shown::print_steps;
@@ -20,6 +22,7 @@ use crate::{Progress, Unwatched};
 use faults::{Fault, PrintFault, job_of};
 use frame_sim::{Step, Tape, Untaped, World};
 use nat_types::{NoMemory, WorldEvent};
+use outlets::Tells;
 use settings::Settings;
 use std::alloc::Global;
 use std::io::{self, Write};
@@ -27,7 +30,7 @@ use std::io::{self, Write};
 /// Runs a script on a new world of the settings that a text in TOML holds, and prints its steps and tables.
 ///
 /// The answer is the exit status: 0, 3 where an event was refused, or 1 for a fault, which is told on `errors`.
-pub fn simulate<O: Write, E: Write>(
+pub fn simulate<O: Write, E: Tells>(
     alloc: Global,
     settings: &str,
     script: &str,
@@ -41,10 +44,13 @@ pub fn simulate<O: Write, E: Write>(
     ensures begun { result ≡ 1 → BeginsScript settings.now script.now (O.contents output.old)
         (O.contents output.new) }
     ensures quiet { (result ≡ 0) ⊎ (result ≡ 3) → errors.new ≡ errors.old }
+    ensures told { result ≡ 1 → IsToldOf E.tells fault_text
+        (FailsBy settings.now script.now (O.contents output.old) (O.contents output.new))
+        errors.old errors.new }
 {
     match simulate_watched(alloc, settings, script, &mut Unwatched, output) {
         Ok(status) => status,
-        Err(fault) => fault.tell(errors),
+        Err(fault) => fault.tell(alloc, errors),
     }
 }
 
@@ -68,9 +74,14 @@ pub fn simulate_watched<P: Progress, O: Write>(
         (O.contents output.new)) }
     ensures begun { OnErr result (BeginsScript settings.now script.now (O.contents output.old)
         (O.contents output.new)) }
+    ensures leaves { IfErr result (Leaves settings.now script.now (O.contents output.old)
+        (O.contents output.new)) }
     ensures status { IfOk result (λ status. (status ≡ 0) ⊎ (status ≡ 3)) }
     ensures watched { OnOk result
         (WatchesScript P.hears settings.now script.now progress.old progress.new) }
+    ensures overheard { OnErr result (IsToldSome P.hears progress.old progress.new) }
+    ensures part { OnErr result
+        (OverhearsScript P.hears settings.now script.now progress.old progress.new) }
 {
     simulate_captured(alloc, settings, script, progress, &mut Untaped, output)
 }
@@ -95,9 +106,14 @@ pub fn simulate_captured<P: Progress, T: Tape, O: Write>(
         (O.contents output.old) (O.contents output.new)) }
     ensures begun { OnErr result (BeginsScript settings.now script.now (O.contents output.old)
         (O.contents output.new)) }
+    ensures leaves { IfErr result (Leaves settings.now script.now (O.contents output.old)
+        (O.contents output.new)) }
     ensures status { IfOk result (λ status. (status ≡ 0) ⊎ (status ≡ 3)) }
     ensures watched { OnOk result
         (WatchesScript P.hears settings.now script.now progress.old progress.new) }
+    ensures overheard { OnErr result (IsToldSome P.hears progress.old progress.new) }
+    ensures part { OnErr result
+        (OverhearsScript P.hears settings.now script.now progress.old progress.new) }
 {
     let job = job_of(alloc, settings, script)?;
     play(
@@ -133,6 +149,9 @@ pub fn play<P: Progress, T: Tape, O: Write>(
         (λ fault. (fault ≡ faults.NotWritten) ⊎ (fault ≡ faults.NoMemory)) }
     ensures watched { OnOk result
         (IsToldAll P.hears (length events.now) progress.old progress.new) }
+    ensures overheard { OnErr result (IsToldSome P.hears progress.old progress.new) }
+    ensures part { OnErr result
+        (IsToldPart P.hears (length events.now) progress.old progress.new) }
 {
     match World::founded(alloc, settings) {
         Ok(mut world) => {
@@ -163,6 +182,8 @@ fn played<P: Progress, T: Tape, O: Write>(
         (λ fault. (fault ≡ faults.NotWritten) ⊎ (fault ≡ faults.NoMemory)) }
     ensures watched { OnOk result
         (IsToldAll P.hears (length events.now) progress.old progress.new) }
+    ensures overheard { OnErr result
+        (IsToldPart P.hears (length events.now) progress.old progress.new) }
 {
     let steps = steps_of(alloc, world, events, progress)?;
     take_down(tape, world, events, steps.as_slice())?;
@@ -220,6 +241,8 @@ fn steps_of<P: Progress>(
     ensures steps { IfOk result (λ steps. AreSteps world.old events.now steps.items world.new) }
     ensures watched { OnOk result
         (IsToldAll P.hears (length events.now) progress.old progress.new) }
+    ensures overheard { OnErr result
+        (IsToldPart P.hears (length events.now) progress.old progress.new) }
 {
     let mut steps = Vec::with_capacity(alloc, events.len())?;
     let mut rest = events;

@@ -52,6 +52,8 @@ impl<W: Write + Drop> Capture<W> {
     pub fn end(&mut self) -> io::Result<()>
         ensures kept { Keeps (W.contents self.old.output) (W.contents self.new.output) }
         ensures refused { self.old.is_refused ≡ true → IsErr result }
+        ensures remembered { self.new.is_refused ≡ self.old.is_refused }
+        ensures clocks { self.new.clocks ≡ self.old.clocks }
     {
         let handed_on = self.output.flush();
         if self.is_refused {
@@ -69,6 +71,7 @@ impl<W: Write> Tape for Capture<W> {
             event.now step.now (W.contents self.new.output) self.new.clocks) }
         ensures marked { IsErr result → self.new.is_refused ≡ true }
         ensures still { self.old.is_refused ≡ true → self.new.is_refused ≡ true }
+        ensures unmarked { OnOk result (self.new.is_refused ≡ self.old.is_refused) }
     {
         self.clocks.follow(event, step.answer.is_ok());
         let written = write_event(&mut self.output, &self.clocks, world, event, step);

@@ -34,18 +34,18 @@ returns-in-Ok-clause-run g c = in_ok c.play.result (λ n h. record {
 
 pub returns-clause-leaves : goal.returns-clause-leaves
 returns-clause-leaves g c = rw c.of_port.ensures (leaves_refused _ _ _ _ _ _ _ _ _ _ c.in-Err.fault (record {
-  texts = record { job = c.in_ok-job.job; is = c.in_ok-job.ensures.job; good = c.in_ok-job.ensures.good };
+  texts = record { job = c.in_ok-job.job; is = c.in_ok-job.ensures.job; good = c.in_ok-job.ensures.good; apart = sym c.in_default.ensures };
   refused = c.in-Err.ensures.refuses;
   unwritten = refl;
 }))
 
 pub returns-clause-untouched : goal.returns-clause-untouched
 returns-clause-untouched g c none =
-    absurd (none (record { job = c.in_ok-job.job; is = c.in_ok-job.ensures.job; good = c.in_ok-job.ensures.good }))
+    absurd (none (record { job = c.in_ok-job.job; is = c.in_ok-job.ensures.job; good = c.in_ok-job.ensures.good; apart = sym c.in_default.ensures }))
 
 pub returns-in-Ok-clause-leaves : goal.returns-in-Ok-clause-leaves
 returns-in-Ok-clause-leaves g c = in_err c.play.result (λ e h. leaves_stopped _ _ _ _ _ _ _ _ _ _ e (record {
-  texts = record { job = c.in_ok-job.job; is = c.in_ok-job.ensures.job; good = c.in_ok-job.ensures.good };
+  texts = record { job = c.in_ok-job.job; is = c.in_ok-job.ensures.job; good = c.in_ok-job.ensures.good; apart = sym c.in_default.ensures };
   open_passage = c.open.new.self;
   opened = c.in-Ok.ensures.opens;
   stopped = subst (λ (es : List WorldEvent). StopsLoop g.P.Channel.passes g.O.Write.contents c.in_ok-job.job.settings es c.open.new.self c.play.new.passage c.args.output.now c.play.new.output e) c.as_slice.ensures.value h;
@@ -53,7 +53,7 @@ returns-in-Ok-clause-leaves g c = in_err c.play.result (λ e h. leaves_stopped _
 
 pub returns-in-Ok-clause-untouched : goal.returns-in-Ok-clause-untouched
 returns-in-Ok-clause-untouched g c none =
-    absurd (none (record { job = c.in_ok-job.job; is = c.in_ok-job.ensures.job; good = c.in_ok-job.ensures.good }))
+    absurd (none (record { job = c.in_ok-job.job; is = c.in_ok-job.ensures.job; good = c.in_ok-job.ensures.good; apart = sym c.in_default.ensures }))
 
 pub returns-in-Ok-clause-taped : goal.returns-in-Ok-clause-taped
 returns-in-Ok-clause-taped g c = when_done c.play.result (λ h. record {

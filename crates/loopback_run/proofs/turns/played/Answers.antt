@@ -1,6 +1,6 @@
 use Rattle.std.proofs.Common.{◌∙◌, Bool, ap, refl, if◌then◌else◌}
 use Rattle.std.proofs.lemmas.Result.{err_from_is_err_and}
-use Rattle.printing.proofs.Offered.{part_kept, part_whole}
+use Rattle.outlets.proofs.Offered.{part_kept, part_whole}
 use Rattle.loopback_run.proofs.Stopping.{all_kept, all_printed, all_turned, ended_begun, stops_printing}
 use Rattle.loopback_run.proofs.turns.played.Goals as goal
 

@@ -1,5 +1,5 @@
 use Rattle.printing.specs.Lines.{pair_text}
-use Rattle.printing.proofs.Parts.{begun_more, err_begun, part_more, part_none, prints_rest}
+use Rattle.outlets.proofs.Offered.{begun_more, err_begun, part_more, part_none, prints_rest}
 use Rattle.printing.proofs.Splits.{note_pair_split}
 use Rattle.printing.proofs.notes.note_of_pair.Goals as goal
 

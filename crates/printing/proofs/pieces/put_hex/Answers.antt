@@ -1,7 +1,7 @@
 use Rattle.std.proofs.Common.{◌≡◌, ◌∙◌, ◌++◌, ◌∷◌, [], ◌-◌, ◌/◌, ◌%◌, ℕ, List, ap, refl, rules, sym, length, take, drop, take-append-drop, drop_of_length-le, slice_index}
 use Rattle.std.proofs.lemmas.List.{take_rest}
 use Rattle.hex.specs.Hex.{encode_lower, encode_with, lower_digits}
-use Rattle.printing.proofs.Parts.{begun_more, err_begun, part_more, part_none, part_whole}
+use Rattle.outlets.proofs.Offered.{begun_more, err_begun, part_more, part_none, part_whole}
 use Rattle.printing.proofs.pieces.put_hex.Goals as goal
 
 encode_append : (t xs ys : List ℕ) → encode_with t (xs ++ ys) ≡ encode_with t xs ++ encode_with t ys

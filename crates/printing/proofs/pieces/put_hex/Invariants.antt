@@ -1,6 +1,6 @@
 use Rattle.std.proofs.Common.{length}
 use Rattle.hex.specs.Hex.{encode_lower}
-use Rattle.printing.specs.Printed.{IsPart}
+use Rattle.outlets.specs.Printed.{IsPart}
 use Rattle.printing.proofs.pieces.put_hex.Given as goal
 
 abbrev pub invariant-loop-rest : goal.invariant-loop-rest

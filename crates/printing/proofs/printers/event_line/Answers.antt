@@ -1,4 +1,4 @@
-use Rattle.printing.proofs.Parts.{prints_as}
+use Rattle.outlets.proofs.Offered.{prints_as}
 use Rattle.printing.proofs.Splits.{event_split}
 use Rattle.printing.proofs.printers.event_line.Goals as goal
 

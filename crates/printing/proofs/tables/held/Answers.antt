@@ -1,7 +1,7 @@
-use Rattle.std.proofs.Common.{◌≡◌, ◌∙◌, ◌∷◌, ◌+◌, ap, refl, sym, drop, flat_map}
+use Rattle.std.proofs.Common.{◌∙◌, ◌∷◌, ◌+◌, ap, refl, sym, drop, flat_map}
 use Rattle.std.proofs.lemmas.List.{drop_all, drop_more}
 use Rattle.printing.specs.Lines.{held_line}
-use Rattle.printing.proofs.Parts.{begun_more, err_begun, part_more, part_none, part_whole}
+use Rattle.outlets.proofs.Offered.{begun_more, err_begun, part_more, part_none, part_whole}
 use Rattle.printing.proofs.tables.held.Goals as goal
 
 pub loop-pair-init : goal.loop-pair-init

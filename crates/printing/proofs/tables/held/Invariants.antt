@@ -1,6 +1,6 @@
 use Rattle.std.proofs.Common.{drop, flat_map}
 use Rattle.printing.specs.Lines.{held_line}
-use Rattle.printing.specs.Printed.{IsPart}
+use Rattle.outlets.specs.Printed.{IsPart}
 use Rattle.printing.proofs.tables.held.Given as goal
 
 abbrev pub invariant-loop-pair : goal.invariant-loop-pair

@@ -1,4 +1,4 @@
-use Rattle.printing.proofs.Parts.{begun_more, err_begun, part_more, part_none, prints_rest}
+use Rattle.outlets.proofs.Offered.{begun_more, err_begun, part_more, part_none, prints_rest}
 use Rattle.printing.proofs.Splits.{held_split}
 use Rattle.printing.proofs.tables.held_pair.Goals as goal
 

@@ -1,9 +1,9 @@
-use Rattle.std.proofs.Common.{◌≡◌, ◌∙◌, ◌++◌, ◌∷◌, [], List, ap, refl, drop, sym}
+use Rattle.std.proofs.Common.{◌≡◌, ◌++◌, ◌∷◌, List, ap, refl}
 use Rattle.std.proofs.lemmas.List.{drop_all, drop_more}
 use Rattle.addresses.specs.declared.transport.Port.{Port}
 use Rattle.nat_types.specs.declared.gateways.GatewayId.{GatewayId}
-use Rattle.printing.specs.Lines.{begins, ended, owned_from, owned_lines}
-use Rattle.printing.proofs.Parts.{begun_more, err_begun, part_more, part_none, prints_rest}
+use Rattle.printing.specs.Lines.{begins, ended, owned_from}
+use Rattle.outlets.proofs.Offered.{begun_more, err_begun, part_more, part_none, prints_rest}
 use Rattle.printing.proofs.Splits.{owned_first}
 use Rattle.printing.proofs.tables.owned.Goals as goal
 

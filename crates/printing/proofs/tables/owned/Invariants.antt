@@ -1,6 +1,6 @@
 use Rattle.std.proofs.Common.{drop}
 use Rattle.printing.specs.Lines.{owned_from, owned_lines}
-use Rattle.printing.specs.Printed.{IsPart}
+use Rattle.outlets.specs.Printed.{IsPart}
 use Rattle.printing.proofs.tables.owned.Given as goal
 
 abbrev pub invariant-loop-port : goal.invariant-loop-port

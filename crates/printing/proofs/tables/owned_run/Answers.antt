@@ -1,4 +1,4 @@
-use Rattle.printing.proofs.Parts.{prints_as}
+use Rattle.outlets.proofs.Offered.{prints_as}
 use Rattle.printing.proofs.Splits.{owned_split}
 use Rattle.printing.proofs.tables.owned_run.Goals as goal
 

@@ -1,6 +1,6 @@
 use Rattle.std.proofs.Common.{flat_map, refl}
 use Rattle.printing.specs.Lines.{held_line, owned_lines}
-use Rattle.printing.proofs.Parts.{begun_more, err_begun, part_more, part_none, prints_rest}
+use Rattle.outlets.proofs.Offered.{begun_more, err_begun, part_more, part_none, prints_rest}
 use Rattle.printing.proofs.Splits.{table_split}
 use Rattle.printing.proofs.tables.table.Goals as goal
 

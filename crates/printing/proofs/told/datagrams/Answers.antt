@@ -1,7 +1,7 @@
-use Rattle.std.proofs.Common.{◌≡◌, ◌∙◌, ◌++◌, ◌∷◌, [], ℕ, List, ap, refl, sym}
+use Rattle.std.proofs.Common.{◌≡◌, ◌∙◌, ◌++◌, ◌∷◌, ℕ, List, ap, refl, sym}
 use Rattle.nat_types.specs.declared.gateways.GatewayId.{GatewayId}
 use Rattle.printing.specs.Lines.{link_line, link_lines, more, one_more}
-use Rattle.printing.proofs.Parts.{begun_more, err_begun, part_more, part_none, part_whole}
+use Rattle.outlets.proofs.Offered.{begun_more, err_begun, part_more, part_none, part_whole}
 use Rattle.printing.proofs.told.datagrams.Goals as goal
 
 -- the first datagram, and those behind it

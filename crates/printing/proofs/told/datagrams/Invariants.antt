@@ -1,6 +1,6 @@
 use Rattle.std.proofs.Common.{◌≡◌}
 use Rattle.printing.specs.Lines.{link_lines, more}
-use Rattle.printing.specs.Printed.{IsPart}
+use Rattle.outlets.specs.Printed.{IsPart}
 use Rattle.printing.proofs.told.datagrams.Given as goal
 
 abbrev pub invariant-loop-bytes : goal.invariant-loop-bytes

@@ -1,6 +1,6 @@
-use Rattle.std.proofs.Common.{◌≡◌, ap, flat_map, refl}
+use Rattle.std.proofs.Common.{◌≡◌, ap, flat_map}
 use Rattle.printing.specs.Lines.{frame_line}
-use Rattle.printing.proofs.Parts.{begun_more, err_begun, part_more, part_none, part_whole}
+use Rattle.outlets.proofs.Offered.{begun_more, err_begun, part_more, part_none, part_whole}
 use Rattle.printing.proofs.told.frames.Goals as goal
 
 pub loop-sent-init : goal.loop-sent-init

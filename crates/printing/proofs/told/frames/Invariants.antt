@@ -1,6 +1,6 @@
 use Rattle.std.proofs.Common.{flat_map}
 use Rattle.printing.specs.Lines.{frame_line}
-use Rattle.printing.specs.Printed.{IsPart}
+use Rattle.outlets.specs.Printed.{IsPart}
 use Rattle.printing.proofs.told.frames.Given as goal
 
 abbrev pub invariant-loop-sent : goal.invariant-loop-sent

@@ -1,6 +1,6 @@
 use Rattle.std.proofs.Common.{drop, flat_map}
 use Rattle.printing.specs.Lines.{note_line}
-use Rattle.printing.specs.Printed.{IsPart}
+use Rattle.outlets.specs.Printed.{IsPart}
 use Rattle.printing.proofs.told.notes.Given as goal
 
 abbrev pub invariant-loop-noted : goal.invariant-loop-noted

@@ -1,6 +1,6 @@
 use Rattle.std.proofs.Common.{ap, flat_map, refl, sym}
 use Rattle.printing.specs.Lines.{note_line, told_lines}
-use Rattle.printing.proofs.Parts.{begun_more, err_begun, part_more, part_none, prints_as, prints_rest}
+use Rattle.outlets.proofs.Offered.{begun_more, err_begun, part_more, part_none, prints_as, prints_rest}
 use Rattle.printing.proofs.Splits.{told_split}
 use Rattle.printing.proofs.told.told.Goals as goal
 

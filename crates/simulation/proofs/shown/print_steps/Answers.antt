@@ -1,11 +1,10 @@
-use Rattle.std.proofs.Common.{◌≡◌, ◌∙◌, ◌++◌, ◌+◌, ◌∷◌, [], ℕ, List, length, ap, refl, sym, drop}
+use Rattle.std.proofs.Common.{◌≡◌, ◌∙◌, ◌++◌, ◌+◌, ◌∷◌, [], List, length, ap, refl, sym, drop}
 use Rattle.std.proofs.lemmas.List.{drop_all, drop_more}
 use Rattle.nat_types.specs.declared.events.WorldEvent.{WorldEvent}
 use Rattle.frame_sim.specs.declared.events.Step.{Step}
 use Rattle.frame_sim.specs.Texts.{refusal_text}
-use Rattle.printing.specs.Lines.{Counts, counts_after, no_counts, step_lines}
-use Rattle.printing.specs.Printed.{IsPart}
-use Rattle.printing.proofs.Offered.{begun_more, err_begun, part_more, part_none, part_whole}
+use Rattle.printing.specs.Lines.{Counts, counts_after, step_lines}
+use Rattle.outlets.proofs.Offered.{begun_more, err_begun, part_more, part_none, part_whole}
 use Rattle.simulation.specs.Texts.{steps_lines}
 use Rattle.simulation.proofs.shown.print_steps.Goals as goal
 

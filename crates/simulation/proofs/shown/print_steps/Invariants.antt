@@ -1,6 +1,6 @@
 use Rattle.std.proofs.Common.{drop}
 use Rattle.printing.specs.Lines.{no_counts}
-use Rattle.printing.specs.Printed.{IsPart}
+use Rattle.outlets.specs.Printed.{IsPart}
 use Rattle.simulation.specs.Texts.{steps_lines}
 use Rattle.simulation.proofs.shown.print_steps.Given as goal
 

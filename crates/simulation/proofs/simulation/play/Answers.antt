@@ -1,4 +1,6 @@
 use Rattle.simulation.proofs.Playing.{begins_from, runs_from}
+use Rattle.std.proofs.Common.{refl}
+use Rattle.simulation.proofs.Telling.{part-some, told-never}
 use Rattle.simulation.proofs.simulation.play.Goals as goal
 
 pub returns-in-Ok-clause-run : goal.returns-in-Ok-clause-run
@@ -6,3 +8,12 @@ returns-in-Ok-clause-run g c = runs_from _ _ _ _ _ _ _ _ _ _ c.in-Ok.ensures c.p
 
 pub returns-in-Ok-clause-begun : goal.returns-in-Ok-clause-begun
 returns-in-Ok-clause-begun g c = begins_from c.played-status.result _ _ _ _ _ c.in-Ok.ensures c.played-status.ensures.begun
+
+pub returns-in-Err-clause-overheard : goal.returns-in-Err-clause-overheard
+returns-in-Err-clause-overheard g c = (0, (0, refl))
+
+pub returns-in-Err-clause-part : goal.returns-in-Err-clause-part
+returns-in-Err-clause-part g c = told-never g.P.Progress.hears _ c.args.progress.now
+
+pub returns-in-Ok-clause-overheard : goal.returns-in-Ok-clause-overheard
+returns-in-Ok-clause-overheard g c = part-some c.played-status.result _ _ _ _ c.played-status.ensures.overheard

@@ -3,9 +3,10 @@ use Rattle.std.specs.Io.KnownBytes.{Appends}
 use Rattle.frame_sim.specs.declared.events.Step.{Step}
 use Rattle.frame_sim.specs.Status.{run_status}
 use Rattle.frame_sim.specs.Tapes.{AreTaken}
-use Rattle.printing.specs.Printed.{IsBegun}
+use Rattle.outlets.specs.Printed.{IsBegun}
 use Rattle.simulation.specs.Texts.{run_lines}
 use Rattle.simulation.proofs.Playing.{on_err}
+use Rattle.simulation.proofs.Telling.{told-some}
 use Rattle.simulation.proofs.simulation.played.Goals as goal
 
 pub returns-in_err-steps-clause-begun : goal.returns-in_err-steps-clause-begun
@@ -32,3 +33,12 @@ returns-clause-run g c = record {
   taken = subst (λ (ss : List Step). AreTaken g.T.Tape.takes c.steps_of.new.world c.args.tape.now c.args.events.now ss c.take_down.new.tape) c.as_slice.ensures.value c.in_ok-take_down.ensures;
   text = subst (λ (ss : List Step). Appends (g.O.Write.contents c.args.output.now) (g.O.Write.contents c.print.new.output) (run_lines c.args.events.now ss c.steps_of.new.world)) c.as_slice-2.ensures.value c.in_ok-print.ensures;
 }
+
+pub returns-in_err-steps-clause-overheard : goal.returns-in_err-steps-clause-overheard
+returns-in_err-steps-clause-overheard g c = on_err c.from_residual.result c.in_err-steps.ensures.overheard
+
+pub returns-in_err-take_down-clause-overheard : goal.returns-in_err-take_down-clause-overheard
+returns-in_err-take_down-clause-overheard g c = on_err c.from_residual-in_err-take_down.result (told-some _ _ _ _ c.in_ok-steps.ensures.watched)
+
+pub returns-in_err-print-clause-overheard : goal.returns-in_err-print-clause-overheard
+returns-in_err-print-clause-overheard g c = on_err c.from_residual-in_err-print.result (told-some _ _ _ _ c.in_ok-steps.ensures.watched)

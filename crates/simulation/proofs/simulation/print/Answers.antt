@@ -1,5 +1,5 @@
 use Rattle.std.proofs.Common.{[], refl, sym, append-nil}
-use Rattle.printing.proofs.Offered.{begun_more, err_begun, part_begun, part_kept, part_more, part_none, part_whole}
+use Rattle.outlets.proofs.Offered.{begun_more, err_begun, part_begun, part_kept, part_more, part_none, part_whole}
 use Rattle.simulation.specs.Texts.{run_lines}
 use Rattle.simulation.proofs.simulation.print.Goals as goal
 

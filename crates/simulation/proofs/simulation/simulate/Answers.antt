@@ -6,3 +6,10 @@ returns-in-Ok-clause-begun g c one = isnt_1 _ c.in-Ok.ensures.status one
 
 pub returns-in-Err-clause-begun : goal.returns-in-Err-clause-begun
 returns-in-Err-clause-begun g c one = c.in-Err.ensures.begun
+
+pub returns-in-Ok-clause-told : goal.returns-in-Ok-clause-told
+returns-in-Ok-clause-told g c one = isnt_1 _ c.in-Ok.ensures.status one
+
+pub returns-in-Err-clause-told : goal.returns-in-Err-clause-told
+returns-in-Err-clause-told g c one =
+    (c.in-Err.fault, (record { told = c.in-Err.ensures.told; leaves = c.in-Err.ensures.leaves }, c.tell.ensures.told))

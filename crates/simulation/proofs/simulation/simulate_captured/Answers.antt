@@ -1,10 +1,12 @@
-use Rattle.std.proofs.Common.{List, OnErr, length, subst}
+use Rattle.std.proofs.Common.{List, OnErr, inl, length, refl, subst}
+use Rattle.std.proofs.lemmas.Result.{err_from_is_err_and}
 use Rattle.frame_sim.specs.World.{founding}
 use Rattle.nat_types.specs.declared.events.WorldEvent.{WorldEvent}
 use Rattle.simulation.specs.Tapes.{IsTapedRun}
-use Rattle.simulation.specs.Watched.{IsToldAll}
+use Rattle.simulation.specs.Watched.{IsToldAll, IsToldPart}
 use Rattle.simulation.specs.Stops.{Begins}
-use Rattle.simulation.proofs.Playing.{begins_script, in_ok, when_done}
+use Rattle.simulation.proofs.Playing.{begins_script, in_ok, leaves_begun, leaves_texts, on_err, when_done}
+use Rattle.simulation.proofs.Telling.{overheard}
 use Rattle.simulation.proofs.simulation.simulate_captured.Goals as goal
 
 pub returns-clause-run : goal.returns-clause-run
@@ -18,9 +20,28 @@ pub returns-clause-begun : goal.returns-clause-begun
 returns-clause-begun g c = begins_script c.play.result _ _ c.in_ok-job.job _ _ c.in_ok-job.ensures.job
     (subst (λ (es : List WorldEvent). OnErr c.play.result (Begins (founding c.in_ok-job.job.settings) es (g.O.Write.contents c.args.output.now) (g.O.Write.contents c.play.new.output))) c.as_slice.ensures.value c.play.ensures.begun)
 
+pub returns-in_err-job-clause-leaves : goal.returns-in_err-job-clause-leaves
+returns-in_err-job-clause-leaves g c =
+    let p = err_from_is_err_and c.from_residual.result c.from_residual.ensures.1 in
+    rw (p.1, p.2) (leaves_texts _ _ _ c.in_err-job.field-0.0 c.in_err-job.ensures.told c.in_err-job.ensures.read)
+
+pub returns-clause-leaves : goal.returns-clause-leaves
+returns-clause-leaves g c = leaves_begun c.play.result _ _ c.in_ok-job.job _ _ c.in_ok-job.ensures.job c.in_ok-job.ensures.good c.play.ensures.fault
+    (subst (λ (es : List WorldEvent). OnErr c.play.result (Begins (founding c.in_ok-job.job.settings) es (g.O.Write.contents c.args.output.now) (g.O.Write.contents c.play.new.output))) c.as_slice.ensures.value c.play.ensures.begun)
+
 pub returns-clause-watched : goal.returns-clause-watched
 returns-clause-watched g c = when_done c.play.result (λ h. record {
   job = c.in_ok-job.job;
   is = c.in_ok-job.ensures.job;
   told = subst (λ (es : List WorldEvent). IsToldAll g.P.Progress.hears (length es) c.args.progress.now c.play.new.progress) c.as_slice.ensures.value h;
 }) c.play.ensures.watched
+
+pub returns-in_err-job-clause-part : goal.returns-in_err-job-clause-part
+returns-in_err-job-clause-part g c = on_err c.from_residual.result (inl refl)
+
+pub returns-clause-part : goal.returns-clause-part
+returns-clause-part g c = overheard c.play.result _ _ _ c.in_ok-job.job _ _ c.in_ok-job.ensures.job
+    (subst (λ (es : List WorldEvent). OnErr c.play.result (IsToldPart g.P.Progress.hears (length es) c.args.progress.now c.play.new.progress)) c.as_slice.ensures.value c.play.ensures.part)
+
+pub returns-in_err-job-clause-overheard : goal.returns-in_err-job-clause-overheard
+returns-in_err-job-clause-overheard g c = on_err c.from_residual.result (0, (0, refl))

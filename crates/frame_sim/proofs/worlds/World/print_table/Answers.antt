@@ -1,4 +1,4 @@
-use Rattle.printing.proofs.Offered.{err_begun, part_begun, part_none}
+use Rattle.outlets.proofs.Offered.{err_begun, part_begun, part_none}
 use Rattle.frame_sim.proofs.worlds.World.print_table.Goals as goal
 
 pub returns-in_err-ports : goal.returns-in_err-ports

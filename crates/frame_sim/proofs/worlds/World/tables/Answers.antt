@@ -1,6 +1,6 @@
 use Rattle.std.proofs.Common.{refl}
 use Rattle.frame_sim.specs.Texts.{world_lines}
-use Rattle.printing.proofs.Offered.{begun_more, err_begun, part_more, part_none, prints_rest}
+use Rattle.outlets.proofs.Offered.{begun_more, err_begun, part_more, part_none, prints_rest}
 use Rattle.frame_sim.proofs.worlds.World.tables.Goals as goal
 
 pub returns-in_err-print_table : goal.returns-in_err-print_table

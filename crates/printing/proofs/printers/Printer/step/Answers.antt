@@ -1,6 +1,6 @@
-use Rattle.std.proofs.Common.{◌≡◌, ◌∙◌, ap, refl}
+use Rattle.std.proofs.Common.{◌∙◌, ap, refl}
 use Rattle.printing.specs.Lines.{Counts, one_more}
-use Rattle.printing.proofs.Parts.{begun_more, err_begun, part_more, part_none, prints_rest}
+use Rattle.outlets.proofs.Offered.{begun_more, err_begun, part_more, part_none, prints_rest}
 use Rattle.printing.proofs.Splits.{events_kept, step_split}
 use Rattle.printing.proofs.printers.Printer.step.Goals as goal
 

@@ -1,0 +1,4 @@
+mod Parts
+mod Turns
+mod Lines
+pub mod Offered
