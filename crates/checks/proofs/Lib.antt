@@ -2,5 +2,5 @@ mod Counting
 mod Differing
 mod Lines
 mod Parts
-mod Numbers
 mod Pairing
+mod Looking

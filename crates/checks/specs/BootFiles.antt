@@ -20,9 +20,9 @@ key_of ids.Zero = key GatewayZero BootFile
 key_of ids.One = key GatewayOne BootFile
 
 -- the number in its first bytes, where they were read
-abbrev pub found_in : {T E : Type 0} → Result T E → List ℕ → Option ℕ
-found_in (Ok done) bytes = number_of bytes
-found_in (Err error) bytes = None
+abbrev pub found_in : {E : Type 0} → Result (List ℕ) E → Option ℕ
+found_in (Ok bytes) = number_of bytes
+found_in (Err error) = None
 
 -- the last six bits of a mode are what others than the owner may do
 abbrev pub is_open_to_others : ℕ → Bool

@@ -1,20 +1,20 @@
 -- What is said of the keys in which the settings of two texts differ.
-use Rattle.std.specs.Prelude.{◌≡◌, ◌⊎◌, ℕ, nat_lt, Bool, true, false, List, ◌++◌, Option, Result, OnOk, codes, decimal, length}
-use Rattle.std.specs.Io.KnownBytes.{Appends}
+use Rattle.std.specs.Prelude.{◌≡◌, ◌⊎◌, ℕ, nat_lt, Bool, true, false, if◌then◌else◌, List, ◌++◌, Option, Some, None, codes, decimal, length}
 use Rattle.std.specs.List.{flat_map}
 use Rattle.settings.specs.declared.whole.Settings.{Settings}
 use Rattle.toml.specs.Parse.{parse_document}
 use Rattle.faults.specs.Faults.{of_setting}
-use Rattle.faults.specs.Texts.{fault_text, line_of}
+use Rattle.faults.specs.Texts.{fault_text}
 use Rattle.faults.specs.declared.faults.Fault.{Fault}
 use Rattle.faults.specs.declared.faults.Fault.TheVariants.{File}
+use Rattle.outlets.specs.Telling.{IsToldOf, Telling}
 use Rattle.settings_file.specs.Keys.{key_text}
 use Rattle.settings_file.specs.Settings.{IsReadFrom, Tells}
-use Rattle.settings_file.specs.declared.faults.SettingFault.{SettingFault}
 use Rattle.settings_file.specs.declared.keys.Key.{Key}
 use Rattle.checks.specs.Counts.{must_not, one_if}
 use Rattle.checks.specs.Differences.{differing, word_of}
 use Rattle.checks.specs.Ends.{IsSaid, IsUnsaid}
+use Rattle.checks.specs.declared.requests.Source.{Source}
 
 -- as `must not differ: ports.one`
 abbrev pub differing_line : Key → List ℕ
@@ -32,33 +32,16 @@ abbrev pub status_of_keys : List Key → ℕ
 status_of_keys keys = one_if (nat_lt 0 (must_not keys))
 
 -- two settings were compared: their keys were said; or memory was refused
-abbrev pub AreCompared : {O E : Type 0} → (O → Option (List ℕ)) → (E → Option (List ℕ)) → Settings → Settings → O → O → E → E → ℕ → Type 0
-AreCompared holds contents one other old new before after answer =
-    IsSaid contents (keys_text (differing one other)) (status_of_keys (differing one other)) (holds old) (holds new) before after answer
-    ⊎ IsUnsaid contents old new before after answer
+abbrev pub AreCompared : {O E : Type 0} → (O → Option (List ℕ)) → Telling E → Settings → Settings → O → O → E → E → ℕ → Type 0
+AreCompared holds tells one other old new before after answer =
+    IsSaid tells (keys_text (differing one other)) (status_of_keys (differing one other)) (holds old) (holds new) before after answer
+    ⊎ IsUnsaid tells old new before after answer
 
--- there are no settings of a text, for this fault
-pub record HasNone (text : List ℕ) : Type 0 where
-  pub fault : SettingFault
-  pub why : Tells (parse_document text) fault
-
--- the settings of the two texts were compared
-pub record HasBoth {O E : Type 0} (holds : O → Option (List ℕ)) (contents : E → Option (List ℕ)) (one other : List ℕ) (old new : O) (before after : E) (answer : ℕ) : Type 0 where
-  pub first : Settings
-  pub second : Settings
-  pub first_read : IsReadFrom (parse_document one) first
-  pub second_read : IsReadFrom (parse_document other) second
-  pub compared : AreCompared holds contents first second old new before after answer
-
--- one has none: then nothing is said of their keys
-pub record LacksOne {O : Type 0} (one other : List ℕ) (old new : O) (answer : ℕ) : Type 0 where
-  pub lacks : HasNone one ⊎ HasNone other
-  pub unwritten : new ≡ old
-  pub is_one : answer ≡ 1
-
-abbrev pub HasCompared : {O E : Type 0} → (O → Option (List ℕ)) → (E → Option (List ℕ)) → List ℕ → List ℕ → O → O → E → E → ℕ → Type 0
-HasCompared holds contents one other old new before after answer =
-    HasBoth holds contents one other old new before after answer ⊎ LacksOne one other old new answer
+-- so they were where there are two; where there aren't, nothing is said, and nothing told
+abbrev pub AreComparedIf : {O E : Type 0} → (O → Option (List ℕ)) → Telling E → Option Settings → Option Settings → O → O → E → E → ℕ → Type 0
+AreComparedIf holds tells (Some one) (Some other) old new before after answer = AreCompared holds tells one other old new before after answer
+AreComparedIf holds tells (Some one) None old new before after answer = (new ≡ old) × (after ≡ before) × (answer ≡ 1)
+AreComparedIf holds tells None other old new before after answer = (new ≡ old) × (after ≡ before) × (answer ≡ 1)
 
 -- ---- of a file's fault
 
@@ -67,17 +50,24 @@ abbrev pub names_file : Fault → Bool
 names_file (File why) = true
 names_file _ = false
 
--- the line that tells a fault of the file at this path, by the fault's text: the path stands behind one that doesn't name it
-abbrev pub file_line : Bool → List ℕ → List ℕ → List ℕ
-file_line true text path = line_of text
-file_line false text path = codes "natpair: " ++ (text ++ (codes " (" ++ (path ++ codes ")\n")))
+-- a fault's text, with the path of its file behind one that doesn't name it, as `settings 1 NotToml (S.toml)`
+abbrev pub text_with_path : Fault → List ℕ → List ℕ
+text_with_path fault path = if names_file fault then fault_text fault else (fault_text fault ++ (codes " (" ++ (path ++ codes ")")))
 
--- just that line was written
-abbrev pub TellsOf : Fault → List ℕ → Option (List ℕ) → Option (List ℕ) → Type 0
-TellsOf fault path old new = Appends old new (file_line (names_file fault) (fault_text fault) path)
+-- ---- of two texts
 
--- a text holds no settings, for this fault, which was told so of its file, where that wasn't refused
-pub record IsToldOf (text path : List ℕ) (old new : Option (List ℕ)) {T E : Type 0} (told : Result T E) : Type 0 where
-  pub fault : SettingFault
-  pub why : Tells (parse_document text) fault
-  pub is_told : OnOk told (TellsOf (of_setting fault) path old new)
+-- the settings of a text were read, and nothing was told; or it holds none, and just why was told, with its file
+abbrev pub IsReadOf : {E : Type 0} → Telling E → Source → Option Settings → E → E → Type 0
+IsReadOf tells source (Some settings) before after = IsReadFrom (parse_document source.text.now) settings × (after ≡ before)
+IsReadOf tells source None before after =
+    IsToldOf tells (λ fault. text_with_path (of_setting fault) source.path.now) (Tells (parse_document source.text.now)) before after
+
+-- both texts were read, one after the other, and then the settings compared, where both hold some
+pub record HasCompared {O E : Type 0} (holds : O → Option (List ℕ)) (tells : Telling E) (one other : Source) (old new : O) (before after : E) (answer : ℕ) : Type 0 where
+  pub first : Option Settings
+  pub second : Option Settings
+  pub between : E
+  pub behind : E
+  pub first_read : IsReadOf tells one first before between
+  pub second_read : IsReadOf tells other second between behind
+  pub compared : AreComparedIf holds tells first second old new behind after answer

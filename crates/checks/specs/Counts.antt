@@ -94,6 +94,12 @@ IsCleanText text = IsClean (parse_document text)
 abbrev pub must_not : List Key → ℕ
 must_not keys = length (filter (λ k. not (may_differ k.name)) keys)
 
+-- there are two settings, which differ in no key in which they must not
+abbrev pub AreTwoAlike : Option Settings → Option Settings → Type 0
+AreTwoAlike (Some one) (Some other) = must_not (differing one other) ≡ 0
+AreTwoAlike (Some one) None = ⊥
+AreTwoAlike None other = ⊥
+
 -- two documents hold settings that differ in so many keys in which they must not
 abbrev pub DifferIn : Option Members → Option Members → ℕ → Type 0
 DifferIn one other count =

@@ -5,8 +5,8 @@ pub mod Doubts
 pub mod BootFiles
 pub mod Interfaces
 pub mod Saying
-pub mod Printed
 pub mod Ends
 pub mod Sights
 pub mod Reports
 pub mod Comparing
+pub mod Openings

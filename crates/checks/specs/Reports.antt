@@ -3,6 +3,7 @@ use Rattle.std.specs.Prelude.{◌≡◌, ◌⊎◌, ◌+◌, ℕ, List, [], ◌+
 use Rattle.std.specs.List.{flat_map}
 use Rattle.nat_types.specs.declared.gateways.Side.TheVariants.{Inside, Outside}
 use Rattle.settings.specs.declared.whole.Settings.{Settings}
+use Rattle.outlets.specs.Telling.{Telling}
 use Rattle.toml.specs.Data.{Members}
 use Rattle.toml.specs.Parse.{parse_document}
 use Rattle.settings_file.specs.Listing.{IsSeen}
@@ -97,15 +98,15 @@ pub record IsReport {P : Type 0} (finds : Finds P) (takes : Takes P) (around : P
 -- ---- of a check
 
 -- that was said, with the status that it leads to
-pub record HasReported {P E : Type 0} (finds : Finds P) (takes : Takes P) (contents : E → Option (List ℕ)) (around : P) (text : List ℕ) (request : Request) (old new : Option (List ℕ)) (before after : E) (answer : ℕ) : Type 0 where
+pub record HasReported {P E : Type 0} (finds : Finds P) (takes : Takes P) (tells : Telling E) (around : P) (text : List ℕ) (request : Request) (old new : Option (List ℕ)) (before after : E) (answer : ℕ) : Type 0 where
   pub faults : ℕ
   pub warnings : ℕ
   pub said : List ℕ
   pub is_report : IsReport finds takes around (parse_document text) request said faults warnings
-  pub is_said : IsSaid contents said (status_of faults warnings request.strict) old new before after answer
+  pub is_said : IsSaid tells said (status_of faults warnings request.strict) old new before after answer
 
 -- or memory was refused
-abbrev pub HasChecked : {P O E : Type 0} → Finds P → Takes P → (O → Option (List ℕ)) → (E → Option (List ℕ)) → P → List ℕ → Request → O → O → E → E → ℕ → Type 0
-HasChecked finds takes holds contents around text request old new before after answer =
-    HasReported finds takes contents around text request (holds old) (holds new) before after answer
-    ⊎ IsUnsaid contents old new before after answer
+abbrev pub HasChecked : {P O E : Type 0} → Finds P → Takes P → (O → Option (List ℕ)) → Telling E → P → List ℕ → Request → O → O → E → E → ℕ → Type 0
+HasChecked finds takes holds tells around text request old new before after answer =
+    HasReported finds takes tells around text request (holds old) (holds new) before after answer
+    ⊎ IsUnsaid tells old new before after answer

@@ -7,12 +7,13 @@ ghost use Rattle.checks.specs.Reports.{held_text, held_warnings, more_faults, mo
 ghost use Rattle.checks.specs.Reports.{more_warnings, report_text};
 
 use crate::boots::say_boot_file;
-use crate::outlets::{refuse, say};
+use crate::ends::{refuse, say};
 use crate::places::say_places;
 use crate::saying::{fault_count, say_faults, say_total, say_warnings};
 use crate::sights::sights_for;
 use crate::tallies::{NOTHING, Tally};
 use crate::{Request, Sights, Surroundings};
+use outlets::Tells;
 use settings::Settings;
 use settings_file::{Look, look};
 use std::alloc::{AllocError, Global};
@@ -21,7 +22,7 @@ use std::io::Write;
 /// Says every fault and every warning of a text of settings on `output`, each on a line with its key, and at the end how
 /// many they are. The answer is the exit status: 0, or 1 where there is a fault (or, where it is strict, a warning), or
 /// `output` can't be written, or memory is refused; the last two are told on `errors`.
-pub fn check<P: Surroundings, O: Write, E: Write>(
+pub fn check<P: Surroundings, O: Write, E: Tells>(
     alloc: Global,
     around: &P,
     text: &str,
@@ -32,7 +33,7 @@ pub fn check<P: Surroundings, O: Write, E: Write>(
     ensures status { (result ≡ 0) ⊎ (result ≡ 1) }
     ensures accepts { result ≡ 0 → IsGoodText text.now }
     ensures strict { request.now.strict ≡ true → result ≡ 0 → IsCleanText text.now }
-    ensures said { HasChecked P.finds P.takes O.contents E.contents around.now text.now
+    ensures said { HasChecked P.finds P.takes O.contents E.tells around.now text.now
         request.now output.old output.new errors.old errors.new result }
 {
     match report_of(alloc, around, text, request) {

@@ -1,25 +1,24 @@
 //! Says in what the settings of two files differ.
-ghost use Rattle.std.specs.Prelude.{◌≡◌, ◌⊎◌, ◌++◌, IfErr, IfOk, OnOk, flat_map, length, string_bytes};
-ghost use Rattle.toml.specs.Parse.{parse_document};
-ghost use Rattle.settings_file.specs.Settings.{IsReadFrom};
-ghost use Rattle.checks.specs.Comparing.{AreCompared, HasCompared, IsToldOf, TellsOf};
-ghost use Rattle.checks.specs.Comparing.{differing_line, differing_total, keys_text, names_file};
+ghost use Rattle.std.specs.Prelude.{◌≡◌, ◌⊎◌, ◌++◌, IfOk, OnOk, flat_map, length, string_bytes};
+ghost use Rattle.checks.specs.Comparing.{AreCompared, AreComparedIf, HasCompared, IsReadOf};
+ghost use Rattle.checks.specs.Comparing.{differing_line, differing_total, keys_text};
 ghost use Rattle.checks.specs.Comparing.{status_of_keys};
 ghost use Rattle.checks.specs.Differences.{differing, word_of};
-ghost use Rattle.checks.specs.Counts.{AreAlike, must_not};
+ghost use Rattle.checks.specs.Counts.{AreAlike, AreTwoAlike, must_not};
 
-use crate::outlets::{refuse, say};
-use crate::{Source, differing_keys, may_differ};
+use crate::ends::{refuse, say};
+use crate::{Source, differing_keys, may_differ, tell_of};
 use faults::Fault;
+use outlets::Tells;
 use settings::Settings;
 use settings_file::Key;
 use std::alloc::{AllocError, Global};
-use std::io::{self, Write};
+use std::io::Write;
 
 /// Says on `output` each key in which the settings of two texts differ, and whether it may, and at the end how many they
 /// are. The answer is the exit status: 0, or 1 where one differs that must not, a text holds no settings, `output` can't
 /// be written, or memory is refused; the last three are told on `errors`.
-pub fn compare<O: Write, E: Write>(
+pub fn compare<O: Write, E: Tells>(
     alloc: Global,
     one: Source<'_>,
     other: Source<'_>,
@@ -28,20 +27,48 @@ pub fn compare<O: Write, E: Write>(
 ) -> u8
     ensures status { (result ≡ 0) ⊎ (result ≡ 1) }
     ensures alike { result ≡ 0 → AreAlike one.entry.text.now other.entry.text.now }
-    ensures said { HasCompared O.contents E.contents one.entry.text.now other.entry.text.now
-        output.old output.new errors.old errors.new result }
+    ensures said { HasCompared O.contents E.tells one.entry other.entry output.old output.new
+        errors.old errors.new result }
 {
-    let (Ok(one), Ok(other)) = (
-        settings_in(alloc, one, errors),
-        settings_in(alloc, other, errors),
-    ) else {
-        return 1;
-    };
-    compare_settings(alloc, &one, &other, output, errors)
+    let first = settings_in(alloc, one, errors);
+    let second = settings_in(alloc, other, errors);
+    compare_if(alloc, first, second, output, errors)
+}
+
+/// The settings of a text; why there are none is told on `errors`.
+fn settings_in<E: Tells>(alloc: Global, source: Source<'_>, errors: &mut E) -> Option<Settings>
+    ensures { IsReadOf E.tells source.entry result errors.old errors.new }
+{
+    match settings_file::read(alloc, source.text) {
+        Ok(settings) => Some(settings),
+        Err(fault) => {
+            tell_of(alloc, &Fault::from(fault), source.path, errors);
+            None
+        }
+    }
+}
+
+/// Says in which keys two settings differ, where there are two.
+fn compare_if<O: Write, E: Tells>(
+    alloc: Global,
+    one: Option<Settings>,
+    other: Option<Settings>,
+    output: &mut O,
+    errors: &mut E,
+) -> u8
+    ensures status { (result ≡ 0) ⊎ (result ≡ 1) }
+    ensures alike { result ≡ 0 → AreTwoAlike one other }
+    ensures said { AreComparedIf O.contents E.tells one other output.old output.new errors.old
+        errors.new result }
+{
+    match (one, other) {
+        (Some(one), Some(other)) => compare_settings(alloc, &one, &other, output, errors),
+        (Some(_), None) | (None, _) => 1,
+    }
 }
 
 /// Says in which keys two settings differ.
-fn compare_settings<O: Write, E: Write>(
+fn compare_settings<O: Write, E: Tells>(
     alloc: Global,
     one: &Settings,
     other: &Settings,
@@ -50,62 +77,12 @@ fn compare_settings<O: Write, E: Write>(
 ) -> u8
     ensures status { (result ≡ 0) ⊎ (result ≡ 1) }
     ensures alike { result ≡ 0 → must_not (differing one.now other.now) ≡ 0 }
-    ensures said { AreCompared O.contents E.contents one.now other.now output.old output.new
+    ensures said { AreCompared O.contents E.tells one.now other.now output.old output.new
         errors.old errors.new result }
 {
     match differences_of(alloc, one, other) {
         Ok(found) => say(found.text.as_str(), found.status, output, errors),
         Err(_) => refuse(errors),
-    }
-}
-
-/// Tells on `errors` of the fault of a file, and which file it is.
-pub fn tell_of<E: Write>(fault: &Fault, path: &str, errors: &mut E) {
-    let _untold = told_of(fault, path, errors);
-}
-
-/// Writes that line.
-fn told_of<E: Write>(fault: &Fault, path: &str, errors: &mut E) -> io::Result<()>
-    ensures told { OnOk result
-        (TellsOf fault.now path.now (E.contents errors.old) (E.contents errors.new)) }
-{
-    if names_file(fault) {
-        writeln!(errors, "natpair: {fault}")
-    } else {
-        writeln!(errors, "natpair: {fault} ({path})")
-    }
-}
-
-/// Whether a fault names its file itself.
-fn names_file(fault: &Fault) -> bool
-    ensures { result ≡ names_file fault.now }
-{
-    match fault {
-        Fault::File(_) => true,
-        Fault::Words
-        | Fault::Setting(_)
-        | Fault::BadLine(_)
-        | Fault::NotWritten
-        | Fault::NotText
-        | Fault::NoSocket(_)
-        | Fault::NoMemory => false,
-    }
-}
-
-/// The settings of a text; why there are none is told on `errors`, which may be refused.
-fn settings_in<E: Write>(
-    alloc: Global,
-    source: Source<'_>,
-    errors: &mut E,
-) -> Result<Settings, io::Result<()>>
-    ensures ok { IfOk result (IsReadFrom (parse_document source.entry.text.now)) }
-    ensures untold { OnOk result (errors.new ≡ errors.old) }
-    ensures err { IfErr result (IsToldOf source.entry.text.now source.entry.path.now
-        (E.contents errors.old) (E.contents errors.new)) }
-{
-    match settings_file::read(alloc, source.text) {
-        Ok(settings) => Ok(settings),
-        Err(fault) => Err(told_of(&Fault::from(fault), source.path, errors)),
     }
 }
 

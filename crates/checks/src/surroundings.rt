@@ -1,15 +1,13 @@
 //! What a box finds where it is to run.
-ghost use Rattle.std.specs.Prelude.{◌≡◌, ◌≤◌, length, take, IfOk, IfSome, Some};
-ghost use Rattle.boot_store.specs.BootFile.{slot_number, greater, number_of};
-ghost use Rattle.checks.specs.BootFiles.{found_in};
+ghost use Rattle.std.specs.Prelude.{IfOk};
+ghost use Rattle.checks.specs.Openings.{IsMtuRead, IsMtuText, IsSeenAt, mtu_path};
 
+use crate::openings::{Opening, seen_in};
 use boot_file::Lockable;
-use byteorder::{BigEndian, ByteOrder};
-use faults::text_of;
-use std::alloc::AllocError;
-use std::fs::{self, OpenFile, OpenOptions};
-use std::io::{self, Read};
-use std::os::unix::fs::PermissionsExt;
+use faults::{Fault, Reads, SystemReads, text_by};
+use std::alloc::{AllocError, Global};
+use std::fs::{self, OpenOptions};
+use std::io;
 use std::rt::Files;
 
 /// What a boot file was like when it was looked at.
@@ -74,19 +72,11 @@ where
     ghost takes = { λ _ _ _. Unit {0} };
 
     fn boot_file(&self, path: &str) -> Found {
-        match opened(self.rt, path) {
-            Err(_) => Found::Nothing,
-            Ok(None) => Found::NoFile,
-            Ok(Some(mut file)) => Found::File(seen_in(&mut file)),
-        }
+        found_by(opened(self.rt, path))
     }
 
     fn mtu(&self, name: &str) -> Result<Option<u32>, AllocError> {
-        let path = format!(in self.rt.alloc(); "/sys/class/net/{name}/mtu")?;
-        match text_of(self.rt, path.as_str()) {
-            Ok(text) => Ok(text.as_str().trim().parse().ok()),
-            Err(_) => Ok(None),
-        }
+        mtu_by(self.rt.alloc(), &mut SystemReads(self.rt), name)
     }
 }
 
@@ -99,73 +89,33 @@ fn opened<R: Files>(rt: &R, path: &str) -> io::Result<Option<R::File>> {
     Ok(Some(file))
 }
 
-/// Looks into a boot file.
-fn seen_in<F: Read + OpenFile + Lockable>(file: &mut F) -> Seen
-    ensures { IfSome (F.remaining file.old) (λ bytes.
-        IfSome result.number (λ number. number_of (take 32 bytes) ≡ Some number)) }
+/// What there is where a boot file is to be, by what was opened there.
+fn found_by<F: Opening + Drop>(opened: io::Result<Option<F>>) -> Found
+    ensures { IsSeenAt F.begins F.lets F.locks opened result }
 {
-    let number = read_number(file);
-    let mode = match file.metadata() {
-        Ok(metadata) => Some(metadata.permissions().mode()),
-        Err(_) => None,
-    };
-    let is_used = file.try_lock().is_err();
-    Seen {
-        number,
-        mode,
-        is_used,
+    match opened {
+        Err(_) => Found::Nothing,
+        Ok(None) => Found::NoFile,
+        Ok(Some(mut file)) => Found::File(seen_in(&mut file)),
     }
 }
 
-/// The number of a slot, where it is valid.
-#[tactic(auto, unfolding(boot_store::specs::BootFile::slot_number))]
-fn slot_number(slot: &[u8]) -> Option<u64>
-    requires { 16 ≤ length slot.now }
-    ensures { result ≡ slot_number slot.now }
+/// The MTU of the interface of a name, where there is one, by who reads files.
+fn mtu_by<R: Reads>(alloc: Global, files: &mut R, name: &str) -> Result<Option<u32>, AllocError>
+    ensures { IfOk result (IsMtuRead
+        (λ answer. R.answers files.old (mtu_path name.now) answer files.new)) }
 {
-    let number = BigEndian::read_u64(slot);
-    let complement = BigEndian::read_u64(&slot[8..]);
-    if complement == u64::MAX - number {
-        Some(number)
-    } else {
-        None
+    let path = format!(in alloc; "/sys/class/net/{name}/mtu")?;
+    match text_by(alloc, files, path.as_str()) {
+        Ok(text) => Ok(mtu_in(text.as_str())),
+        Err(Fault::NoMemory) => Err(AllocError),
+        Err(_) => Ok(None),
     }
 }
 
-/// The greater of two slots' numbers.
-fn greater(first: Option<u64>, second: Option<u64>) -> Option<u64>
-    ensures { result ≡ greater first second }
+/// The number that a text is, without the white space at its ends.
+fn mtu_in(text: &str) -> Option<u32>
+    ensures { IsMtuText text.now result }
 {
-    match (first, second) {
-        (None, other) => other,
-        (Some(a), None) => Some(a),
-        (Some(a), Some(b)) => Some(a.max(b)),
-    }
-}
-
-/// The number of a boot file: the greater one of its valid slots.
-fn number_of(file: &[u8; 32]) -> Option<u64>
-    ensures { result ≡ number_of file.now }
-{
-    greater(slot_number(&file[..16]), slot_number(&file[16..32]))
-}
-
-/// The number of a boot file, from its first 32 bytes; none where no slot is valid, or they can't be read.
-fn read_number<F: Read>(file: &mut F) -> Option<u64>
-    ensures { IfSome (F.remaining file.old) (λ bytes.
-        IfSome result (λ number. number_of (take 32 bytes) ≡ Some number)) }
-{
-    let mut bytes = [0; 32];
-    let read = file.read_exact(&mut bytes);
-    found_in(read, &bytes)
-}
-
-/// The number in the first 32 bytes of a boot file; none where they couldn't be read.
-fn found_in(read: io::Result<()>, bytes: &[u8; 32]) -> Option<u64>
-    ensures { result ≡ found_in read bytes.now }
-{
-    match read {
-        Ok(()) => number_of(bytes),
-        Err(_) => None,
-    }
+    text.trim().parse().ok()
 }

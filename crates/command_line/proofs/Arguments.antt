@@ -1,5 +1,6 @@
 -- The arguments of a command, and the commands of a line, one after the other.
-use Rattle.std.proofs.Common.{◌≡◌, ◌∷◌, [], List, subst}
+use Rattle.std.proofs.Common.{◌≡◌, ◌∷◌, [], List, subst, Result, Ok, Err}
+use Rattle.std.specs.Prelude.{OnErr}
 use Rattle.clap.specs.Words.{App, Text, with_rule, with_subcommand}
 use Rattle.command_line.specs.Arguments.{rule_for, with_all}
 use Rattle.command_line.specs.Entries.{app_for, bare_app, bare_help, help_for, with_each, with_pages}
@@ -34,3 +35,8 @@ pub all_commands : {B : Type 0} (tells : B → App → Help → Type 0) (c : B) 
     → rest ≡ [] → with_each a rest ≡ bare_app → with_pages h rest ≡ bare_help → tells c a h → tells c bare_app bare_help
 all_commands tells c a h rest none is_app is_help told =
     subst (λ (x : App). tells c x bare_help) (rw none at is_app) (subst (λ (x : Help). tells c a x) (rw none at is_help) told)
+
+-- what holds where memory is refused
+pub refused_for : {T E P : Type 0} (r : Result T E) → P → OnErr r P
+refused_for (Ok x) p = tt
+refused_for (Err e) p = p

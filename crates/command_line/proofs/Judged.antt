@@ -71,3 +71,10 @@ refuses_as name rows wrong (Err NoMemory) is h = tt
 -- the task of a command by its name
 pub task_as : (name mine : Text) (rows : List Row) (r : Result Task LineFault) → name ≡ mine → IfOk r (IsTask mine rows) → IfOk r (IsTask name rows)
 task_as name mine rows r is h = subst (λ (n : Text). IfOk r (IsTask n rows)) (sym is) h
+
+-- where its values don't go together so it is refused as just that
+pub refused_as : (name : Text) (rows : List Row) (wrong : ValueFault) (r : Result Task LineFault) → name ≡ command_at wrong
+    → (AreWrong rows wrong → r ≡ Err (Values wrong)) → (why : ValueFault) → IsFaulty name rows why → r ≡ Err (Values why)
+refused_as name rows wrong r is h why faulty =
+    let same : why ≡ wrong = same_fault why wrong (sym faulty.0 ∙ is) in
+    subst (λ (w : ValueFault). r ≡ Err (Values w)) (sym same) (h (subst (AreWrong rows) same faulty.1))

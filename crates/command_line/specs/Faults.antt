@@ -1,8 +1,9 @@
 -- What the faults of a command line lead to, and their texts.
-use Rattle.std.specs.Prelude.{◌≡◌, ◌≢◌, ℕ, List, ◌++◌, codes, Option, Some, None}
+use Rattle.std.specs.Prelude.{◌≡◌, ◌≢◌, ◌⊎◌, ℕ, List, codes, Option, Some, None}
 use Rattle.clap.specs.Words.{kind_of}
 use Rattle.clap.specs.declared.error.Error.{Error}
 use Rattle.clap.specs.declared.error.kind.ErrorKind.TheVariants.{OutOfMemory}
+use Rattle.outlets.specs.Telling.{HasTold, IsTold, Telling, no_memory_line}
 use Rattle.command_line.specs.declared.faults.LineFault.{LineFault}
 use Rattle.command_line.specs.declared.faults.LineFault.TheVariants.{Refused, Values, NoMemory}
 use Rattle.command_line.specs.declared.faults.ValueFault.{ValueFault}
@@ -34,12 +35,14 @@ line_text (Refused error) = None
 line_text (Values why) = Some (value_text why)
 line_text NoMemory = Some (codes "memory 1 NoMemory")
 
--- the line of a text
-abbrev pub line_of : List ℕ → List ℕ
-line_of text = codes "natpair: " ++ text ++ codes "\n"
+-- ---- who is told of faults
 
--- what a user is told
-abbrev pub told_line : LineFault → Option (List ℕ)
-told_line (Refused error) = None
-told_line (Values why) = Some (line_of (value_text why))
-told_line NoMemory = Some (line_of (codes "memory 1 NoMemory"))
+-- just this text was told; or, where there was no memory for it, the line that says so
+abbrev pub IsTextTold : {E : Type 0} → Telling E → E → List ℕ → E → Type 0
+IsTextTold tells before text after = HasTold tells before text after ⊎ HasTold tells before no_memory_line after
+
+-- of a fault just the line of its text was told; of one of clap's some one text, of which nothing is known
+abbrev pub IsFaultTold : {E : Type 0} → Telling E → E → LineFault → E → Type 0
+IsFaultTold tells before (Refused error) after = (text : List ℕ) × HasTold tells before text after
+IsFaultTold tells before (Values why) after = IsTold tells before (value_text why) after
+IsFaultTold tells before NoMemory after = IsTold tells before (codes "memory 1 NoMemory") after

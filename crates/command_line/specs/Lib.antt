@@ -6,3 +6,4 @@ pub mod Faults
 pub mod Arguments
 pub mod Helps
 pub mod Entries
+pub mod Reading

@@ -1,11 +1,12 @@
 -- The task that words ask for.
-use Rattle.std.specs.Prelude.{◌≡◌, ◌⊎◌, Bool, true, not, List, [], ◌∷◌, codes, Option, Some, None, option_map, string_bytes}
+use Rattle.std.specs.Prelude.{◌≡◌, ◌≢◌, ◌⊎◌, Bool, true, not, List, [], ◌∷◌, codes, Option, Some, None, option_map, string_bytes}
 use Rattle.std.specs.List.{list_any}
 use Rattle.std.specs.Str.{bytes_eq}
+use Rattle.clap.specs.Kinds.{IsAmong}
 use Rattle.clap.specs.Words.{Row, Text, first_of, kind_of, one_of}
 use Rattle.clap.specs.declared.error.kind.ErrorKind.TheVariants.{DisplayVersion}
 use Rattle.command_line.specs.Filters.{IsAddressIf, IsPortIf, LacksFilter, LacksStatus, entry_state_in, form_in, protocol_in, wait_in}
-use Rattle.command_line.specs.Line.{AskVersion, MayAskVersion, Takes, entered_by}
+use Rattle.command_line.specs.Line.{AskVersion, MayAskVersion, Takes, entered_by, faults_of}
 use Rattle.command_line.specs.Values.{HasId, HasIdIf, HasNumberIf, IsId, IsIdIf, IsReadIf, flag_of, side_in, state_in, word_of}
 use Rattle.command_line.specs.declared.faults.LineFault.{LineFault}
 use Rattle.command_line.specs.declared.faults.LineFault.TheVariants.{Refused, Values, NoMemory}
@@ -192,10 +193,10 @@ RefusesEntered entered (Refused error) = ⊥
 RefusesEntered entered (Values why) = IsEnteredFaulty entered why
 RefusesEntered entered NoMemory = Unit {0}
 
--- why clap's parse is refused
+-- why clap's parse is refused: by an error of a kind that it finds in the words
 abbrev pub RefusesWords : List Text → LineFault → Type 0
 RefusesWords words (Refused error) = ¬ (Takes words) × (kind_of error ≡ DisplayVersion → MayAskVersion words)
-    × (AskVersion words → kind_of error ≡ DisplayVersion)
+    × (AskVersion words → kind_of error ≡ DisplayVersion) × IsAmong (kind_of error) (faults_of words)
 RefusesWords words (Values why) = ⊥
 RefusesWords words NoMemory = Unit {0}
 
@@ -209,9 +210,10 @@ pub record AskFor (words : List Text) (asked : Task) : Type 0 where
 abbrev pub IsAnswer : List Text → Task → Type 0
 IsAnswer words asked = AskFor words asked ⊎ ((asked ≡ task.Version) × MayAskVersion words)
 
--- why words are no task: `clap` refuses them, and not by telling the version; or it takes them, and the values of their
--- command don't go together; or for want of memory
+-- why words are no task: `clap` refuses them, by an error of a kind that it finds in them, and not by telling the version;
+-- or it takes them, and the values of their command don't go together; or for want of memory
 abbrev pub Refuses : List Text → LineFault → Type 0
 Refuses words (Refused error) = ¬ (Takes words) × ¬ (AskVersion words)
+    × IsAmong (kind_of error) (faults_of words) × (kind_of error ≢ DisplayVersion)
 Refuses words (Values why) = Takes words × IsEnteredFaulty (entered_by words) why
 Refuses words NoMemory = Unit {0}

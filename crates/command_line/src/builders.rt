@@ -1,22 +1,32 @@
 //! Who is told of commands.
-ghost use Rattle.std.specs.Prelude.{◌≡◌, IfOk, Some, false, true};
-ghost use Rattle.clap.specs.Words.{App, app_of, new_app, with_rule, with_subcommand};
+ghost use Rattle.std.specs.Prelude.{◌≡◌, IfOk, OnErr, Some, false, map, string_bytes, true};
+ghost use Rattle.clap.specs.Words.{App, FailsBy, HasMatchesOf, app_of, fault_of, is_simple_and_free};
+ghost use Rattle.clap.specs.Words.{new_app, with_rule, with_subcommand};
 ghost use Rattle.clap.specs.declared.builder.command.Command.TheViews.{out-Command as fields_of};
 ghost use Rattle.command_line.specs.Arguments.{rule_for};
 ghost use Rattle.command_line.specs.Helps.{Help, new_help, with_argument, with_command, with_texts};
 ghost use Rattle.command_line.specs.Line.{wanting_command};
 
 use crate::options::Argument;
-use clap::Command;
+use clap::{ArgMatches, Command, Error};
 use std::alloc::{AllocError, Global};
 
 /// A command in the making: which words it takes, and what its help says.
-pub(crate) trait Builder: Sized + Drop {
-    ghost use Rattle.clap.specs.Words.{App};
+pub(crate) trait Builder<'a>: Sized + Drop {
+    ghost use Rattle.std.specs.Prelude.{List, Result};
+    ghost use Rattle.clap.specs.Words.{App, Text};
+    ghost use Rattle.clap.specs.declared.error.Error.{Error};
+    ghost use Rattle.clap.specs.declared.parser.matches.ArgMatches.{ArgMatches};
     ghost use Rattle.command_line.specs.Helps.{Help};
 
     /// It takes words so, and its help says this.
     ghost tells: { Self → App → Help → Type 0 };
+
+    /// What it may make of words.
+    ghost reads: { Self → List Text → Result ArgMatches Error → Type 0 };
+
+    /// Memory may be refused where it is told more.
+    ghost lacks: { Self → Type 0 };
 
     /// A command of this name, of which no more is told.
     fn named(alloc: Global, name: &'static str) -> Self
@@ -24,13 +34,15 @@ pub(crate) trait Builder: Sized + Drop {
 
     /// It takes an argument more.
     fn takes(self, alloc: Global, argument: &Argument<'static>) -> Result<Self, AllocError>
-        ensures { IfOk result (λ c. (a : App) → (h : Help) → tells self a h
-            → tells c (with_rule a (rule_for argument.now)) (with_argument h argument.now)) };
+        ensures told { IfOk result (λ c. (a : App) → (h : Help) → tells self a h
+            → tells c (with_rule a (rule_for argument.now)) (with_argument h argument.now)) }
+        ensures refused { OnErr result (lacks self) };
 
     /// It has a command below it more.
     fn has(self, command: Self) -> Result<Self, AllocError>
-        ensures { IfOk result (λ c. (a b : App) → (h k : Help) → tells self a h
-            → tells command b k → tells c (with_subcommand a b.top) (with_command h k)) };
+        ensures told { IfOk result (λ c. (a b : App) → (h k : Help) → tells self a h
+            → tells command b k → tells c (with_subcommand a b.top) (with_command h k)) }
+        ensures refused { OnErr result (lacks self) };
 
     /// One of the commands below it has to be named, none of which is `help`; and it has a version.
     fn wants_command(self, version: &'static str) -> Self
@@ -41,6 +53,14 @@ pub(crate) trait Builder: Sized + Drop {
     fn says(self, about: &'static str, below: &'static str) -> Self
         ensures { (a : App) → (h : Help) → tells self a h
             → tells result a (with_texts h about.entry.now below.entry.now) };
+
+    /// What it makes of words, by what it takes.
+    fn read(self, words: &'a [String]) -> Result<ArgMatches<'a>, Error>
+        ensures read { reads self (map string_bytes words.now) result }
+        ensures matches { IfOk result (λ m. (a : App) → (h : Help) → tells self a h
+            → HasMatchesOf a (map string_bytes words.now) m) }
+        ensures kinds { (a : App) → (h : Help) → tells self a h → is_simple_and_free a ≡ true
+            → FailsBy (fault_of a (map string_bytes words.now)) result };
 }
 
 /// A command with these texts, and no other change.
@@ -67,9 +87,14 @@ fn wanting_command<'a>(command: Command<'a>, version: &'static str) -> Command<'
         .subcommand_required(true)
 }
 
-/// `clap` says of its commands which words they take, and not what help prints of them: of that nothing is claimed.
-impl<'a> Builder for Command<'a> {
+/// `clap` says of its commands which words they take, and what they make of them by that; not what help prints of them:
+/// of that nothing is claimed.
+impl<'a> Builder<'a> for Command<'a> {
     ghost tells = { λ c a _. (app_of c ≡ a) × ((fields_of c).has_globals ≡ false) };
+
+    ghost reads = { λ _ _ _. Unit {0} };
+
+    ghost lacks = { λ _. Unit {0} };
 
     fn named(alloc: Global, name: &'static str) -> Command<'a> {
         Command::new(alloc, name)
@@ -89,5 +114,9 @@ impl<'a> Builder for Command<'a> {
 
     fn says(self, about: &'static str, below: &'static str) -> Command<'a> {
         with_texts(self, about, below)
+    }
+
+    fn read(self, words: &'a [String]) -> Result<ArgMatches<'a>, Error> {
+        self.try_get_matches_from(words)
     }
 }

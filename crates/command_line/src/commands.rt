@@ -1,13 +1,12 @@
 //! The commands.
-ghost use Rattle.std.specs.Prelude.{◌≡◌, IfOk};
-ghost use Rattle.clap.specs.Words.{app_of};
+ghost use Rattle.std.specs.Prelude.{◌≡◌, IfOk, OnErr};
 ghost use Rattle.command_line.specs.Entries.{app_for, app_in, bare_app, bare_help, help_for, help_in, line_help};
 ghost use Rattle.command_line.specs.Line.{line_app};
+ghost use Rattle.command_line.specs.Reading.{IsShort};
 
 use crate::VERSION;
 use crate::builders::Builder;
 use crate::options::{Argument, Form};
-use clap::Command;
 use clap::builder::ValueParser;
 use std::alloc::{AllocError, Global};
 
@@ -345,8 +344,9 @@ fn outline_of(entry: Entry) -> &'static Outline<'static>
 }
 
 /// The command of an entry.
-fn command<B: Builder>(alloc: Global, entry: Entry) -> Result<B, AllocError>
-    ensures { IfOk result (λ c. B.tells c (app_for entry) (help_for entry)) }
+fn command<'a, B: Builder<'a>>(alloc: Global, entry: Entry) -> Result<B, AllocError>
+    ensures told { IfOk result (λ c. B.tells c (app_for entry) (help_for entry)) }
+    ensures refused { OnErr result (IsShort B.lacks) }
 {
     let outline = outline_of(entry);
     let mut command = B::named(alloc, outline.name);
@@ -357,8 +357,9 @@ fn command<B: Builder>(alloc: Global, entry: Entry) -> Result<B, AllocError>
 }
 
 /// The program with all its commands.
-fn commands<B: Builder>(alloc: Global) -> Result<B, AllocError>
-    ensures { IfOk result (λ c. B.tells c bare_app bare_help) }
+fn commands<'a, B: Builder<'a>>(alloc: Global) -> Result<B, AllocError>
+    ensures told { IfOk result (λ c. B.tells c bare_app bare_help) }
+    ensures refused { OnErr result (IsShort B.lacks) }
 {
     let mut program = B::named(alloc, "natpair");
     for entry in &ENTRIES {
@@ -368,9 +369,10 @@ fn commands<B: Builder>(alloc: Global) -> Result<B, AllocError>
     Ok(program)
 }
 
-/// The program, with what its help says, and its version.
-fn program<B: Builder>(alloc: Global) -> Result<B, AllocError>
-    ensures { IfOk result (λ c. B.tells c line_app line_help) }
+/// The command line: the program, with what its help says, and its version.
+pub(crate) fn line<'a, B: Builder<'a>>(alloc: Global) -> Result<B, AllocError>
+    ensures told { IfOk result (λ c. B.tells c line_app line_help) }
+    ensures refused { OnErr result (IsShort B.lacks) }
 {
     let program: B = commands(alloc)?;
     Ok(
@@ -379,11 +381,4 @@ fn program<B: Builder>(alloc: Global) -> Result<B, AllocError>
             "Example: natpair sim S.toml day.script\n`natpair COMMAND --help` tells a command's options.",
         ),
     )
-}
-
-/// The command line.
-pub(crate) fn line<'a>(alloc: Global) -> Result<Command<'a>, AllocError>
-    ensures { IfOk result (λ c. app_of c ≡ line_app) }
-{
-    program(alloc)
 }

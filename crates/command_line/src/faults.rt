@@ -1,12 +1,12 @@
 //! Why words are no command line.
-ghost use Rattle.std.specs.Prelude.{◌≡◌, OnOk};
-ghost use Rattle.std.specs.Io.KnownBytes.{Appends};
-ghost use Rattle.command_line.specs.Faults.{line_of};
+ghost use Rattle.std.specs.Prelude.{◌≡◌, List, Some, ℕ};
+ghost use Rattle.command_line.specs.Faults.{IsTextTold};
+ghost use Rattle.outlets.specs.Telling.{HasTold};
 
 use clap::error::ErrorKind;
-use std::alloc::AllocError;
-use std::fmt;
-use std::io::{self, Write};
+use outlets::{Tells, tell};
+use std::alloc::{AllocError, Global};
+use std::fmt::{self, Display};
 use thiserror::Error;
 
 /// What is wrong with the values of a command, each of which `clap` takes.
@@ -90,9 +90,8 @@ impl fmt::Debug for LineFault {
 }
 
 impl LineFault {
-    ghost use Rattle.std.specs.Prelude.{◌≡◌, IfSome, OnOk};
-    ghost use Rattle.std.specs.Io.KnownBytes.{Appends};
-    ghost use Rattle.command_line.specs.Faults.{status_of, told_line};
+    ghost use Rattle.std.specs.Prelude.{◌≡◌};
+    ghost use Rattle.command_line.specs.Faults.{IsFaultTold, status_of};
 
     /// The exit status that the fault leads to.
     pub fn status(&self) -> u8
@@ -105,32 +104,37 @@ impl LineFault {
     }
 
     /// Tells of the fault, and gives its exit status: the text of `clap` as it is, else a line behind
-    /// `natpair: `. Where even that can't be written, the status alone tells.
-    pub fn tell<E: Write>(&self, errors: &mut E) -> u8
+    /// `natpair: `. Where even that can't be told, the status alone tells.
+    pub fn tell<E: Tells>(&self, alloc: Global, errors: &mut E) -> u8
         ensures status { result ≡ status_of self.now }
-    {
-        let _ = self.show(errors);
-        self.status()
-    }
-
-    fn show<E: Write>(&self, errors: &mut E) -> io::Result<()>
-        ensures told { OnOk result (IfSome (told_line self.now)
-            (Appends (E.contents errors.old) (E.contents errors.new))) }
+        ensures told { IsFaultTold E.tells errors.old self.now errors.new }
     {
         match self {
-            LineFault::Refused(error) => write!(errors, "{error}"),
-            LineFault::Values(why) => line(why.as_str(), errors),
-            LineFault::NoMemory => line("memory 1 NoMemory", errors),
+            LineFault::Refused(error) => tell_as_is(alloc, error, errors),
+            LineFault::Values(why) => tell(alloc, why, errors),
+            LineFault::NoMemory => tell(alloc, self, errors),
         }
+        self.status()
     }
 }
 
-/// Writes a line of a text behind `natpair: `.
-fn line<E: Write>(text: &str, errors: &mut E) -> io::Result<()>
-    ensures { OnOk result
-        (Appends (E.contents errors.old) (E.contents errors.new) (line_of text.now)) }
+/// Tells a text as it is; where there is no memory for it, of that.
+fn tell_as_is<T: Display, E: Tells>(alloc: Global, what: &T, errors: &mut E)
+    ensures once { (text : List ℕ) × HasTold E.tells errors.old text errors.new }
+    ensures text { (text : List ℕ) → T.output what.now ≡ Some text
+        → IsTextTold E.tells errors.old text errors.new }
 {
-    writeln!(errors, "natpair: {text}")
+    match format!(in alloc; "{what}") {
+        Ok(text) => told(errors, text.as_str()),
+        Err(_) => told(errors, "natpair: memory 1 NoMemory\n"),
+    }
+}
+
+/// Tells a text, whatever comes of it.
+fn told<E: Tells>(errors: &mut E, text: &str)
+    ensures { HasTold E.tells errors.old text.now errors.new }
+{
+    let _untold = errors.tell_line(text);
 }
 
 impl From<AllocError> for LineFault {

@@ -2,6 +2,7 @@
 ghost use Rattle.std.specs.Prelude.{◌≡◌, ◌⊎◌, codes, string_bytes, map, option_map, true, Err, Ok, IfOk, IfErr, OnOk};
 ghost use Rattle.clap.specs.Words.{found_of, rows_of, subcommand_rows_of};
 ghost use Rattle.command_line.specs.Line.{AskVersion, Takes, entered_by};
+ghost use Rattle.command_line.specs.Reading.{IsOfLine, IsOfReading};
 ghost use Rattle.command_line.specs.Values.{HasId, IsId};
 ghost use Rattle.command_line.specs.Tasks.{AreFiles, AreWays, AreWrong, Asks, Enters, FoundsAtZero, HasNumbers, IsAnswer, IsEnteredFaulty, IsCheck, IsFaulty, IsGate, IsPeerOff, IsTask, Numbered, Refuses, RefusesAs, RefusesEntered, RefusesValues, RefusesWords, is_named, is_plain, wants_id};
 ghost use Rattle.command_line.specs.declared.faults.LineFault.TheVariants as faults;
@@ -9,13 +10,14 @@ ghost use Rattle.command_line.specs.declared.faults.ValueFault.{ValueFault as Wh
 ghost use Rattle.command_line.specs.declared.faults.ValueFault.TheVariants.{FoundNeedsIdZero, NoFilter, NoSide, NoStatus};
 ghost use Rattle.command_line.specs.declared.tasks.Task.TheVariants as tasks;
 
+use crate::builders::Builder;
 use crate::faults::{LineFault, ValueFault};
 use crate::words::{
     CheckWords, GateWords, PairsWords, PeerOffWords, RunWords, StatusWords, WayWords,
 };
 use crate::{commands, filters, values};
-use clap::ArgMatches;
 use clap::error::ErrorKind;
+use clap::{ArgMatches, Command};
 use nat_types::{GatewayId, Side};
 use std::alloc::{AllocError, Global};
 
@@ -272,6 +274,8 @@ fn named(alloc: Global, name: &str, matches: &ArgMatches<'_>) -> Result<Task, Li
     ensures sound { OnOk result ((why : Why)
         → ¬ (IsFaulty name.now (rows_of (found_of matches.now)) why)) }
     ensures err { IfErr result (RefusesValues name.now (rows_of (found_of matches.now))) }
+    ensures wrong { (why : Why) → IsFaulty name.now (rows_of (found_of matches.now)) why
+        → result ≡ Err (faults.Values why) }
 {
     match name {
         "gate" => gate(alloc, matches),
@@ -289,6 +293,8 @@ fn of_matches(alloc: Global, matches: &ArgMatches<'_>) -> Result<Task, LineFault
     ensures sound { OnOk result ((why : Why)
         → ¬ (IsEnteredFaulty (subcommand_rows_of matches.now) why)) }
     ensures err { IfErr result (RefusesEntered (subcommand_rows_of matches.now)) }
+    ensures wrong { (why : Why) → IsEnteredFaulty (subcommand_rows_of matches.now) why
+        → result ≡ Err (faults.Values why) }
 {
     match entered(matches) {
         Some((name, values)) => named(alloc, name, values),
@@ -297,18 +303,42 @@ fn of_matches(alloc: Global, matches: &ArgMatches<'_>) -> Result<Task, LineFault
 }
 
 /// The matches of all commands.
-fn parse<'a>(alloc: Global, words: &'a [String]) -> Result<ArgMatches<'a>, LineFault>
+fn parse<'a, B: Builder<'a>>(
+    alloc: Global,
+    words: &'a [String],
+) -> Result<ArgMatches<'a>, LineFault>
     ensures taken { IfOk result (λ _. Takes (map string_bytes words.now)) }
     ensures values { IfOk result (λ m. subcommand_rows_of m
         ≡ entered_by (map string_bytes words.now)) }
     ensures one { IfOk result (λ m. Enters (subcommand_rows_of m)) }
     ensures numbers { IfOk result (λ m. Numbered (subcommand_rows_of m)) }
     ensures err { IfErr result (RefusesWords (map string_bytes words.now)) }
+    ensures line { IfErr result
+        (IsOfReading B.tells B.reads B.lacks (map string_bytes words.now)) }
 {
-    let line = commands::line(alloc)?;
-    match line.try_get_matches_from(words) {
+    let line: B = commands::line(alloc)?;
+    match line.read(words) {
         Ok(matches) => Ok(matches),
         Err(error) => Err(LineFault::from(error)),
+    }
+}
+
+/// The task that words ask for, by whoever is told of commands.
+fn command_by<'a, B: Builder<'a>>(alloc: Global, words: &'a [String]) -> Result<Task, LineFault>
+    ensures task { IfOk result (IsAnswer (map string_bytes words.now)) }
+    ensures found { IfOk result FoundsAtZero }
+    ensures refused { IfErr result (Refuses (map string_bytes words.now)) }
+    ensures version { AskVersion (map string_bytes words.now)
+        → (result ≡ Ok tasks.Version) ⊎ (result ≡ Err faults.NoMemory) }
+    ensures line { IfErr result
+        (IsOfLine B.tells B.reads B.lacks (map string_bytes words.now)) }
+{
+    match parse::<B>(alloc, words) {
+        Ok(matches) => of_matches(alloc, &matches),
+        Err(LineFault::Refused(error)) if error.kind() == ErrorKind::DisplayVersion => {
+            Ok(Task::Version)
+        }
+        Err(fault) => Err(fault),
     }
 }
 
@@ -325,11 +355,5 @@ pub fn command(alloc: Global, words: &[String]) -> Result<Task, LineFault>
     ensures version { AskVersion (map string_bytes words.now)
         → (result ≡ Ok tasks.Version) ⊎ (result ≡ Err faults.NoMemory) }
 {
-    match parse(alloc, words) {
-        Ok(matches) => of_matches(alloc, &matches),
-        Err(LineFault::Refused(error)) if error.kind() == ErrorKind::DisplayVersion => {
-            Ok(Task::Version)
-        }
-        Err(fault) => Err(fault),
-    }
+    command_by::<Command<'_>>(alloc, words)
 }

@@ -1,35 +1,31 @@
-use Rattle.std.proofs.Common.{inl, inr, refl, sym, ℕ, List, Option, Result}
-use Rattle.checks.specs.Comparing.{HasNone, IsToldOf}
-use Rattle.checks.proofs.comparing.compare.Goals.{in_default-via-in-Ok+in_default, in_default-via-in_default}
-use Rattle.checks.specs.Counts.{AreAlike}
+use Rattle.std.proofs.Common.{Option, Some, None, sym}
+use Rattle.outlets.specs.Telling.{Telling}
+use Rattle.settings.specs.declared.whole.Settings.{Settings}
+use Rattle.checks.specs.Comparing.{IsReadOf}
+use Rattle.checks.specs.Counts.{AreAlike, AreTwoAlike}
+use Rattle.checks.specs.declared.requests.Source.{Source}
 use Rattle.checks.proofs.comparing.compare.Goals as goal
 
-pub returns-clause-alike : goal.returns-clause-alike
+-- texts of which two settings were read that are alike are so
+alike : {E : Type 0} (tells : Telling E) (one other : Source) (first second : Option Settings) (before between behind : E)
+    → IsReadOf tells one first before between → IsReadOf tells other second between behind → AreTwoAlike first second
+    → AreAlike one.text.now other.text.now
 unfolding AreAlike
+alike tells one other (Some a) (Some b) before between behind h k same = (a, b, h.0, k.0, sym same)
+alike tells one other (Some a) None before between behind h k same = absurd same
+alike tells one other None second before between behind h k same = absurd same
+
+pub returns-clause-alike : goal.returns-clause-alike
 returns-clause-alike g c = λ h.
-    let both = c.in-Ok-Ok in
-    (both.one, both.other, both.ensures.ok, both.ensures'.ok, sym (c.compare_settings.ensures.alike h))
+    alike g.E.Tells.tells c.args.one c.args.other _ _ _ _ _ c.settings_in-first.ensures c.settings_in-second.ensures (c.compare_if.ensures.alike h)
 
 pub returns-clause-said : goal.returns-clause-said
-returns-clause-said g c =
-    let both = c.in-Ok-Ok in
-    inl (record {
-      first = both.one;
-      second = both.other;
-      first_read = both.ensures.ok;
-      second_read = both.ensures'.ok;
-      compared = rw (both.ensures'.untold, both.ensures.untold) at c.compare_settings.ensures.said;
-    })
-
-none_in : {T E : Type 0} (text path : List ℕ) (old new : Option (List ℕ)) (told : Result T E) → IsToldOf text path old new told → HasNone text
-none_in text path old new told h = record { fault = h.fault; why = h.why }
-
-pub returns-in_default-clause-said : goal.returns-in_default-clause-said
-returns-in_default-clause-said g c = inr (record {
-  lacks = elim c.in_default.branch [
-    | in_default-via-in-Ok+in_default w ↦ inr (none_in _ _ _ _ _ w.in_default.ensures'.err)
-    | in_default-via-in_default w ↦ inl (none_in _ _ _ _ _ (rw w.in_default.is-0 at c.settings_in.ensures.err))
-  ];
-  unwritten = refl;
-  is_one = refl;
-})
+returns-clause-said g c = record {
+  first = c.settings_in-first.result;
+  second = c.settings_in-second.result;
+  between = c.settings_in-first.new.errors;
+  behind = c.settings_in-second.new.errors;
+  first_read = c.settings_in-first.ensures;
+  second_read = c.settings_in-second.ensures;
+  compared = c.compare_if.ensures.said;
+}

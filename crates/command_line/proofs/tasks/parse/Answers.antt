@@ -1,13 +1,15 @@
-use Rattle.std.proofs.Common.{◌≡◌, ◌∙◌, ◌⊎◌, List, [], ◌∷◌, Option, ap, sym, subst, true, refl, inl, inr, map, string_bytes}
+use Rattle.std.proofs.Common.{◌≡◌, ◌∙◌, ◌⊎◌, List, [], ◌∷◌, Option, Err, ap, sym, subst, true, refl, inl, inr, map, string_bytes}
 use Rattle.clap.specs.Kinds.{HasKind, IsAmong, Kinds}
 use Rattle.clap.specs.Values.{kind_of}
 use Rattle.clap.specs.declared.error.Error.{Error}
 use Rattle.clap.specs.declared.error.kind.ErrorKind.{ErrorKind}
 use Rattle.clap.specs.declared.error.kind.ErrorKind.TheVariants as kind
-use Rattle.clap.specs.Words.{App, Row, Text, fault_of, is_simple, is_simple_and_free, subcommand_of, subcommand_rows_of}
-use Rattle.command_line.specs.Line.{Takes, entered_by, faults_of, line_app}
+use Rattle.clap.specs.Words.{Row, Text, is_simple, is_simple_and_free}
+use Rattle.command_line.specs.Entries.{line_help}
+use Rattle.command_line.specs.Line.{faults_of, line_app}
 use Rattle.command_line.specs.Tasks.{Enters, Numbered, RefusesWords}
 use Rattle.command_line.specs.Faults.{IsOfClap}
+use Rattle.command_line.specs.Reading.{IsOfReading, IsRead, Outlines, Reads}
 use Rattle.command_line.specs.declared.faults.LineFault.{LineFault}
 use Rattle.command_line.specs.declared.faults.LineFault.TheVariants.{Refused, Values, NoMemory}
 use Rattle.command_line.proofs.Entering.{enters}
@@ -21,33 +23,24 @@ is_plain : is_simple line_app ≡ true
 is_plain = refl
 
 pub returns-in-Ok-clause-taken : goal.returns-in-Ok-clause-taken
-returns-in-Ok-clause-taken c =
-    let line = c.in_ok-line.ensures in
-    ap (λ (a : App). fault_of a (map string_bytes c.args.words.now)) (sym line) ∙ c.in-Ok.ensures.kinds (ap is_simple_and_free line ∙ is_free)
+returns-in-Ok-clause-taken g c = c.in-Ok.ensures.kinds line_app line_help c.in_ok-line.ensures.told is_free
+
+pub returns-in-Ok-clause-values : goal.returns-in-Ok-clause-values
+returns-in-Ok-clause-values g c = (c.in-Ok.ensures.matches line_app line_help c.in_ok-line.ensures.told is_plain).1
 
 pub returns-in-Ok-clause-numbers : goal.returns-in-Ok-clause-numbers
-returns-in-Ok-clause-numbers c =
-    let line = c.in_ok-line.ensures in
+returns-in-Ok-clause-numbers g c =
     let words = map string_bytes c.args.words.now in
-    let taken : Takes words = ap (λ (a : App). fault_of a words) (sym line) ∙ c.in-Ok.ensures.kinds (ap is_simple_and_free line ∙ is_free) in
-    let values : subcommand_rows_of c.in-Ok.matches ≡ entered_by words =
-    (c.in-Ok.ensures.matches (ap is_simple line ∙ is_plain)).1 ∙ ap (λ (a : App). subcommand_of a words) line in
+    let taken = c.in-Ok.ensures.kinds line_app line_help c.in_ok-line.ensures.told is_free in
+    let values = (c.in-Ok.ensures.matches line_app line_help c.in_ok-line.ensures.told is_plain).1 in
     subst (λ (o : Option (Text × List Row)). Numbered o) (sym values) (numbered words taken)
 
 pub returns-in-Ok-clause-one : goal.returns-in-Ok-clause-one
-returns-in-Ok-clause-one c =
-    let line = c.in_ok-line.ensures in
+returns-in-Ok-clause-one g c =
     let words = map string_bytes c.args.words.now in
-    let taken : Takes words = ap (λ (a : App). fault_of a words) (sym line) ∙ c.in-Ok.ensures.kinds (ap is_simple_and_free line ∙ is_free) in
-    let values : subcommand_rows_of c.in-Ok.matches ≡ entered_by words =
-    (c.in-Ok.ensures.matches (ap is_simple line ∙ is_plain)).1 ∙ ap (λ (a : App). subcommand_of a words) line in
+    let taken = c.in-Ok.ensures.kinds line_app line_help c.in_ok-line.ensures.told is_free in
+    let values = (c.in-Ok.ensures.matches line_app line_help c.in_ok-line.ensures.told is_plain).1 in
     subst (λ (o : Option (Text × List Row)). Enters o) (sym values) (enters words taken)
-
-pub returns-in-Ok-clause-values : goal.returns-in-Ok-clause-values
-returns-in-Ok-clause-values c =
-    let line = c.in_ok-line.ensures in
-    let words = map string_bytes c.args.words.now in
-    (c.in-Ok.ensures.matches (ap is_simple line ∙ is_plain)).1 ∙ ap (λ (a : App). subcommand_of a words) line
 
 -- an error of another kind than memory is among the kinds
 among : (kinds : Kinds) (e : Error) → HasKind kinds e → (kind_of e ≡ kind.OutOfMemory → ⊥) → IsAmong (kind_of e) kinds
@@ -70,14 +63,24 @@ refuses words e (Refused told) h kinds =
       λ taken. subst (IsAmong (kind_of e)) taken found,
       λ is. subst (λ (k : ErrorKind). IsAmong k (faults_of words)) (sym same ∙ is) found,
       λ asked. same ∙ alone (kind_of e) (faults_of words) asked found,
+      subst (λ (k : ErrorKind). IsAmong k (faults_of words)) (sym same) found,
     )
 refuses words e (Values why) h kinds = absurd h
 refuses words e NoMemory h kinds = tt
 
 pub returns-in-Err-clause-err : goal.returns-in-Err-clause-err
-returns-in-Err-clause-err c =
-    let line = c.in_ok-line.ensures in
-    let words = map string_bytes c.args.words.now in
-    let kinds : HasKind (faults_of words) c.in-Err.error =
-    subst (λ (ks : Kinds). HasKind ks c.in-Err.error) (ap (λ (a : App). fault_of a words) line) (c.in-Err.ensures.kinds (ap is_simple_and_free line ∙ is_free)) in
-    refuses words c.in-Err.error c.from.result c.from.ensures kinds
+returns-in-Err-clause-err g c =
+    refuses (map string_bytes c.args.words.now) c.in-Err.error c.from.result c.from.ensures
+    (c.in-Err.ensures.kinds line_app line_help c.in_ok-line.ensures.told is_free)
+
+-- the fault of an error that such a command made of the words
+of_reading : {B : Type 0} (tells : Outlines B) (reads : Reads B) (lacks : B → Type 0) (words : List Text) (e : Error) (f : LineFault) → IsOfClap e f
+    → IsRead tells reads words (Err e) → IsOfReading tells reads lacks words f
+of_reading tells reads lacks words e (Refused told) h read = subst (λ (x : Error). IsRead tells reads words (Err x)) (sym h.0) read
+of_reading tells reads lacks words e (Values why) h read = absurd h
+of_reading tells reads lacks words e NoMemory h read = inr (record { error = e; made = read; is_memory = h })
+
+pub returns-in-Err-clause-line : goal.returns-in-Err-clause-line
+returns-in-Err-clause-line g c =
+    of_reading g.B.Builder.tells g.B.Builder.reads g.B.Builder.lacks (map string_bytes c.args.words.now) c.in-Err.error c.from.result c.from.ensures
+    (c.in_ok-line.line, c.in_ok-line.ensures.told, c.in-Err.ensures.read)

@@ -1,0 +1,58 @@
+//! Tells of the fault of a file.
+ghost use Rattle.std.specs.Prelude.{◌≡◌};
+ghost use Rattle.checks.specs.Comparing.{names_file, text_with_path};
+ghost use Rattle.outlets.specs.Telling.{IsTold};
+
+use faults::Fault;
+use outlets::{Tells, tell};
+use std::alloc::Global;
+use std::fmt;
+
+/// The fault of the file at a path.
+#[derive(Clone, Copy)]
+struct WithPath<'a> {
+    fault: &'a Fault,
+    path: &'a str,
+}
+
+/// The fault's text, with the path behind one that doesn't name its file.
+impl fmt::Display for WithPath<'_> {
+    ghost use Rattle.std.specs.Prelude.{Some};
+    ghost use Rattle.checks.specs.Comparing.{text_with_path};
+
+    ghost output = { λ told. Some (text_with_path told.fault.now told.path.now) };
+
+    fn fmt<W: fmt::Write>(&self, f: &mut fmt::Formatter<W>) -> fmt::Result {
+        let fault = self.fault;
+        let path = self.path;
+        if names_file(fault) {
+            write!(f, "{fault}")
+        } else {
+            write!(f, "{fault} ({path})")
+        }
+    }
+}
+
+/// Whether a fault names its file itself.
+fn names_file(fault: &Fault) -> bool
+    ensures { result ≡ names_file fault.now }
+{
+    match fault {
+        Fault::File(_) => true,
+        Fault::Words
+        | Fault::Setting(_)
+        | Fault::BadLine(_)
+        | Fault::NotWritten
+        | Fault::NotText
+        | Fault::NoSocket(_)
+        | Fault::NoMemory => false,
+    }
+}
+
+/// Tells on `errors` of the fault of a file, and which file it is; where there is no memory for the line, of that. Where
+/// it can't be told, nothing is done about it.
+pub fn tell_of<E: Tells>(alloc: Global, fault: &Fault, path: &str, errors: &mut E)
+    ensures { IsTold E.tells errors.old (text_with_path fault.now path.now) errors.new }
+{
+    tell(alloc, &WithPath { fault, path }, errors);
+}
