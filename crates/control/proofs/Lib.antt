@@ -1,5 +1,4 @@
 mod Rooms
-mod Parts
 mod Coming
 mod Answering
 mod Turns

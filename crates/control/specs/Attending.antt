@@ -1,7 +1,7 @@
 -- Whom a box attends to at its control socket.
 use Rattle.std.specs.Prelude.{ℕ, Bool, ◌≡◌, ◌⊎◌, ◌+◌, ◌-◌, ◌^◌, ◌==◌, min, nat_le, List, length, drop, Option, Result, Ok, Err, if◌then◌else◌}
 use Rattle.std.specs.Io.KnownBytes.{Appends}
-use Rattle.control.specs.Lines.{IsBegun}
+use Rattle.outlets.specs.Printed.{IsBegun}
 use Rattle.std.specs.declared.io.Error.{Error}
 
 -- somebody whose word was handed on waits for its answer; how many callers were refused, and how many went unanswered
@@ -32,3 +32,9 @@ with_room callers = if nat_le 8 (length callers) then drop 1 callers else caller
 abbrev pub IsOfOneWrite : {S : Type 0} → (S → List ℕ → Result ℕ Error → S → Type 0) → S → List ℕ → ℕ → ℕ → S → Type 0
 IsOfOneWrite answers before bytes count count2 after =
     (answer : Result ℕ Error) × (answers before bytes answer after × (count2 ≡ unanswered_after answer (length bytes) count))
+
+-- who is told an answer is told it once, by one write, and then so many went unanswered
+pub record IsAnsweredOnce {S : Type 0} (held : S → Option (List ℕ)) (answers : S → List ℕ → Result ℕ Error → S → Type 0) (caller : S) (bytes : List ℕ) (count count2 : ℕ) : Type 0 where
+  pub after : S
+  pub told : IsToldOrCounted (held caller) (held after) bytes count count2
+  pub asked : IsOfOneWrite answers caller bytes count count2 after

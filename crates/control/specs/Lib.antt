@@ -3,7 +3,9 @@ pub mod Answers
 pub mod Paths
 pub mod Heard
 pub mod Lines
+pub mod Reads
 pub mod Saying
+pub mod Asking
 pub mod Dialling
 pub mod Attending
 pub mod Folders

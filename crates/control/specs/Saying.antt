@@ -1,5 +1,5 @@
 -- What a caller has said, and what he is answered.
-use Rattle.std.specs.Prelude.{ℕ, Bool, true, false, ◌≡◌, ◌≢◌, ◌<◌, ◌≤◌, ◌⊎◌, List, [], ◌∷◌, ◌++◌, length, take, Option, None, Some, is_some, Result, Ok, Err}
+use Rattle.std.specs.Prelude.{ℕ, Bool, true, false, ◌≡◌, ◌≢◌, ◌<◌, ◌≤◌, ◌⊎◌, List, [], ◌∷◌, ◌++◌, length, take, Option, Some, is_some, Result, Ok, Err}
 use Rattle.std.specs.IoError.{error_kind}
 use Rattle.std.specs.declared.io.Error.{Error}
 use Rattle.std.specs.declared.io.ErrorKind.TheVariants.{WouldBlock}
@@ -9,6 +9,7 @@ use Rattle.std.specs.List.{concat}
 use Rattle.control.specs.Answers.{Content, answer_of, heard}
 use Rattle.control.specs.Heard.{IsWord}
 use Rattle.control.specs.Lines.{ComeIn, Does, not_come, not_said, said}
+use Rattle.control.specs.Reads.{Reads}
 use Rattle.control.specs.declared.callers.Said.{Said}
 use Rattle.control.specs.declared.callers.Said.TheVariants.{Nothing, Word, NoWord}
 
@@ -30,8 +31,8 @@ IsSaidBy (Ok n) room what = (is_some (word_of (take n room)) ≡ true → what �
 IsSaidBy (Err e) room what = (error_kind e ≡ WouldBlock → what ≡ Nothing) × (error_kind e ≢ WouldBlock → what ≡ NoWord)
 
 -- one read was answered so
-abbrev pub IsOfOneRead : {S : Type 0} → (S → List ℕ → Result ℕ Error → S → Type 0) → S → List ℕ → Said → S → Type 0
-IsOfOneRead answers before room what after = (answer : Result ℕ Error) × (answers before room answer after × IsSaidBy answer room what)
+abbrev pub IsOfOneRead : {S : Type 0} → Reads S → S → List ℕ → Said → S → Type 0
+IsOfOneRead reads before room what after = (answer : Result ℕ Error) × (reads before room answer after × IsSaidBy answer room what)
 
 -- the answer that a word is taken, and no other
 abbrev pub is_heard : Option Content → Bool

@@ -1,15 +1,17 @@
 //! The end at which words are heard.
 ghost use Rattle.std.specs.Prelude.{◌≡◌, ◌-◌, ◌≤◌, ◌<◌, ◌||◌, ◌⊎◌, true, false, length, remove, vec_len, is_some, IfOk, IfSome, IsNone};
-ghost use Rattle.control.specs.Attending.{IsOfOneWrite, IsToldOrCounted, unanswered_after, with_more, with_room};
+ghost use Rattle.control.specs.Asking.{AreAsked, IsTakenOut};
+ghost use Rattle.control.specs.Attending.{IsAnsweredOnce, unanswered_after, with_more, with_room};
 ghost use Rattle.control.specs.Heard.{AreHeard, IsBySpeaker, IsWord};
 ghost use Rattle.control.specs.Saying.{CameFrom, IsOfOneRead, Says};
 
 use crate::folders::{Machine, ready};
+use crate::speakers::Speaks;
 use crate::{ControlPath, NoSocket, word_of};
 use mio::net::{UnixListener, UnixStream};
 use mio::{Interest, Registry, Token};
 use std::fs::Files;
-use std::io::{self, ErrorKind, Read, Write};
+use std::io::{self, ErrorKind, Write};
 use std::marker::Model;
 use std::net::Net;
 
@@ -153,10 +155,10 @@ impl Control {
             ⊎ (self.new.unanswered ≡ with_more self.old.unanswered 1) }
         ensures nobody { self.old.awaits ≡ false → self.new.unanswered ≡ self.old.unanswered }
     {
-        let Some(mut speaker) = self.speaker.take() else {
+        let Some(speaker) = self.speaker.take() else {
             return;
         };
-        self.unanswered = answered(&mut speaker, bytes, self.unanswered);
+        self.unanswered = answered(speaker, bytes, self.unanswered);
     }
 
     /// A word of those who are waited for, one after the other. Who said it, who said something else and who has gone
@@ -168,12 +170,12 @@ impl Control {
         ensures refused { self.old.refused ≤ self.new.refused }
         ensures unanswered { self.new.unanswered ≡ self.old.unanswered }
     {
-        match word_among(&mut self.callers, &mut self.refused, room) {
-            Heard::Word(at, count) => {
-                self.speaker = Some(self.callers.remove(at));
+        match speaker_among(&mut self.callers, &mut self.refused, room) {
+            Some((speaker, count)) => {
+                self.speaker = Some(speaker);
                 Some(count)
             }
-            Heard::Silence(_) => None,
+            None => None,
         }
     }
 
@@ -196,12 +198,30 @@ impl Control {
     }
 }
 
+/// Who of those who are waited for says a word, and how many bytes it has. Nobody waits for him any more, nor for who said
+/// something else or has gone, which is counted.
+fn speaker_among<S: Speaks + Drop>(
+    callers: &mut Vec<S>,
+    refused: &mut u64,
+    room: &mut [u8],
+) -> Option<(S, usize)>
+    ensures within { IfSome result (λ heard. heard.1 ≤ length room.new) }
+    ensures words { IfSome result (λ heard. IsWord heard.1 room.new) }
+    ensures taken_out { IsTakenOut S.answers callers.old.items result callers.new.items room.new }
+    ensures more { refused.old ≤ refused.new }
+{
+    match word_among(callers, refused, room) {
+        Heard::Word(at, count) => Some((callers.remove(at), count)),
+        Heard::Silence(_) => None,
+    }
+}
+
 /// A word of those who are waited for, one after the other. Who said something else and who has gone is no longer waited
 /// for, and counted.
-fn word_among<S: Read + Drop>(callers: &mut Vec<S>, refused: &mut u64, room: &mut [u8]) -> Heard
+fn word_among<S: Speaks + Drop>(callers: &mut Vec<S>, refused: &mut u64, room: &mut [u8]) -> Heard
     ensures heard { AreHeard result (vec_len callers.new) room.new }
-    ensures speaker { IsBySpeaker S.remaining callers.old.items result callers.new.items
-        room.new }
+    ensures speaker { IsBySpeaker S.rest callers.old.items result callers.new.items room.new }
+    ensures left { AreAsked S.answers callers.old.items result callers.new.items room.new }
     ensures fewer { vec_len callers.new ≤ vec_len callers.old }
     ensures counted { refused.new
         ≡ with_more refused.old (vec_len callers.old - vec_len callers.new) }
@@ -271,42 +291,10 @@ impl<O: Write> Calls for O {
     }
 }
 
-/// A caller who may say something.
-trait Speaks {
-    ghost use Rattle.std.specs.Prelude.{ℕ, List, Option, Result};
-    ghost use Rattle.std.specs.Io.{ReadsAtMost};
-    ghost use Rattle.std.specs.Io.KnownBytes.{ReadConsumes};
-    ghost use Rattle.std.specs.declared.io.Error.{Error};
-
-    /// What he is to say, where that is known.
-    ghost rest: { Self → Option (List ℕ) };
-
-    /// What one read may answer, by the room as it is then, and what he is then.
-    ghost answers: { Self → List ℕ → Result ℕ Error → Self → Type 0 };
-
-    /// What he says next, by one read: so many bytes of the room.
-    fn hear(&mut self, room: &mut [u8]) -> io::Result<usize>
-        ensures bound { ReadsAtMost result room.new }
-        ensures bytes { ReadConsumes (rest self.old) (rest self.new) result room.new }
-        ensures answered { answers self.old room.new result self.new };
-}
-
-/// Of what a reader answers nothing more is known.
-impl<S: Read> Speaks for S {
-    ghost rest = { S.remaining };
-
-    ghost answers = { λ _ _ _ _. Unit {0} };
-
-    fn hear(&mut self, room: &mut [u8]) -> io::Result<usize> {
-        self.read(room)
-    }
-}
-
-/// Answers a caller by one write. How many went unanswered then: one more, where he hasn't the whole answer.
-fn answered<S: Calls>(caller: &mut S, bytes: &[u8], before: u64) -> u64
-    ensures told { IsToldOrCounted (S.held caller.old) (S.held caller.new) bytes.now before
-        result }
-    ensures asked { IsOfOneWrite S.answers caller.old bytes.now before result caller.new }
+/// Answers a caller by one write, and lets him go. How many went unanswered then: one more, where he hasn't the whole answer.
+fn answered<S: Calls + Drop>(mut caller: S, bytes: &[u8], before: u64) -> u64
+    ensures told { IsAnsweredOnce S.held S.answers caller bytes.now before result }
+    ensures counted { (result ≡ before) ⊎ (result ≡ with_more before 1) }
 {
     unanswered_after(caller.tell(bytes), bytes.len(), before)
 }

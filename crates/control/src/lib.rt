@@ -8,6 +8,7 @@ mod folders;
 mod lines;
 mod paths;
 mod saying;
+mod speakers;
 mod words;
 
 pub use answers::{

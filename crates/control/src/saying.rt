@@ -5,7 +5,7 @@ ghost use Rattle.control.specs.Answers.{answer_of};
 ghost use Rattle.control.specs.Dialling.{IsDialled, patience};
 ghost use Rattle.control.specs.Saying.{Comes, IsAnswered, IsCut, IsLost, Tells, is_heard};
 
-use crate::lines::{Dial, Dials, Line, SystemDials};
+use crate::lines::{Dials, Limits, Line, SystemDials};
 use crate::{Answer, ControlPath};
 use std::io;
 use std::net::Net;
@@ -110,7 +110,7 @@ fn exchange<L: Line>(line: &mut L, word: &[u8], room: &mut [u8]) -> io::Result<u
 }
 
 /// A line to the box whose control socket lies there; at each end 2 seconds are waited at most.
-fn connected<D: Dials<L>, L: Dial + Drop>(dials: &mut D, path: &ControlPath) -> io::Result<L>
+fn connected<D: Dials<L>, L: Limits + Drop>(dials: &mut D, path: &ControlPath) -> io::Result<L>
     ensures { IfOk result (λ line. IsDialled D.dials L.limits path.now dials.old dials.new line) }
 {
     let mut line = dials.dial(path.socket())?;

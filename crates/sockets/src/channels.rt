@@ -39,7 +39,7 @@ impl<R: Net> Binds<UdpSocket> for SystemBinds<'_, R> {
 }
 
 /// A UDP socket, as far as it is connected.
-trait Bind: Sized {
+trait Connects: Sized {
     ghost use Rattle.std.specs.declared.net.socket_addr.SocketAddr.{SocketAddr};
 
     /// What it is to a socket to be connected to an address, and what the socket is then.
@@ -51,7 +51,7 @@ trait Bind: Sized {
 }
 
 /// The system's, of which nothing is known.
-impl Bind for UdpSocket {
+impl Connects for UdpSocket {
     ghost connects = { λ _ _ _. Unit {0} };
 
     fn connect_to(&mut self, other: SocketAddr) -> io::Result<()> {
@@ -147,7 +147,7 @@ fn settled(received: io::Result<Arrived>) -> Result<Option<Arrived>, WireFault>
 }
 
 /// What a way needs. On the loopback address the place has these ports: its own, and the other.
-fn opened<B: Binds<S>, S: Bind + Drop>(
+fn opened<B: Binds<S>, S: Connects + Drop>(
     net: &mut B,
     way: Way,
     ports: (u16, u16),
@@ -166,7 +166,7 @@ fn opened<B: Binds<S>, S: Bind + Drop>(
 }
 
 /// A socket at the own end that hears the other alone, as far as the system has it.
-fn joined<B: Binds<S>, S: Bind + Drop>(net: &mut B, ends: Ends) -> io::Result<S>
+fn joined<B: Binds<S>, S: Connects + Drop>(net: &mut B, ends: Ends) -> io::Result<S>
     ensures { IfOk result (IsJoined B.binds S.connects net.old net.new ends) }
 {
     let mut socket = net.bind_at(ends.own.socket())?;

@@ -2,15 +2,15 @@
 //! for.
 #![tactic(auto)]
 
+mod capture_files;
 mod laws;
 mod moments;
-mod outlets;
 mod reels;
 mod taps;
 
+pub use capture_files::{CaptureFile, Outlet, begin, open};
 pub use captures::Vacant;
 pub use laws::capture_law;
 pub use moments::{Moments, SinceFirst};
-pub use outlets::{CaptureFile, Outlet, begin, open};
 pub use reels::Reel;
 pub use taps::Tapped;

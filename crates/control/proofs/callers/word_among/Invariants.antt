@@ -1,4 +1,5 @@
-use Rattle.std.proofs.Common.{◌≡◌, ◌+◌, ◌-◌, ◌≤◌, drop, vec_len}
+use Rattle.std.proofs.Common.{◌≡◌, ◌+◌, ◌-◌, ◌≤◌, drop, length, take, vec_len}
+use Rattle.control.specs.Asking.{AreLeft}
 use Rattle.control.specs.Attending.{with_more}
 use Rattle.control.proofs.callers.word_among.Given as goal
 
@@ -8,5 +9,7 @@ invariant-loop-turn g l = record {
   looked_at : l.silent + (vec_len l.fn.callers - vec_len l.callers) ≡ l._turn;
   fewer : vec_len l.callers ≤ vec_len l.fn.callers;
   rest : drop l.silent l.callers.items ≡ drop l._turn l.fn.callers.items;
+  room : length l.room ≡ length l.fn.room;
+  left : AreLeft g.S.Speaks.answers (length l.fn.room) (take l._turn l.fn.callers.items) (take l.silent l.callers.items);
   counted : l.refused ≡ with_more l.fn.refused (vec_len l.fn.callers - vec_len l.callers);
 }
