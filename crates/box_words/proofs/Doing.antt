@@ -1,29 +1,186 @@
--- What was done at a site, one deed after the other.
-use Rattle.std.proofs.Common.{◌≡◌, ◌≢◌, ◌⊎◌, inr, ◌∷◌, ℕ, suc, List, Option, None, Some, OnErr, OnOk, Result, Ok, Err, sym, subst}
-use Rattle.std.specs.Io.KnownBytes.{Keeps}
+-- Deeds, one behind the other, and the faults that they lead to.
+use Rattle.std.proofs.Common.{◌≡◌, ◌∙◌, ◌<◌, ◌≤◌, ◌-◌, ◌^◌, ◌+◌, ◌++◌, inl, inr, ℕ, suc, List, [], ◌∷◌, length, Option, Some, None, IsSome, is_some, Bool, false, not, Result, Ok, Err, OnOk, IfErr, refl, sym, ap, subst, arith, string_bytes}
+use Rattle.std.specs.Prelude.{IsErrAnd, IsErrOf}
+use Rattle.std.specs.Io.KnownBytes.{Appends, Keeps}
 use Rattle.std.proofs.KnownBytes.{Appends-kept, Appends-trans}
 use Rattle.nat_types.specs.declared.gateways.GatewayId.{GatewayId}
 use Rattle.nat_types.specs.declared.pairs.Key.{Key}
-use Rattle.control.specs.Answers.{Content, heard, page as page_of, report as report_of}
-use Rattle.control.specs.Paths.{IsBeside, Paths}
+use Rattle.toml.specs.Parse.{parse_document}
+use Rattle.settings.specs.declared.whole.Settings.{Settings}
+use Rattle.settings.specs.Parts.{gateway_of}
+use Rattle.settings_file.specs.Settings.{IsReadFrom, Tells as TellsReason}
+use Rattle.settings_file.specs.declared.faults.SettingFault.{SettingFault}
+use Rattle.control.specs.Answers.{Content, heard}
+use Rattle.control.specs.Paths.{IsBeside, Paths, socket_of}
+use Rattle.control.specs.declared.paths.PathFault.{PathFault}
+use Rattle.control.specs.declared.paths.PathFault.TheVariants as path
 use Rattle.control.specs.declared.words.Word.{Word}
-use Rattle.control.specs.declared.words.Word.TheVariants.{Pairs, Status}
-use Rattle.reports.specs.declared.reports.Report.{Report}
-use Rattle.box_words.specs.Deeds.{Does, HasListed, HasPage, HasPages, HasSynced, HasTaken, IsAsked, IsAwaited, IsBoxOf, IsBroken, IsDoneAt, IsInVain, IsUnreached, IsWaitedFor, Lists, Reports, asked, lines_of, page_lines}
+use Rattle.control.specs.declared.words.Word.TheVariants.{Pairs}
+use Rattle.faults.specs.Faults.{IsUnread, of_setting}
+use Rattle.faults.specs.declared.faults.Fault.{Fault}
+use Rattle.faults.specs.declared.faults.Fault.TheVariants.{NotWritten}
 use Rattle.report_texts.specs.declared.pairs.Filter.{Filter}
+use Rattle.box_words.specs.Deeds.{Does, Fails, HasFailed, HasListed, HasPage, HasPages, HasSynced, HasTaken, HasUnlisted, IsAwaited, IsAwaitedInVain, IsBoxOf, IsBroken, IsInVain, IsNotSynced, IsSyncedAt, IsUnpaged, IsUnprinted, IsUnreached, IsWaitedFor, Lists, asked, lines_of, page_lines, read, unread}
+use Rattle.box_words.specs.Faults.{TellsNoPath, TellsSocket, of_path}
+use Rattle.box_words.specs.declared.refusals.BoxFault.{BoxFault}
+use Rattle.box_words.specs.declared.refusals.BoxFault.TheVariants as fault
 
--- one page more
-pub one_page_more : {S : Type 0} (does : Does S) (path : Paths) (next then : Option Key) (filter : Filter) (old mid new : Option (List ℕ)) (before middle after : S)
-    → HasPages does path next filter old mid before middle → HasPage does path next then filter mid new middle after → HasPages does path then filter old new before after
-one_page_more does path next then filter old mid new before middle after had page = record {
-  newest = page.page;
-  earlier = had.newest ∷ had.earlier;
-  listed = (middle, (had.listed, subst (λ (k : Option Key). Lists does path k page.page middle after) (sym had.goes_on) page.lists));
-  goes_on = page.goes_on;
-  written = Appends-trans old mid new (lines_of filter (had.newest ∷ had.earlier)) (page_lines filter page.page) had.written page.written;
+-- ---- a fault that is handed on
+
+-- what holds of it holds of the end by it
+pub handed_on : {T : Type 0} (r : Result T BoxFault) (P : BoxFault → Type 0) (why : BoxFault) → IsErrAnd r (λ e. e ≡ why) → P why → IfErr r P
+handed_on (Ok x) P why is p = tt
+handed_on (Err e) P why is p = subst P (sym is) p
+
+-- ---- no box is reached
+
+-- the file couldn't be read
+pub file_unread : {S T : Type 0} (r : Result T BoxFault) (does : Does S) (settings : List ℕ) (id : GatewayId) (reason : Fault) (before after : S)
+    → does before (unread settings reason) after → IsUnread settings reason → IsErrAnd r (λ e. e ≡ fault.Run reason)
+    → IfErr r (λ why. IsUnreached does settings id why before after)
+file_unread r does settings id reason before after done told is =
+    handed_on r (λ why. IsUnreached does settings id why before after) (fault.Run reason) is (inl (reason, (done, (told, refl))))
+
+-- its text holds no settings
+pub no_settings : {S T : Type 0} (r : Result T BoxFault) (does : Does S) (settings : List ℕ) (id : GatewayId) (text : List ℕ) (reason : SettingFault) (before after : S)
+    → does before (read settings text) after → TellsReason (parse_document text) reason → IsErrAnd r (λ e. e ≡ fault.Run (of_setting reason))
+    → IfErr r (λ why. IsUnreached does settings id why before after)
+no_settings r does settings id text reason before after done told is =
+    handed_on r (λ why. IsUnreached does settings id why before after) (fault.Run (of_setting reason)) is (inr (inl (text, (done, (reason, (told, refl))))))
+
+-- its box has no path
+pub no_path : {S T : Type 0} (r : Result T BoxFault) (does : Does S) (settings : List ℕ) (id : GatewayId) (text : List ℕ) (values : Settings) (why : BoxFault) (before after : S)
+    → does before (read settings text) after → IsReadFrom (parse_document text) values → TellsNoPath (string_bytes (gateway_of values id).boot_file) why
+    → IsErrAnd r (λ e. e ≡ why) → IfErr r (λ why. IsUnreached does settings id why before after)
+no_path r does settings id text values why before after done held told is =
+    handed_on r (λ why. IsUnreached does settings id why before after) why is
+    (inr (inr (string_bytes (gateway_of values id).boot_file, (record { text = text; read_it = done; values = values; held = held; own_file = refl }, told))))
+
+-- why its path can't be had
+pub tells_path : {T : Type 0} (boot_file : List ℕ) (reason : PathFault) → (IsErrOf {T = T} (Err reason) path.LongPath → 107 < length (socket_of boot_file)) → TellsNoPath boot_file (of_path reason)
+tells_path boot_file path.LongPath long = long refl
+tells_path boot_file path.NoMemory long = refl
+
+-- so the command ends
+pub none_reached : {S T : Type 0} (r : Result T BoxFault) (does : Does S) (settings : List ℕ) (id : GatewayId) (fails : Fails S) (why : BoxFault) (before after : S)
+    → IsErrAnd r (λ e. e ≡ why) → IsUnreached does settings id why before after → IfErr r (λ why. HasFailed does settings id fails why before after)
+none_reached r does settings id fails why before after is unreached =
+    handed_on r (λ why. HasFailed does settings id fails why before after) why is (inl unreached)
+
+-- ---- a box that was reached
+
+-- what was done there, where a fault ended it
+pub ended_at : {S T : Type 0} (r : Result T BoxFault) (does : Does S) (settings : List ℕ) (id : GatewayId) (fails : Fails S) (boot_file : List ℕ) (path : Paths) (before between after : S)
+    → IsBoxOf does settings id boot_file before between → IsBeside boot_file path → IfErr r (λ why. fails path why between after)
+    → IfErr r (λ why. HasFailed does settings id fails why before after)
+ended_at (Ok x) does settings id fails boot_file path before between after box beside failed = tt
+ended_at (Err e) does settings id fails boot_file path before between after box beside failed =
+    inr (record { path = path; between = between; reached = record { boot_file = boot_file; box = box; beside = beside }; done_it = failed })
+
+-- the same, where the fault is handed on
+pub ended_by : {S T : Type 0} (r : Result T BoxFault) (does : Does S) (settings : List ℕ) (id : GatewayId) (fails : Fails S) (boot_file : List ℕ) (path : Paths) (why : BoxFault) (before between after : S)
+    → IsBoxOf does settings id boot_file before between → IsBeside boot_file path → IsErrAnd r (λ e. e ≡ why) → fails path why between after
+    → IfErr r (λ why. HasFailed does settings id fails why before after)
+ended_by r does settings id fails boot_file path why before between after box beside is failed =
+    handed_on r (λ why. HasFailed does settings id fails why before after) why is
+    (inr (record { path = path; between = between; reached = record { boot_file = boot_file; box = box; beside = beside }; done_it = failed }))
+
+-- it answered a word, which leads to this fault
+pub in_vain : {S T : Type 0} (r : Result T BoxFault) (does : Does S) (path : Paths) (word : Option Word) (leads : List ℕ → Option Content → BoxFault → Type 0) (answer content : Option Content) (before after : S)
+    → does before (asked path word answer) after → content ≡ answer → IfErr r (leads path.socket content)
+    → IfErr r (λ why. IsInVain does path word leads why before after)
+in_vain (Ok x) does path word leads answer content before after said same told = tt
+in_vain (Err e) does path word leads answer content before after said same told =
+    inr (answer, (said, subst (λ (a : Option Content). leads path.socket a e) same told))
+
+-- it has taken a word
+pub reached_taken : {S T E : Type 0} (r : Result T E) (does : Does S) (settings : List ℕ) (id : GatewayId) (boot_file : List ℕ) (path : Paths) (word : Option Word) (answer content : Option Content) (before between after : S)
+    → IsBoxOf does settings id boot_file before between → IsBeside boot_file path → does between (asked path word answer) after → content ≡ answer
+    → OnOk r (content ≡ Some heard) → OnOk r (HasTaken does settings id word before after)
+reached_taken (Ok x) does settings id boot_file path word answer content before between after box beside said same taken = record {
+  path = path;
+  between = between;
+  reached = record { boot_file = boot_file; box = box; beside = beside };
+  taken = subst (λ (a : Option Content). does between (asked path word a) after) (let is : answer ≡ Some heard = cc in is) said;
 }
+reached_taken (Err e) does settings id boot_file path word answer content before between after box beside said same taken = tt
 
--- the pages of a box that was reached, whose lines stay where the writer is flushed
+-- ---- whether it is synced
+
+-- it was
+pub reached_synced : {S T E : Type 0} (r : Result T E) (does : Does S) (settings : List ℕ) (id : GatewayId) (boot_file : List ℕ) (path : Paths) (before between after : S)
+    → IsBoxOf does settings id boot_file before between → IsBeside boot_file path → OnOk r (IsAwaited does path between after)
+    → OnOk r (HasSynced does settings id before after)
+reached_synced (Ok x) does settings id boot_file path before between after box beside synced =
+    record { path = path; between = between; reached = record { boot_file = boot_file; box = box; beside = beside }; done_it = synced }
+reached_synced (Err e) does settings id boot_file path before between after box beside synced = tt
+
+-- it was asked once more in vain
+pub asked_again : {S : Type 0} (does : Does S) (path : Paths) (why : BoxFault) (before between after : S) → IsWaitedFor does path before between
+    → IsNotSynced does path why between after → IsWaitedFor does path before after
+asked_again does path why before between after had once = (suc had.0, (between, (had.1, (why, once))))
+
+-- it was asked a last time
+pub last_synced : {S T E : Type 0} (r : Result T E) (does : Does S) (path : Paths) (before between after : S) → IsWaitedFor does path before between
+    → OnOk r (IsSyncedAt does path between after) → OnOk r (IsAwaited does path before after)
+last_synced (Ok x) does path before between after had synced = record { between = between; waited = had; synced = synced }
+last_synced (Err e) does path before between after had synced = tt
+
+pub last_unsynced : {S T : Type 0} (r : Result T BoxFault) (does : Does S) (path : Paths) (before between after : S) → IsWaitedFor does path before between
+    → IfErr r (λ why. IsNotSynced does path why between after) → IfErr r (λ why. IsAwaitedInVain does path why before after)
+last_unsynced (Ok x) does path before between after had last = tt
+last_unsynced (Err e) does path before between after had last = record { between = between; waited = had; last = last }
+
+-- ---- its pages
+
+-- so far, where there are so many before the newest
+abbrev pub ArePages : {S : Type 0} → Does S → Paths → ℕ → Option Key → Filter → Option (List ℕ) → Option (List ℕ) → S → S → Type 0
+ArePages does path count next filter old new before after =
+    (had : HasPages does path next filter old new before after) × (length had.earlier ≡ count)
+
+-- others follow
+pub some_left : (next : Option Key) (none : Bool) → is_some next ≡ not none → none ≡ false → IsSome next
+some_left next none is isnt = is ∙ ap not isnt
+
+-- the first one
+pub first_page : {S : Type 0} (does : Does S) (path : Paths) (next : Option Key) (filter : Filter) (old new : Option (List ℕ)) (before after : S)
+    → HasPage does path None next filter old new before after → ArePages does path 0 next filter old new before after
+first_page does path next filter old new before after page = (
+  record {
+    newest = page.page;
+    earlier = [];
+    listed = (before, (refl, (tt, page.lists)));
+    goes_on = page.goes_on;
+    written = page.written;
+  },
+  refl,
+)
+
+-- one more
+pub one_page_more : {S : Type 0} (does : Does S) (path : Paths) (count more : ℕ) (next then : Option Key) (filter : Filter) (old mid new : Option (List ℕ)) (before middle after : S)
+    → ArePages does path count next filter old mid before middle → HasPage does path next then filter mid new middle after → more ≡ suc count → IsSome next
+    → ArePages does path more then filter old new before after
+one_page_more does path count more next then filter old mid new before middle after h page one some = (
+  record {
+    newest = page.page;
+    earlier = h.0.newest ∷ h.0.earlier;
+    listed = (
+      middle,
+      (
+        h.0.listed,
+        (
+          subst (λ (k : Option Key). IsSome k) (sym h.0.goes_on) some,
+          subst (λ (k : Option Key). Lists does path k page.page middle after) (sym h.0.goes_on) page.lists,
+        ),
+      ),
+    );
+    goes_on = page.goes_on;
+    written = Appends-trans old mid new (lines_of filter (h.0.newest ∷ h.0.earlier)) (page_lines filter page.page) h.0.written page.written;
+  },
+  ap suc h.1 ∙ sym one,
+)
+
+-- those of a box that was reached, whose lines stay where the writer is flushed
 pub reached_listed : {S : Type 0} (does : Does S) (settings : List ℕ) (id : GatewayId) (filter : Filter) (boot_file : List ℕ) (path : Paths) (old mid new : Option (List ℕ)) (before between after : S)
     → IsBoxOf does settings id boot_file before between → IsBeside boot_file path → HasPages does path None filter old mid between after → Keeps mid new
     → HasListed does settings id filter old new before after
@@ -40,71 +197,70 @@ reached_listed does settings id filter boot_file path old mid new before between
   };
 }
 
--- a box that was reached, and then was synced
-pub reached_synced : {S T E : Type 0} (r : Result T E) (does : Does S) (settings : List ℕ) (id : GatewayId) (boot_file : List ℕ) (path : Paths) (before between after : S)
-    → IsBoxOf does settings id boot_file before between → IsBeside boot_file path → OnOk r (IsAwaited does path between after)
-    → OnOk r (HasSynced does settings id before after)
-reached_synced (Ok x) does settings id boot_file path before between after box beside synced =
-    record { path = path; between = between; reached = record { boot_file = boot_file; box = box; beside = beside }; done_it = synced }
-reached_synced (Err e) does settings id boot_file path before between after box beside synced = tt
+-- the first one couldn't be had
+pub first_broken : {S O : Type 0} (does : Does S) (prints : O → Option (List ℕ)) (filter : Filter) (old new : O) (path : Paths) (why : BoxFault) (before after : S)
+    → IsUnpaged does None path why before after → IsUnprinted why old new → IsBroken does prints filter old new path why before after
+first_broken does prints filter old new path why before after last unprinted =
+    record { pages = []; between = before; listed = refl; last = inl (tt, last); printed = unprinted }
 
--- what was done at a box that was reached, where a fault ended it
-pub ended_at : {S T E : Type 0} (r : Result T E) (does : Does S) (settings : List ℕ) (id : GatewayId) (done : Paths → S → S → Type 0) (boot_file : List ℕ) (path : Paths) (before between after : S)
-    → IsBoxOf does settings id boot_file before between → IsBeside boot_file path → OnErr r (done path between after)
-    → OnErr r (IsUnreached does settings before after ⊎ IsDoneAt does settings id done before after)
-ended_at (Ok x) does settings id done boot_file path before between after box beside done_it = tt
-ended_at (Err e) does settings id done boot_file path before between after box beside done_it =
-    inr (record { path = path; between = between; reached = record { boot_file = boot_file; box = box; beside = beside }; done_it = done_it })
-
--- a fact of an end by a fault
-pub on_fault : {T E P : Type 0} (r : Result T E) → P → OnErr r P
-on_fault (Ok x) p = tt
-on_fault (Err e) p = p
-
--- asked once more
-pub asked_again : {S : Type 0} (does : Does S) (path : Paths) (before between after : S) → IsWaitedFor does path before between
-    → IsAsked does path (Some Status) between after → IsWaitedFor does path before after
-asked_again does path before between after had once = (suc had.0, (between, (had.1, once)))
-
--- a report came
-pub report_asked : {S : Type 0} (does : Does S) (path : Paths) (report : Report) (before after : S) → Reports does path report before after
-    → IsAsked does path (Some Status) before after
-report_asked does path report before after reports = inr (Some (report_of reports.bytes), reports.answered)
-
--- of the pages that came one was the last; or the next one was asked for in vain
-pub pages_broken : {S : Type 0} (does : Does S) (path : Paths) (next : Option Key) (filter : Filter) (old new : Option (List ℕ)) (before after : S)
-    → HasPages does path next filter old new before after → IsBroken does path before after
-pages_broken does path next filter old new before after had = record {
-  pages = had.earlier;
-  between = had.listed.0;
-  listed = had.listed.1.0;
-  last = inr (Some (page_of had.listed.1.1.bytes), had.listed.1.1.answered);
-}
-
-pub next_broken : {S : Type 0} (does : Does S) (path : Paths) (next : Option Key) (filter : Filter) (old mid : Option (List ℕ)) (before middle after : S)
-    → HasPages does path next filter old mid before middle → IsAsked does path (Some (Pairs next)) middle after → IsBroken does path before after
-next_broken does path next filter old mid before middle after had once = record {
+-- the next one couldn't
+pub next_broken : {S O : Type 0} (does : Does S) (prints : O → Option (List ℕ)) (filter : Filter) (old mid new : O) (path : Paths) (next : Option Key) (why : BoxFault) (before middle after : S)
+    → HasPages does path next filter (prints old) (prints mid) before middle → IsSome next → IsUnpaged does next path why middle after
+    → IsUnprinted why mid new → IsBroken does prints filter old new path why before after
+next_broken {O = O} does prints filter old mid new path next why before middle after had some last unprinted = record {
   pages = had.newest ∷ had.earlier;
   between = middle;
   listed = had.listed;
-  last = subst (λ (k : Option Key). IsAsked does path (Some (Pairs k)) middle after) (sym had.goes_on) once;
+  last = inl (
+    subst (λ (k : Option Key). IsSome k) (sym had.goes_on) some,
+    subst (λ (k : Option Key). IsUnpaged does k path why middle after) (sym had.goes_on) last,
+  );
+  printed = λ other. subst (λ (o : O). Appends (prints old) (prints o) (lines_of filter (had.newest ∷ had.earlier))) (sym (unprinted other)) had.written;
 }
 
--- a word that a box was said, where its answer is another than that it was heard
-pub in_vain : {S T E : Type 0} (r : Result T E) (does : Does S) (path : Paths) (word : Option Word) (answer content : Option Content) (before after : S)
-    → does before (asked path word answer) after → content ≡ answer → OnErr r (content ≢ Some heard) → OnErr r (IsInVain does path word before after)
-in_vain (Ok x) does path word answer content before after said same other = tt
-in_vain (Err e) does path word answer content before after said same other =
-    inr (answer, (subst (λ (a : Option Content). a ≢ Some heard) same other, said))
-
--- a box that was reached, and then has taken a word
-pub reached_taken : {S T E : Type 0} (r : Result T E) (does : Does S) (settings : List ℕ) (id : GatewayId) (boot_file : List ℕ) (path : Paths) (word : Option Word) (answer content : Option Content) (before between after : S)
-    → IsBoxOf does settings id boot_file before between → IsBeside boot_file path → does between (asked path word answer) after → content ≡ answer
-    → OnOk r (content ≡ Some heard) → OnOk r (HasTaken does settings id word before after)
-reached_taken (Ok x) does settings id boot_file path word answer content before between after box beside said same taken = record {
-  path = path;
-  between = between;
-  reached = record { boot_file = boot_file; box = box; beside = beside };
-  taken = subst (λ (a : Option Content). does between (asked path word a) after) (let is : answer ≡ Some heard = cc in is) said;
+-- the last one couldn't be written to its end
+pub last_broken : {S O : Type 0} (does : Does S) (prints : O → Option (List ℕ)) (filter : Filter) (old mid new : O) (path : Paths) (next : Option Key) (before after : S)
+    → HasPages does path next filter (prints old) (prints mid) before after
+    → IsBroken does prints filter old new path (fault.Run NotWritten) before after
+last_broken does prints filter old mid new path next before after had = record {
+  pages = had.earlier;
+  between = had.listed.0;
+  listed = had.listed.1.0;
+  last = inl (had.listed.1.1.0, inr (had.newest, (had.listed.1.1.1, refl)));
+  printed = λ other. absurd (other refl);
 }
-reached_taken (Err e) does settings id boot_file path word answer content before between after box beside said same taken = tt
+
+-- there are too many
+pub too_many : {S O : Type 0} (does : Does S) (prints : O → Option (List ℕ)) (filter : Filter) (old new : O) (path : Paths) (count : ℕ) (next : Option Key) (why : BoxFault) (before after : S)
+    → ArePages does path count next filter (prints old) (prints new) before after → 2 ^ 64 - 1 ≤ count → TellsSocket path.socket why
+    → IsBroken does prints filter old new path why before after
+too_many does prints filter old new path count next why before after h many told = record {
+  pages = h.0.newest ∷ h.0.earlier;
+  between = after;
+  listed = h.0.listed;
+  last = inr (many_pages count (length h.0.earlier) h.1 many, (refl, told));
+  printed = λ other. h.0.written;
+}
+  where
+    many_pages : (count pages : ℕ) → pages ≡ count → 2 ^ 64 - 1 ≤ count → 2 ^ 64 ≤ suc pages
+    many_pages count pages counted many = omega arith
+
+-- an output that was refused may have anything
+pub refused : {T O : Type 0} (r : Result T BoxFault) (old new : O) → IsErrAnd r (λ e. e ≡ fault.Run NotWritten) → IfErr r (λ why. IsUnprinted why old new)
+refused (Ok x) old new is = tt
+refused (Err e) old new is = λ other. absurd (other is)
+
+-- no pages of a box that wasn't reached
+pub no_pages : {S T O : Type 0} (r : Result T BoxFault) (does : Does S) (prints : O → Option (List ℕ)) (settings : List ℕ) (id : GatewayId) (filter : Filter) (old : O) (why : BoxFault) (before after : S)
+    → IsErrAnd r (λ e. e ≡ why) → IsUnreached does settings id why before after
+    → IfErr r (λ why. HasUnlisted does prints settings id filter why old old before after)
+no_pages r does prints settings id filter old why before after is unreached =
+    handed_on r (λ why. HasUnlisted does prints settings id filter why old old before after) why is (inl (unreached, refl))
+
+-- pages of a box that was reached, where a fault ended them
+pub ended_pages : {S T O : Type 0} (r : Result T BoxFault) (does : Does S) (prints : O → Option (List ℕ)) (settings : List ℕ) (id : GatewayId) (filter : Filter) (old new : O) (boot_file : List ℕ) (path : Paths) (why : BoxFault) (before between after : S)
+    → IsBoxOf does settings id boot_file before between → IsBeside boot_file path → IsErrAnd r (λ e. e ≡ why)
+    → IsBroken does prints filter old new path why between after → IfErr r (λ why. HasUnlisted does prints settings id filter why old new before after)
+ended_pages r does prints settings id filter old new boot_file path why before between after box beside is broken =
+    handed_on r (λ why. HasUnlisted does prints settings id filter why old new before after) why is
+    (inr (record { path = path; between = between; reached = record { boot_file = boot_file; box = box; beside = beside }; done_it = broken }))

@@ -1,5 +1,5 @@
 -- What an operator's command does at a site.
-use Rattle.std.specs.Prelude.{◌≡◌, ◌≢◌, ◌⊎◌, ◌++◌, ℕ, zero, suc, List, [], ◌∷◌, Option, Some, None, true, Ok, string_bytes, if◌then◌else◌}
+use Rattle.std.specs.Prelude.{◌≡◌, ◌≢◌, ◌⊎◌, ◌≤◌, ◌^◌, ◌++◌, ℕ, zero, suc, List, [], ◌∷◌, length, Option, Some, None, IsSome, true, false, Ok, string_bytes, if◌then◌else◌}
 use Rattle.std.specs.Io.KnownBytes.{Appends}
 use Rattle.std.specs.List.{flat_map}
 use Rattle.toml.specs.Parse.{parse_document}
@@ -11,7 +11,11 @@ use Rattle.settings_file.specs.Settings.{IsReadFrom}
 use Rattle.control.specs.Answers.{Content, heard, page as page_of, report as report_of}
 use Rattle.control.specs.Paths.{IsBeside, Paths}
 use Rattle.control.specs.declared.words.Word.{Word}
-use Rattle.control.specs.declared.words.Word.TheVariants.{Pairs, Status}
+use Rattle.control.specs.declared.words.Word.TheVariants.{Pairs}
+use Rattle.boot_file.specs.declared.faults.FileFault.{FileFault}
+use Rattle.faults.specs.Faults.{IsUnread}
+use Rattle.faults.specs.declared.faults.Fault.{Fault}
+use Rattle.faults.specs.declared.faults.Fault.TheVariants.{NotWritten}
 use Rattle.reports.specs.Formats.{reading}
 use Rattle.reports.specs.Pages.{Page, last_of}
 use Rattle.reports.specs.Reports.{page as page_format, report as report_format}
@@ -21,15 +25,21 @@ use Rattle.report_texts.specs.Metrics.{metrics_text}
 use Rattle.report_texts.specs.Pairs.{wanted_line}
 use Rattle.report_texts.specs.People.{people_text}
 use Rattle.report_texts.specs.declared.pairs.Filter.{Filter}
+use Rattle.box_words.specs.Faults.{TellsBootFile, TellsNoPath, TellsSettings, TellsSocket, TellsUnlisted, TellsUnreported, TellsUntaken}
+use Rattle.box_words.specs.Said.{said_status}
+use Rattle.box_words.specs.declared.refusals.BoxFault.{BoxFault}
+use Rattle.box_words.specs.declared.refusals.BoxFault.TheVariants as fault
 use Rattle.box_words.specs.declared.asking.Form.{Form}
 use Rattle.box_words.specs.declared.asking.Form.TheVariants as form
 
--- a file was read, which has this text, or couldn't be; a boot file was made; a box that is reached so was said this word, and heard
--- it; or was said it, and gave this answer, or none heard it. What was said, or answered, may be none
+-- a file was read, which has this text, or couldn't be, for this fault; a boot file was made, or couldn't be; a box that is reached so
+-- was said this word, and heard it; or was said it, and gave this answer, or wasn't heard from: whether it took the word isn't known
+-- then. What was said, or answered, may be none
 pub data Deed : Type 0 where
   read : List ℕ → List ℕ → Deed
-  unread : List ℕ → Deed
+  unread : List ℕ → Fault → Deed
   made : List ℕ → Deed
+  unmade : List ℕ → FileFault → Deed
   said : Paths → Option Word → Deed
   asked : Paths → Option Word → Option Content → Deed
   unsaid : Paths → Option Word → Deed
@@ -37,6 +47,10 @@ pub data Deed : Type 0 where
 -- what a deed is to a site, and what the site is then
 abbrev pub Does : Type 0 → Type 1
 Does S = S → Deed → S → Type 0
+
+-- a boot file couldn't be made: just that was tried, and just what was answered is told
+abbrev pub HasUnmade : {S : Type 0} → Does S → List ℕ → BoxFault → S → S → Type 0
+HasUnmade does path why before after = (answer : FileFault) × (does before (unmade path answer) after × TellsBootFile path answer why)
 
 -- The settings at a path were read: those of its text have a box of this id, whose boot file is this
 pub record IsBoxOf {S : Type 0} (does : Does S) (settings : List ℕ) (id : GatewayId) (boot_file : List ℕ) (before after : S) : Type 0 where
@@ -66,18 +80,33 @@ pub record HasTaken {S : Type 0} (does : Does S) (settings : List ℕ) (id : Gat
   pub reached : IsReached does settings id path before between
   pub taken : does between (asked path word (Some heard)) after
 
--- the settings at a path couldn't be read; or they were, and nothing else was done
-abbrev pub IsUnreached : {S : Type 0} → Does S → List ℕ → S → S → Type 0
-IsUnreached does settings before after = does before (unread settings) after ⊎ ((text : List ℕ) × does before (read settings text) after)
+-- no file was read at a path: just what was answered of it is told
+abbrev pub AreUnread : {S : Type 0} → Does S → List ℕ → BoxFault → S → S → Type 0
+AreUnread does settings why before after =
+    (reason : Fault) × (does before (unread settings reason) after × (IsUnread settings reason × (why ≡ fault.Run reason)))
 
--- nobody heard the word; or the answer is another than that it was heard
-abbrev pub IsInVain : {S : Type 0} → Does S → Paths → Option Word → S → S → Type 0
-IsInVain does path word before after = does before (unsaid path word) after
-    ⊎ ((answer : Option Content) × ((answer ≢ Some heard) × does before (asked path word answer) after))
+-- the settings at a path were read, and the text holds none
+abbrev pub AreNoSettings : {S : Type 0} → Does S → List ℕ → BoxFault → S → S → Type 0
+AreNoSettings does settings why before after = (text : List ℕ) × (does before (read settings text) after × TellsSettings text why)
 
--- nobody heard the word; or some answer came
-abbrev pub IsAsked : {S : Type 0} → Does S → Paths → Option Word → S → S → Type 0
-IsAsked does path word before after = does before (unsaid path word) after ⊎ ((answer : Option Content) × does before (asked path word answer) after)
+-- they were read, and the control socket beside their box's boot file has no path
+abbrev pub IsPathless : {S : Type 0} → Does S → List ℕ → GatewayId → BoxFault → S → S → Type 0
+IsPathless does settings id why before after =
+    (boot_file : List ℕ) × (IsBoxOf does settings id boot_file before after × TellsNoPath boot_file why)
+
+-- no box was reached, and this is the fault: one of these three; and nothing else was done
+abbrev pub IsUnreached : {S : Type 0} → Does S → List ℕ → GatewayId → BoxFault → S → S → Type 0
+IsUnreached does settings id why before after = AreUnread does settings why before after
+    ⊎ (AreNoSettings does settings why before after ⊎ IsPathless does settings id why before after)
+
+-- nobody was heard to take the word, as it is told: nobody heard it. The fault is of the socket there
+abbrev pub IsUnheard : {S : Type 0} → Does S → Paths → Option Word → BoxFault → S → S → Type 0
+IsUnheard does path word why before after = does before (unsaid path word) after × TellsSocket path.socket why
+
+-- nobody heard the word; or an answer came, which leads to this fault
+abbrev pub IsInVain : {S : Type 0} → Does S → Paths → Option Word → (List ℕ → Option Content → BoxFault → Type 0) → BoxFault → S → S → Type 0
+IsInVain does path word leads why before after = IsUnheard does path word why before after
+    ⊎ ((answer : Option Content) × (does before (asked path word answer) after × leads path.socket answer why))
 
 -- this was done at just that box, which was reached; and nothing else was done
 pub record IsDoneAt {S : Type 0} (does : Does S) (settings : List ℕ) (id : GatewayId) (done : Paths → S → S → Type 0) (before after : S) : Type 0 where
@@ -86,21 +115,29 @@ pub record IsDoneAt {S : Type 0} (does : Does S) (settings : List ℕ) (id : Gat
   pub reached : IsReached does settings id path before between
   pub done_it : done path between after
 
--- no box was reached; or just that box was said this word in vain; and nothing else was done
-abbrev pub HasFailed : {S : Type 0} → Does S → List ℕ → GatewayId → Option Word → S → S → Type 0
-HasFailed does settings id word before after = IsUnreached does settings before after
-    ⊎ IsDoneAt does settings id (λ path. IsInVain does path word) before after
+-- what was done at a box that was reached, and the fault that this leads to
+abbrev pub Fails : Type 0 → Type 1
+Fails S = Paths → BoxFault → S → S → Type 0
 
--- no box was reached; or just that box was asked this, whatever came of it; and nothing else was done
-abbrev pub HasAsked : {S : Type 0} → Does S → List ℕ → GatewayId → Option Word → S → S → Type 0
-HasAsked does settings id word before after = IsUnreached does settings before after
-    ⊎ IsDoneAt does settings id (λ path. IsAsked does path word) before after
+-- no box was reached, or just that was done at that box; and this is the fault
+abbrev pub HasFailed : {S : Type 0} → Does S → List ℕ → GatewayId → Fails S → BoxFault → S → S → Type 0
+HasFailed does settings id fails why before after = IsUnreached does settings id why before after
+    ⊎ IsDoneAt does settings id (λ path. fails path why) before after
+
+-- just that box was said this word, and nobody heard it; or none was reached
+abbrev pub HasUnsaid : {S : Type 0} → Does S → List ℕ → GatewayId → Option Word → BoxFault → S → S → Type 0
+HasUnsaid does settings id word why before after = HasFailed does settings id (λ path. IsUnheard does path word) why before after
+
+-- just that box was said this word, and doesn't take it, or nobody heard it; or none was reached
+abbrev pub HasUntaken : {S : Type 0} → Does S → List ℕ → GatewayId → Option Word → BoxFault → S → S → Type 0
+HasUntaken does settings id word why before after =
+    HasFailed does settings id (λ path. IsInVain does path word TellsUntaken) why before after
 
 -- a box was asked how it stands, and answered by this report
 pub record Reports {S : Type 0} (does : Does S) (path : Paths) (report : Report) (before after : S) : Type 0 where
   pub bytes : List ℕ
   pub reads : reading report_format bytes ≡ Ok report
-  pub answered : does before (asked path (Some Status) (Some (report_of bytes))) after
+  pub answered : does before (asked path (Some said_status) (Some (report_of bytes))) after
 
 -- a box was asked for the pairs behind a key, or the first ones, and answered by this page
 pub record Lists {S : Type 0} (does : Does S) (path : Paths) (behind : Option Key) (page : Page) (before after : S) : Type 0 where
@@ -123,17 +160,49 @@ pub record HasReported {S : Type 0} (does : Does S) (settings : List ℕ) (id : 
   pub reports : Reports does path report between after
   pub written : Appends old new (text_of form report)
 
+-- a box was asked how it stands, and answered by no report
+abbrev pub IsUnreported : {S : Type 0} → Does S → Paths → BoxFault → S → S → Type 0
+IsUnreported does path why before after = IsInVain does path (Some said_status) TellsUnreported why before after
+
+-- what came couldn't be written
+abbrev pub IsUnwritten : {X S : Type 0} → (X → S → S → Type 0) → BoxFault → S → S → Type 0
+IsUnwritten {X = X} came why before after = (what : X) × (came what before after × (why ≡ fault.Run NotWritten))
+
+-- that, or by one that couldn't be written
+abbrev pub IsUnshown : {S : Type 0} → Does S → Paths → BoxFault → S → S → Type 0
+IsUnshown does path why before after = IsUnreported does path why before after ⊎ IsUnwritten (Reports does path) why before after
+
+-- only an output that is refused may have something
+abbrev pub IsUnprinted : {O : Type 0} → BoxFault → O → O → Type 0
+IsUnprinted why old new = why ≢ fault.Run NotWritten → new ≡ old
+
+-- just that box was asked so, or none was reached; and nothing was printed but what an output that is refused may have
+pub record HasUnreported {S O : Type 0} (does : Does S) (settings : List ℕ) (id : GatewayId) (why : BoxFault) (old new : O) (before after : S) : Type 0 where
+  pub failed : HasFailed does settings id (IsUnshown does) why before after
+  pub unprinted : IsUnprinted why old new
+
 -- a box was asked how it stands, and answered that it is synced
 pub record IsSyncedAt {S : Type 0} (does : Does S) (path : Paths) (before after : S) : Type 0 where
   pub report : Report
   pub reports : Reports does path report before after
   pub synced : report.gateway.synced ≡ true
 
--- a box was asked so many times how it stands, whatever came of it
+-- it answered that it isn't
+pub record IsUnsyncedAt {S : Type 0} (does : Does S) (path : Paths) (before after : S) : Type 0 where
+  pub report : Report
+  pub reports : Reports does path report before after
+  pub unsynced : report.gateway.synced ≡ false
+
+-- it answered by no report, or that it isn't synced: only then the fault says so
+abbrev pub IsNotSynced : {S : Type 0} → Does S → Paths → BoxFault → S → S → Type 0
+IsNotSynced does path why before after = IsUnreported does path why before after
+    ⊎ (IsUnsyncedAt does path before after × (why ≡ fault.NotSynced))
+
+-- a box was asked so many times how it stands, each time in vain
 abbrev pub IsAskedTimes : {S : Type 0} → Does S → Paths → ℕ → S → S → Type 0
 IsAskedTimes does path zero before after = after ≡ before
-IsAskedTimes {S} does path (suc times) before after =
-    (middle : S) × (IsAskedTimes does path times before middle × IsAsked does path (Some Status) middle after)
+IsAskedTimes {S = S} does path (suc times) before after = (middle : S)
+    × (IsAskedTimes does path times before middle × ((why : BoxFault) × IsNotSynced does path why middle after))
 
 -- the same, some number of times
 abbrev pub IsWaitedFor : {S : Type 0} → Does S → Paths → S → S → Type 0
@@ -149,9 +218,15 @@ pub record IsAwaited {S : Type 0} (does : Does S) (path : Paths) (before after :
 abbrev pub HasSynced : {S : Type 0} → Does S → List ℕ → GatewayId → S → S → Type 0
 HasSynced does settings id before after = IsDoneAt does settings id (IsAwaited does) before after
 
--- no box was reached; or just that box was asked how it stands, some number of times; and nothing else was done
-abbrev pub HasWaited : {S : Type 0} → Does S → List ℕ → GatewayId → S → S → Type 0
-HasWaited does settings id before after = IsUnreached does settings before after ⊎ IsDoneAt does settings id (IsWaitedFor does) before after
+-- a box was asked how it stands, each time in vain; the fault is that of the last time
+pub record IsAwaitedInVain {S : Type 0} (does : Does S) (path : Paths) (why : BoxFault) (before after : S) : Type 0 where
+  pub between : S
+  pub waited : IsWaitedFor does path before between
+  pub last : IsNotSynced does path why between after
+
+-- just that box was asked so; or none was reached
+abbrev pub HasUnsynced : {S : Type 0} → Does S → List ℕ → GatewayId → BoxFault → S → S → Type 0
+HasUnsynced does settings id why before after = HasFailed does settings id (IsAwaitedInVain does) why before after
 
 -- the key behind which the next page begins, where others follow
 abbrev pub next_of : Page → Option Key
@@ -162,22 +237,25 @@ abbrev pub next_behind : List Page → Option Key
 next_behind [] = None
 next_behind (page ∷ earlier) = next_of page
 
--- a box was asked for these pages, the newest of which comes first: the first ones, and then each behind the one before
+-- there are none yet, or another follows these
+abbrev pub IsFollowed : List Page → Type 0
+IsFollowed [] = Unit {0}
+IsFollowed (page ∷ earlier) = IsSome (next_of page)
+
+-- a box was asked for these pages, the newest of which comes first: the first ones, and then, as long as others follow, each behind the
+-- one before
 abbrev pub AreListed : {S : Type 0} → Does S → Paths → List Page → S → S → Type 0
 AreListed does path [] before after = after ≡ before
 AreListed {S = S} does path (page ∷ earlier) before after =
-    (middle : S) × (AreListed does path earlier before middle × Lists does path (next_behind earlier) page middle after)
+    (middle : S) × (AreListed does path earlier before middle × (IsFollowed earlier × Lists does path (next_behind earlier) page middle after))
 
--- some pages, as many as there were; and then one was asked for, whatever came of it
-pub record IsBroken {S : Type 0} (does : Does S) (path : Paths) (before after : S) : Type 0 where
-  pub pages : List Page
-  pub between : S
-  pub listed : AreListed does path pages before between
-  pub last : IsAsked does path (Some (Pairs (next_behind pages))) between after
+-- a box was asked for the page behind a key, or the first one, and answered by none
+abbrev pub IsUnlisted : {S : Type 0} → Does S → Option Key → Paths → BoxFault → S → S → Type 0
+IsUnlisted does behind path why before after = IsInVain does path (Some (Pairs behind)) TellsUnlisted why before after
 
--- no box was reached; or just that box was asked for its pages, one behind the other, up to some page; and nothing else was done
-abbrev pub HasBroken : {S : Type 0} → Does S → List ℕ → GatewayId → S → S → Type 0
-HasBroken does settings id before after = IsUnreached does settings before after ⊎ IsDoneAt does settings id (IsBroken does) before after
+-- that, or by one whose lines couldn't be written
+abbrev pub IsUnpaged : {S : Type 0} → Does S → Option Key → Paths → BoxFault → S → S → Type 0
+IsUnpaged does behind path why before after = IsUnlisted does behind path why before after ⊎ IsUnwritten (Lists does path behind) why before after
 
 -- the lines of a page's pairs that pass a filter
 abbrev pub page_lines : Filter → Page → List ℕ
@@ -187,6 +265,29 @@ page_lines filter page = flat_map (wanted_line filter) page.entries
 abbrev pub lines_of : Filter → List Page → List ℕ
 lines_of filter [] = []
 lines_of filter (page ∷ earlier) = lines_of filter earlier ++ page_lines filter page
+
+-- the lines of these pages were printed; of none nothing
+abbrev pub ArePrinted : {O : Type 0} → (O → Option (List ℕ)) → Filter → List Page → O → O → Type 0
+ArePrinted prints filter [] old new = new ≡ old
+ArePrinted prints filter (page ∷ earlier) old new = Appends (prints old) (prints new) (lines_of filter (page ∷ earlier))
+
+-- behind so many pages none is asked for: as if nobody heard there
+abbrev pub AreTooMany : {S : Type 0} → Paths → List Page → BoxFault → S → S → Type 0
+AreTooMany path pages why before after = (2 ^ 64 ≤ length pages) × ((after ≡ before) × TellsSocket path.socket why)
+
+-- some pages came; and then none, or one whose lines couldn't be written. Just theirs were printed, but for what an output that is
+-- refused may have
+pub record IsBroken {S O : Type 0} (does : Does S) (prints : O → Option (List ℕ)) (filter : Filter) (old new : O) (path : Paths) (why : BoxFault) (before after : S) : Type 0 where
+  pub pages : List Page
+  pub between : S
+  pub listed : AreListed does path pages before between
+  pub last : (IsFollowed pages × IsUnpaged does (next_behind pages) path why between after) ⊎ AreTooMany path pages why between after
+  pub printed : why ≢ fault.Run NotWritten → ArePrinted prints filter pages old new
+
+-- just that box was asked for its pages, one behind the other, up to such a one; or none was reached, and nothing was printed
+abbrev pub HasUnlisted : {S O : Type 0} → Does S → (O → Option (List ℕ)) → List ℕ → GatewayId → Filter → BoxFault → O → O → S → S → Type 0
+HasUnlisted does prints settings id filter why old new before after = (IsUnreached does settings id why before after × (new ≡ old))
+    ⊎ IsDoneAt does settings id (λ path. IsBroken does prints filter old new path why) before after
 
 -- a box was asked for a page behind a key, or the first one, behind which the next one begins at this key; its lines were written
 pub record HasPage {S : Type 0} (does : Does S) (path : Paths) (behind next : Option Key) (filter : Filter) (old new : Option (List ℕ)) (before after : S) : Type 0 where

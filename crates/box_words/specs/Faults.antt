@@ -1,5 +1,5 @@
 -- The faults of a box, as those of its parts are told.
-use Rattle.std.specs.Prelude.{◌≡◌, ℕ, List, ◌++◌, codes, string_bytes, Option, None, Some}
+use Rattle.std.specs.Prelude.{◌≡◌, ◌<◌, ◌⊎◌, ℕ, List, ◌++◌, codes, length, string_bytes, Option, None, Some, Err}
 use Rattle.std.specs.declared.io.ErrorKind.{ErrorKind}
 use Rattle.boot_store.specs.declared.faults.BootFault.{BootFault}
 use Rattle.boot_store.specs.declared.faults.BootFault.TheVariants as boot
@@ -7,21 +7,29 @@ use Rattle.boot_file.specs.declared.faults.FileFault.{FileFault}
 use Rattle.boot_file.specs.declared.faults.FileFault.TheVariants as file
 use Rattle.nat_types.specs.declared.gateways.Side.{Side}
 use Rattle.nat_types.specs.declared.gateways.Side.TheVariants.{Inside, Outside}
-use Rattle.control.specs.Answers.{refusal_text}
+use Rattle.toml.specs.Parse.{parse_document}
+use Rattle.control.specs.Answers.{Content, heard, page, refusal_text, refused, report}
+use Rattle.control.specs.Paths.{socket_of}
 use Rattle.control.specs.declared.answers.PeerOffRefusal.{PeerOffRefusal}
 use Rattle.control.specs.declared.answers.PeerOffRefusal.TheVariants as refusal
 use Rattle.control.specs.declared.paths.PathFault.{PathFault}
 use Rattle.control.specs.declared.paths.PathFault.TheVariants as path
 use Rattle.journal.specs.declared.filters.FilterFault.{FilterFault}
 use Rattle.journal.specs.declared.filters.FilterFault.TheVariants as filter
-use Rattle.faults.specs.Faults.{IsOfFile, Tells}
+use Rattle.faults.specs.Faults.{IsOfFile, Tells, of_setting}
 use Rattle.faults.specs.Texts.{fault_text as run_text}
 use Rattle.faults.specs.declared.files.Refusal.{Refusal}
 use Rattle.faults.specs.declared.files.Refusal.TheVariants.{Exists, NoFile, NotWritten}
 use Rattle.faults.specs.declared.faults.Fault.TheVariants.{NoMemory, Setting}
+use Rattle.settings_file.specs.Settings.{Tells as TellsReason}
+use Rattle.settings_file.specs.declared.faults.SettingFault.{SettingFault}
 use Rattle.settings_file.specs.declared.faults.SettingFault.TheVariants.{CantWork}
 use Rattle.settings_file.specs.declared.keys.Key.{Key}
+use Rattle.reports.specs.Formats.{reading}
+use Rattle.reports.specs.Reports.{page as page_format, report as report_format}
 use Rattle.reports.specs.Texts.{fault_text as read_text}
+use Rattle.reports.specs.declared.faults.ReadFault.{ReadFault}
+use Rattle.reports.specs.declared.faults.ReadFault.TheVariants as read
 use Rattle.sockets.specs.Ways.{no_descriptor_text}
 use Rattle.supervision.specs.Managers.{not_open_text}
 use Rattle.box_words.specs.Ends.{refused_text}
@@ -39,6 +47,16 @@ of_boot boot.Device = fault.Device
 of_boot boot.Damaged = fault.Damaged
 of_boot boot.BootsUsedUp = fault.BootsUsedUp
 of_boot boot.FoundTwice = fault.FoundTwice
+
+-- the text holds no settings, for this reason
+abbrev pub TellsSettings : List ℕ → BoxFault → Type 0
+TellsSettings text why = (reason : SettingFault) × (TellsReason (parse_document text) reason × (why ≡ fault.Run (of_setting reason)))
+
+-- the control socket beside this boot file has no path: it would have more than 107 bytes, or there is no memory for it
+abbrev pub TellsNoPath : List ℕ → BoxFault → Type 0
+TellsNoPath boot_file fault.LongPath = 107 < length (socket_of boot_file)
+TellsNoPath boot_file (fault.Run why) = why ≡ NoMemory
+TellsNoPath boot_file other = ⊥
 
 -- just this is told of the file at this path; or there is no memory to tell it
 abbrev pub TellsFile : Refusal → List ℕ → Option ErrorKind → BoxFault → Type 0
@@ -76,6 +94,25 @@ abbrev pub TellsSocket : List ℕ → BoxFault → Type 0
 TellsSocket path (fault.NoControl told) = string_bytes told ≡ path
 TellsSocket path (fault.Run why) = why ≡ NoMemory
 TellsSocket path other = ⊥
+
+-- The next three tell of a box at whose control socket, at this path, there came such an answer: what is none to what was said is
+-- told as if nobody heard there.
+-- the word that the other box is off: a refusal leads to a fault of just it
+abbrev pub TellsUntaken : List ℕ → Option Content → BoxFault → Type 0
+TellsUntaken socket (Some heard) why = ⊥
+TellsUntaken socket (Some (refused reason)) why = why ≡ fault.PeerOff (record { 0 = reason })
+TellsUntaken socket other why = TellsSocket socket why
+
+-- how it stands: a report that can't be read leads to the reason
+abbrev pub TellsUnreported : List ℕ → Option Content → BoxFault → Type 0
+TellsUnreported socket (Some (report bytes)) why = (reason : ReadFault) × ((reading report_format bytes ≡ Err reason) × (why ≡ fault.NoReport reason))
+TellsUnreported socket other why = TellsSocket socket why
+
+-- its pairs: so does a page, and also one for which there is no memory
+abbrev pub TellsUnlisted : List ℕ → Option Content → BoxFault → Type 0
+TellsUnlisted socket (Some (page bytes)) why =
+    (reason : ReadFault) × (((reason ≡ read.NoMemory) ⊎ (reading page_format bytes ≡ Err reason)) × (why ≡ fault.NoReport reason))
+TellsUnlisted socket other why = TellsSocket socket why
 
 -- it is of settings, of a file, of output or of memory
 abbrev pub IsOfRun : BoxFault → Type 0

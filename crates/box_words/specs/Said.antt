@@ -23,3 +23,7 @@ said_stop = word.Stop
 -- an operator tells of a side, and no carrier
 abbrev pub said_side : WhichSide → Bool → Word
 said_side side up = word.Side side up false
+
+-- a box is asked how it stands
+abbrev pub said_status : Word
+said_status = word.Status

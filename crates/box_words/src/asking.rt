@@ -1,19 +1,24 @@
 //! What an operator asks of a running box.
-ghost use Rattle.std.specs.Prelude.{◌≡◌, ◌⊎◌, ◌≤◌, ◌*◌, IfOk, None, OnErr, OnOk, Some, take};
+ghost use Rattle.std.specs.Prelude.{◌≡◌, ◌⊎◌, ◌≤◌, ◌*◌, IfErr, IfOk, None, OnOk, Some, string_bytes, take};
 ghost use Rattle.std.specs.Io.KnownBytes.{Appends};
 ghost use Rattle.std.specs.Duration.{as_nanos};
 ghost use Rattle.control.specs.Answers.{answer_of};
+ghost use Rattle.control.specs.Paths.{IsBeside};
 ghost use Rattle.control.specs.Words.{word_of};
-ghost use Rattle.control.specs.declared.words.Word.TheVariants as words;
-ghost use Rattle.box_words.specs.Deeds.{HasAsked, HasBroken, HasListed, HasPage, HasPages, HasReported};
-ghost use Rattle.box_words.specs.Deeds.{HasSynced, HasWaited, IsAsked, IsAwaited, IsBroken, IsSyncedAt};
-ghost use Rattle.box_words.specs.Deeds.{IsWaitedFor, Lists, Reports, asked as deed_asked, next_of, text_of, unsaid};
+ghost use Rattle.outlets.specs.Telling.{IsToldOf};
+ghost use Rattle.box_words.specs.Deeds.{HasFailed, HasListed, HasPage, HasPages, HasReported, HasSynced};
+ghost use Rattle.box_words.specs.Deeds.{HasUnlisted, HasUnreported, HasUnsynced, IsAwaited, IsAwaitedInVain, IsBroken};
+ghost use Rattle.box_words.specs.Deeds.{IsNotSynced, IsSyncedAt, IsUnheard, IsUnlisted, IsUnpaged, IsUnprinted, IsUnreported, IsUnshown};
+ghost use Rattle.box_words.specs.Deeds.{Lists, Reports, asked as deed_asked, next_of, text_of};
+ghost use Rattle.box_words.specs.Faults.{fault_text};
+ghost use Rattle.box_words.specs.Said.{said_status};
 
 use crate::refusals::BoxFault;
 use crate::saying::{Line, line_to};
 use crate::sites::Site;
 use control::{Answer, spelled_pairs, spelled_pairs_after, spelled_status};
 use nat_types::{GatewayId, Key};
+use outlets::Tells;
 use report_texts::{Filter, write_json, write_metrics, write_pairs, write_people};
 use reports::{Page, Report};
 use std::alloc::Global;
@@ -39,7 +44,7 @@ pub enum Form {
 }
 
 /// Writes a running box's report. The answer is the exit status: 0, or 1 for a fault, which is told on `errors`.
-pub fn status<S: Site, O: Write, E: Write>(
+pub fn status<S: Site, O: Write, E: Tells>(
     alloc: Global,
     site: &mut S,
     settings: &str,
@@ -51,13 +56,13 @@ pub fn status<S: Site, O: Write, E: Write>(
     ensures status { (result ≡ 0) ⊎ (result ≡ 1) }
     ensures reported { result ≡ 0 → HasReported S.does settings.now id form (O.contents output.old)
         (O.contents output.new) site.old site.new }
-    ensures quiet { result ≡ 0 → E.contents errors.new ≡ E.contents errors.old }
-    ensures asked { result ≡ 1
-        → HasAsked S.does settings.now id (Some words.Status) site.old site.new }
+    ensures quiet { result ≡ 0 → errors.new ≡ errors.old }
+    ensures failed { result ≡ 1 → IsToldOf E.tells fault_text (λ fault. HasUnreported S.does
+        settings.now id fault output.old output.new site.old site.new) errors.old errors.new }
 {
     match written(alloc, site, settings, id, form, output) {
         Ok(()) => 0,
-        Err(fault) => fault.tell(errors),
+        Err(fault) => fault.tell(alloc, errors),
     }
 }
 
@@ -71,8 +76,9 @@ fn written<S: Site, O: Write>(
 ) -> Result<(), BoxFault>
     ensures reported { OnOk result (HasReported S.does settings.now id form
         (O.contents output.old) (O.contents output.new) site.old site.new) }
-    ensures asked { OnErr result
-        (HasAsked S.does settings.now id (Some words.Status) site.old site.new) }
+    ensures failed { IfErr result (λ fault. HasFailed S.does settings.now id (IsUnshown S.does)
+        fault site.old site.new) }
+    ensures unprinted { IfErr result (λ fault. IsUnprinted fault output.old output.new) }
 {
     let line = line_to(alloc, site, settings, id)?;
     let report = reported(alloc, site, &line)?;
@@ -103,10 +109,11 @@ fn write_report<O: Write>(output: &mut O, form: Form, report: &Report) -> io::Re
 
 /// The report of the box at a line's end.
 fn reported<S: Site>(alloc: Global, site: &mut S, line: &Line) -> Result<Report, BoxFault>
+    requires beside { IsBeside (string_bytes line.now.boot_file) line.now.path }
     ensures reports { IfOk result
         (λ report. Reports S.does line.now.path report site.old site.new) }
-    ensures asked { OnErr result
-        (IsAsked S.does line.now.path (Some words.Status) site.old site.new) }
+    ensures unreported { IfErr result
+        (λ fault. IsUnreported S.does line.now.path fault site.old site.new) }
 {
     let mut room = [0; ROOM];
     let count = asked(alloc, site, line, &spelled_status(), &mut room)?;
@@ -124,11 +131,12 @@ pub(crate) fn asked<S: Site>(
     word: &[u8],
     room: &mut [u8; ROOM],
 ) -> Result<usize, BoxFault>
+    requires beside { IsBeside (string_bytes line.now.boot_file) line.now.path }
     ensures within { IfOk result (λ count. count ≤ 4096) }
     ensures asked { IfOk result (λ count. S.does site.old (deed_asked line.now.path
         (word_of word.now) (answer_of (take count room.new))) site.new) }
-    ensures unsaid { OnErr result
-        (S.does site.old (unsaid line.now.path (word_of word.now)) site.new) }
+    ensures unheard { IfErr result (λ fault. IsUnheard S.does line.now.path (word_of word.now)
+        fault site.old site.new) }
 {
     match site.ask(&line.path, word, room) {
         Ok(count) => Ok(count),
@@ -138,7 +146,7 @@ pub(crate) fn asked<S: Site>(
 
 /// Asks a box every 100 ms until it is synced, for so many seconds. The answer is the exit status: 0 once it is, or 1 for a
 /// fault, which is told on `errors`: the last one, where it isn't in time.
-pub fn await_synced<R: Clock + AllocGlobal, S: Site, E: Write>(
+pub fn await_synced<R: Clock + AllocGlobal, S: Site, E: Tells>(
     rt: &R,
     site: &mut S,
     settings: &str,
@@ -148,12 +156,13 @@ pub fn await_synced<R: Clock + AllocGlobal, S: Site, E: Write>(
 ) -> u8
     ensures status { (result ≡ 0) ⊎ (result ≡ 1) }
     ensures synced { result ≡ 0 → HasSynced S.does settings.now id site.old site.new }
-    ensures quiet { result ≡ 0 → E.contents errors.new ≡ E.contents errors.old }
-    ensures waited { result ≡ 1 → HasWaited S.does settings.now id site.old site.new }
+    ensures quiet { result ≡ 0 → errors.new ≡ errors.old }
+    ensures failed { result ≡ 1 → IsToldOf E.tells fault_text (λ fault. HasUnsynced S.does
+        settings.now id fault site.old site.new) errors.old errors.new }
 {
     match awaited(rt, site, settings, id, seconds) {
         Ok(()) => 0,
-        Err(fault) => fault.tell(errors),
+        Err(fault) => fault.tell(rt.alloc(), errors),
     }
 }
 
@@ -166,7 +175,8 @@ fn awaited<R: Clock + AllocGlobal, S: Site>(
     seconds: u32,
 ) -> Result<(), BoxFault>
     ensures synced { OnOk result (HasSynced S.does settings.now id site.old site.new) }
-    ensures waited { OnErr result (HasWaited S.does settings.now id site.old site.new) }
+    ensures failed { IfErr result
+        (λ fault. HasUnsynced S.does settings.now id fault site.old site.new) }
 {
     let line = line_to(rt.alloc(), site, settings, id)?;
     awaited_at(rt, site, &line, seconds)
@@ -179,8 +189,10 @@ fn awaited_at<R: Clock + AllocGlobal, S: Site>(
     line: &Line,
     seconds: u32,
 ) -> Result<(), BoxFault>
+    requires beside { IsBeside (string_bytes line.now.boot_file) line.now.path }
     ensures synced { OnOk result (IsAwaited S.does line.now.path site.old site.new) }
-    ensures waited { OnErr result (IsWaitedFor S.does line.now.path site.old site.new) }
+    ensures failed { IfErr result
+        (λ fault. IsAwaitedInVain S.does line.now.path fault site.old site.new) }
 {
     let limit = limit_of(seconds);
     let start = Instant::now(rt).ok();
@@ -192,7 +204,7 @@ fn awaited_at<R: Clock + AllocGlobal, S: Site>(
             Ok(()) => return Ok(()),
         }
     }
-    Err(BoxFault::NotSynced)
+    synced(rt.alloc(), site, line)
 }
 
 /// How long a box is waited for.
@@ -212,9 +224,10 @@ fn has_passed<R: Clock>(rt: &R, start: Option<Instant>, limit: Duration) -> bool
 
 /// Asks the box at a line's end whether it is synced.
 fn synced<S: Site>(alloc: Global, site: &mut S, line: &Line) -> Result<(), BoxFault>
+    requires beside { IsBeside (string_bytes line.now.boot_file) line.now.path }
     ensures synced { OnOk result (IsSyncedAt S.does line.now.path site.old site.new) }
-    ensures asked { OnErr result
-        (IsAsked S.does line.now.path (Some words.Status) site.old site.new) }
+    ensures unsynced { IfErr result
+        (λ fault. IsNotSynced S.does line.now.path fault site.old site.new) }
 {
     let report = reported(alloc, site, line)?;
     if report.is_synced() {
@@ -226,7 +239,7 @@ fn synced<S: Site>(alloc: Global, site: &mut S, line: &Line) -> Result<(), BoxFa
 
 /// Lists the pairs of a running box that pass a filter, in the order of its table. The answer is the exit status: 0, or 1
 /// for a fault, which is told on `errors`. A pair that stays in the table meanwhile is listed once.
-pub fn pairs<S: Site, O: Write, E: Write>(
+pub fn pairs<S: Site, O: Write, E: Tells>(
     alloc: Global,
     site: &mut S,
     settings: &str,
@@ -238,12 +251,14 @@ pub fn pairs<S: Site, O: Write, E: Write>(
     ensures status { (result ≡ 0) ⊎ (result ≡ 1) }
     ensures listed { result ≡ 0 → HasListed S.does settings.now id filter.now
         (O.contents output.old) (O.contents output.new) site.old site.new }
-    ensures quiet { result ≡ 0 → E.contents errors.new ≡ E.contents errors.old }
-    ensures broken { result ≡ 1 → HasBroken S.does settings.now id site.old site.new }
+    ensures quiet { result ≡ 0 → errors.new ≡ errors.old }
+    ensures failed { result ≡ 1 → IsToldOf E.tells fault_text (λ fault. HasUnlisted S.does
+        O.contents settings.now id filter.now fault output.old output.new site.old site.new)
+        errors.old errors.new }
 {
     match listed(alloc, site, settings, id, filter, output) {
         Ok(()) => 0,
-        Err(fault) => fault.tell(errors),
+        Err(fault) => fault.tell(alloc, errors),
     }
 }
 
@@ -257,7 +272,8 @@ fn listed<S: Site, O: Write>(
 ) -> Result<(), BoxFault>
     ensures listed { OnOk result (HasListed S.does settings.now id filter.now
         (O.contents output.old) (O.contents output.new) site.old site.new) }
-    ensures broken { OnErr result (HasBroken S.does settings.now id site.old site.new) }
+    ensures failed { IfErr result (λ fault. HasUnlisted S.does O.contents settings.now id
+        filter.now fault output.old output.new site.old site.new) }
 {
     let line = line_to(alloc, site, settings, id)?;
     listed_at(alloc, site, &line, filter, output)?;
@@ -273,9 +289,11 @@ fn listed_at<S: Site, O: Write>(
     filter: &Filter,
     output: &mut O,
 ) -> Result<(), BoxFault>
+    requires beside { IsBeside (string_bytes line.now.boot_file) line.now.path }
     ensures listed { OnOk result (HasPages S.does line.now.path None filter.now
         (O.contents output.old) (O.contents output.new) site.old site.new) }
-    ensures broken { OnErr result (IsBroken S.does line.now.path site.old site.new) }
+    ensures broken { IfErr result (λ fault. IsBroken S.does O.contents filter.now output.old
+        output.new line.now.path fault site.old site.new) }
 {
     let mut next = written_page(alloc, site, line, None, filter, output)?;
     for _ in 0..u64::MAX {
@@ -296,10 +314,12 @@ fn written_page<S: Site, O: Write>(
     filter: &Filter,
     output: &mut O,
 ) -> Result<Option<Key>, BoxFault>
+    requires beside { IsBeside (string_bytes line.now.boot_file) line.now.path }
     ensures page { IfOk result (λ next. HasPage S.does line.now.path behind next filter.now
         (O.contents output.old) (O.contents output.new) site.old site.new) }
-    ensures asked { OnErr result
-        (IsAsked S.does line.now.path (Some (words.Pairs behind)) site.old site.new) }
+    ensures failed { IfErr result (λ fault. IsUnpaged S.does behind line.now.path fault
+        site.old site.new) }
+    ensures unprinted { IfErr result (λ fault. IsUnprinted fault output.old output.new) }
 {
     let page = page_behind(alloc, site, line, behind)?;
     write_pairs(output, &page, filter)?;
@@ -320,10 +340,11 @@ fn page_behind<S: Site>(
     line: &Line,
     behind: Option<Key>,
 ) -> Result<Page, BoxFault>
+    requires beside { IsBeside (string_bytes line.now.boot_file) line.now.path }
     ensures lists { IfOk result
         (λ page. Lists S.does line.now.path behind page site.old site.new) }
-    ensures asked { OnErr result
-        (IsAsked S.does line.now.path (Some (words.Pairs behind)) site.old site.new) }
+    ensures unlisted { IfErr result
+        (λ fault. IsUnlisted S.does behind line.now.path fault site.old site.new) }
 {
     let mut room = [0; ROOM];
     let count = match behind {

@@ -1,6 +1,5 @@
 //! Why a box ends without its work done.
-ghost use Rattle.std.specs.Prelude.{◌≡◌, ◌≢◌, None, OnOk, Some};
-ghost use Rattle.std.specs.Io.KnownBytes.{Appends};
+ghost use Rattle.std.specs.Prelude.{◌≡◌, ◌≢◌, None, Some};
 ghost use Rattle.std.specs.IoError.{error_kind};
 ghost use Rattle.std.specs.declared.io.ErrorKind.TheVariants as causes;
 ghost use Rattle.box_words.specs.Faults.{IsOfCapture, IsOfFilter, IsOfNoWay, IsOfSocket};
@@ -8,9 +7,9 @@ ghost use Rattle.box_words.specs.Faults.{TellsBootFile, TellsCapture, TellsFilte
 ghost use Rattle.box_words.specs.Faults.{explained_text, fault_text};
 ghost use Rattle.box_words.specs.declared.refusals.BoxFault.TheVariants as faults;
 ghost use Rattle.control.specs.Paths.{socket_of};
-ghost use Rattle.faults.specs.Texts.{line_of};
 ghost use Rattle.faults.specs.declared.faults.Fault.TheVariants as reasons;
 ghost use Rattle.faults.specs.declared.files.Refusal.TheVariants as refusals;
+ghost use Rattle.outlets.specs.Telling.{IsTold};
 
 use crate::ends::Refused;
 use boot_file::FileFault;
@@ -19,12 +18,12 @@ use control::{PathFault, PeerOffRefusal};
 use faults::{Fault, Refusal};
 use journal::FilterFault;
 use nat_types::{NoMemory, Side};
+use outlets::{Tells, tell};
 use reports::ReadFault;
 use settings_file::SettingFault;
 use sockets::NoDescriptor;
 use std::alloc::{AllocError, Global};
-use std::fmt;
-use std::io::{self, Write};
+use std::{fmt, io};
 use supervision::NotOpen;
 use thiserror::Error;
 
@@ -179,20 +178,13 @@ impl BoxFault {
     }
 
     /// Tells of the fault on a line behind `natpair: `, and gives its exit status. Where even that
-    /// can't be written, the status alone tells.
-    pub fn tell<E: Write>(self, errors: &mut E) -> u8
-        ensures { result ≡ 1 }
+    /// can't be told, the status alone tells.
+    pub fn tell<E: Tells>(&self, alloc: Global, errors: &mut E) -> u8
+        ensures status { result ≡ 1 }
+        ensures told { IsTold E.tells errors.old (fault_text self.now) errors.new }
     {
-        let _ = self.show(errors);
+        tell(alloc, self, errors);
         1
-    }
-
-    /// Writes that line.
-    fn show<E: Write>(&self, errors: &mut E) -> io::Result<()>
-        ensures told { OnOk result (Appends (E.contents errors.old) (E.contents errors.new)
-            (line_of (fault_text self.now))) }
-    {
-        writeln!(errors, "natpair: {self}")
     }
 }
 

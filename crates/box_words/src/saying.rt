@@ -1,12 +1,11 @@
 //! The words that an operator says to a running box.
-ghost use Rattle.std.specs.Prelude.{◌≡◌, ◌≢◌, ◌<◌, ◌⊎◌, IfOk, IsErrOf, OnErr, OnOk, Some, length, option_map, string_bytes};
-ghost use Rattle.box_words.specs.declared.refusals.BoxFault.TheVariants as faults;
-ghost use Rattle.control.specs.Answers.{content_of, heard, refused};
-ghost use Rattle.control.specs.declared.answers.PeerOffRefusal.{PeerOffRefusal as Reason};
+ghost use Rattle.std.specs.Prelude.{◌≡◌, ◌<◌, ◌⊎◌, IfErr, IfOk, IsErrOf, OnOk, Some, length, option_map, string_bytes};
+ghost use Rattle.control.specs.Answers.{content_of, heard};
 ghost use Rattle.control.specs.Paths.{IsBeside, socket_of};
 ghost use Rattle.control.specs.Words.{word_of};
-ghost use Rattle.box_words.specs.Deeds.{HasFailed, HasSaid, HasTaken, IsBoxOf, IsUnreached};
-ghost use Rattle.box_words.specs.Faults.{TellsSocket};
+ghost use Rattle.outlets.specs.Telling.{IsToldOf};
+ghost use Rattle.box_words.specs.Deeds.{HasSaid, HasTaken, HasUnsaid, HasUntaken, IsBoxOf, IsUnreached};
+ghost use Rattle.box_words.specs.Faults.{TellsSocket, TellsUntaken, fault_text};
 ghost use Rattle.box_words.specs.Said.{off_bytes, said_off as meaning_off, said_side, said_stop};
 ghost use Rattle.settings.specs.Parts.{gateway_of};
 
@@ -17,14 +16,14 @@ use control::{
     Answer, ControlPath, PathFault, spelled_known_off, spelled_off, spelled_side, spelled_stop,
 };
 use nat_types::{GatewayId, Side};
+use outlets::Tells;
 use settings::Settings;
 use std::alloc::Global;
-use std::io::Write;
 
 /// Tells a running box that a boot of the other is off: this one, or where there is none that which the box knows. Where it
 /// is forced the boot may be above the known one. The answer is the exit status: 0 once the box has taken it, or 1 where it
 /// refuses it or for a fault, which is told on `errors`.
-pub fn peer_off<S: Site, E: Write>(
+pub fn peer_off<S: Site, E: Tells>(
     alloc: Global,
     site: &mut S,
     settings: &str,
@@ -34,16 +33,17 @@ pub fn peer_off<S: Site, E: Write>(
     errors: &mut E,
 ) -> u8
     ensures status { (result ≡ 0) ⊎ (result ≡ 1) }
-    ensures quiet { result ≡ 0 → E.contents errors.new ≡ E.contents errors.old }
+    ensures quiet { result ≡ 0 → errors.new ≡ errors.old }
     ensures taken { result ≡ 0 → HasTaken S.does settings.now id
         (Some (meaning_off boot forced)) site.old site.new }
-    ensures failed { result ≡ 1 → HasFailed S.does settings.now id
-        (Some (meaning_off boot forced)) site.old site.new }
+    ensures failed { result ≡ 1 → IsToldOf E.tells fault_text (λ fault. HasUntaken S.does
+        settings.now id (Some (meaning_off boot forced)) fault site.old site.new)
+        errors.old errors.new }
 {
     let word = OffWord::of(boot, forced);
     match said_off(alloc, site, settings, id, word.bytes()) {
         Ok(()) => 0,
-        Err(fault) => fault.tell(errors),
+        Err(fault) => fault.tell(alloc, errors),
     }
 }
 
@@ -87,8 +87,8 @@ fn said_off<S: Site>(
 ) -> Result<(), BoxFault>
     ensures taken { OnOk result
         (HasTaken S.does settings.now id (word_of word.now) site.old site.new) }
-    ensures failed { OnErr result
-        (HasFailed S.does settings.now id (word_of word.now) site.old site.new) }
+    ensures failed { IfErr result (λ fault. HasUntaken S.does settings.now id (word_of word.now)
+        fault site.old site.new) }
 {
     let line = line_to(alloc, site, settings, id)?;
     let mut room = [0; 4_096];
@@ -98,10 +98,10 @@ fn said_off<S: Site>(
 
 /// Whether a box has taken a word, by its answer; or why it doesn't.
 fn taken_by(alloc: Global, line: &Line, answer: Option<Answer<'_>>) -> Result<(), BoxFault>
+    requires beside { IsBeside (string_bytes line.now.boot_file) line.now.path }
     ensures taken { OnOk result (option_map content_of answer.entry ≡ Some heard) }
-    ensures other { OnErr result (option_map content_of answer.entry ≢ Some heard) }
-    ensures reason { (why : Reason) → option_map content_of answer.entry ≡ Some (refused why)
-        → IsErrOf result (faults.PeerOff (record { 0 = why })) }
+    ensures untaken { IfErr result
+        (TellsUntaken line.now.path.socket (option_map content_of answer.entry)) }
 {
     match answer {
         Some(Answer::Heard) => Ok(()),
@@ -112,7 +112,7 @@ fn taken_by(alloc: Global, line: &Line, answer: Option<Answer<'_>>) -> Result<()
 
 /// Tells a running box to end. The answer is the exit status: 0 once the box has heard it, or 1 for a fault, which is told
 /// on `errors`. The box ends with its next tick.
-pub fn stop<S: Site, E: Write>(
+pub fn stop<S: Site, E: Tells>(
     alloc: Global,
     site: &mut S,
     settings: &str,
@@ -122,19 +122,19 @@ pub fn stop<S: Site, E: Write>(
     ensures status { (result ≡ 0) ⊎ (result ≡ 1) }
     ensures said { result ≡ 0
         → HasSaid S.does settings.now id (Some said_stop) site.old site.new }
-    ensures quiet { result ≡ 0 → E.contents errors.new ≡ E.contents errors.old }
-    ensures failed { result ≡ 1
-        → HasFailed S.does settings.now id (Some said_stop) site.old site.new }
+    ensures quiet { result ≡ 0 → errors.new ≡ errors.old }
+    ensures failed { result ≡ 1 → IsToldOf E.tells fault_text (λ fault. HasUnsaid S.does
+        settings.now id (Some said_stop) fault site.old site.new) errors.old errors.new }
 {
     match said(alloc, site, settings, id, &spelled_stop()) {
         Ok(()) => 0,
-        Err(fault) => fault.tell(errors),
+        Err(fault) => fault.tell(alloc, errors),
     }
 }
 
 /// Tells a running gateway that a side can be used (`up`), or can't. It counts whether or not the gateway tracks
 /// carriers. The answer is the exit status: 0 once the gateway has heard it, or 1 for a fault, which is told on `errors`.
-pub fn side<S: Site, E: Write>(
+pub fn side<S: Site, E: Tells>(
     alloc: Global,
     site: &mut S,
     settings: &str,
@@ -146,13 +146,14 @@ pub fn side<S: Site, E: Write>(
     ensures status { (result ≡ 0) ⊎ (result ≡ 1) }
     ensures said { result ≡ 0
         → HasSaid S.does settings.now id (Some (said_side side up)) site.old site.new }
-    ensures quiet { result ≡ 0 → E.contents errors.new ≡ E.contents errors.old }
-    ensures failed { result ≡ 1
-        → HasFailed S.does settings.now id (Some (said_side side up)) site.old site.new }
+    ensures quiet { result ≡ 0 → errors.new ≡ errors.old }
+    ensures failed { result ≡ 1 → IsToldOf E.tells fault_text (λ fault. HasUnsaid S.does
+        settings.now id (Some (said_side side up)) fault site.old site.new)
+        errors.old errors.new }
 {
     match said(alloc, site, settings, id, &side_word(side, up)) {
         Ok(()) => 0,
-        Err(fault) => fault.tell(errors),
+        Err(fault) => fault.tell(alloc, errors),
     }
 }
 
@@ -173,8 +174,8 @@ fn said<S: Site>(
 ) -> Result<(), BoxFault>
     ensures said { OnOk result
         (HasSaid S.does settings.now id (word_of word.now) site.old site.new) }
-    ensures failed { OnErr result
-        (HasFailed S.does settings.now id (word_of word.now) site.old site.new) }
+    ensures failed { IfErr result (λ fault. HasUnsaid S.does settings.now id (word_of word.now)
+        fault site.old site.new) }
 {
     let line = line_to(alloc, site, settings, id)?;
     match site.say(&line.path, word) {
@@ -187,13 +188,14 @@ fn said<S: Site>(
 #[derive(Drop)]
 pub(crate) struct Line {
     pub(crate) path: ControlPath,
-    boot_file: String,
+    pub(crate) boot_file: String,
 }
 
 impl Line {
     /// Nobody hears there.
     pub(crate) fn unheard(&self, alloc: Global) -> BoxFault
-        ensures { TellsSocket (socket_of (string_bytes self.now.boot_file)) result }
+        requires beside { IsBeside (string_bytes self.now.boot_file) self.now.path }
+        ensures { TellsSocket self.now.path.socket result }
     {
         BoxFault::no_control(alloc, self.boot_file.as_str())
     }
@@ -209,7 +211,8 @@ pub(crate) fn line_to<S: Site>(
     ensures reached { IfOk result (λ line. IsBoxOf S.does settings.now id
         (string_bytes line.boot_file) site.old site.new) }
     ensures beside { IfOk result (λ line. IsBeside (string_bytes line.boot_file) line.path) }
-    ensures unreached { OnErr result (IsUnreached S.does settings.now site.old site.new) }
+    ensures unreached { IfErr result
+        (λ fault. IsUnreached S.does settings.now id fault site.old site.new) }
 {
     let text = site.text(settings)?;
     let settings = settings_file::read(alloc, text.as_str())?;

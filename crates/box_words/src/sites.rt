@@ -3,7 +3,7 @@ ghost use Rattle.std.specs.Prelude.{◌≡◌, ◌≤◌, IfErr, IfOk, OnErr, On
 ghost use Rattle.control.specs.Answers.{answer_of};
 ghost use Rattle.control.specs.Words.{word_of};
 ghost use Rattle.faults.specs.Faults.{IsUnread, status_of};
-ghost use Rattle.box_words.specs.Deeds.{Deed, asked, made, read, said, unread, unsaid};
+ghost use Rattle.box_words.specs.Deeds.{Deed, asked, made, read, said, unmade, unread, unsaid};
 
 use boot_file::{Blocks, FileFault};
 use control::{ControlPath, NoSocket};
@@ -20,13 +20,15 @@ pub trait Site {
     fn text(&mut self, path: &str) -> Result<String, Fault>
         ensures read { IfOk result
             (λ text. does self.old (read path.now (string_bytes text)) self.new) }
-        ensures unread { OnErr result (does self.old (unread path.now) self.new) }
+        ensures unread { IfErr result (λ fault. does self.old (unread path.now fault) self.new) }
         ensures told { IfErr result (IsUnread path.now) }
         ensures status { IfErr result (λ fault. status_of fault ≡ 1) };
 
     /// Makes a boot file.
     fn make(&mut self, path: &str) -> Result<(), FileFault>
-        ensures made { OnOk result (does self.old (made path.now) self.new) };
+        ensures made { OnOk result (does self.old (made path.now) self.new) }
+        ensures unmade { IfErr result
+            (λ fault. does self.old (unmade path.now fault) self.new) };
 
     /// Says a word to the box whose control socket lies there, and waits until it is heard.
     fn say(&mut self, path: &ControlPath, word: &[u8]) -> Result<(), NoSocket>
@@ -35,7 +37,9 @@ pub trait Site {
             (does self.old (unsaid path.now (word_of word.now)) self.new) };
 
     /// Says a word to the box whose control socket lies there, and waits for its answer, which is so many bytes of the room.
+    /// The longest answer has room there.
     fn ask(&mut self, path: &ControlPath, word: &[u8], room: &mut [u8]) -> Result<usize, NoSocket>
+        requires { 4096 ≤ length room.old }
         ensures within { IfOk result (λ count. count ≤ length room.new) }
         ensures asked { IfOk result (λ count. does self.old
             (asked path.now (word_of word.now) (answer_of (take count room.new))) self.new) }

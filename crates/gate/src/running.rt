@@ -14,9 +14,10 @@ ghost use Rattle.boot_store.specs.Crash.{Decides, Keeps, Rises, Since};
 ghost use Rattle.settings_file.specs.Clashes.{clash_of_one};
 ghost use Rattle.settings_file.specs.declared.keys.Key.{Key};
 ghost use Rattle.gate.specs.Asked.{IsChosenBy, IsNotified, box_ports, is_loopback, on_loopback};
-ghost use Rattle.box_words.specs.Deeds.{made};
+ghost use Rattle.box_words.specs.Deeds.{HasUnmade, made};
 ghost use Rattle.gate.specs.Boots.{HasBoot, HasStarted, IsIdentity, IsInOrder, IsInSomeOrder, IsSilentOrTaken, IsStart, boot_line};
-ghost use Rattle.box_words.specs.Faults.{IsBeforeBoot, IsOfFilter, IsOfNoWay, IsOfRun, IsOfStart, of_clash};
+ghost use Rattle.box_words.specs.Faults.{IsBeforeBoot, IsOfFilter, IsOfNoWay, IsOfRun, IsOfStart, fault_text, of_clash};
+ghost use Rattle.outlets.specs.Telling.{IsToldOf};
 ghost use Rattle.gate.specs.Served.{AreHeld, HadRounds, HasRun, HasServed};
 ghost use Rattle.gate.specs.Starts.{Refuses};
 ghost use Rattle.gate.specs.Told.{HearsAll};
@@ -34,6 +35,7 @@ use journal::{Entry, Format, Journal, StandardError, Unhindered, environment, fi
 use log::filter::FilteredLog;
 use log::{Log, warn};
 use nat_types::{GatewayId, NoMemory};
+use outlets::Tells;
 use rounds::{Identity, InputEnd, Stopwatch, serve};
 use settings::Settings;
 use settings_file::{OnLoopback, SettingFault, port_clash};
@@ -51,13 +53,16 @@ use tap::{SinceFirst, Tapped};
 
 /// Makes the boot file of a box. The answer is the exit status: 0, or 1 for a fault, which is told
 /// on `errors`.
-pub fn init<S: Site, E: Write>(alloc: Global, site: &mut S, file: &str, errors: &mut E) -> u8
+pub fn init<S: Site, E: Tells>(alloc: Global, site: &mut S, file: &str, errors: &mut E) -> u8
     ensures status { (result ≡ 0) ⊎ (result ≡ 1) }
     ensures made { result ≡ 0 → S.does site.old (made file.now) site.new }
+    ensures quiet { result ≡ 0 → errors.new ≡ errors.old }
+    ensures failed { result ≡ 1 → IsToldOf E.tells fault_text
+        (λ fault. HasUnmade S.does file.now fault site.old site.new) errors.old errors.new }
 {
     match site.make(file) {
         Ok(()) => 0,
-        Err(fault) => BoxFault::of_boot_file(alloc, file, fault).tell(errors),
+        Err(fault) => BoxFault::of_boot_file(alloc, file, fault).tell(alloc, errors),
     }
 }
 
@@ -95,7 +100,7 @@ pub struct Start<'a> {
 pub fn gate<
     R: Files + Net + Clock + RandomSource + Eprint + Env + Input + AllocGlobal,
     O: Write,
-    E: Write,
+    E: Tells,
 >(rt: &R, start: &Start<'_>, output: &mut O, errors: &mut E) -> u8
 where
     R::File: Blocks + Lockable + AsRawFd,
@@ -106,10 +111,14 @@ where
     ensures order { result ≡ 1 → IsSilentOrTaken
         ⟦<FileDisk<R::File> as Disk>⟧.honest ⟦<FileDisk<R::File> as Disk>⟧.now start.now.found
         output.old output.new }
+    ensures quiet { result ≡ 0 → errors.new ≡ errors.old }
+    ensures failed { result ≡ 1 → IsToldOf E.tells fault_text (λ why. Refuses start.now.ways why
+        × IsInSomeOrder ⟦<FileDisk<R::File> as Disk>⟧.honest ⟦<FileDisk<R::File> as Disk>⟧.now
+        start.now.found why output.old output.new) errors.old errors.new }
 {
     match served(rt, start, output) {
         Ok(()) => 0,
-        Err(fault) => fault.tell(errors),
+        Err(fault) => fault.tell(rt.alloc(), errors),
     }
 }
 

@@ -1,4 +1,5 @@
-use Rattle.std.proofs.Common.{rules}
+use Rattle.std.proofs.Common.{refl, rules, string_bytes}
+use Rattle.box_words.proofs.Doing.{file_unread, no_path, no_settings, tells_path}
 use Rattle.box_words.proofs.saying.line_to.Goals as goal
 
 pub returns-clause-reached : goal.returns-clause-reached
@@ -9,3 +10,26 @@ returns-clause-reached g c = record {
   held = search rules;
   own_file = search rules;
 }
+
+pub returns-in_err-text-clause-unreached : goal.returns-in_err-text-clause-unreached
+returns-in_err-text-clause-unreached g c =
+    file_unread {S = g.row.S.Denot} c.from_residual.result g.S.Site.does c.args.settings.now c.args.id _ c.args.site.now c.text.new.self
+    c.in_err-text.ensures.unread c.in_err-text.ensures.told c.from_residual.ensures.1
+
+pub returns-in_err-settings-clause-unreached : goal.returns-in_err-settings-clause-unreached
+returns-in_err-settings-clause-unreached g c =
+    no_settings {S = g.row.S.Denot} c.from_residual-in_err-settings.result g.S.Site.does c.args.settings.now c.args.id
+    (string_bytes c.in_ok-text.text) _ c.args.site.now c.text.new.self c.in_ok-text.ensures.read (search rules)
+    c.from_residual-in_err-settings.ensures.1
+
+pub returns-in_err-path-clause-unreached : goal.returns-in_err-path-clause-unreached
+returns-in_err-path-clause-unreached g c =
+    no_path {S = g.row.S.Denot} c.from_residual-in_err-path.result g.S.Site.does c.args.settings.now c.args.id
+    (string_bytes c.in_ok-text.text) c.in_ok-settings.settings _ c.args.site.now c.text.new.self c.in_ok-text.ensures.read
+    (search rules) (tells_path _ _ c.in_err-path.ensures.long) c.from_residual-in_err-path.ensures.1
+
+pub returns-in_err-boot_file-clause-unreached : goal.returns-in_err-boot_file-clause-unreached
+returns-in_err-boot_file-clause-unreached g c =
+    no_path {S = g.row.S.Denot} c.from_residual-in_err-boot_file.result g.S.Site.does c.args.settings.now c.args.id
+    (string_bytes c.in_ok-text.text) c.in_ok-settings.settings _ c.args.site.now c.text.new.self
+    c.in_ok-text.ensures.read (search rules) refl c.from_residual-in_err-boot_file.ensures.1
