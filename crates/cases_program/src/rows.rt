@@ -154,7 +154,7 @@ fn opened(rt: &HostRuntime, case: &mut Case) {
             case.put(" bytes\n");
         }
         Err(fault) => {
-            let status = fault.tell(&mut case.out);
+            let status = fault.tell(case.alloc, &mut case.out);
             case.say("status ", status);
             case.end();
         }

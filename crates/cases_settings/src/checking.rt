@@ -55,7 +55,7 @@ fn text_at(rt: &HostRuntime, path: &str, errors: &mut Vec<u8>) -> Option<String>
     match text_of(rt, path) {
         Ok(text) => Some(text),
         Err(fault) => {
-            tell_of(&fault, path, errors);
+            tell_of(rt.alloc(), &fault, path, errors);
             None
         }
     }

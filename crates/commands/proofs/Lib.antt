@@ -1,8 +1,12 @@
 mod Statuses
 mod Asked
 mod Refusing
+mod Beginning
+mod Telling
 mod Passing
 mod Taping
 mod Recording
 mod Looking
 mod Hearing
+mod Listing
+mod Printing

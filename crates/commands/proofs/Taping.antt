@@ -1,15 +1,20 @@
 -- A run that was taken down.
 use Rattle.std.proofs.Common.{◌≡◌, ◌∙◌, ◌⊎◌, inl, inr, ℕ, Option, Result, Ok, Err, IfErr, IfOk, ap, subst, sym}
 use Rattle.faults.specs.Faults.{status_of}
-use Rattle.faults.specs.Jobs.{IsJobOf}
+use Rattle.faults.specs.Jobs.{IsJobOf, TellsRun}
 use Rattle.faults.specs.declared.faults.Fault.{Fault}
 use Rattle.faults.specs.declared.faults.Fault.TheVariants.{NoMemory, NotWritten}
 use Rattle.faults.specs.declared.jobs.Job.{Job}
-use Rattle.std.specs.Prelude.{List, OnOk, length}
+use Rattle.std.specs.Prelude.{List, OnErr, OnOk, length}
+use Rattle.commands.specs.Captures.{IsOfEvents}
 use Rattle.commands.specs.Meters.{HasHeard, HasHeardScript, Reads}
 use Rattle.frame_sim.specs.Tapes.{TakesOn}
+use Rattle.frame_sim.specs.World.{founding}
+use Rattle.outlets.specs.Telling.{Telling}
 use Rattle.simulation.specs.Status.{RunsScript}
+use Rattle.simulation.specs.Stops.{Begins, BeginsScript, FailsBy, Leaves}
 use Rattle.simulation.specs.Tapes.{IsTapedRun}
+use Rattle.commands.proofs.Beginning.{whole}
 
 -- it is a run of the job of two texts
 pub run_of : {E T : Type 0} (r : Result ℕ E) (takes : TakesOn T) (text script : List ℕ) (job : Job) (before after : T) (output printed : Option (List ℕ)) (status : ℕ)
@@ -20,7 +25,7 @@ run_of {E = E} r takes text script job before after output printed status held t
     record { job = job; is = held; run = h.run; printed = h.text }
 
 -- what ends one has the status 1
-pub known : {T : Type 0} (r : Result T Fault) → IfErr r (λ fault. (fault ≡ NotWritten) ⊎ (fault ≡ NoMemory))
+pub known : {T : Type 0} (r : Result T Fault) → IfErr r IsOfEvents
     → IfErr r (λ fault. status_of fault ≡ 1)
 known (Ok n) h = tt
 known (Err fault) (inl is) = ap status_of is
@@ -32,12 +37,30 @@ isnt_1 n is (inl zero_is) = absurd (let bad : 1 ≡ 0 = sym is ∙ zero_is in cc
 isnt_1 n is (inr three_is) = absurd (let bad : 1 ≡ 3 = sym is ∙ three_is in cc)
 
 -- who watches it heard of a script's run
-pub heard_of : {C E X : Type 0} (r : Result ℕ X) (reads : Reads C) (contents : E → Option (List ℕ)) (text script : List ℕ) (job : Job) (clock : C)
-    (before after last : E) (status : ℕ) → IsJobOf text script job → OnOk r (HasHeard reads contents (length job.events.items) clock before after)
-    → r ≡ Ok status → last ≡ after → HasHeardScript reads contents text script clock before last
-heard_of {E = E} {X = X} r reads contents text script job clock before after last status held heard is same = record {
+pub heard_of : {C E X : Type 0} (r : Result ℕ X) (reads : Reads C) (tells : Telling E) (text script : List ℕ) (job : Job) (clock : C)
+    (before after last : E) (status : ℕ) → IsJobOf text script job → OnOk r (HasHeard reads tells (length job.events.items) clock before after)
+    → r ≡ Ok status → last ≡ after → HasHeardScript reads tells text script clock before last
+heard_of {E = E} {X = X} r reads tells text script job clock before after last status held heard is same = record {
   job = job;
   is = held;
-  heard = subst (λ (e : E). HasHeard reads contents (length job.events.items) clock before e) (sym same)
-      (subst (λ (x : Result ℕ X). OnOk x (HasHeard reads contents (length job.events.items) clock before after)) is heard);
+  heard = subst (λ (e : E). HasHeard reads tells (length job.events.items) clock before e) (sym same)
+      (subst (λ (x : Result ℕ X). OnOk x (HasHeard reads tells (length job.events.items) clock before after)) is heard);
 }
+
+-- a beginning of its text was printed, also where it ended well
+pub begun_of : {T : Type 0} (r : Result ℕ Fault) (takes : TakesOn T) (text script : List ℕ) (job : Job) (before after : T) (output printed : Option (List ℕ))
+    → IsJobOf text script job → IfOk r (IsTapedRun takes job.settings job.events.items before after output printed)
+    → OnErr r (Begins (founding job.settings) job.events.items output printed) → BeginsScript text script output printed
+begun_of (Ok status) takes text script job before after output printed held taped begun = inr (record {
+  job = job;
+  is = held;
+  begun = record { steps = taped.run.steps; last = taped.run.world; answers = taped.run.answers; begun = whole _ _ _ taped.text };
+})
+begun_of (Err why) takes text script job before after output printed held taped (inl same) = inl same
+begun_of (Err why) takes text script job before after output printed held taped (inr begun) = inr (record { job = job; is = held; begun = begun })
+
+-- which fault ended a run, and what it leaves
+pub fails_of : (r : Result ℕ Fault) (text script : List ℕ) (output printed : Option (List ℕ)) → IfErr r (TellsRun text script)
+    → IfErr r (Leaves text script output printed) → IfErr r (FailsBy text script output printed)
+fails_of (Ok status) text script output printed told leaves = tt
+fails_of (Err why) text script output printed told leaves = record { told = told; leaves = leaves }

@@ -1,17 +1,55 @@
 -- What a task has done, at a site and by a host.
-use Rattle.std.specs.Prelude.{◌≡◌, ◌⊎◌, ℕ, List, Option, IfSome, MatchOption, Bool, true, false, Some, string_bytes}
+use Rattle.std.specs.Prelude.{◌≡◌, ◌⊎◌, ℕ, List, Option, MatchOption, Bool, true, false, None, Some, string_bytes}
 use Rattle.command_line.specs.declared.tasks.Task.{Task}
 use Rattle.command_line.specs.declared.tasks.Task.TheVariants as task
+use Rattle.checks.specs.Comparing.{text_with_path}
 use Rattle.checks.specs.Counts.{AreAlike, IsCleanText, IsGoodText}
 use Rattle.command_line.specs.declared.words.CheckWords.{CheckWords}
 use Rattle.command_line.specs.declared.words.StatusWords.{StatusWords}
 use Rattle.command_line.specs.declared.words.RunWords.{RunWords}
+use Rattle.faults.specs.Jobs.{TellsRun}
+use Rattle.faults.specs.Texts.{fault_text}
+use Rattle.faults.specs.declared.faults.Fault.{Fault}
+use Rattle.faults.specs.declared.faults.Fault.TheVariants.{NotWritten}
+use Rattle.frame_sim.specs.Tapes.{TakesOn}
+use Rattle.outlets.specs.Printed.{IsBegun}
+use Rattle.outlets.specs.Telling.{IsTold, IsToldOf, Telling}
 use Rattle.simulation.specs.Status.{RunsScript}
-use Rattle.box_words.specs.Deeds.{Does, HasListed, HasReported, HasSaid, HasSynced, HasTaken, made, read}
+use Rattle.simulation.specs.Stops.{BeginsScript, FailsBy}
+use Rattle.loopback_run.specs.Loops.{TellsLoop}
+use Rattle.loopback_run.specs.Standings.{Standing, unasked}
+use Rattle.loopback_run.specs.Stops.{FailsBy as FailsLoopBy}
+use Rattle.box_words.specs.Deeds.{Does, HasListed, HasReported, HasSaid, HasSynced, HasTaken, HasUnlisted, HasUnmade, HasUnreported}
+use Rattle.box_words.specs.Deeds.{HasUnsaid, HasUnsynced, HasUntaken, made, read}
+use Rattle.box_words.specs.Faults.{fault_text as box_text}
 use Rattle.box_words.specs.Said.{said_off, said_side, said_stop}
+use Rattle.box_words.specs.declared.refusals.BoxFault.{BoxFault}
 use Rattle.commands.specs.Asked.{filter_of, form_of}
-use Rattle.commands.specs.Ends.{Loops}
-use Rattle.commands.specs.Hosts.{Scene, Scope, Works, Written, compared, looked, plan_of, scope_of, served, text_at, written}
+use Rattle.commands.specs.Captures.{IsCaptured, IsLoopCaptured, LeavesCapture}
+use Rattle.commands.specs.Ends.{BeginsLoop, Loops, has_ports, may_pass, may_refuse, version_line}
+use Rattle.commands.specs.Hosts.{Begins, Closes, HasWorked, Scene, Scope, Works, compared, looked, plan_of, scope_of, served, text_at, written}
+use Rattle.commands.specs.Meters.{Hearing, IsToldBehind}
+use Rattle.commands.specs.Reading.{AreNotHad, AreRead, IsNotHad}
+
+-- ---- of every task
+
+-- nothing is printed
+abbrev pub IsUnprinted : {S H O E : Type 0} → Scene S H O E → Scene S H O E → Type 0
+IsUnprinted before after = after.output ≡ before.output
+
+-- nothing is told
+abbrev pub IsUntold : {S H O E : Type 0} → Scene S H O E → Scene S H O E → Type 0
+IsUntold before after = after.errors ≡ before.errors
+
+-- no capture is begun
+abbrev pub IsUncaptured : {S H O E : Type 0} → Scene S H O E → Scene S H O E → Type 0
+IsUncaptured before after = after.host ≡ before.host
+
+-- A word to a box ends so, by what is done at the site where it is done, and else by each fault. At 0 nothing is told, and at 1 just such a fault
+abbrev pub EndsSo : {S H O E : Type 0} → Telling E → (S → S → Type 0) → (BoxFault → S → S → Type 0) → ℕ → Scene S H O E → Scene S H O E → Type 0
+EndsSo tells done fails status before after = IsUncaptured before after
+    × (status ≡ 0 → IsUntold before after × done before.site after.site)
+    × (status ≡ 1 → IsToldOf tells box_text (λ why. fails why before.site after.site) before.errors after.errors)
 
 -- a box is asked how it stands, and its report written, or until it is synced
 abbrev pub IsAskedSo : {S : Type 0} → Does S → Bool → StatusWords → Option (List ℕ) → Option (List ℕ) → S → S → Type 0
@@ -22,108 +60,181 @@ IsAskedSo does false words old new before after =
 abbrev pub IsAsked : {S : Type 0} → Does S → StatusWords → Option (List ℕ) → Option (List ℕ) → S → S → Type 0
 IsAsked does words old new before after = IsAskedSo does words.until_synced words old new before after
 
--- just two files were read, one behind the other; these are their texts
-pub record AreRead {S : Type 0} (does : Does S) (first second text other : List ℕ) (before after : S) : Type 0 where
-  pub between : S
-  pub first_read : does before (read first text) between
-  pub second_read : does between (read second other) after
+-- or it is asked so in vain, and this is the fault
+abbrev pub IsAskedInVainSo : {S O : Type 0} → Does S → Bool → StatusWords → BoxFault → O → O → S → S → Type 0
+IsAskedInVainSo does true words why old new before after = HasUnsynced does (string_bytes words.settings) words.id why before after
+IsAskedInVainSo does false words why old new before after = HasUnreported does (string_bytes words.settings) words.id why old new before after
 
--- nothing is printed
-abbrev pub IsUnprinted : {S O E : Type 0} → Scene S O E → Scene S O E → Type 0
-IsUnprinted before after = after.output ≡ before.output
+abbrev pub IsAskedInVain : {S O : Type 0} → Does S → StatusWords → BoxFault → O → O → S → S → Type 0
+IsAskedInVain does words why old new before after = IsAskedInVainSo does words.until_synced words why old new before after
 
--- a file that is named couldn't be read: the status is 1, and nothing is printed
-abbrev pub IsUnread : {S O E : Type 0} → ℕ → Scene S O E → Scene S O E → Type 0
-IsUnread status before after = (status ≡ 1) × IsUnprinted before after
+-- ---- of `check`
 
-module _ {S O E : Type 0} (does : Does S) (works : Works) (prints : O → Option (List ℕ)) (tells : E → Option (List ℕ)) where
+-- A file was asked for. It was read, and has this text; and nothing was told. Or it wasn't had, and just why was told, with its path
+abbrev pub IsAskedFor : {S E : Type 0} → Does S → Telling E → List ℕ → Option (List ℕ) → S → S → E → E → Type 0
+IsAskedFor does tells path (Some text) before after old new = does before (read path text) after × (new ≡ old)
+IsAskedFor does tells path None before after old new =
+    IsToldOf tells (λ why. text_with_path why path) (λ why. IsNotHad does path why before after) old new
+
+module _ {S H O E : Type 0} (does : Does S) (works : Works) (prints : O → Option (List ℕ)) (tells : Telling E) where
   -- just the file that is named was read, and its text looked at so, with this status: 0 only where it is good, or, where that
   -- is strict, clean
-  pub record IsLookedAt (settings : List ℕ) (scope : Scope) (status : ℕ) (before after : Scene S O E) : Type 0 where
+  pub record IsLookedAt (settings : List ℕ) (scope : Scope) (status : ℕ) (before after : Scene S H O E) : Type 0 where
     pub text : List ℕ
     pub is_read : does before.site (read settings text) after.site
-    pub work : works (looked text scope) (written prints before.output after.output) (written tells before.errors after.errors) status
+    pub work : HasWorked tells works (looked text scope) (written prints before.output after.output) status before.errors after.errors
     pub good : status ≡ 0 → IsGoodText text
     pub clean : scope.strict ≡ true → status ≡ 0 → IsCleanText text
 
+  -- just it was asked for and not had, which was told, and nothing printed: the status is 1
+  pub record IsUnread (settings : List ℕ) (status : ℕ) (before after : Scene S H O E) : Type 0 where
+    pub is_one : status ≡ 1
+    pub unprinted : IsUnprinted before after
+    pub told : IsToldOf tells fault_text (λ why. IsNotHad does settings why before.site after.site) before.errors after.errors
+
   -- just the files that are named were read, the settings first, and their texts compared, with this status: 0 only where they
   -- are alike
-  pub record AreCompared (settings other : List ℕ) (status : ℕ) (before after : Scene S O E) : Type 0 where
+  pub record AreCompared (settings other : List ℕ) (status : ℕ) (before after : Scene S H O E) : Type 0 where
     pub one : List ℕ
     pub two : List ℕ
     pub are_read : AreRead does settings other one two before.site after.site
-    pub work : works (compared (text_at settings one) (text_at other two)) (written prints before.output after.output)
-        (written tells before.errors after.errors) status
+    pub work : HasWorked tells works (compared (text_at settings one) (text_at other two)) (written prints before.output after.output) status
+        before.errors after.errors
     pub alike : status ≡ 0 → AreAlike one two
 
-  -- so it is, or the file can't be read
-  abbrev pub HasChecked : List ℕ → Scope → ℕ → Scene S O E → Scene S O E → Type 0
-  HasChecked settings scope status before after = IsUnread status before after ⊎ IsLookedAt settings scope status before after
+  -- both were asked for, the settings first, whatever came of them, and one wasn't had; nothing is printed: the status is 1
+  pub record AreUnread (settings other : List ℕ) (status : ℕ) (before after : Scene S H O E) : Type 0 where
+    pub is_one : status ≡ 1
+    pub unprinted : IsUnprinted before after
+    pub one : Option (List ℕ)
+    pub two : Option (List ℕ)
+    pub lacks : (one ≡ None) ⊎ (two ≡ None)
+    pub site : S
+    pub errors : E
+    pub first : IsAskedFor does tells settings one before.site site before.errors errors
+    pub second : IsAskedFor does tells other two site after.site errors after.errors
 
-  abbrev pub HasCompared : List ℕ → List ℕ → ℕ → Scene S O E → Scene S O E → Type 0
-  HasCompared settings other status before after = IsUnread status before after ⊎ AreCompared settings other status before after
+  -- so it is, or the file isn't had
+  abbrev pub HasChecked : List ℕ → Scope → ℕ → Scene S H O E → Scene S H O E → Type 0
+  HasChecked settings scope status before after = IsUnread settings status before after ⊎ IsLookedAt settings scope status before after
+
+  abbrev pub HasCompared : List ℕ → List ℕ → ℕ → Scene S H O E → Scene S H O E → Type 0
+  HasCompared settings other status before after = AreUnread settings other status before after ⊎ AreCompared settings other status before after
 
   -- settings were checked, or compared with others, as words ask
-  abbrev pub HasLooked : CheckWords → ℕ → Scene S O E → Scene S O E → Type 0
+  abbrev pub HasLooked : CheckWords → ℕ → Scene S H O E → Scene S H O E → Type 0
   HasLooked words status before after =
       MatchOption words.other (HasChecked (string_bytes words.settings) (scope_of words) status before after)
       (λ other. HasCompared (string_bytes words.settings) (string_bytes other) status before after)
 
--- what is told of the run of a script, by the texts of its settings and of the script
-abbrev pub Hearing : Type 0 → Type 1
-Hearing E = List ℕ → List ℕ → E → E → Type 0
+-- ---- of `sim` and `loop`
 
--- what is taken down of a run in the file at a path, by these texts
-abbrev pub Capturing : Type 1
-Capturing = List ℕ → List ℕ → List ℕ → Written → ℕ → Type 0
+-- how a fault ends a run of the texts of settings and of a script, by the output before and after
+abbrev pub Failing : Type 0 → Type 1
+Failing O = List ℕ → List ℕ → O → O → Fault → Type 0
 
-abbrev pub LoopCapturing : Type 1
-LoopCapturing = List ℕ → List ℕ → List ℕ → Type 0
+abbrev pub FailsSim : {O : Type 0} → (O → Option (List ℕ)) → Failing O
+FailsSim prints text script output printed why = FailsBy text script (prints output) (prints printed) why
 
--- just the files that are named were read, the settings first, and the script run with this status; so much of it was told, and,
--- where the words name a file for that, taken down there
-pub record HasRunOf {S O E : Type 0} (does : Does S) (prints : O → Option (List ℕ)) (hears : Hearing E) (captures : Capturing) (files : RunWords) (status : ℕ) (before after : Scene S O E) : Type 0 where
-  pub text : List ℕ
-  pub script : List ℕ
-  pub are_read : AreRead does (string_bytes files.settings) (string_bytes files.script) text script before.site after.site
-  pub run : RunsScript text script (prints before.output) (prints after.output) status
-  pub told : hears text script before.errors after.errors
-  pub captured : IfSome files.capture (λ path. captures (string_bytes path) text script (written prints before.output after.output) status)
+abbrev pub FailsLoop : {O : Type 0} → (O → Option (List ℕ)) → Failing O
+FailsLoop prints text script output printed why =
+    (last : Standing) × FailsLoopBy has_ports may_refuse may_pass prints text script unasked last output printed why
 
--- and through sockets: of that nothing is told but its output
-pub record HasLoopOf {S O E : Type 0} (does : Does S) (prints : O → Option (List ℕ)) (captures : LoopCapturing) (files : RunWords) (status : ℕ) (before after : Scene S O E) : Type 0 where
-  pub text : List ℕ
-  pub script : List ℕ
-  pub are_read : AreRead does (string_bytes files.settings) (string_bytes files.script) text script before.site after.site
-  pub run : Loops text script (prints before.output) (prints after.output) status
-  pub quiet : after.errors ≡ before.errors
-  pub captured : IfSome files.capture (λ path. captures (string_bytes path) text script)
+-- the faults of the texts, and of the ports, which come before a capture is begun; and what is printed behind it
+abbrev pub Reasons : Type 1
+Reasons = List ℕ → List ℕ → Fault → Type 0
+
+abbrev pub Beginning : Type 1
+Beginning = List ℕ → List ℕ → Option (List ℕ) → Option (List ℕ) → Type 0
+
+module _ {S H T O E : Type 0} (does : Does S) (takes : TakesOn T) (begins : Begins H T) (closes : Closes H T) (prints : O → Option (List ℕ)) where
+  -- just the files that are named were read, the settings first, and the script run with this status; so much of it was told; and
+  -- it was captured just where the words name a file for that
+  pub record HasRunOf (hears : Hearing E) (files : RunWords) (status : ℕ) (before after : Scene S H O E) : Type 0 where
+    pub text : List ℕ
+    pub script : List ℕ
+    pub are_read : AreRead does (string_bytes files.settings) (string_bytes files.script) text script before.site after.site
+    pub run : RunsScript text script (prints before.output) (prints after.output) status
+    pub told : hears text script before.errors after.errors
+    pub captured : MatchOption files.capture (IsUncaptured before after)
+        (λ path. IsCaptured takes begins closes (string_bytes path) text script (written prints before.output after.output) status before.host after.host)
+
+  -- and through sockets: of that nothing is told but its output
+  pub record HasLoopOf (files : RunWords) (status : ℕ) (before after : Scene S H O E) : Type 0 where
+    pub text : List ℕ
+    pub script : List ℕ
+    pub are_read : AreRead does (string_bytes files.settings) (string_bytes files.script) text script before.site after.site
+    pub run : Loops text script (prints before.output) (prints after.output) status
+    pub quiet : IsUntold before after
+    pub captured : MatchOption files.capture (IsUncaptured before after)
+        (λ path. IsLoopCaptured takes begins closes (string_bytes path) text script before.host after.host)
+
+module _ {S H T O E : Type 0} (does : Does S) (begins : Begins H T) (closes : Closes H T) (prints : O → Option (List ℕ)) where
+  -- just the files that are named were read, the settings first, and this fault ended the run: with a capture just where the words
+  -- name a file for that
+  pub record IsEndedRun (fails : Failing O) (reasons : Reasons) (begun : Beginning) (files : RunWords) (why : Fault) (before after : Scene S H O E) : Type 0 where
+    pub text : List ℕ
+    pub script : List ℕ
+    pub are_read : AreRead does (string_bytes files.settings) (string_bytes files.script) text script before.site after.site
+    pub ended : MatchOption files.capture (IsUncaptured before after × fails text script before.output after.output why)
+        (λ path. LeavesCapture begins closes (string_bytes path) (reasons text script) (begun text script (prints before.output) (prints after.output)) why
+        before.host after.host before.output after.output)
+
+  -- or one of the files wasn't had, and nothing else was done
+  abbrev pub IsUnbegunRun : RunWords → Fault → Scene S H O E → Scene S H O E → Type 0
+  IsUnbegunRun files why before after = AreNotHad does (string_bytes files.settings) (string_bytes files.script) why before.site after.site
+      × IsUnprinted before after × IsUncaptured before after
+
+  -- just why one of the files wasn't had was told; or, behind what was heard of the run, which fault ended it
+  abbrev pub EndsSim : Telling E → (E → E → Type 0) → RunWords → Scene S H O E → Scene S H O E → Type 0
+  EndsSim tells overhears files before after =
+      IsToldOf tells fault_text (λ why. IsUnbegunRun files why before after) before.errors after.errors
+      ⊎ IsToldBehind tells overhears (λ why. IsEndedRun (FailsSim prints) TellsRun BeginsScript files why before after) before.errors after.errors
+
+  abbrev pub EndsLoop : RunWords → Fault → Scene S H O E → Scene S H O E → Type 0
+  EndsLoop files why before after = IsEndedRun (FailsLoop prints) TellsLoop BeginsLoop files why before after ⊎ IsUnbegunRun files why before after
+
+-- ---- each task
 
 -- What is done for a task that ends with this status. A status of 0 says of `init` that just the boot file that is named was made; of
 -- `stop`, `peer-off`, `side`, `status` and `pairs` that the settings that are named were read, and then just the box that is named was
 -- said just what the words say, and heard it, or took it, or was asked, and answered, and its answer was written. A status of 0 or 3 says
--- of `sim` and `loop` that just the files that are named were read, and the script run, and taken down where that is asked for. Whatever the status, `check` looks at just what the
--- words say, as they say it; `gate` has a gateway run as they say; neither `gate` nor the version does anything at the site; and `init`,
--- `stop`, `peer-off`, `side` and `status --until synced` print nothing.
-module _ {S O E : Type 0} (does : Does S) (works : Works) (prints : O → Option (List ℕ)) (tells : E → Option (List ℕ)) (hears : Hearing E)
-    (captures : Capturing) (loop_captures : LoopCapturing) where
-  abbrev pub Acts : Task → ℕ → Scene S O E → Scene S O E → Type 0
-  Acts (task.Init file) status before after =
-      IsUnprinted before after × (status ≡ 0 → does before.site (made (string_bytes file)) after.site)
-  Acts (task.Check words) status before after = HasLooked does works prints tells words status before after
-  Acts (task.Gate words) status before after =
-      works (served (plan_of words)) (written prints before.output after.output) (written tells before.errors after.errors) status
-      × (after.site ≡ before.site)
+-- of `sim` and `loop` that just the files that are named were read, and the script run, and captured just where that is asked for. At 0
+-- nothing is told but how far a run of `sim` is, where somebody watches. A status of 1 says of each of them which fault ended it, that just its line was told, and
+-- that what led to it was all that was done: just that file was tried, that box asked, those files read; and of `status`, `pairs`, `sim`,
+-- `loop` and the version what was printed until then. Whatever the status, `check` looks at just what the words say, as they say it, and `gate` has
+-- a gateway run as they say; what the host told is told, and nothing else.
+-- Neither `gate` nor the version does anything at the site; only `sim` and `loop` begin a capture; and `init`, `stop`, `peer-off`,
+-- `side` and `status --until synced` print nothing.
+module _ {S H T O E : Type 0} (does : Does S) (works : Works) (takes : TakesOn T) (begins : Begins H T) (closes : Closes H T)
+    (prints : O → Option (List ℕ)) (tells : Telling E) (hears : Hearing E) (overhears : E → E → Type 0) where
+  abbrev pub Acts : Task → ℕ → Scene S H O E → Scene S H O E → Type 0
+  Acts (task.Init file) status before after = IsUnprinted before after
+      × EndsSo tells (λ b a. does b (made (string_bytes file)) a) (HasUnmade does (string_bytes file)) status before after
+  Acts (task.Check words) status before after = IsUncaptured before after × (status ≡ 0 → IsUntold before after)
+      × HasLooked does works prints tells words status before after
+  Acts (task.Gate words) status before after = (after.site ≡ before.site) × IsUncaptured before after × (status ≡ 0 → IsUntold before after)
+      × HasWorked tells works (served (plan_of words)) (written prints before.output after.output) status before.errors after.errors
   Acts (task.Status words) status before after = (words.until_synced ≡ true → IsUnprinted before after)
-      × (status ≡ 0 → IsAsked does words (prints before.output) (prints after.output) before.site after.site)
-  Acts (task.Pairs words) status before after = status ≡ 0
-      → HasListed does (string_bytes words.settings) words.id (filter_of words) (prints before.output) (prints after.output) before.site after.site
-  Acts (task.Stop settings id) status before after =
-      IsUnprinted before after × (status ≡ 0 → HasSaid does (string_bytes settings) id (Some said_stop) before.site after.site)
+      × EndsSo tells (IsAsked does words (prints before.output) (prints after.output)) (λ why. IsAskedInVain does words why before.output after.output) status before after
+  Acts (task.Pairs words) status before after = EndsSo tells
+      (HasListed does (string_bytes words.settings) words.id (filter_of words) (prints before.output) (prints after.output))
+      (λ why. HasUnlisted does prints (string_bytes words.settings) words.id (filter_of words) why before.output after.output) status before after
+  Acts (task.Stop settings id) status before after = IsUnprinted before after
+      × EndsSo tells (HasSaid does (string_bytes settings) id (Some said_stop)) (HasUnsaid does (string_bytes settings) id (Some said_stop))
+      status before after
   Acts (task.PeerOff words) status before after = IsUnprinted before after
-      × (status ≡ 0 → HasTaken does (string_bytes words.settings) words.id (Some (said_off words.boot words.force)) before.site after.site)
-  Acts (task.Side settings id side up) status before after =
-      IsUnprinted before after × (status ≡ 0 → HasSaid does (string_bytes settings) id (Some (said_side side up)) before.site after.site)
-  Acts (task.Sim files) status before after = (status ≡ 0) ⊎ (status ≡ 3) → HasRunOf does prints hears captures files status before after
-  Acts (task.Loop files) status before after = (status ≡ 0) ⊎ (status ≡ 3) → HasLoopOf does prints loop_captures files status before after
-  Acts task.Version status before after = after.site ≡ before.site
+      × EndsSo tells (HasTaken does (string_bytes words.settings) words.id (Some (said_off words.boot words.force)))
+      (HasUntaken does (string_bytes words.settings) words.id (Some (said_off words.boot words.force))) status before after
+  Acts (task.Side settings id side up) status before after = IsUnprinted before after
+      × EndsSo tells (HasSaid does (string_bytes settings) id (Some (said_side side up)))
+      (HasUnsaid does (string_bytes settings) id (Some (said_side side up))) status before after
+  Acts (task.Sim files) status before after =
+      ((status ≡ 0) ⊎ (status ≡ 3) → HasRunOf does takes begins closes prints hears files status before after)
+      × (status ≡ 1 → EndsSim does begins closes prints tells overhears files before after)
+  Acts (task.Loop files) status before after =
+      ((status ≡ 0) ⊎ (status ≡ 3) → HasLoopOf does takes begins closes prints files status before after)
+      × (status ≡ 1 → IsToldOf tells fault_text (λ why. EndsLoop does begins closes prints files why before after)
+      before.errors after.errors)
+  Acts task.Version status before after = (after.site ≡ before.site) × IsUncaptured before after × (status ≡ 0 → IsUntold before after)
+      × (status ≡ 1 → IsTold tells before.errors (fault_text NotWritten) after.errors × IsBegun (prints before.output) (prints after.output) version_line)

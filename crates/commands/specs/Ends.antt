@@ -1,5 +1,5 @@
 -- What an exit status says of what was done.
-use Rattle.std.specs.Prelude.{◌≡◌, ℕ, Bool, true, List, Option, MatchOption, codes}
+use Rattle.std.specs.Prelude.{◌≡◌, ◌⊎◌, ℕ, Bool, true, List, Option, MatchOption, codes}
 use Rattle.std.specs.Io.KnownBytes.{Appends}
 use Rattle.command_line.specs.Tasks.{IsAnswer}
 use Rattle.checks.specs.Counts.{AreAlike, IsCleanText, IsGoodText}
@@ -7,11 +7,16 @@ use Rattle.command_line.specs.declared.tasks.Task.{Task}
 use Rattle.command_line.specs.declared.tasks.Task.TheVariants as task
 use Rattle.command_line.specs.declared.words.CheckWords.{CheckWords}
 use Rattle.settings.specs.declared.whole.Settings.{Settings}
+use Rattle.faults.specs.Jobs.{IsJobOf}
+use Rattle.faults.specs.declared.jobs.Job.{Job}
+use Rattle.frame_sim.specs.World.{founding}
 use Rattle.gate.specs.Served.{HasServed}
 use Rattle.simulation.specs.Status.{RunsScript}
-use Rattle.loopback_run.specs.Standings.{MayBe, Standing, bound, unasked}
+use Rattle.loopback_run.specs.Standings.{MayBe, Standing, bound, refused, unasked}
 use Rattle.loopback_run.specs.Loops.{LoopsScript}
+use Rattle.loopback_run.specs.Stops.{HaveBegun, HaveEnded}
 use Rattle.loopback_run.specs.Turns.{Passes}
+use Rattle.loopback_run.specs.declared.ports.PortFault.{PortFault}
 
 -- the status of a run of some script, on a new world of the settings that some text holds, and just its text was printed
 pub record HasRun (before after : Option (List ℕ)) (status : ℕ) : Type 0 where
@@ -23,6 +28,10 @@ pub record HasRun (before after : Option (List ℕ)) (status : ℕ) : Type 0 whe
 abbrev pub has_ports : Standing → Settings → Standing → Type 0
 has_ports before settings after = after ≡ bound settings
 
+-- and where it is refused them, it has none,
+abbrev pub may_refuse : Standing → Settings → PortFault → Standing → Type 0
+may_refuse before settings fault after = after ≡ refused fault
+
 -- and what is sent may come, or be lost
 abbrev pub may_pass : Passes Standing
 may_pass before parcel fate after = MayBe before fate × (after ≡ before)
@@ -31,7 +40,21 @@ may_pass before parcel fate after = MayBe before fate × (after ≡ before)
 abbrev pub Loops : List ℕ → List ℕ → Option (List ℕ) → Option (List ℕ) → ℕ → Type 0
 Loops text script before after status = (last : Standing) × LoopsScript has_ports may_pass text script unasked last before after status
 
--- the same of some two texts
+-- the script's run through these has begun, or all its events have had their turns; and a beginning of its text was printed
+pub record HasBegunLoop (text script : List ℕ) (before after : Option (List ℕ)) : Type 0 where
+  pub job : Job
+  pub is : IsJobOf text script job
+  pub ports : Standing
+  pub opened : has_ports unasked job.settings ports
+  pub last : Standing
+  pub begun : HaveBegun may_pass (founding job.settings) ports job.events.items last before after
+      ⊎ HaveEnded may_pass (founding job.settings) ports job.events.items last before after
+
+-- that, or the output is as it was
+abbrev pub BeginsLoop : List ℕ → List ℕ → Option (List ℕ) → Option (List ℕ) → Type 0
+BeginsLoop text script before after = (after ≡ before) ⊎ HasBegunLoop text script before after
+
+-- such a run of some two texts
 pub record HasLoop (before after : Option (List ℕ)) (status : ℕ) : Type 0 where
   pub text : List ℕ
   pub script : List ℕ

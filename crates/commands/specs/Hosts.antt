@@ -1,5 +1,7 @@
 -- What the program works on, and what is asked of a host beside the deeds at a site.
-use Rattle.std.specs.Prelude.{ℕ, Bool, List, Option, option_map, string_bytes}
+use Rattle.std.specs.Prelude.{ℕ, Bool, List, Option, Result, option_map, string_bytes}
+use Rattle.std.specs.declared.io.ErrorKind.{ErrorKind}
+use Rattle.outlets.specs.Telling.{AreTold, Telling}
 use Rattle.nat_types.specs.declared.gateways.GatewayId.{GatewayId}
 use Rattle.checks.specs.declared.requests.Request.{Request}
 use Rattle.checks.specs.declared.requests.Source.{Source}
@@ -114,15 +116,30 @@ pub record Written : Type 0 where
 abbrev pub written : {W : Type 0} → (W → Option (List ℕ)) → W → W → Written
 written contents before after = record { before = contents before; after = contents after }
 
--- what a work may print, what it may tell, and with which status
+-- what a work may print, which lines it may tell, one after the other, and with which status
 abbrev pub Works : Type 1
-Works = Work → Written → Written → ℕ → Type 0
+Works = Work → Written → List (List ℕ) → ℕ → Type 0
 
--- where a task is done: a site, the output, and who is told of faults
-pub record Scene (S O E : Type 0) : Type 0 where
+-- a work was done: it printed so, told just such lines, and has this status
+abbrev pub HasWorked : {E : Type 0} → Telling E → Works → Work → Written → ℕ → E → E → Type 0
+HasWorked tells works work printed status before after =
+    (lines : List (List ℕ)) × AreTold tells before lines after × works work printed lines status
+
+-- what may be answered where a capture is to be begun in the file at a path, what takes a run down or why there is none, and what the
+-- host is then
+abbrev pub Begins : Type 0 → Type 0 → Type 1
+Begins H T = H → List ℕ → Result T ErrorKind → H → Type 0
+
+-- what may be answered where it is to be ended
+abbrev pub Closes : Type 0 → Type 0 → Type 1
+Closes H T = H → T → Result (Unit {0}) ErrorKind → Type 0
+
+-- where a task is done: a site, a host, the output, and who is told of faults
+pub record Scene (S H O E : Type 0) : Type 0 where
   pub site : S
+  pub host : H
   pub output : O
   pub errors : E
 
-abbrev pub scene : {S O E : Type 0} → S → O → E → Scene S O E
-scene site output errors = record { site = site; output = output; errors = errors }
+abbrev pub scene : {S H O E : Type 0} → S → H → O → E → Scene S H O E
+scene site host output errors = record { site = site; host = host; output = output; errors = errors }

@@ -1,14 +1,17 @@
 -- What whoever watches a run is told.
-use Rattle.std.specs.Prelude.{◌≡◌, ◌≤◌, ◌<◌, ◌+◌, ◌-◌, ◌^◌, ◌++◌, ◌⊎◌, min, ℕ, Bool, true, false, List, Option, codes, length}
+use Rattle.std.specs.Prelude.{◌≡◌, ◌≤◌, ◌<◌, ◌+◌, ◌-◌, ◌^◌, ◌++◌, ◌⊎◌, min, ℕ, Bool, true, false, List, Ok, Err, codes, length}
 use Rattle.std.specs.Fmt.{decimal}
-use Rattle.std.specs.Io.KnownBytes.{Appends}
+use Rattle.std.specs.declared.io.Error.{Error}
 use Rattle.faults.specs.Jobs.{IsJobOf}
+use Rattle.faults.specs.Texts.{fault_text}
+use Rattle.faults.specs.declared.faults.Fault.{Fault}
 use Rattle.faults.specs.declared.jobs.Job.{Job}
-use Rattle.simulation.specs.Watched.{IsToldAll}
+use Rattle.outlets.specs.Telling.{IsToldOf, Telling as Tells}
+use Rattle.simulation.specs.Watched.{IsToldAll, IsToldSome}
 
 -- the line that says how far a run is
 abbrev pub line : ℕ → ℕ → List ℕ
-line taken all = decimal taken ++ codes " of " ++ decimal all ++ codes " events are done\n"
+line taken all = decimal taken ++ (codes " of " ++ (decimal all ++ codes " events are done\n"))
 
 -- a meter: its clock, the moment from which it says a line, whether one was refused, and who is told
 pub record Telling (C E : Type 0) : Type 0 where
@@ -24,12 +27,17 @@ telling clock next is_refused errors = record { clock = clock; next = next; is_r
 abbrev pub Reads : Type 0 → Type 1
 Reads C = C → ℕ → C → Type 0
 
--- the moment has come, and none was refused: just the line was written, or it was refused. The next one comes two seconds later
-pub record Says {C E : Type 0} (contents : E → Option (List ℕ)) (moment taken all : ℕ) (before after : Telling C E) : Type 0 where
+-- just this line was told; or, where it is refused, it couldn't be, or there was no memory for it and nothing was told
+abbrev pub IsSaid : {E : Type 0} → Tells E → List ℕ → Bool → E → E → Type 0
+IsSaid tells line false before after = tells before line (Ok tt) after
+IsSaid tells line true before after = (after ≡ before) ⊎ ((error : Error) × tells before line (Err error) after)
+
+-- the moment has come, and none was refused: just the line was told, or it was refused. The next one comes two seconds later
+pub record Says {C E : Type 0} (tells : Tells E) (moment taken all : ℕ) (before after : Telling C E) : Type 0 where
   pub is_due : before.next ≤ moment
   pub unrefused : before.is_refused ≡ false
   pub next : after.next ≡ min (moment + 200) (2 ^ 64 - 1)
-  pub written : after.is_refused ≡ false → Appends (contents before.errors) (contents after.errors) (line taken all)
+  pub said : IsSaid tells (line taken all) after.is_refused before.errors after.errors
 
 -- else nothing is said, and nothing changes
 pub record IsSilent {C E : Type 0} (moment : ℕ) (before after : Telling C E) : Type 0 where
@@ -39,24 +47,44 @@ pub record IsSilent {C E : Type 0} (moment : ℕ) (before after : Telling C E) :
   pub errors : after.errors ≡ before.errors
 
 -- it was told how far a run is, and says so at the moment that its clock reads
-pub record Hears {C E : Type 0} (reads : Reads C) (contents : E → Option (List ℕ)) (before : Telling C E) (taken all : ℕ) (after : Telling C E) : Type 0 where
+pub record Hears {C E : Type 0} (reads : Reads C) (tells : Tells E) (before : Telling C E) (taken all : ℕ) (after : Telling C E) : Type 0 where
   pub moment : ℕ
   pub read : reads before.clock moment after.clock
-  pub says : IsSilent moment before after ⊎ Says contents moment taken all before after
+  pub says : IsSilent moment before after ⊎ Says tells moment taken all before after
 
 -- who is told of a run of so many events heard so of all of them, by a clock that was this one when it began
-pub record HasHeard {C E : Type 0} (reads : Reads C) (contents : E → Option (List ℕ)) (all : ℕ) (clock : C) (before after : E) : Type 0 where
+pub record HasHeard {C E : Type 0} (reads : Reads C) (tells : Tells E) (all : ℕ) (clock : C) (before after : E) : Type 0 where
   pub last : Telling C E
-  pub told : IsToldAll (Hears reads contents) all (telling clock 200 false before) last
+  pub told : IsToldAll (Hears reads tells) all (telling clock 200 false before) last
   pub is_last : after ≡ last.errors
 
 -- the same of a script's events
-pub record HasHeardScript {C E : Type 0} (reads : Reads C) (contents : E → Option (List ℕ)) (text script : List ℕ) (clock : C) (before after : E) : Type 0 where
+pub record HasHeardScript {C E : Type 0} (reads : Reads C) (tells : Tells E) (text script : List ℕ) (clock : C) (before after : E) : Type 0 where
   pub job : Job
   pub is : IsJobOf text script job
-  pub heard : HasHeard reads contents (length job.events.items) clock before after
+  pub heard : HasHeard reads tells (length job.events.items) clock before after
+
+-- what is told of the run of a script, by the texts of its settings and of the script
+abbrev pub Hearing : Type 0 → Type 1
+Hearing E = List ℕ → List ℕ → E → E → Type 0
 
 -- of a script that is watched so much was heard; of one that isn't, nothing is told
-abbrev pub Watches : {C E : Type 0} → Bool → Reads C → (E → Option (List ℕ)) → C → List ℕ → List ℕ → E → E → Type 0
-Watches is_watched reads contents clock text script before after =
-    (is_watched ≡ true → HasHeardScript reads contents text script clock before after) × (is_watched ≡ false → after ≡ before)
+abbrev pub Watches : {C E : Type 0} → Bool → Reads C → Tells E → C → Hearing E
+Watches is_watched reads tells clock text script before after =
+    (is_watched ≡ true → HasHeardScript reads tells text script clock before after) × (is_watched ≡ false → after ≡ before)
+
+-- who is told of a run heard so of it some times, or never, by a clock that was this one when it began
+pub record HasOverheard {C E : Type 0} (reads : Reads C) (tells : Tells E) (clock : C) (before after : E) : Type 0 where
+  pub last : Telling C E
+  pub told : IsToldSome (Hears reads tells) (telling clock 200 false before) last
+  pub is_last : after ≡ last.errors
+
+-- of a run that is watched so much was heard until a fault ended it; of one that isn't, nothing is told
+abbrev pub Overhears : {C E : Type 0} → Bool → Reads C → Tells E → C → E → E → Type 0
+Overhears is_watched reads tells clock before after =
+    (is_watched ≡ true → HasOverheard reads tells clock before after) × (is_watched ≡ false → after ≡ before)
+
+-- behind what was heard of a run, just the line of such a fault was told
+abbrev pub IsToldBehind : {E : Type 0} → Tells E → (E → E → Type 0) → (Fault → Type 0) → E → E → Type 0
+IsToldBehind {E = E} tells overhears is_such before after =
+    (middle : E) × (overhears before middle × IsToldOf tells fault_text is_such middle after)

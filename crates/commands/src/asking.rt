@@ -1,15 +1,18 @@
 //! What is asked of settings, and of a running gateway.
-ghost use Rattle.std.specs.Prelude.{◌≡◌, ◌⊎◌, IfSome, option_map, string_bytes, true, unwrap_or};
-ghost use Rattle.commands.specs.Acts.{HasChecked, HasCompared, HasLooked, IsAsked};
+ghost use Rattle.std.specs.Prelude.{◌≡◌, ◌⊎◌, option_map, string_bytes, true, unwrap_or};
+ghost use Rattle.outlets.specs.Telling.{IsToldOf};
+ghost use Rattle.commands.specs.Acts.{HasChecked, HasCompared, HasLooked, IsAsked, IsAskedFor, IsAskedInVain};
 ghost use Rattle.commands.specs.Asked.{filter_of, form_of};
 ghost use Rattle.commands.specs.Hosts.{scene, scope_in};
-ghost use Rattle.box_words.specs.Deeds.{HasListed, read};
+ghost use Rattle.box_words.specs.Deeds.{HasListed, HasUnlisted};
+ghost use Rattle.box_words.specs.Faults.{fault_text};
 
 use crate::commands::text_of;
 use crate::hosts::Host;
 use box_words::{Site, await_synced, pairs, status};
 use checks::{Request, Source, tell_of};
 use command_line::{CheckWords, PairsWords, StatusWords};
+use outlets::Tells;
 use report_texts::Filter;
 use std::alloc::Global;
 use std::io::Write;
@@ -19,7 +22,8 @@ use std::rt::Clock;
 const PATIENCE: u32 = 60;
 
 /// Looks at settings, or in what they differ from others.
-pub(crate) fn look_at<S: Site, H: Host, O: Write, E: Write>(
+pub(crate) fn look_at<S: Site, H: Host, O: Write, E: Tells>(
+    alloc: Global,
     site: &mut S,
     host: &H,
     words: &CheckWords,
@@ -27,18 +31,29 @@ pub(crate) fn look_at<S: Site, H: Host, O: Write, E: Write>(
     errors: &mut E,
 ) -> u8
     ensures status { (result ≡ 0) ⊎ (result ≡ 1) }
-    ensures looked { HasLooked S.does (H.works host.now) O.contents E.contents words.now result
-        (scene site.old output.old errors.old) (scene site.new output.new errors.new) }
+    ensures quiet { result ≡ 0 → errors.new ≡ errors.old }
+    ensures looked { HasLooked S.does (H.works host.now) O.contents E.tells words.now result
+        (scene site.old host.now output.old errors.old)
+        (scene site.new host.now output.new errors.new) }
 {
     let settings = words.settings.as_str();
     match &words.other {
-        Some(other) => look_at_both(site, host, settings, other.as_str(), output, errors),
-        None => look_at_one(site, host, settings, &request_of(words), output, errors),
+        Some(other) => look_at_both(alloc, site, host, settings, other.as_str(), output, errors),
+        None => look_at_one(
+            alloc,
+            site,
+            host,
+            settings,
+            &request_of(words),
+            output,
+            errors,
+        ),
     }
 }
 
 /// Looks at the settings in a file.
-fn look_at_one<S: Site, H: Host, O: Write, E: Write>(
+fn look_at_one<S: Site, H: Host, O: Write, E: Tells>(
+    alloc: Global,
     site: &mut S,
     host: &H,
     settings: &str,
@@ -47,18 +62,20 @@ fn look_at_one<S: Site, H: Host, O: Write, E: Write>(
     errors: &mut E,
 ) -> u8
     ensures status { (result ≡ 0) ⊎ (result ≡ 1) }
-    ensures checked { HasChecked S.does (H.works host.now) O.contents E.contents settings.now
-        (scope_in request.now) result (scene site.old output.old errors.old)
-        (scene site.new output.new errors.new) }
+    ensures quiet { result ≡ 0 → errors.new ≡ errors.old }
+    ensures checked { HasChecked S.does (H.works host.now) O.contents E.tells settings.now
+        (scope_in request.now) result (scene site.old host.now output.old errors.old)
+        (scene site.new host.now output.new errors.new) }
 {
     match site.text(settings) {
         Ok(text) => host.look(text.as_str(), request, output, errors),
-        Err(fault) => fault.tell(errors),
+        Err(fault) => fault.tell(alloc, errors),
     }
 }
 
 /// Looks in what the settings in two files differ.
-fn look_at_both<S: Site, H: Host, O: Write, E: Write>(
+fn look_at_both<S: Site, H: Host, O: Write, E: Tells>(
+    alloc: Global,
     site: &mut S,
     host: &H,
     settings: &str,
@@ -67,12 +84,13 @@ fn look_at_both<S: Site, H: Host, O: Write, E: Write>(
     errors: &mut E,
 ) -> u8
     ensures status { (result ≡ 0) ⊎ (result ≡ 1) }
-    ensures compared { HasCompared S.does (H.works host.now) O.contents E.contents settings.now
-        other.now result (scene site.old output.old errors.old)
-        (scene site.new output.new errors.new) }
+    ensures quiet { result ≡ 0 → errors.new ≡ errors.old }
+    ensures compared { HasCompared S.does (H.works host.now) O.contents E.tells settings.now
+        other.now result (scene site.old host.now output.old errors.old)
+        (scene site.new host.now output.new errors.new) }
 {
-    let one = text_at(site, settings, errors);
-    let two = text_at(site, other, errors);
+    let one = text_at(alloc, site, settings, errors);
+    let two = text_at(alloc, site, other, errors);
     let (Some(one), Some(two)) = (one, two) else {
         return 1;
     };
@@ -88,15 +106,19 @@ fn look_at_both<S: Site, H: Host, O: Write, E: Write>(
 }
 
 /// The text of a file; why there is none is told on `errors`.
-fn text_at<S: Site, E: Write>(site: &mut S, path: &str, errors: &mut E) -> Option<String>
-    ensures read { IfSome result
-        (λ text. S.does site.old (read path.now (string_bytes text)) site.new) }
-    ensures quiet { IfSome result (λ _. errors.new ≡ errors.old) }
+fn text_at<S: Site, E: Tells>(
+    alloc: Global,
+    site: &mut S,
+    path: &str,
+    errors: &mut E,
+) -> Option<String>
+    ensures { IsAskedFor S.does E.tells path.now (option_map string_bytes result) site.old site.new
+        errors.old errors.new }
 {
     match site.text(path) {
         Ok(text) => Some(text),
         Err(fault) => {
-            tell_of(&fault, path, errors);
+            tell_of(alloc, &fault, path, errors);
             None
         }
     }
@@ -122,7 +144,7 @@ fn request_of(words: &CheckWords) -> Request<'_>
 }
 
 /// Writes a running gateway's report, or waits until it is synced.
-pub(crate) fn state_of<R: Clock + AllocGlobal, S: Site, O: Write, E: Write>(
+pub(crate) fn state_of<R: Clock + AllocGlobal, S: Site, O: Write, E: Tells>(
     rt: &R,
     site: &mut S,
     words: &StatusWords,
@@ -132,6 +154,9 @@ pub(crate) fn state_of<R: Clock + AllocGlobal, S: Site, O: Write, E: Write>(
     ensures status { (result ≡ 0) ⊎ (result ≡ 1) }
     ensures asked { result ≡ 0 → IsAsked S.does words.now (O.contents output.old)
         (O.contents output.new) site.old site.new }
+    ensures quiet { result ≡ 0 → errors.new ≡ errors.old }
+    ensures failed { result ≡ 1 → IsToldOf E.tells fault_text (λ why. IsAskedInVain S.does words.now
+        why output.old output.new site.old site.new) errors.old errors.new }
     ensures unprinted { words.now.until_synced ≡ true → output.new ≡ output.old }
 {
     let settings = words.settings.as_str();
@@ -163,7 +188,7 @@ fn form_of(form: command_line::Form) -> box_words::Form
 }
 
 /// Lists pairs of a running gateway.
-pub(crate) fn pairs_of<S: Site, O: Write, E: Write>(
+pub(crate) fn pairs_of<S: Site, O: Write, E: Tells>(
     alloc: Global,
     site: &mut S,
     words: &PairsWords,
@@ -174,6 +199,10 @@ pub(crate) fn pairs_of<S: Site, O: Write, E: Write>(
     ensures listed { result ≡ 0
         → HasListed S.does (string_bytes words.now.settings) words.now.id (filter_of words.now)
         (O.contents output.old) (O.contents output.new) site.old site.new }
+    ensures quiet { result ≡ 0 → errors.new ≡ errors.old }
+    ensures failed { result ≡ 1 → IsToldOf E.tells fault_text (λ why. HasUnlisted S.does
+        O.contents (string_bytes words.now.settings) words.now.id (filter_of words.now) why
+        output.old output.new site.old site.new) errors.old errors.new }
 {
     let (settings, filter) = (words.settings.as_str(), filter_of(words));
     pairs(alloc, site, settings, words.id, &filter, output, errors)

@@ -1,9 +1,14 @@
 //! The file of a capture.
+ghost use Rattle.std.specs.IoError.{error_kind};
 ghost use Rattle.std.specs.Prelude.{◌≡◌, ◌⊎◌, is_err, false, true, Ok, IfErr, IfOk};
 ghost use Rattle.faults.specs.Faults.{status_of};
+ghost use Rattle.faults.specs.Texts.{fault_text};
+ghost use Rattle.outlets.specs.Telling.{IsToldOf};
+ghost use Rattle.commands.specs.Captures.{IsOfCapture, IsOfEnd};
 
 use captures::{Reader, open};
 use faults::{Fault, Job};
+use outlets::Tells;
 use simulation::Capture;
 use std::alloc::Global;
 use std::fs::Files;
@@ -25,14 +30,24 @@ pub(crate) fn capture_at<R: Files + AllocGlobal>(
 }
 
 /// Tells why a capture couldn't be begun or written, and gives the exit status.
-pub(crate) fn unmade<E: Write>(alloc: Global, error: &io::Error, path: &str, errors: &mut E) -> u8
-    ensures { result ≡ 1 }
+pub(crate) fn unmade<E: Tells>(alloc: Global, error: &io::Error, path: &str, errors: &mut E) -> u8
+    ensures status { result ≡ 1 }
+    ensures told { IsToldOf E.tells fault_text (IsOfCapture path.now (error_kind error.now))
+        errors.old errors.new }
 {
-    Fault::of_capture(alloc, path, error).tell(errors)
+    capture_fault(alloc, path, error).tell(alloc, errors)
+}
+
+/// The fault of a capture that couldn't be begun or written in the file at a path.
+fn capture_fault(alloc: Global, path: &str, error: &io::Error) -> Fault
+    ensures why { IsOfCapture path.now (error_kind error.now) result }
+    ensures status { status_of result ≡ 1 }
+{
+    Fault::of_capture(alloc, path, error)
 }
 
 /// The exit status of a run, whose fault is told: that its capture couldn't be written comes before others.
-pub(crate) fn ended<E: Write>(
+pub(crate) fn ended<E: Tells>(
     alloc: Global,
     run: Result<u8, Fault>,
     written: io::Result<()>,
@@ -46,12 +61,14 @@ pub(crate) fn ended<E: Write>(
     ensures written { is_err written ≡ true → result ≡ 1 }
     ensures quiet { (result ≡ 0) ⊎ (result ≡ 3) → errors.new ≡ errors.old }
     ensures ended { is_err written ≡ false → IfOk run (λ status. result ≡ status) }
+    ensures told { result ≡ 1 → IsToldOf E.tells fault_text (IsOfEnd path.now run written)
+        errors.old errors.new }
 {
     if let Err(error) = written {
         return unmade(alloc, &error, path, errors);
     }
     match run {
         Ok(status) => status,
-        Err(fault) => fault.tell(errors),
+        Err(fault) => fault.tell(alloc, errors),
     }
 }

@@ -1,14 +1,13 @@
 //! The commands.
-ghost use Rattle.std.specs.Prelude.{◌≡◌, ◌⊎◌, ◌≤◌, map, option_map, string_bytes};
+ghost use Rattle.std.specs.Prelude.{◌≡◌, ◌⊎◌, ◌≤◌, false, map, option_map, string_bytes};
 ghost use Rattle.command_line.specs.Line.{AskVersion, MayAskVersion};
 ghost use Rattle.command_line.specs.Tasks.{FoundsAtZero};
-ghost use Rattle.commands.specs.Words.{AreRefused};
+ghost use Rattle.commands.specs.Words.{AreRefused, HasActed, HasActedSomewhere, IsRefusalTold};
 ghost use Rattle.commands.specs.Asked.{format_of};
 ghost use Rattle.commands.specs.Acts.{Acts};
 ghost use Rattle.commands.specs.Ends.{AreDone, Ends};
-ghost use Rattle.commands.specs.Captures.{IsCaptured, IsLoopCaptured};
 ghost use Rattle.commands.specs.Hosts.{scene};
-ghost use Rattle.commands.specs.Meters.{Watches};
+ghost use Rattle.commands.specs.Meters.{Overhears, Watches};
 
 use crate::asking::{look_at, pairs_of, state_of};
 use crate::hosts::{Host, ThisHost};
@@ -17,11 +16,14 @@ use crate::versions::tell_version;
 use boot_file::{Blocks, Lockable};
 use box_words::{Machine, Site, peer_off, side, stop};
 use command_line::{GateWords, Task, WayWords, command};
+use frame_sim::Tape;
 use gate::{Start, WayTexts, init};
 use journal::Format;
+use outlets::Tells;
 use rounds::{Clockwork, Stopwatch};
+use simulation::Capture;
 use std::fs::Files;
-use std::io::Write;
+use std::io::{BufWriter, Write};
 use std::net::Net;
 use std::os::fd::AsRawFd;
 use std::random::RandomSource;
@@ -39,37 +41,78 @@ use std::rt::{Clock, Env};
 pub fn act<
     R: Files + Net + Clock + RandomSource + Eprint + Env + Input + AllocGlobal,
     O: Write,
-    E: Write,
+    E: Tells,
 >(rt: &R, words: &[String], is_watched: bool, output: &mut O, errors: &mut E) -> u8
 where
     R::File: Blocks + Lockable + AsRawFd,
     ensures usage { result ≡ 2 → AreRefused (map string_bytes words.now) }
     ensures unprinted { result ≡ 2 → output.new ≡ output.old }
+    ensures told { result ≡ 2
+        → IsRefusalTold E.tells (map string_bytes words.now) errors.old errors.new }
     ensures refused { AreRefused (map string_bytes words.now)
         → ¬ (MayAskVersion (map string_bytes words.now)) → (result ≡ 1) ⊎ (result ≡ 2) }
     ensures version { AskVersion (map string_bytes words.now)
         → (result ≡ 0) ⊎ (result ≡ 1) }
     ensures done { (result ≡ 0) ⊎ (result ≡ 3) → AreDone (map string_bytes words.now)
         (O.contents output.old) (O.contents output.new) result }
+    ensures quiet { is_watched ≡ false → (result ≡ 0) ⊎ (result ≡ 3) → errors.new ≡ errors.old }
     ensures most { result ≤ 3 }
+    ensures acts { HasActedSomewhere E.tells (λ host clock. Acts
+        ⟦<Machine<'static, R> as Site>⟧.does (⟦<ThisHost<'static, R> as Host>⟧.works host)
+        ⟦<Capture<BufWriter<R::File>> as Tape>⟧.takes ⟦<ThisHost<'static, R> as Host>⟧.begins
+        ⟦<ThisHost<'static, R> as Host>⟧.ends O.contents E.tells
+        (Watches is_watched ⟦<Stopwatch<'static, R> as Clockwork>⟧.reads E.tells clock)
+        (Overhears is_watched ⟦<Stopwatch<'static, R> as Clockwork>⟧.reads E.tells clock))
+        (map string_bytes words.now) result output.old output.new errors.old errors.new }
+{
+    let (mut site, mut host, clock) = (Machine::new(rt), ThisHost(rt), Stopwatch::start(rt));
+    act_at(
+        rt, &mut site, &mut host, clock, words, is_watched, output, errors,
+    )
+}
+
+/// The same at a site and by a host, where who watches a script hears by a clock how far it is: the task of the words is
+/// done; or just why they ask for none is told.
+fn act_at<R: Net + Clock + AllocGlobal, S: Site, H: Host, C: Clockwork + Drop, O: Write, E: Tells>(
+    rt: &R,
+    site: &mut S,
+    host: &mut H,
+    clock: C,
+    words: &[String],
+    is_watched: bool,
+    output: &mut O,
+    errors: &mut E,
+) -> u8
+    ensures usage { result ≡ 2 → AreRefused (map string_bytes words.now) }
+    ensures unprinted { result ≡ 2 → output.new ≡ output.old }
+    ensures told { result ≡ 2
+        → IsRefusalTold E.tells (map string_bytes words.now) errors.old errors.new }
+    ensures refused { AreRefused (map string_bytes words.now)
+        → ¬ (MayAskVersion (map string_bytes words.now)) → (result ≡ 1) ⊎ (result ≡ 2) }
+    ensures version { AskVersion (map string_bytes words.now)
+        → (result ≡ 0) ⊎ (result ≡ 1) }
+    ensures done { (result ≡ 0) ⊎ (result ≡ 3) → AreDone (map string_bytes words.now)
+        (O.contents output.old) (O.contents output.new) result }
+    ensures quiet { is_watched ≡ false → (result ≡ 0) ⊎ (result ≡ 3) → errors.new ≡ errors.old }
+    ensures most { result ≤ 3 }
+    ensures acts { HasActed E.tells (Acts S.does (H.works host.old) H.Record.takes H.begins H.ends
+        O.contents E.tells (Watches is_watched C.reads E.tells clock)
+        (Overhears is_watched C.reads E.tells clock))
+        (map string_bytes words.now) result (scene site.old host.old output.old errors.old)
+        (scene site.new host.new output.new errors.new) }
 {
     match command(rt.alloc(), words) {
-        Ok(task) => {
-            let (mut site, host, clock) = (Machine::new(rt), ThisHost(rt), Stopwatch::start(rt));
-            done(
-                rt, &mut site, &host, clock, &task, is_watched, output, errors,
-            )
-        }
-        Err(fault) => fault.tell(errors),
+        Ok(task) => done(rt, site, host, clock, &task, is_watched, output, errors),
+        Err(fault) => fault.tell(rt.alloc(), errors),
     }
 }
 
 /// Does a task: files are read, boxes are spoken to, and boot files made, at a site; a host looks at settings and runs
 /// gateways; and who watches a script hears by a clock how far it is.
-fn done<R: Net + Clock + AllocGlobal, S: Site, H: Host, C: Clockwork + Drop, O: Write, E: Write>(
+fn done<R: Net + Clock + AllocGlobal, S: Site, H: Host, C: Clockwork + Drop, O: Write, E: Tells>(
     rt: &R,
     site: &mut S,
-    host: &H,
+    host: &mut H,
     clock: C,
     task: &Task,
     is_watched: bool,
@@ -80,16 +123,17 @@ fn done<R: Net + Clock + AllocGlobal, S: Site, H: Host, C: Clockwork + Drop, O: 
     ensures status { (result ≡ 0) ⊎ ((result ≡ 1) ⊎ (result ≡ 3)) }
     ensures done { (result ≡ 0) ⊎ (result ≡ 3)
         → Ends (O.contents output.old) (O.contents output.new) task.now result }
-    ensures acts { Acts S.does (H.works host.now) O.contents E.contents
-        (Watches is_watched C.reads E.contents clock)
-        (IsCaptured H.Record.takes (H.begins host.now) (H.ends host.now))
-        (IsLoopCaptured H.Record.takes (H.begins host.now) (H.ends host.now)) task.now result
-        (scene site.old output.old errors.old) (scene site.new output.new errors.new) }
+    ensures quiet { is_watched ≡ false → (result ≡ 0) ⊎ (result ≡ 3) → errors.new ≡ errors.old }
+    ensures acts { Acts S.does (H.works host.old) H.Record.takes H.begins H.ends O.contents E.tells
+        (Watches is_watched C.reads E.tells clock)
+        (Overhears is_watched C.reads E.tells clock) task.now result
+        (scene site.old host.old output.old errors.old)
+        (scene site.new host.new output.new errors.new) }
 {
     let alloc = rt.alloc();
     match task {
         Task::Init(file) => init(alloc, site, file.as_str(), errors),
-        Task::Check(words) => look_at(site, host, words, output, errors),
+        Task::Check(words) => look_at(alloc, site, host, words, output, errors),
         Task::Gate(words) => host.serve(&start_of(words), output, errors),
         Task::Status(words) => state_of(rt, site, words, output, errors),
         Task::Pairs(words) => pairs_of(alloc, site, words, output, errors),
@@ -106,7 +150,7 @@ fn done<R: Net + Clock + AllocGlobal, S: Site, H: Host, C: Clockwork + Drop, O: 
         } => side(alloc, site, settings.as_str(), *id, *told, *up, errors),
         Task::Sim(files) => sim(alloc, site, host, clock, files, is_watched, output, errors),
         Task::Loop(files) => repeat(rt, site, host, files, output, errors),
-        Task::Version => tell_version(output, errors),
+        Task::Version => tell_version(alloc, output, errors),
     }
 }
 

@@ -1,16 +1,19 @@
 //! Who looks at settings, runs gateways and takes runs down.
-ghost use Rattle.std.specs.Prelude.{◌≡◌, ◌⊎◌, IfOk, IsTrue, OnOk, true};
+ghost use Rattle.std.specs.IoError.{error_kind};
+ghost use Rattle.std.specs.Prelude.{◌≡◌, ◌⊎◌, Err, IfErr, IfOk, IsTrue, Ok, true};
 ghost use Rattle.nat_types.specs.declared.gateways.GatewayId.TheVariants.{Zero};
 ghost use Rattle.checks.specs.Counts.{AreAlike, IsCleanText, IsGoodText};
 ghost use Rattle.gate.specs.Served.{HasServed};
-ghost use Rattle.commands.specs.Hosts.{Work, Written, compared, looked, plan_in, scope_in, served, text_in, written};
+ghost use Rattle.commands.specs.Here.{WorksHere};
+ghost use Rattle.commands.specs.Hosts.{HasWorked, compared, looked, plan_in, scope_in, served, text_in, written};
 
 use crate::capture_files::capture_at;
 use boot_file::{Blocks, Lockable};
-use checks::{Request, Source, ThisMachine, check, compare};
+use checks::{Request, Source, Surroundings, ThisMachine, check, compare};
 use faults::Job;
 use frame_sim::Tape;
 use gate::{Start, gate};
+use outlets::Tells;
 use simulation::Capture;
 use std::fs::Files;
 use std::io::{self, BufWriter, Write};
@@ -21,70 +24,75 @@ use std::rt::{Clock, Env};
 
 /// Who looks at settings, runs gateways, and takes runs down in files.
 pub(crate) trait Host {
-    ghost use Rattle.std.specs.Prelude.{ℕ, List};
+    ghost use Rattle.std.specs.Prelude.{ℕ, List, Result};
+    ghost use Rattle.std.specs.declared.io.ErrorKind.{ErrorKind};
     ghost use Rattle.commands.specs.Hosts.{Work, Written};
 
-    /// What a work may print, what it may tell, and with which status.
-    ghost works: { Self → Work → Written → Written → ℕ → Type 0 };
+    /// What a work may print, which lines it may tell, and with which status.
+    ghost works: { Self → Work → Written → List (List ℕ) → ℕ → Type 0 };
 
     /// What takes a run down.
     type Record: Tape + Drop;
 
-    /// It was begun in the file at a path.
-    ghost begins: { Self → List ℕ → Self.Record → Type 0 };
+    /// What may be answered where it is to be begun in the file at a path, and what the host is then.
+    ghost begins: { Self → List ℕ → Result Self.Record ErrorKind → Self → Type 0 };
 
-    /// It was ended.
-    ghost ends: { Self → Self.Record → Type 0 };
+    /// What may be answered where it is to be ended.
+    ghost ends: { Self → Self.Record → Result (Unit {0}) ErrorKind → Type 0 };
 
     /// Begins to take a run down in the file at a path, once what is to be run is read.
-    fn begin(&self, path: &str, job: &Job) -> io::Result<Self::Record>
-        ensures { IfOk result (λ tape. begins self.now path.now tape) };
+    fn begin(&mut self, path: &str, job: &Job) -> io::Result<Self::Record>
+        ensures begun { IfOk result (λ tape. begins self.old path.now (Ok tape) self.new) }
+        ensures unbegun { IfErr result
+            (λ error. begins self.old path.now (Err (error_kind error)) self.new) };
 
     /// Ends it.
     fn end(&self, tape: Self::Record) -> io::Result<()>
-        ensures { OnOk result (ends self.now tape) };
+        ensures ended { IfOk result (λ _. ends self.now tape (Ok tt)) }
+        ensures unended { IfErr result (λ error. ends self.now tape (Err (error_kind error))) };
 
     /// Looks at a text of settings.
-    fn look<O: Write, E: Write>(
+    fn look<O: Write, E: Tells>(
         &self,
         text: &str,
         request: &Request<'_>,
         output: &mut O,
         errors: &mut E,
     ) -> u8
-        ensures works { works self.now (looked text.now (scope_in request.now))
-            (written O.contents output.old output.new) (written E.contents errors.old errors.new)
-            result }
+        ensures works { HasWorked E.tells (works self.now) (looked text.now (scope_in request.now))
+            (written O.contents output.old output.new) result errors.old errors.new }
         ensures status { (result ≡ 0) ⊎ (result ≡ 1) }
+        ensures quiet { result ≡ 0 → errors.new ≡ errors.old }
         ensures accepts { result ≡ 0 → IsGoodText text.now }
         ensures strict { request.now.strict ≡ true → result ≡ 0 → IsCleanText text.now };
 
     /// Compares two texts of settings.
-    fn compare<O: Write, E: Write>(
+    fn compare<O: Write, E: Tells>(
         &self,
         one: Source<'_>,
         other: Source<'_>,
         output: &mut O,
         errors: &mut E,
     ) -> u8
-        ensures works { works self.now (compared (text_in one.entry) (text_in other.entry))
-            (written O.contents output.old output.new) (written E.contents errors.old errors.new)
-            result }
+        ensures works { HasWorked E.tells (works self.now)
+            (compared (text_in one.entry) (text_in other.entry))
+            (written O.contents output.old output.new) result errors.old errors.new }
         ensures status { (result ≡ 0) ⊎ (result ≡ 1) }
+        ensures quiet { result ≡ 0 → errors.new ≡ errors.old }
         ensures alike { result ≡ 0 → AreAlike one.entry.text.now other.entry.text.now };
 
     /// Runs a gateway.
-    fn serve<O: Write, E: Write>(&self, start: &Start<'_>, output: &mut O, errors: &mut E) -> u8
+    fn serve<O: Write, E: Tells>(&self, start: &Start<'_>, output: &mut O, errors: &mut E) -> u8
         requires found { IsTrue start.now.found → start.now.id ≡ Zero }
-        ensures works { works self.now (served (plan_in start.now))
-            (written O.contents output.old output.new) (written E.contents errors.old errors.new)
-            result }
+        ensures works { HasWorked E.tells (works self.now) (served (plan_in start.now))
+            (written O.contents output.old output.new) result errors.old errors.new }
         ensures status { (result ≡ 0) ⊎ (result ≡ 1) }
+        ensures quiet { result ≡ 0 → errors.new ≡ errors.old }
         ensures served { result ≡ 0 → HasServed start.now.id start.now.rounds start.now.found
             start.now.track start.now.until_eof (O.contents output.old) (O.contents output.new) };
 }
 
-/// This machine: more of what it does isn't known.
+/// This machine: of what it finds, and of files, nothing is known.
 #[derive(Drop)]
 pub(crate) struct ThisHost<'a, R>(pub(crate) &'a R);
 
@@ -93,15 +101,16 @@ impl<R: Files + Net + Clock + RandomSource + Eprint + Env + Input + AllocGlobal>
 where
     R::File: Blocks + Lockable + AsRawFd,
 {
-    ghost works = { λ _ _ _ _ _. Unit {0} };
+    ghost works = { λ _. WorksHere ⟦<ThisMachine<'static, R> as Surroundings>⟧.finds
+        ⟦<ThisMachine<'static, R> as Surroundings>⟧.takes };
 
     type Record = Capture<BufWriter<R::File>>;
 
-    ghost begins = { λ _ _ _. Unit {0} };
+    ghost begins = { λ _ _ _ _. Unit {0} };
 
-    ghost ends = { λ _ _. Unit {0} };
+    ghost ends = { λ _ _ _. Unit {0} };
 
-    fn begin(&self, path: &str, job: &Job) -> io::Result<Capture<BufWriter<R::File>>> {
+    fn begin(&mut self, path: &str, job: &Job) -> io::Result<Capture<BufWriter<R::File>>> {
         capture_at(self.0, path, job)
     }
 
@@ -109,7 +118,7 @@ where
         tape.end()
     }
 
-    fn look<O: Write, E: Write>(
+    fn look<O: Write, E: Tells>(
         &self,
         text: &str,
         request: &Request<'_>,
@@ -120,7 +129,7 @@ where
         check(self.0.alloc(), &around, text, request, output, errors)
     }
 
-    fn compare<O: Write, E: Write>(
+    fn compare<O: Write, E: Tells>(
         &self,
         one: Source<'_>,
         other: Source<'_>,
@@ -130,7 +139,7 @@ where
         compare(self.0.alloc(), one, other, output, errors)
     }
 
-    fn serve<O: Write, E: Write>(&self, start: &Start<'_>, output: &mut O, errors: &mut E) -> u8 {
+    fn serve<O: Write, E: Tells>(&self, start: &Start<'_>, output: &mut O, errors: &mut E) -> u8 {
         gate(self.0, start, output, errors)
     }
 }

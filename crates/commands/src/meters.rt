@@ -1,18 +1,19 @@
 //! How far a run is, for whoever waits for it at a terminal.
-ghost use Rattle.std.specs.Prelude.{◌≡◌, true};
-ghost use Rattle.std.specs.Io.KnownBytes.{Appends};
-ghost use Rattle.commands.specs.Meters.{line};
+ghost use Rattle.std.specs.Prelude.{◌≡◌, IfOk, string_bytes};
+ghost use Rattle.commands.specs.Meters.{IsSaid, line};
 
+use outlets::Tells;
 use rounds::Clockwork;
 use simulation::Progress;
-use std::io::Write;
+use std::alloc::{AllocError, Global};
 
 /// How long nothing is said, in centiseconds.
 const PATIENCE: u64 = 200;
 
-/// Says how far a run is, every few seconds by a clock. Once a line can't be written, no more are.
+/// Says how far a run is, every few seconds by a clock. Once a line can't be told, no more are.
 pub(crate) struct Meter<'a, C, E> {
     pub(crate) errors: &'a mut E,
+    pub(crate) alloc: Global,
     pub(crate) clock: C,
     pub(crate) next: u64,
     pub(crate) is_refused: bool,
@@ -22,7 +23,7 @@ impl<'a, C, E> Meter<'a, C, E> {
     ghost use Rattle.std.specs.Prelude.{◌≡◌, false};
 
     /// A run begins.
-    pub(crate) fn start(clock: C, errors: &'a mut E) -> Meter<'a, C, E>
+    pub(crate) fn start(alloc: Global, clock: C, errors: &'a mut E) -> Meter<'a, C, E>
         ensures same_reference { result.errors.ghost_name ≡ errors.entry.ghost_name }
         ensures errors { result.errors.now ≡ errors.old }
         ensures clock { result.clock ≡ clock }
@@ -31,6 +32,7 @@ impl<'a, C, E> Meter<'a, C, E> {
     {
         Meter {
             errors,
+            alloc,
             clock,
             next: PATIENCE,
             is_refused: false,
@@ -47,6 +49,7 @@ impl<C: Drop, E> Drop for Meter<'_, C, E> {
     {
         let Meter {
             errors: _errors,
+            alloc: _alloc,
             clock: _clock,
             next: _next,
             is_refused: _is_refused,
@@ -54,20 +57,40 @@ impl<C: Drop, E> Drop for Meter<'_, C, E> {
     }
 }
 
-/// Writes the line that says how far a run is. The answer is whether it could be written.
-fn write_line<E: Write>(errors: &mut E, taken: usize, all: usize) -> bool
-    ensures { result ≡ true
-        → Appends (E.contents errors.old) (E.contents errors.new) (line taken all) }
+/// Tells the line that says how far a run is. The answer is whether it is refused: it couldn't be told, or there is no memory
+/// for it.
+fn tell_line<E: Tells>(alloc: Global, errors: &mut E, taken: usize, all: usize) -> bool
+    ensures { IsSaid E.tells (line taken all) result errors.old errors.new }
 {
-    writeln!(errors, "{taken} of {all} events are done").is_ok()
+    match line(alloc, taken, all) {
+        Ok(line) => is_refused(errors, line.as_str()),
+        Err(_) => true,
+    }
 }
 
-impl<C: Clockwork, E: Write> Progress for Meter<'_, C, E> {
+/// Tells a line. The answer is whether it couldn't be told.
+fn is_refused<E: Tells>(errors: &mut E, line: &str) -> bool
+    ensures { IsSaid E.tells line.now result errors.old errors.new }
+{
+    match errors.tell_line(line) {
+        Ok(()) => false,
+        Err(_) => true,
+    }
+}
+
+/// That line.
+fn line(alloc: Global, taken: usize, all: usize) -> Result<String, AllocError>
+    ensures { IfOk result (λ text. string_bytes text ≡ line taken all) }
+{
+    format!(in alloc; "{taken} of {all} events are done\n")
+}
+
+impl<C: Clockwork, E: Tells> Progress for Meter<'_, C, E> {
     ghost use Rattle.std.specs.Prelude.{◌≡◌};
     ghost use Rattle.commands.specs.Meters.{Hears, telling};
 
     ghost hears = { λ old taken all new. (new.errors.ghost_name ≡ old.errors.ghost_name)
-        × Hears C.reads E.contents
+        × Hears C.reads E.tells
         (telling old.clock old.next old.is_refused old.errors.now) taken all
         (telling new.clock new.next new.is_refused new.errors.now) };
 
@@ -77,6 +100,6 @@ impl<C: Clockwork, E: Write> Progress for Meter<'_, C, E> {
             return;
         }
         self.next = moment.saturating_add(PATIENCE);
-        self.is_refused = !write_line(self.errors, taken, all);
+        self.is_refused = tell_line(self.alloc, self.errors, taken, all);
     }
 }

@@ -1,18 +1,24 @@
 //! Scripts that are run, and captured where that is asked for.
-ghost use Rattle.std.specs.Prelude.{◌≡◌, ◌⊎◌, IfErr, IfOk, None, Ok, OnOk, false, length, string_bytes, true};
+ghost use Rattle.std.specs.Prelude.{◌≡◌, ◌⊎◌, IfErr, IfOk, None, Ok, OnErr, OnOk, false, length, string_bytes, true};
 ghost use Rattle.faults.specs.Faults.{status_of};
-ghost use Rattle.faults.specs.Jobs.{IsJobOf};
-ghost use Rattle.loopback_run.specs.Loops.{IsLoop};
+ghost use Rattle.faults.specs.Jobs.{IsJobOf, TellsRun};
+ghost use Rattle.faults.specs.Texts.{fault_text};
+ghost use Rattle.frame_sim.specs.World.{founding};
+ghost use Rattle.outlets.specs.Telling.{IsToldOf};
+ghost use Rattle.loopback_run.specs.Loops.{IsLoop, TellsLoop};
+ghost use Rattle.loopback_run.specs.Stops.{StopsLoop};
 ghost use Rattle.loopback_run.specs.Tapes.{IsTapedLoop};
 ghost use Rattle.settings_file.specs.Clashes.{clash_of_both};
 ghost use Rattle.simulation.specs.Status.{RunsScript};
+ghost use Rattle.simulation.specs.Stops.{Begins, BeginsScript};
 ghost use Rattle.simulation.specs.Tapes.{IsTapedRun};
-ghost use Rattle.simulation.specs.Watched.{IsToldAll, WatchesScript};
-ghost use Rattle.commands.specs.Acts.{AreRead, HasLoopOf, HasRunOf};
-ghost use Rattle.commands.specs.Ends.{Loops};
-ghost use Rattle.commands.specs.Captures.{IsCaptured, IsLoopCaptured};
+ghost use Rattle.simulation.specs.Watched.{IsToldAll, IsToldSome, WatchesScript};
+ghost use Rattle.commands.specs.Acts.{EndsLoop, EndsSim, FailsLoop, FailsSim, HasLoopOf, HasRunOf};
+ghost use Rattle.commands.specs.Captures.{IsCaptured, IsLoopCaptured, IsOfEvents, IsOfPorts, IsUnopened, LeavesCapture};
+ghost use Rattle.commands.specs.Ends.{BeginsLoop, Loops};
 ghost use Rattle.commands.specs.Hosts.{scene, written};
-ghost use Rattle.commands.specs.Meters.{HasHeard, HasHeardScript, Hears, Watches, telling};
+ghost use Rattle.commands.specs.Meters.{HasHeard, HasHeardScript, HasOverheard, Hears, IsToldBehind, Overhears, Watches, telling};
+ghost use Rattle.commands.specs.Reading.{AreNotHad, AreRead};
 
 use crate::capture_files::{ended, unmade};
 use crate::hosts::Host;
@@ -22,6 +28,7 @@ use command_line::RunWords;
 use faults::{Fault, Job, job_of};
 use frame_sim::Tape;
 use loopback_run::{Channel, Loopback, PortFault, run_loop};
+use outlets::Tells;
 use rounds::Clockwork;
 use settings::Settings;
 use settings_file::{SettingFault, port_clash_of_both};
@@ -32,10 +39,10 @@ use std::net::Net;
 use std::rt::Clock;
 
 /// Runs the script of one file with the settings of another, and says how far it is by a clock where somebody watches.
-pub(crate) fn sim<S: Site, H: Host, C: Clockwork + Drop, O: Write, E: Write>(
+pub(crate) fn sim<S: Site, H: Host, C: Clockwork + Drop, O: Write, E: Tells>(
     alloc: Global,
     site: &mut S,
-    host: &H,
+    host: &mut H,
     clock: C,
     files: &RunWords,
     is_watched: bool,
@@ -43,10 +50,14 @@ pub(crate) fn sim<S: Site, H: Host, C: Clockwork + Drop, O: Write, E: Write>(
     errors: &mut E,
 ) -> u8
     ensures status { (result ≡ 0) ⊎ ((result ≡ 1) ⊎ (result ≡ 3)) }
-    ensures named { (result ≡ 0) ⊎ (result ≡ 3) → HasRunOf S.does O.contents
-        (Watches is_watched C.reads E.contents clock)
-        (IsCaptured H.Record.takes (H.begins host.now) (H.ends host.now)) files.now result
-        (scene site.old output.old errors.old) (scene site.new output.new errors.new) }
+    ensures named { (result ≡ 0) ⊎ (result ≡ 3) → HasRunOf S.does H.Record.takes H.begins H.ends
+        O.contents (Watches is_watched C.reads E.tells clock) files.now result
+        (scene site.old host.old output.old errors.old)
+        (scene site.new host.new output.new errors.new) }
+    ensures failed { result ≡ 1 → EndsSim S.does H.begins H.ends O.contents E.tells
+        (Overhears is_watched C.reads E.tells clock) files.now
+        (scene site.old host.old output.old errors.old)
+        (scene site.new host.new output.new errors.new) }
 {
     match texts(site, files) {
         Ok((settings, script)) => {
@@ -61,12 +72,12 @@ pub(crate) fn sim<S: Site, H: Host, C: Clockwork + Drop, O: Write, E: Write>(
                 None => simulated(alloc, clock, settings, script, is_watched, output, errors),
             }
         }
-        Err(fault) => fault.tell(errors),
+        Err(fault) => fault.tell(alloc, errors),
     }
 }
 
 /// Runs a script, and says how far it is by a clock where somebody watches.
-fn simulated<C: Clockwork + Drop, O: Write, E: Write>(
+fn simulated<C: Clockwork + Drop, O: Write, E: Tells>(
     alloc: Global,
     clock: C,
     settings: &str,
@@ -79,21 +90,24 @@ fn simulated<C: Clockwork + Drop, O: Write, E: Write>(
     ensures run { (result ≡ 0) ⊎ (result ≡ 3) → RunsScript settings.now script.now
         (O.contents output.old) (O.contents output.new) result }
     ensures heard { is_watched ≡ true → (result ≡ 0) ⊎ (result ≡ 3)
-        → HasHeardScript C.reads E.contents settings.now script.now clock errors.old errors.new }
+        → HasHeardScript C.reads E.tells settings.now script.now clock errors.old errors.new }
     ensures quiet { is_watched ≡ false → (result ≡ 0) ⊎ (result ≡ 3)
         → errors.new ≡ errors.old }
+    ensures failed { result ≡ 1 → IsToldBehind E.tells (Overhears is_watched C.reads E.tells clock)
+        (FailsSim O.contents settings.now script.now output.old output.new)
+        errors.old errors.new }
 {
     if !is_watched {
         return simulate(alloc, settings, script, output, errors);
     }
     match watched(alloc, clock, settings, script, output, errors) {
         Ok(status) => status,
-        Err(fault) => fault.tell(errors),
+        Err(fault) => fault.tell(alloc, errors),
     }
 }
 
 /// Runs a script, and says how far it is by a clock.
-fn watched<C: Clockwork + Drop, O: Write, E: Write>(
+fn watched<C: Clockwork + Drop, O: Write, E: Tells>(
     alloc: Global,
     clock: C,
     settings: &str,
@@ -105,15 +119,19 @@ fn watched<C: Clockwork + Drop, O: Write, E: Write>(
         (O.contents output.new)) }
     ensures status { IfOk result (λ status. (status ≡ 0) ⊎ (status ≡ 3)) }
     ensures known { IfErr result (λ fault. status_of fault ≡ 1) }
-    ensures heard { OnOk result (HasHeardScript C.reads E.contents settings.now script.now
+    ensures failed { IfErr result
+        (FailsSim O.contents settings.now script.now output.old output.new) }
+    ensures heard { OnOk result (HasHeardScript C.reads E.tells settings.now script.now
         clock errors.old errors.new) }
+    ensures overheard { OnErr result
+        (HasOverheard C.reads E.tells clock errors.old errors.new) }
 {
-    let mut meter = Meter::start(clock, errors);
+    let mut meter = Meter::start(alloc, clock, errors);
     metered(alloc, settings, script, &mut meter, output)
 }
 
 /// Runs a script, and has a meter say how far it is.
-fn metered<C: Clockwork, O: Write, E: Write>(
+fn metered<C: Clockwork, O: Write, E: Tells>(
     alloc: Global,
     settings: &str,
     script: &str,
@@ -124,9 +142,13 @@ fn metered<C: Clockwork, O: Write, E: Write>(
         (O.contents output.new)) }
     ensures status { IfOk result (λ status. (status ≡ 0) ⊎ (status ≡ 3)) }
     ensures known { IfErr result (λ fault. status_of fault ≡ 1) }
-    ensures same_reference { OnOk result
-        (meter.new.errors.ghost_name ≡ meter.old.errors.ghost_name) }
-    ensures heard { OnOk result (WatchesScript (Hears C.reads E.contents) settings.now script.now
+    ensures failed { IfErr result
+        (FailsSim O.contents settings.now script.now output.old output.new) }
+    ensures same_reference { meter.new.errors.ghost_name ≡ meter.old.errors.ghost_name }
+    ensures heard { OnOk result (WatchesScript (Hears C.reads E.tells) settings.now script.now
+        (telling meter.old.clock meter.old.next meter.old.is_refused meter.old.errors.now)
+        (telling meter.new.clock meter.new.next meter.new.is_refused meter.new.errors.now)) }
+    ensures overheard { OnErr result (IsToldSome (Hears C.reads E.tells)
         (telling meter.old.clock meter.old.next meter.old.is_refused meter.old.errors.now)
         (telling meter.new.clock meter.new.next meter.new.is_refused meter.new.errors.now)) }
 {
@@ -134,9 +156,9 @@ fn metered<C: Clockwork, O: Write, E: Write>(
 }
 
 /// Runs a script, with its capture in a file, which is begun once both texts are read.
-fn sim_captured<H: Host, C: Clockwork + Drop, O: Write, E: Write>(
+fn sim_captured<H: Host, C: Clockwork + Drop, O: Write, E: Tells>(
     alloc: Global,
-    host: &H,
+    host: &mut H,
     clock: C,
     settings: &str,
     script: &str,
@@ -149,12 +171,16 @@ fn sim_captured<H: Host, C: Clockwork + Drop, O: Write, E: Write>(
     ensures run { (result ≡ 0) ⊎ (result ≡ 3) → RunsScript settings.now script.now
         (O.contents output.old) (O.contents output.new) result }
     ensures heard { is_watched ≡ true → (result ≡ 0) ⊎ (result ≡ 3)
-        → HasHeardScript C.reads E.contents settings.now script.now clock errors.old errors.new }
+        → HasHeardScript C.reads E.tells settings.now script.now clock errors.old errors.new }
     ensures quiet { is_watched ≡ false → (result ≡ 0) ⊎ (result ≡ 3)
         → errors.new ≡ errors.old }
     ensures captured { (result ≡ 0) ⊎ (result ≡ 3) → IsCaptured H.Record.takes
-        (H.begins host.now) (H.ends host.now) path.now settings.now script.now
-        (written O.contents output.old output.new) result }
+        H.begins H.ends path.now settings.now script.now
+        (written O.contents output.old output.new) result host.old host.new }
+    ensures failed { result ≡ 1 → IsToldBehind E.tells (Overhears is_watched C.reads E.tells clock)
+        (λ why. LeavesCapture H.begins H.ends path.now (TellsRun settings.now script.now)
+        (BeginsScript settings.now script.now (O.contents output.old) (O.contents output.new)) why
+        host.old host.new output.old output.new) errors.old errors.new }
 {
     match job_of(alloc, settings, script) {
         Ok(job) => match host.begin(path, &job) {
@@ -165,12 +191,12 @@ fn sim_captured<H: Host, C: Clockwork + Drop, O: Write, E: Write>(
             }
             Err(error) => unmade(alloc, &error, path, errors),
         },
-        Err(fault) => fault.tell(errors),
+        Err(fault) => fault.tell(alloc, errors),
     }
 }
 
 /// Runs a job, has a tape take it down, and says how far it is by a clock where somebody watches.
-fn taped<C: Clockwork + Drop, T: Tape, O: Write, E: Write>(
+fn taped<C: Clockwork + Drop, T: Tape, O: Write, E: Tells>(
     alloc: Global,
     clock: C,
     job: &Job,
@@ -183,12 +209,17 @@ fn taped<C: Clockwork + Drop, T: Tape, O: Write, E: Write>(
         tape.old tape.new (O.contents output.old) (O.contents output.new)) }
     ensures status { IfOk result (λ status. (status ≡ 0) ⊎ (status ≡ 3)) }
     ensures known { IfErr result (λ fault. status_of fault ≡ 1) }
-    ensures heard { is_watched ≡ true → OnOk result (HasHeard C.reads E.contents
+    ensures told { IfErr result IsOfEvents }
+    ensures begun { OnErr result (Begins (founding job.now.settings) job.now.events.items
+        (O.contents output.old) (O.contents output.new)) }
+    ensures heard { is_watched ≡ true → OnOk result (HasHeard C.reads E.tells
         (length job.now.events.items) clock errors.old errors.new) }
+    ensures overheard { is_watched ≡ true → OnErr result
+        (HasOverheard C.reads E.tells clock errors.old errors.new) }
     ensures quiet { is_watched ≡ false → errors.new ≡ errors.old }
 {
     if is_watched {
-        let mut meter = Meter::start(clock, errors);
+        let mut meter = Meter::start(alloc, clock, errors);
         taped_metered(alloc, job, &mut meter, tape, output)
     } else {
         let (settings, events) = (&job.settings, job.events.as_slice());
@@ -197,7 +228,7 @@ fn taped<C: Clockwork + Drop, T: Tape, O: Write, E: Write>(
 }
 
 /// Runs a job, has a tape take it down, and a meter say how far it is.
-fn taped_metered<C: Clockwork, T: Tape, O: Write, E: Write>(
+fn taped_metered<C: Clockwork, T: Tape, O: Write, E: Tells>(
     alloc: Global,
     job: &Job,
     meter: &mut Meter<'_, C, E>,
@@ -208,10 +239,15 @@ fn taped_metered<C: Clockwork, T: Tape, O: Write, E: Write>(
         tape.old tape.new (O.contents output.old) (O.contents output.new)) }
     ensures status { IfOk result (λ status. (status ≡ 0) ⊎ (status ≡ 3)) }
     ensures known { IfErr result (λ fault. status_of fault ≡ 1) }
-    ensures same_reference { OnOk result
-        (meter.new.errors.ghost_name ≡ meter.old.errors.ghost_name) }
+    ensures told { IfErr result IsOfEvents }
+    ensures begun { OnErr result (Begins (founding job.now.settings) job.now.events.items
+        (O.contents output.old) (O.contents output.new)) }
+    ensures same_reference { meter.new.errors.ghost_name ≡ meter.old.errors.ghost_name }
     ensures heard { OnOk result
-        (IsToldAll (Hears C.reads E.contents) (length job.now.events.items)
+        (IsToldAll (Hears C.reads E.tells) (length job.now.events.items)
+        (telling meter.old.clock meter.old.next meter.old.is_refused meter.old.errors.now)
+        (telling meter.new.clock meter.new.next meter.new.is_refused meter.new.errors.now)) }
+    ensures overheard { OnErr result (IsToldSome (Hears C.reads E.tells)
         (telling meter.old.clock meter.old.next meter.old.is_refused meter.old.errors.now)
         (telling meter.new.clock meter.new.next meter.new.is_refused meter.new.errors.now)) }
 {
@@ -220,18 +256,22 @@ fn taped_metered<C: Clockwork, T: Tape, O: Write, E: Write>(
 }
 
 /// Runs the script of one file with the settings of another, over the own loopback ports of both gateways.
-pub(crate) fn repeat<R: Net + Clock + AllocGlobal, S: Site, H: Host, O: Write, E: Write>(
+pub(crate) fn repeat<R: Net + Clock + AllocGlobal, S: Site, H: Host, O: Write, E: Tells>(
     rt: &R,
     site: &mut S,
-    host: &H,
+    host: &mut H,
     files: &RunWords,
     output: &mut O,
     errors: &mut E,
 ) -> u8
     ensures status { (result ≡ 0) ⊎ ((result ≡ 1) ⊎ (result ≡ 3)) }
-    ensures named { (result ≡ 0) ⊎ (result ≡ 3) → HasLoopOf S.does O.contents
-        (IsLoopCaptured H.Record.takes (H.begins host.now) (H.ends host.now)) files.now result
-        (scene site.old output.old errors.old) (scene site.new output.new errors.new) }
+    ensures named { (result ≡ 0) ⊎ (result ≡ 3) → HasLoopOf S.does H.Record.takes H.begins H.ends
+        O.contents files.now result (scene site.old host.old output.old errors.old)
+        (scene site.new host.new output.new errors.new) }
+    ensures failed { result ≡ 1 → IsToldOf E.tells fault_text
+        (λ why. EndsLoop S.does H.begins H.ends O.contents files.now why
+        (scene site.old host.old output.old errors.old)
+        (scene site.new host.new output.new errors.new)) errors.old errors.new }
 {
     match texts(site, files) {
         Ok((settings, script)) => {
@@ -243,12 +283,12 @@ pub(crate) fn repeat<R: Net + Clock + AllocGlobal, S: Site, H: Host, O: Write, E
                 None => repeated(rt, settings, script, output, errors),
             }
         }
-        Err(fault) => fault.tell(errors),
+        Err(fault) => fault.tell(rt.alloc(), errors),
     }
 }
 
 /// Runs a script over sockets.
-fn repeated<R: Net + Clock + AllocGlobal, O: Write, E: Write>(
+fn repeated<R: Net + Clock + AllocGlobal, O: Write, E: Tells>(
     rt: &R,
     settings: &str,
     script: &str,
@@ -259,15 +299,18 @@ fn repeated<R: Net + Clock + AllocGlobal, O: Write, E: Write>(
     ensures run { (result ≡ 0) ⊎ (result ≡ 3) → Loops settings.now script.now
         (O.contents output.old) (O.contents output.new) result }
     ensures quiet { (result ≡ 0) ⊎ (result ≡ 3) → errors.new ≡ errors.old }
+    ensures failed { result ≡ 1 → IsToldOf E.tells fault_text
+        (FailsLoop O.contents settings.now script.now output.old output.new)
+        errors.old errors.new }
 {
     let mut passage = Loopback::new(rt);
     run_loop(rt.alloc(), settings, script, &mut passage, output, errors)
 }
 
 /// Runs a script over sockets, with its capture in a file, which is begun once both texts are read and the sockets are had.
-fn repeat_captured<R: Net + Clock + AllocGlobal, H: Host, O: Write, E: Write>(
+fn repeat_captured<R: Net + Clock + AllocGlobal, H: Host, O: Write, E: Tells>(
     rt: &R,
-    host: &H,
+    host: &mut H,
     settings: &str,
     script: &str,
     path: &str,
@@ -279,7 +322,11 @@ fn repeat_captured<R: Net + Clock + AllocGlobal, H: Host, O: Write, E: Write>(
         (O.contents output.old) (O.contents output.new) result }
     ensures quiet { (result ≡ 0) ⊎ (result ≡ 3) → errors.new ≡ errors.old }
     ensures captured { (result ≡ 0) ⊎ (result ≡ 3) → IsLoopCaptured H.Record.takes
-        (H.begins host.now) (H.ends host.now) path.now settings.now script.now }
+        H.begins H.ends path.now settings.now script.now host.old host.new }
+    ensures failed { result ≡ 1 → IsToldOf E.tells fault_text
+        (λ why. LeavesCapture H.begins H.ends path.now (TellsLoop settings.now script.now)
+        (BeginsLoop settings.now script.now (O.contents output.old) (O.contents output.new)) why
+        host.old host.new output.old output.new) errors.old errors.new }
 {
     let mut passage = Loopback::new(rt);
     match opened(rt.alloc(), settings, script, &mut passage) {
@@ -291,7 +338,7 @@ fn repeat_captured<R: Net + Clock + AllocGlobal, H: Host, O: Write, E: Write>(
             }
             Err(error) => unmade(rt.alloc(), &error, path, errors),
         },
-        Err(fault) => fault.tell(errors),
+        Err(fault) => fault.tell(rt.alloc(), errors),
     }
 }
 
@@ -306,6 +353,9 @@ fn opened<P: Channel>(
     ensures apart { IfOk result (λ job. clash_of_both job.settings ≡ None) }
     ensures opened { IfOk result (λ job. P.opens passage.old job.settings passage.new) }
     ensures known { IfErr result (λ fault. status_of fault ≡ 1) }
+    ensures told { IfErr result (TellsLoop settings.now script.now) }
+    ensures unopened { IfErr result
+        (IsUnopened P.refuses settings.now script.now passage.old passage.new) }
 {
     let job = job_of(alloc, settings, script)?;
     take_ports(passage, &job.settings)?;
@@ -317,6 +367,8 @@ fn take_ports<P: Channel>(passage: &mut P, settings: &Settings) -> Result<(), Fa
     ensures apart { OnOk result (clash_of_both settings.now ≡ None) }
     ensures opened { OnOk result (P.opens passage.old settings.now passage.new) }
     ensures known { IfErr result (λ fault. status_of fault ≡ 1) }
+    ensures told { IfErr result
+        (IsOfPorts P.refuses settings.now passage.old passage.new) }
 {
     if let Some(key) = port_clash_of_both(settings) {
         return Err(Fault::Setting(SettingFault::CantWork(key)));
@@ -340,6 +392,9 @@ fn looped<P: Channel, T: Tape, O: Write>(
         passage.old passage.new (O.contents output.old) (O.contents output.new)) }
     ensures status { IfOk result (λ status. (status ≡ 0) ⊎ (status ≡ 3)) }
     ensures known { IfErr result (λ fault. status_of fault ≡ 1) }
+    ensures told { IfErr result IsOfEvents }
+    ensures stops { IfErr result (StopsLoop P.passes O.contents job.now.settings
+        job.now.events.items passage.old passage.new output.old output.new) }
     ensures taped { OnOk result (IsTapedLoop P.passes T.takes job.now.settings
         job.now.events.items passage.old passage.new tape.old tape.new) }
 {
@@ -352,6 +407,8 @@ fn texts<S: Site>(site: &mut S, files: &RunWords) -> Result<(String, String), Fa
     ensures read { IfOk result (λ texts. AreRead S.does (string_bytes files.now.settings)
         (string_bytes files.now.script) (string_bytes texts.0) (string_bytes texts.1)
         site.old site.new) }
+    ensures unread { IfErr result (λ fault. AreNotHad S.does (string_bytes files.now.settings)
+        (string_bytes files.now.script) fault site.old site.new) }
     ensures status { IfErr result (λ fault. status_of fault ≡ 1) }
 {
     let settings = site.text(files.settings.as_str())?;

@@ -1,30 +1,47 @@
 //! What the program is.
-ghost use Rattle.std.specs.Prelude.{◌≡◌, ◌⊎◌, OnOk};
+ghost use Rattle.std.specs.Prelude.{◌≡◌, ◌⊎◌};
+ghost use Rattle.faults.specs.Texts.{fault_text};
+ghost use Rattle.faults.specs.declared.faults.Fault.TheVariants as faults;
+ghost use Rattle.outlets.specs.Printed.{IsBegun, Prints};
+ghost use Rattle.outlets.specs.Telling.{IsTold};
 ghost use Rattle.std.specs.Io.KnownBytes.{Appends};
 ghost use Rattle.commands.specs.Ends.{version_line};
 
 use command_line::{KIT, VERSION};
 use faults::Fault;
+use outlets::{Tells, put_all};
+use std::alloc::Global;
 use std::io::{self, Write};
 
 /// Writes the program's version, and the kit that it was built with. The answer is the exit status: 0, or 1 where it can't
-/// be written.
-pub(crate) fn tell_version<O: Write, E: Write>(output: &mut O, errors: &mut E) -> u8
+/// be written, which is told on `errors`.
+pub(crate) fn tell_version<O: Write, E: Tells>(alloc: Global, output: &mut O, errors: &mut E) -> u8
     ensures status { (result ≡ 0) ⊎ (result ≡ 1) }
     ensures printed { result ≡ 0
         → Appends (O.contents output.old) (O.contents output.new) version_line }
+    ensures quiet { result ≡ 0 → errors.new ≡ errors.old }
+    ensures told { result ≡ 1
+        → IsTold E.tells errors.old (fault_text faults.NotWritten) errors.new }
+    ensures begun { result ≡ 1
+        → IsBegun (O.contents output.old) (O.contents output.new) version_line }
 {
     match write_version(output) {
         Ok(()) => 0,
-        Err(_) => Fault::NotWritten.tell(errors),
+        Err(_) => Fault::NotWritten.tell(alloc, errors),
     }
 }
 
+/// Writes that line, to its end.
 fn write_version<O: Write>(output: &mut O) -> io::Result<()>
-    ensures { OnOk result
-        (Appends (O.contents output.old) (O.contents output.new) version_line) }
+    ensures { Prints (O.contents output.old) result (O.contents output.new) version_line }
 {
-    writeln!(output, "natpair {VERSION} ({KIT})")?;
-    output.flush()?;
-    Ok(())
+    put_version(output)?;
+    output.flush()
+}
+
+/// Writes that line.
+fn put_version<O: Write>(output: &mut O) -> io::Result<()>
+    ensures { Prints (O.contents output.old) result (O.contents output.new) version_line }
+{
+    put_all(output, &["natpair ", VERSION, " (", KIT, ")\n"])
 }

@@ -20,7 +20,7 @@ fn main(rt: HostRuntime) -> ExitCode {
     let mut errors = rt.stderr();
     let status = match start(&rt, &mut errors) {
         Ok(status) => status,
-        Err(error) => Fault::of_starting(error).tell(&mut errors),
+        Err(error) => Fault::of_starting(error).tell(rt.alloc(), &mut errors),
     };
     ExitCode::from(status)
 }

@@ -11,4 +11,8 @@ returns-in-Ok-clause-checked g c = inr (record {
 })
 
 pub returns-in-Err-clause-checked : goal.returns-in-Err-clause-checked
-returns-in-Err-clause-checked g c = inl (c.tell.ensures ∙ c.in-Err.ensures.status, refl)
+returns-in-Err-clause-checked g c = inl (record {
+  is_one = c.tell.ensures.status ∙ c.in-Err.ensures.status;
+  unprinted = refl;
+  told = (c.in-Err.fault, ((c.in-Err.ensures.unread, c.in-Err.ensures.told), c.tell.ensures.told));
+})

@@ -48,40 +48,114 @@ returns-in-Version-clause-done g c h =
     rw c.in-Version.is (none, c.tell_version.ensures.printed none)
 
 pub returns-in-Init-clause-acts : goal.returns-in-Init-clause-acts
-returns-in-Init-clause-acts g c = rw c.in-Init.is (refl, λ h. rw c.as_str.ensures.value at (c.init.ensures.made h))
+returns-in-Init-clause-acts g c = rw c.in-Init.is (
+  refl,
+  (
+    refl,
+    λ none. (c.init.ensures.quiet none, rw c.as_str.ensures.value at (c.init.ensures.made none)),
+    λ one. rw c.as_str.ensures.value at (c.init.ensures.failed one),
+  ),
+)
 
 pub returns-in-Check-clause-acts : goal.returns-in-Check-clause-acts
-returns-in-Check-clause-acts g c = rw c.in-Check.is c.look_at.ensures.looked
+returns-in-Check-clause-acts g c = rw c.in-Check.is (refl, c.look_at.ensures.quiet, c.look_at.ensures.looked)
 
 pub returns-in-Gate-clause-acts : goal.returns-in-Gate-clause-acts
 returns-in-Gate-clause-acts g c =
     let start = c.start_of.ensures in
     rw c.in-Gate.is (
+      refl,
+      refl,
+      c.serve.ensures.quiet,
       rw (start.settings, start.id, start.rounds, start.found, start.inside, start.outside, start.link, start.track, start.until_eof, start.log, start.format, start.capture, start.notify)
           at c.serve.ensures.works,
-      refl,
     )
 
 pub returns-in-Status-clause-acts : goal.returns-in-Status-clause-acts
-returns-in-Status-clause-acts g c = rw c.in-Status.is (c.state_of.ensures.unprinted, c.state_of.ensures.asked)
+returns-in-Status-clause-acts g c = rw c.in-Status.is (
+  c.state_of.ensures.unprinted,
+  (
+    refl,
+    λ none. (c.state_of.ensures.quiet none, c.state_of.ensures.asked none),
+    c.state_of.ensures.failed,
+  ),
+)
 
 pub returns-in-Pairs-clause-acts : goal.returns-in-Pairs-clause-acts
-returns-in-Pairs-clause-acts g c = rw c.in-Pairs.is c.pairs_of.ensures.listed
+returns-in-Pairs-clause-acts g c = rw c.in-Pairs.is (
+  refl,
+  λ none. (c.pairs_of.ensures.quiet none, c.pairs_of.ensures.listed none),
+  c.pairs_of.ensures.failed,
+)
 
 pub returns-in-Stop-clause-acts : goal.returns-in-Stop-clause-acts
-returns-in-Stop-clause-acts g c = rw c.in-Stop.is (refl, λ h. rw c.as_str-in-Stop.ensures.value at (c.stop.ensures.said h))
+returns-in-Stop-clause-acts g c = rw c.in-Stop.is (
+  refl,
+  (
+    refl,
+    λ none. (c.stop.ensures.quiet none, rw c.as_str-in-Stop.ensures.value at (c.stop.ensures.said none)),
+    λ one. rw c.as_str-in-Stop.ensures.value at (c.stop.ensures.failed one),
+  ),
+)
 
 pub returns-in-PeerOff-clause-acts : goal.returns-in-PeerOff-clause-acts
-returns-in-PeerOff-clause-acts g c = rw c.in-PeerOff.is (refl, λ h. rw c.as_str-settings.ensures.value at (c.peer_off.ensures.taken h))
+returns-in-PeerOff-clause-acts g c = rw c.in-PeerOff.is (
+  refl,
+  (
+    refl,
+    λ none. (c.peer_off.ensures.quiet none, rw c.as_str-settings.ensures.value at (c.peer_off.ensures.taken none)),
+    λ one. rw c.as_str-settings.ensures.value at (c.peer_off.ensures.failed one),
+  ),
+)
 
 pub returns-in-Side-clause-acts : goal.returns-in-Side-clause-acts
-returns-in-Side-clause-acts g c = rw c.in-Side.is (refl, λ h. rw c.as_str-in-Side.ensures.value at (c.side.ensures.said h))
+returns-in-Side-clause-acts g c = rw c.in-Side.is (
+  refl,
+  (
+    refl,
+    λ none. (c.side.ensures.quiet none, rw c.as_str-in-Side.ensures.value at (c.side.ensures.said none)),
+    λ one. rw c.as_str-in-Side.ensures.value at (c.side.ensures.failed one),
+  ),
+)
 
 pub returns-in-Sim-clause-acts : goal.returns-in-Sim-clause-acts
-returns-in-Sim-clause-acts g c = rw c.in-Sim.is c.sim.ensures.named
+returns-in-Sim-clause-acts g c = rw c.in-Sim.is (c.sim.ensures.named, c.sim.ensures.failed)
 
 pub returns-in-Loop-clause-acts : goal.returns-in-Loop-clause-acts
-returns-in-Loop-clause-acts g c = rw c.in-Loop.is c.repeat.ensures.named
+returns-in-Loop-clause-acts g c = rw c.in-Loop.is (c.repeat.ensures.named, c.repeat.ensures.failed)
 
 pub returns-in-Version-clause-acts : goal.returns-in-Version-clause-acts
-returns-in-Version-clause-acts g c = rw c.in-Version.is refl
+returns-in-Version-clause-acts g c = rw c.in-Version.is (refl, refl, c.tell_version.ensures.quiet, λ one. (c.tell_version.ensures.told one, c.tell_version.ensures.begun one))
+
+pub returns-in-Init-clause-quiet : goal.returns-in-Init-clause-quiet
+returns-in-Init-clause-quiet g c unwatched h = c.init.ensures.quiet (is_0 _ c.init.ensures.status h)
+
+pub returns-in-Check-clause-quiet : goal.returns-in-Check-clause-quiet
+returns-in-Check-clause-quiet g c unwatched h = c.look_at.ensures.quiet (is_0 _ c.look_at.ensures.status h)
+
+pub returns-in-Gate-clause-quiet : goal.returns-in-Gate-clause-quiet
+returns-in-Gate-clause-quiet g c unwatched h = c.serve.ensures.quiet (is_0 _ c.serve.ensures.status h)
+
+pub returns-in-Status-clause-quiet : goal.returns-in-Status-clause-quiet
+returns-in-Status-clause-quiet g c unwatched h = c.state_of.ensures.quiet (is_0 _ c.state_of.ensures.status h)
+
+pub returns-in-Pairs-clause-quiet : goal.returns-in-Pairs-clause-quiet
+returns-in-Pairs-clause-quiet g c unwatched h = c.pairs_of.ensures.quiet (is_0 _ c.pairs_of.ensures.status h)
+
+pub returns-in-Stop-clause-quiet : goal.returns-in-Stop-clause-quiet
+returns-in-Stop-clause-quiet g c unwatched h = c.stop.ensures.quiet (is_0 _ c.stop.ensures.status h)
+
+pub returns-in-PeerOff-clause-quiet : goal.returns-in-PeerOff-clause-quiet
+returns-in-PeerOff-clause-quiet g c unwatched h = c.peer_off.ensures.quiet (is_0 _ c.peer_off.ensures.status h)
+
+pub returns-in-Side-clause-quiet : goal.returns-in-Side-clause-quiet
+returns-in-Side-clause-quiet g c unwatched h = c.side.ensures.quiet (is_0 _ c.side.ensures.status h)
+
+pub returns-in-Version-clause-quiet : goal.returns-in-Version-clause-quiet
+returns-in-Version-clause-quiet g c unwatched h = c.tell_version.ensures.quiet (is_0 _ c.tell_version.ensures.status h)
+
+pub returns-in-Sim-clause-quiet : goal.returns-in-Sim-clause-quiet
+returns-in-Sim-clause-quiet g c unwatched h = (c.sim.ensures.named h).told.1 unwatched
+
+pub returns-in-Loop-clause-quiet : goal.returns-in-Loop-clause-quiet
+returns-in-Loop-clause-quiet g c unwatched h = (c.repeat.ensures.named h).quiet

@@ -1,5 +1,8 @@
-use Rattle.commands.proofs.Passing.{has_loop_of}
-use Rattle.commands.proofs.Recording.{ended_of, loop_captured_of}
+use Rattle.std.proofs.Common.{inl, inr, refl}
+use Rattle.commands.proofs.Passing.{has_loop_of, loop_begun_of}
+use Rattle.commands.proofs.Recording.{ended_of, loop_captured_of, tape_of}
+use Rattle.faults.specs.Texts.{fault_text}
+use Rattle.commands.proofs.Telling.{told_as}
 use Rattle.commands.proofs.runs.repeat_captured.Goals as goal
 
 pub returns-in-Ok-begin-clause-run : goal.returns-in-Ok-begin-clause-run
@@ -9,5 +12,20 @@ returns-in-Ok-begin-clause-run g c h =
 
 pub returns-in-Ok-begin-clause-captured : goal.returns-in-Ok-begin-clause-captured
 returns-in-Ok-begin-clause-captured g c h =
-    loop_captured_of _ _ _ _ _ _ _ _ _ _ _ _ _ _ c.new-passage.ensures c.in-Ok.ensures.job c.in-Ok.ensures.opened c.in-Ok-begin.ensures
-    c.looped-run.ensures.taped (c.ended.ensures.run h) (ended_of _ _ c.end-written.ensures c.ended.ensures.written h)
+    loop_captured_of _ _ _ _ _ _ _ _ _ _ _ _ _ _ _ _ c.new-passage.ensures c.in-Ok.ensures.job c.in-Ok.ensures.opened c.in-Ok-begin.ensures.begun
+    c.looped-run.ensures.taped (c.ended.ensures.run h) (ended_of _ _ c.end-written.ensures.ended c.ended.ensures.written h)
+
+pub returns-in-Ok-begin-clause-failed : goal.returns-in-Ok-begin-clause-failed
+returns-in-Ok-begin-clause-failed g c one =
+    told_as g.E.Tells.tells fault_text _ _ c.args.errors.now c.ended.new.errors (c.ended.ensures.told one) (λ why is. inr (
+      loop_begun_of c.looped-run.result g.O.Write.contents c.args.settings.now c.args.script.now c.in-Ok.job _ _ _ c.args.output.now
+          c.looped-run.new.output c.new-passage.ensures c.in-Ok.ensures.job c.in-Ok.ensures.opened c.looped-run.ensures.run
+          c.looped-run.ensures.stops,
+      record {
+        first = c.in-Ok-begin.tape;
+        last = c.looped-run.new.tape;
+        begun = c.in-Ok-begin.ensures.begun;
+        told = tape_of g.H.Host.begins g.H.Host.ends c.args.path.now c.looped-run.result c.end-written.result why _ c.looped-run.new.tape
+            c.looped-run.ensures.told c.end-written.ensures.ended c.end-written.ensures.unended is;
+      },
+    ))

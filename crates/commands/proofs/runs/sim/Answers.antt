@@ -1,3 +1,6 @@
+use Rattle.std.proofs.Common.{inl, inr, refl}
+use Rattle.commands.specs.Meters.{Overhears}
+use Rattle.commands.proofs.Telling.{told_behind_as}
 use Rattle.commands.proofs.runs.sim.Goals as goal
 
 pub returns-in-Some-clause-named : goal.returns-in-Some-clause-named
@@ -23,5 +26,29 @@ returns-in-Ok-clause-named g c h = record {
     λ watched. rw (c.as_str-settings.ensures.value, c.as_str-script.ensures.value) at (c.simulated.ensures.heard watched h),
     λ unwatched. c.simulated.ensures.quiet unwatched h,
   );
-  captured = rw c.in-None.is tt;
+  captured = rw c.in-None.is refl;
 }
+
+pub returns-in-Some-clause-failed : goal.returns-in-Some-clause-failed
+returns-in-Some-clause-failed g c one =
+    inr (told_behind_as g.E.Tells.tells (Overhears c.args.is_watched g.C.Clockwork.reads g.E.Tells.tells c.args.clock) _ _ c.args.errors.now
+    c.sim_captured.new.errors (c.sim_captured.ensures.failed one) (λ why left. record {
+      text = _;
+      script = _;
+      are_read = c.in-Ok.ensures.read;
+      ended = rw c.in-Some.is (rw (c.as_str-settings.ensures.value, c.as_str-script.ensures.value, c.as_str-path.ensures.value) at left);
+    }))
+
+pub returns-in-Ok-clause-failed : goal.returns-in-Ok-clause-failed
+returns-in-Ok-clause-failed g c one =
+    inr (told_behind_as g.E.Tells.tells (Overhears c.args.is_watched g.C.Clockwork.reads g.E.Tells.tells c.args.clock) _ _ c.args.errors.now
+    c.simulated.new.errors (c.simulated.ensures.failed one) (λ why fails. record {
+      text = _;
+      script = _;
+      are_read = c.in-Ok.ensures.read;
+      ended = rw c.in-None.is (refl, rw (c.as_str-settings.ensures.value, c.as_str-script.ensures.value) at fails);
+    }))
+
+pub returns-clause-failed : goal.returns-clause-failed
+returns-clause-failed g c one =
+    inl (c.in-Err.fault, ((c.in-Err.ensures.unread, refl, refl), c.tell.ensures.told))

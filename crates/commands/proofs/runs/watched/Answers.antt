@@ -1,18 +1,28 @@
 use Rattle.std.proofs.Common.{arith}
 use Rattle.commands.specs.Meters.{telling}
-use Rattle.commands.proofs.Hearing.{on_both}
+use Rattle.commands.proofs.Hearing.{on_err, on_ok}
 use Rattle.commands.proofs.runs.watched.Goals as goal
 
 pub returns-clause-heard : goal.returns-clause-heard
 returns-clause-heard g c =
     let last = c.metered.new.meter in
     let new = c.start-meter.ensures in
-    on_both c.metered.result c.metered.ensures.same_reference c.metered.ensures.heard (λ same heard. record {
+    on_ok c.metered.result c.metered.ensures.heard (λ heard. record {
       job = heard.job;
       is = heard.is;
       heard = record {
         last = telling last.clock last.next last.is_refused last.errors.now;
         told = rw (← new.clock, ← new.next, ← new.is_refused, ← new.errors) heard.told;
-        is_last = grind (arith, same, new.same_reference, c.drop-meter.ensures);
+        is_last = grind (arith, c.metered.ensures.same_reference, new.same_reference, c.drop-meter.ensures);
       };
+    })
+
+pub returns-clause-overheard : goal.returns-clause-overheard
+returns-clause-overheard g c =
+    let last = c.metered.new.meter in
+    let new = c.start-meter.ensures in
+    on_err c.metered.result c.metered.ensures.overheard (λ heard. record {
+      last = telling last.clock last.next last.is_refused last.errors.now;
+      told = rw (← new.clock, ← new.next, ← new.is_refused, ← new.errors) heard;
+      is_last = grind (arith, c.metered.ensures.same_reference, new.same_reference, c.drop-meter.ensures);
     })
