@@ -1,6 +1,7 @@
 #!/usr/bin/env python3
-"""Runs the gate, `rt ci`, once, and prints what it took: for each crate the processor seconds of its proof, its tests, its
-must-fail edits, and its builds and runs; the share of each; and the longest chain of crates by crates.txt.
+"""Runs the gate, `rt ci` with one prover a processor (or as many as RT_JOBS says), once, and prints what it took: for each
+crate the processor seconds of its proof, its tests, its must-fail edits, and its builds and runs; the share of each; and
+the longest chain of crates by crates.txt.
 
 usage: bench/gate.py [--proofs] [--keep FILE]   runs the gate; with --keep it writes what the gate said and took into
                                                 FILE; with --proofs it ends the gate once each crate's proof has ended,
@@ -121,7 +122,8 @@ def run_gate(kept, proofs_alone):
     """Runs the gate, or only until each proof has ended. Returns its lines, what its tasks took, its processor seconds,
     its seconds and its status."""
     began, lines, left = time.monotonic(), [], set(crates())
-    gate = subprocess.Popen(["rt", "ci"], stdin=subprocess.DEVNULL, stdout=subprocess.PIPE, stderr=subprocess.STDOUT, text=True, errors="replace", start_new_session=True)
+    around = {"RT_JOBS": str(os.cpu_count()), **os.environ}
+    gate = subprocess.Popen(["rt", "ci"], env=around, stdin=subprocess.DEVNULL, stdout=subprocess.PIPE, stderr=subprocess.STDOUT, text=True, errors="replace", start_new_session=True)
     sampler, status = Sampler(gate.pid), None
     sampler.start()
     try:
