@@ -8,4 +8,7 @@ pub mod Saying
 pub mod Asking
 pub mod Dialling
 pub mod Attending
+pub mod Calling
+pub mod Newcomers
+pub mod Audiences
 pub mod Folders

@@ -1,7 +1,9 @@
 -- What passes on a line from a caller to a box.
 use Rattle.std.specs.Prelude.{ℕ, ◌≡◌, List, [], ◌∷◌, take, Option, Result, Ok, Err}
 use Rattle.std.specs.Io.KnownBytes.{Appends, Consumes, IsAtEnd, Keeps}
+use Rattle.std.specs.declared.io.Error.{Error}
 use Rattle.outlets.specs.Printed.{IsBegun}
+use Rattle.outlets.specs.Writes.{Asks, IsPut}
 use Rattle.control.specs.Reads.{IsRead, IsUnread, Reads}
 
 -- a word is said, or wasn't, or not all of it; bytes come, none where no more will; or none could be had
@@ -30,11 +32,12 @@ abbrev pub ComeIn : {L : Type 0} → Does L → List (List ℕ) → L → L → 
 ComeIn does [] before after = after ≡ before
 ComeIn {L} does (part ∷ others) before after = (between : L) × does before (came part) between × ComeIn does others between after
 
--- what such a call is to a stream of which it is known what was written to it, what is to come, and what its reads may answer: of a word
--- that wasn't said a beginning may be written; and bytes come, or can't be had, just as one read answers that isn't interrupted
-abbrev pub StreamDoes : {S : Type 0} → (contents remaining : S → Option (List ℕ)) → Reads S → Does S
-StreamDoes contents remaining reads s (said word) s2 = Appends (contents s) (contents s2) word
-StreamDoes contents remaining reads s (not_said word) s2 = IsBegun (contents s) (contents s2) word
-StreamDoes contents remaining reads s (came bytes) s2 =
+-- What such a call is to a stream of which it is known what was written to it, what is to come, and what its writes and reads may answer.
+-- A word is put turn by turn, each turn asked to take all that is left; of one that wasn't said a beginning may be written. And bytes come,
+-- or can't be had, just as one read answers that isn't interrupted.
+abbrev pub StreamDoes : {S : Type 0} → (held remaining : S → Option (List ℕ)) → Asks S → Reads S → Does S
+StreamDoes held remaining writes reads s (said word) s2 = Appends (held s) (held s2) word × IsPut writes s word (Ok tt) s2
+StreamDoes held remaining writes reads s (not_said word) s2 = IsBegun (held s) (held s2) word × ((error : Error) × IsPut writes s word (Err error) s2)
+StreamDoes held remaining writes reads s (came bytes) s2 =
     Consumes (remaining s) (remaining s2) bytes × (bytes ≡ [] → IsAtEnd (remaining s2)) × IsRead reads s bytes s2
-StreamDoes contents remaining reads s not_come s2 = Keeps (remaining s) (remaining s2) × IsUnread reads s s2
+StreamDoes held remaining writes reads s not_come s2 = Keeps (remaining s) (remaining s2) × IsUnread reads s s2

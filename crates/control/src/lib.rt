@@ -3,9 +3,13 @@
 #![tactic(auto)]
 
 mod answers;
+mod audience;
 mod callers;
 mod folders;
+mod hearing;
 mod lines;
+mod listeners;
+mod newcomers;
 mod paths;
 mod saying;
 mod speakers;
@@ -14,7 +18,7 @@ mod words;
 pub use answers::{
     Answer, PeerOffRefusal, begun_page, begun_report, spelled_heard, spelled_refusal,
 };
-pub use callers::Control;
+pub use hearing::Control;
 pub use paths::{ControlPath, LONGEST_PATH, PathFault};
 pub use saying::{NoSocket, ask, say};
 pub use words::{

@@ -5,8 +5,8 @@ ghost use Rattle.control.specs.Dialling.{Limit, hears_within, says_within};
 ghost use Rattle.control.specs.Lines.{Passed, StreamDoes, hearing, saying};
 
 use crate::speakers::{Speaks, next_of};
-use outlets::put;
-use std::io::{self, Write};
+use outlets::{Takes, put_in_turns};
+use std::io;
 use std::net::Net;
 use std::os::unix::net::UnixStream;
 use std::time::Duration;
@@ -69,12 +69,13 @@ pub(crate) trait Limits: Sized {
         ensures { OnOk result (limits self.old (says_within (as_nanos limit)) self.new) };
 }
 
-/// A stream is a line, as far as is known what was written to it, what is to come, and what its reads may answer.
-impl<S: Speaks + Write> Line for S {
-    ghost does = { StreamDoes S.contents S.rest S.answers };
+/// A stream is a line, as far as is known what was written to it, what is to come, and what its writes and reads may
+/// answer.
+impl<S: Speaks + Takes> Line for S {
+    ghost does = { StreamDoes S.held S.rest S.Takes.answers S.Speaks.answers };
 
     fn say(&mut self, word: &[u8]) -> io::Result<()> {
-        put(self, word)
+        put_in_turns(self, word)
     }
 
     fn hear(&mut self, room: &mut [u8]) -> io::Result<usize> {

@@ -4,5 +4,5 @@
 mod puts;
 mod tells;
 
-pub use puts::{put, put_all, put_text};
+pub use puts::{Takes, put, put_all, put_in_turns, put_text};
 pub use tells::{Tells, tell};

@@ -42,8 +42,8 @@ fn judged(answer: io::Result<usize>) -> io::Result<usize>
     }
 }
 
-/// What takes bytes, some at a time.
-pub(crate) trait Takes {
+/// What takes bytes, some at a time. All that is a `Write` does, though no more is known of its answers.
+pub trait Takes {
     ghost use Rattle.std.specs.Prelude.{ℕ, List, Option, Result};
     ghost use Rattle.std.specs.Io.KnownBytes.{WriteAppends};
     ghost use Rattle.std.specs.Io.{WritesAtMost};
@@ -120,6 +120,18 @@ pub(crate) fn put_by<P: Puts>(output: &mut P, bytes: &[u8]) -> io::Result<()>
     Err(ErrorKind::Interrupted.into())
 }
 
+/// Writes bytes to what takes them: what it doesn't take at once is handed on, turn by turn.
+///
+/// # Errors
+///
+/// As it answers, but for an interruption, behind which it is asked again; `WriteZero` where it takes nothing.
+pub fn put_in_turns<T: Takes>(output: &mut T, bytes: &[u8]) -> io::Result<()>
+    ensures bytes { Prints (T.held output.old) result (T.held output.new) bytes.now }
+    ensures turns { IsPut T.answers output.old bytes.now result output.new }
+{
+    put_by(output, bytes)
+}
+
 /// Writes bytes.
 ///
 /// # Errors
@@ -128,7 +140,7 @@ pub(crate) fn put_by<P: Puts>(output: &mut P, bytes: &[u8]) -> io::Result<()>
 pub fn put<O: Write>(output: &mut O, bytes: &[u8]) -> io::Result<()>
     ensures { Prints (O.contents output.old) result (O.contents output.new) bytes.now }
 {
-    put_by(output, bytes)
+    put_in_turns(output, bytes)
 }
 
 /// Writes a text.

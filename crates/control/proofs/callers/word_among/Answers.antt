@@ -34,4 +34,5 @@ loop-turn-preserved g c =
         | in-NoWord w ↦ rw (w.callers-is, w.silent-is, w.refuse.ensures.others) (left_gone g.S.Speaks.answers (length c.args.room.now) c.loop-turn.callers.items c.args.callers.now.items c.loop-turn.silent c.loop-turn._turn _ c.asked.new.caller _ within before_end c.loop-turn.invariant.rest c.index_mut.ensures.value (_, _, (long, w.in-NoWord.ensures.once)) c.loop-turn.invariant.left)
       ];
       counted = grind (arith, common_steps);
+      capacity = grind (arith, common_steps);
     }

@@ -1,4 +1,4 @@
-use Rattle.std.proofs.Common.{◌≡◌, ◌+◌, ◌-◌, ◌≤◌, drop, length, take, vec_len}
+use Rattle.std.proofs.Common.{◌≡◌, ◌+◌, ◌-◌, ◌≤◌, drop, length, take, vec_capacity, vec_len}
 use Rattle.control.specs.Asking.{AreLeft}
 use Rattle.control.specs.Attending.{with_more}
 use Rattle.control.proofs.callers.word_among.Given as goal
@@ -12,4 +12,5 @@ invariant-loop-turn g l = record {
   room : length l.room ≡ length l.fn.room;
   left : AreLeft g.S.Speaks.answers (length l.fn.room) (take l._turn l.fn.callers.items) (take l.silent l.callers.items);
   counted : l.refused ≡ with_more l.fn.refused (vec_len l.fn.callers - vec_len l.callers);
+  capacity : vec_capacity l.callers ≡ vec_capacity l.fn.callers;
 }

@@ -1,0 +1,145 @@
+//! Who is heard at a control socket, and answered.
+ghost use Rattle.std.specs.Prelude.{◌≡◌, ◌≤◌, ◌⊎◌, ◌||◌, false, true, length, vec_len, vec_capacity, is_some, IfSome, IsNone};
+ghost use Rattle.control.specs.Attending.{AreCounted, HasLooked, IsAnsweredIf, is_ready};
+ghost use Rattle.control.specs.Attending.{nobody_yet, speakers, with_more};
+ghost use Rattle.control.specs.Audiences.{IsHeard, Looks, answered, attending_of, woken};
+ghost use Rattle.control.specs.Heard.{IsWord};
+
+use crate::callers::{answered, speaker_among};
+use crate::listeners::{Listens, let_in};
+use crate::newcomers::Newcomers;
+use crate::speakers::Speaks;
+use outlets::Takes;
+use std::alloc::Global;
+
+/// Who is heard at a control socket.
+#[derive(Drop)]
+pub(crate) struct Audience<S> {
+    /// Who is waited for.
+    callers: Vec<S>,
+    /// Whose word was handed on, until it is answered.
+    speaker: Option<S>,
+    /// Somebody may have called, or said something. It is set when a wait reports the listener or a caller.
+    ready: bool,
+    /// How many called, for clauses alone.
+    called: Newcomers,
+    refused: u64,
+    unanswered: u64,
+}
+
+impl<S> Audience<S> {
+    /// Nobody yet.
+    pub(crate) fn nobody(alloc: Global) -> Audience<S>
+        ensures { attending_of result ≡ nobody_yet }
+    {
+        Audience {
+            callers: Vec::new(alloc),
+            speaker: None,
+            ready: true,
+            called: Newcomers::none(),
+            refused: 0,
+            unanswered: 0,
+        }
+    }
+
+    /// A wait has reported one of them, or that somebody calls.
+    pub(crate) fn wake(&mut self)
+        ensures { self.new ≡ woken self.old }
+    {
+        self.ready = true;
+    }
+
+    /// Whether there may be somebody to hear, as far as is known: nobody is while an answer is awaited.
+    pub(crate) fn is_ready(&self) -> bool
+        ensures { result ≡ is_ready (attending_of self.now) }
+    {
+        self.ready && self.speaker.is_none()
+    }
+
+    /// How many were refused.
+    pub(crate) fn refused(&self) -> u64
+        ensures { result ≡ self.now.refused }
+    {
+        self.refused
+    }
+
+    /// How many went unanswered.
+    pub(crate) fn unanswered(&self) -> u64
+        ensures { result ≡ self.now.unanswered }
+    {
+        self.unanswered
+    }
+}
+
+impl<S: Speaks + Takes + Drop> Audience<S> {
+    /// A word that somebody says, if one is there: how many bytes of the room it has. Where nobody says one, who calls
+    /// next is let in.
+    pub(crate) fn take<L: Listens<S>>(&mut self, listener: &mut L, room: &mut [u8]) -> Option<usize>
+        ensures within { IfSome result (λ count. count ≤ length room.new) }
+        ensures words { IfSome result (λ count. IsWord count room.new) }
+        ensures deaf { is_ready (attending_of self.old) ≡ false
+            → IsNone result × (self.new ≡ self.old) × (listener.new ≡ listener.old) }
+        ensures looks { is_ready (attending_of self.old) ≡ true
+            → Looks S.Speaks.answers L.calls L.registers self.old listener.old result
+            self.new listener.new room.new }
+        ensures looked { is_ready (attending_of self.old) ≡ true
+            → HasLooked result (attending_of self.old) (attending_of self.new) }
+        ensures refused { self.old.refused ≤ self.new.refused }
+        ensures unanswered { self.new.unanswered ≡ self.old.unanswered }
+        ensures most { vec_len self.old.callers ≤ 8 → vec_len self.new.callers ≤ 8 }
+    {
+        if !self.is_ready() {
+            return None;
+        }
+        if let Some(count) = self.hear(room) {
+            return Some(count);
+        }
+        self.ready = let_in(
+            listener,
+            &mut self.callers,
+            &mut self.refused,
+            &mut self.called,
+        );
+        None
+    }
+
+    /// A word of those who are waited for, one after the other. Who said it awaits its answer. He, who said something else
+    /// and who has gone is no longer waited for.
+    fn hear(&mut self, room: &mut [u8]) -> Option<usize>
+        ensures within { IfSome result (λ count. count ≤ length room.new) }
+        ensures words { IfSome result (λ count. IsWord count room.new) }
+        ensures heard { IsHeard S.Speaks.answers self.old result self.new room.new }
+        ensures counted { AreCounted (vec_len self.old.callers) (vec_len self.new.callers)
+            (speakers result) self.old.refused self.new.refused }
+        ensures more { self.old.refused ≤ self.new.refused }
+        ensures awaits { is_some self.new.speaker ≡ (is_some result || is_some self.old.speaker) }
+        ensures ready { self.new.ready ≡ self.old.ready }
+        ensures called { self.new.called ≡ self.old.called }
+        ensures unanswered { self.new.unanswered ≡ self.old.unanswered }
+        ensures capacity { vec_capacity self.new.callers ≡ vec_capacity self.old.callers }
+    {
+        match speaker_among(&mut self.callers, &mut self.refused, room) {
+            Some((speaker, count)) => {
+                self.speaker = Some(speaker);
+                Some(count)
+            }
+            None => None,
+        }
+    }
+
+    /// Answers who awaits it, by one write, and lets him go.
+    pub(crate) fn answer(&mut self, bytes: &[u8])
+        ensures told { IsAnsweredIf S.held S.Takes.answers self.old.speaker bytes.now
+            self.old.unanswered self.new.unanswered }
+        ensures rest { self.new ≡ answered self.old self.new.unanswered }
+        ensures counted { (self.new.unanswered ≡ self.old.unanswered)
+            ⊎ (self.new.unanswered ≡ with_more self.old.unanswered 1) }
+        ensures nobody { is_some self.old.speaker ≡ false
+            → self.new.unanswered ≡ self.old.unanswered }
+    {
+        let Some(speaker) = self.speaker.take() else {
+            return;
+        };
+        self.unanswered = answered(speaker, bytes, self.unanswered);
+    }
+}

@@ -1,0 +1,123 @@
+//! The end at which words are heard.
+ghost use Rattle.std.specs.Prelude.{◌≡◌, ◌≤◌, ◌||◌, ◌⊎◌, true, false, length, is_some, IfOk, IfSome, IsNone};
+ghost use Rattle.control.specs.Attending.{HasLooked, answered, is_ready, nobody_yet, with_more, woken};
+ghost use Rattle.control.specs.Heard.{IsWord};
+
+use crate::audience::Audience;
+use crate::folders::{Machine, ready};
+use crate::listeners::SystemListens;
+use crate::{ControlPath, NoSocket};
+use mio::net::{UnixListener, UnixStream};
+use mio::{Interest, Registry, Token};
+use std::fs::Files;
+use std::io;
+use std::marker::Model;
+use std::net::Net;
+
+/// The control socket of a box, in a folder that only the box's own user may enter.
+#[derive(Drop)]
+pub struct Control {
+    listener: UnixListener,
+    audience: Audience<UnixStream>,
+}
+
+impl Model for Control {
+    ghost use Rattle.std.specs.Prelude.{◌≤◌};
+    ghost use Rattle.control.specs.Attending.{Attending};
+
+    ghost Value = { Attending };
+
+    ghost use Rattle.control.specs.Audiences.{attending_of};
+
+    ghost view = { λ c. attending_of c.audience };
+
+    ghost invariant = { λ c. (attending_of c.audience).callers ≤ 8 };
+}
+
+impl Control {
+    /// Makes the folder, where it isn't there, and the socket. One that was left there is removed: the caller holds
+    /// the lock of the boot file beside it, so no other box listens at it.
+    ///
+    /// # Errors
+    ///
+    /// `NoSocket` where one of these can't be had.
+    pub fn open<R: Files + Net + AllocGlobal>(
+        rt: &R,
+        path: &ControlPath,
+    ) -> Result<Control, NoSocket>
+        ensures { IfOk result (λ c. c ≡ nobody_yet) }
+    {
+        ready(&mut Machine(rt), path)?;
+        Ok(Control {
+            listener: UnixListener::bind(rt, path.socket())?,
+            audience: Audience::nobody(rt.alloc()),
+        })
+    }
+
+    /// Has a wait report who calls, and who says something, under a token.
+    pub fn register(&mut self, registry: &Registry, token: Token) -> io::Result<()>
+        ensures { self.new ≡ self.old }
+    {
+        registry.register(&mut self.listener, token, Interest::READABLE)
+    }
+
+    /// A wait has reported its token.
+    pub fn wake(&mut self)
+        ensures { self.new ≡ woken self.old }
+    {
+        self.audience.wake();
+    }
+
+    /// Whether there may be somebody to hear, as far as is known: nobody is while an answer is awaited.
+    pub fn is_ready(&self) -> bool
+        ensures { result ≡ is_ready self.now }
+    {
+        self.audience.is_ready()
+    }
+
+    /// How many callers said what is no word, or nothing at all until others took their place.
+    pub fn refused(&self) -> u64
+        ensures { result ≡ self.now.refused }
+    {
+        self.audience.refused()
+    }
+
+    /// How many callers weren't there any more for their answer, or had no room for it.
+    pub fn unanswered(&self) -> u64
+        ensures { result ≡ self.now.unanswered }
+    {
+        self.audience.unanswered()
+    }
+
+    /// A word that somebody says, if one is there: how many bytes of the room it has. Who said it awaits its answer, and
+    /// nobody else is heard before that. Before None everybody was looked at who is waited for, unless an answer is
+    /// awaited, and one who calls was let in: no more of them a call, so that a flood of callers holds up nothing else.
+    /// While somebody was let in, or it failed to hear who calls, `is_ready` says that there may be more.
+    pub fn take(&mut self, registry: &Registry, token: Token, room: &mut [u8]) -> Option<usize>
+        ensures within { IfSome result (λ count. count ≤ length room.new) }
+        ensures words { IfSome result (λ count. IsWord count room.new) }
+        ensures one_by_one { self.old.awaits ≡ true → IsNone result }
+        ensures awaits { self.new.awaits ≡ (is_some result || self.old.awaits) }
+        ensures refused { self.old.refused ≤ self.new.refused }
+        ensures unanswered { self.new.unanswered ≡ self.old.unanswered }
+        ensures deaf { is_ready self.old ≡ false → IsNone result × (self.new ≡ self.old) }
+        ensures looked { is_ready self.old ≡ true → HasLooked result self.old self.new }
+        ensures most { self.new.callers ≤ 8 }
+    {
+        let mut listener = SystemListens(&self.listener, registry, token);
+        self.audience.take(&mut listener, room)
+    }
+
+    /// Answers who awaits it, by one write that doesn't wait, and lets him go. One who isn't there any more, or has no
+    /// room for the whole answer, is let go without it, and counted.
+    pub fn answer(&mut self, bytes: &[u8])
+        ensures awaits { self.new.awaits ≡ false }
+        ensures refused { self.new.refused ≡ self.old.refused }
+        ensures counted { (self.new.unanswered ≡ self.old.unanswered)
+            ⊎ (self.new.unanswered ≡ with_more self.old.unanswered 1) }
+        ensures nobody { self.old.awaits ≡ false → self.new.unanswered ≡ self.old.unanswered }
+        ensures rest { self.new ≡ answered self.old self.new.unanswered }
+    {
+        self.audience.answer(bytes);
+    }
+}
