@@ -4,3 +4,5 @@ mod Commas
 mod Texts
 mod WayTexts
 mod Inheriting
+mod Looking
+mod InTurn

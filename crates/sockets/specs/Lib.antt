@@ -16,3 +16,4 @@ pub mod Boards
 pub mod Showing
 pub mod Doing
 pub mod Opening
+pub mod Looking

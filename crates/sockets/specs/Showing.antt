@@ -1,12 +1,15 @@
 -- What a box's sockets show of its places.
-use Rattle.std.specs.Prelude.{ℕ, Bool, false, Option, Some, None}
+use Rattle.std.specs.Prelude.{ℕ, Bool, true, false, ◌≡◌, ◌⊎◌, [], Option, Some, None, Result, Ok, Err}
+use Rattle.mio.specs.Events.{items}
 use Rattle.nat_types.specs.declared.gateways.Side.TheVariants.{Inside, Outside}
 use Rattle.sockets.specs.declared.channels.Channel.{Channel}
 use Rattle.sockets.specs.declared.losses.Losses.{Losses}
 use Rattle.sockets.specs.declared.places.Place.{Place}
 use Rattle.sockets.specs.declared.places.Place.TheVariants.{Link, Side, Operator}
 use Rattle.sockets.specs.declared.sockets.Board.{Board}
+use Rattle.sockets.specs.Boards.{after}
 use Rattle.sockets.specs.Hearing.{Attached}
+use Rattle.sockets.specs.Looking.{IsLookedAt, is_among, turned}
 
 -- what a place is attached to; the operator's is to nothing
 abbrev pub attached_at : Board → Place → Option (Attached Channel)
@@ -28,6 +31,28 @@ failing_at b Link = b.link.failing
 failing_at b (Side Inside) = b.inside.failing
 failing_at b (Side Outside) = b.outside.failing
 failing_at b Operator = false
+
+-- the place that was asked last fails, so it isn't the operator's
+abbrev pub IsOfLast : Board → Type 0
+IsOfLast b = (place : Place) × ((b.first ≡ after place) × (failing_at b place ≡ true))
+
+-- The place that gave something is asked last from then on. It was asked behind others, in turn: where the operator's is among them, the
+-- control socket was looked at.
+pub record IsInTurn (place : Place) (b b2 : Board) : Type 0 where
+  pub last : b2.first ≡ after place
+  pub turns : ℕ
+  pub asked : place ≡ turned turns b.first
+  pub looked : is_among turns b.first ≡ true → IsLookedAt b.control b2.control
+
+-- by what was received: where nothing was, each was asked, so the same is asked first again
+abbrev pub TurnsFor : {E : Type 0} → Result (Option (Place × ℕ)) E → Board → Board → Type 0
+TurnsFor (Ok (Some found)) b b2 = IsInTurn found.0 b b2
+TurnsFor (Ok None) b b2 = b2.first ≡ b.first
+TurnsFor (Err fault) b b2 = Unit {0}
+
+-- the place that was asked last fails; or a wait failed, and so reported nothing
+abbrev pub HasFailed : Board → Type 0
+HasFailed b = IsOfLast b ⊎ (items b.events ≡ [])
 
 -- what of a place wasn't sent; of the operator's, how many answers
 abbrev pub losses_at : Board → Place → Losses

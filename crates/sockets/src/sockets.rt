@@ -1,9 +1,12 @@
 //! The sockets of a box, all waited for at once.
-ghost use Rattle.std.specs.Prelude.{◌≡◌, ◌≤◌, IfOk, IfSome, Ok, option_map};
+ghost use Rattle.control.specs.Attending.{is_ready};
+ghost use Rattle.mio.specs.Events.{items};
+ghost use Rattle.std.specs.Prelude.{◌≡◌, ◌≤◌, [], IfErr, IfOk, IfSome, Ok, option_map, true};
 ghost use Rattle.sockets.specs.Boards.{HearsAt, IsAsBefore, IsNew, Opens, OpensPlaces, SendsAt, Tells, after};
 ghost use Rattle.sockets.specs.Doing.{DoesAt};
 ghost use Rattle.sockets.specs.Hearing.{told};
-ghost use Rattle.sockets.specs.Showing.{attached_at, failing_at, losses_at, strangers_at};
+ghost use Rattle.sockets.specs.Looking.{IsMaybeWoken, LooksAt, LooksFor, woken_by, woken_by_all};
+ghost use Rattle.sockets.specs.Showing.{HasFailed, IsOfLast, TurnsFor, attached_at, failing_at, losses_at, strangers_at};
 
 use crate::channels::Channel;
 use crate::wire::{LONGEST, Wire, WireFault};
@@ -115,7 +118,8 @@ impl Board {
     }
 
     fn send(&mut self, to: Place, bytes: &[u8]) -> Result<(), SendFault>
-        ensures { SendsAt self.old self.new to result bytes.now }
+        ensures sends { SendsAt self.old self.new to result bytes.now }
+        ensures control { self.new.control ≡ self.old.control }
     {
         match to {
             Place::Link => self.link.send(bytes),
@@ -129,6 +133,9 @@ impl Board {
     fn take(&mut self, place: Place, room: &mut [u8; LONGEST]) -> Result<Option<usize>, WireFault>
         ensures hears { HearsAt self.old self.new place (told result room.new) }
         ensures within { IfOk result (λ found. IfSome found (λ count. count ≤ 4096)) }
+        ensures looks { LooksAt place result self.old.control self.new.control }
+        ensures first { self.new.first ≡ self.old.first }
+        ensures failing { IfErr result (λ fault. failing_at self.new place ≡ true) }
     {
         match place {
             Place::Link => self.link.take(room),
@@ -142,8 +149,12 @@ impl Board {
     fn next(&mut self, room: &mut [u8; LONGEST]) -> Result<Option<(Place, usize)>, WireFault>
         ensures hears { Tells self.old self.new result room.new }
         ensures within { IfOk result (λ found. IfSome found (λ datagram. datagram.1 ≤ 4096)) }
+        ensures looks { LooksFor result self.old.control self.new.control }
+        ensures called { self.old.control.called ≤ self.new.control.called }
+        ensures turns { TurnsFor result self.old self.new }
+        ensures failed { IfErr result (λ fault. IsOfLast self.new) }
     {
-        for _ in 0..4 {
+        for _ in 0..4_u8 {
             let place = self.first;
             self.first = after(place);
             match self.take(place, room) {
@@ -158,6 +169,11 @@ impl Board {
     /// Waits until a place has something, or `limit` has passed.
     fn wait(&mut self, limit: Duration) -> Result<(), WireFault>
         ensures same { IsAsBefore self.old self.new }
+        ensures control { IsMaybeWoken self.old.control self.new.control }
+        ensures first { self.new.first ≡ self.old.first }
+        ensures failed { IfErr result (λ fault. items self.new.events ≡ []) }
+        ensures reported { self.new.control
+            ≡ woken_by_all (items self.new.events) self.old.control }
     {
         if self.poll.poll(&mut self.events, Some(limit)).is_err() {
             return Err(WireFault);
@@ -175,6 +191,9 @@ impl Board {
     /// Hears the system, where there is time to wait and a place may have something already.
     fn catch_up(&mut self, limit: Duration) -> Result<(), WireFault>
         ensures same { IsAsBefore self.old self.new }
+        ensures control { IsMaybeWoken self.old.control self.new.control }
+        ensures first { self.new.first ≡ self.old.first }
+        ensures failed { IfErr result (λ fault. items self.new.events ≡ []) }
     {
         if limit > Duration::ZERO && self.is_any_ready() {
             self.wait(Duration::ZERO)
@@ -186,6 +205,9 @@ impl Board {
     /// Waits, but not where a place may still have something.
     fn wait_for_any(&mut self, limit: Duration) -> Result<(), WireFault>
         ensures same { IsAsBefore self.old self.new }
+        ensures control { IsMaybeWoken self.old.control self.new.control }
+        ensures first { self.new.first ≡ self.old.first }
+        ensures failed { IfErr result (λ fault. items self.new.events ≡ []) }
     {
         if self.is_any_ready() {
             self.wait(Duration::ZERO)
@@ -195,7 +217,9 @@ impl Board {
     }
 
     /// Whether a place may have something, as far as is known.
-    fn is_any_ready(&self) -> bool {
+    fn is_any_ready(&self) -> bool
+        ensures { is_ready self.now.control ≡ true → result ≡ true }
+    {
         self.link.is_ready()
             || self.inside.is_ready()
             || self.outside.is_ready()
@@ -214,6 +238,10 @@ impl Board {
     ) -> Result<Option<(Place, usize)>, WireFault>
         ensures hears { Tells self.old self.new result room.new }
         ensures within { IfOk result (λ found. IfSome found (λ datagram. datagram.1 ≤ 4096)) }
+        ensures looks { LooksFor result self.old.control self.new.control }
+        ensures called { self.old.control.called ≤ self.new.control.called }
+        ensures turns { TurnsFor result self.old self.new }
+        ensures failed { IfErr result (λ fault. HasFailed self.new) }
     {
         if self.catch_up(limit).is_err() {
             return Err(WireFault);
@@ -241,14 +269,32 @@ fn wake(
     ensures link { link.new ≡ link.old }
     ensures inside { inside.new ≡ inside.old }
     ensures outside { outside.new ≡ outside.old }
+    ensures control { IsMaybeWoken control.old control.new }
+    ensures reported { control.new ≡ woken_by_all (items events.now) control.old }
 {
     for event in events {
-        match event.token() {
-            Token(0) => link.wake(),
-            Token(1) => inside.wake(),
-            Token(2) => outside.wake(),
-            _ => control.wake(),
-        }
+        wake_at(event.token(), link, inside, outside, control);
+    }
+}
+
+/// Tells the place of a token that a wait has reported it.
+fn wake_at(
+    token: Token,
+    link: &mut Attachment<Channel>,
+    inside: &mut Attachment<Channel>,
+    outside: &mut Attachment<Channel>,
+    control: &mut Control,
+)
+    ensures link { link.new ≡ link.old }
+    ensures inside { inside.new ≡ inside.old }
+    ensures outside { outside.new ≡ outside.old }
+    ensures control { control.new ≡ woken_by token control.old }
+{
+    match token {
+        Token(0) => link.wake(),
+        Token(1) => inside.wake(),
+        Token(2) => outside.wake(),
+        _ => control.wake(),
     }
 }
 
