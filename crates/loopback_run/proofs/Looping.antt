@@ -1,12 +1,15 @@
 -- A run whose events have all had their turns.
-use Rattle.std.proofs.Common.{refl, ℕ, List, Option, IfOk, Result, Ok, Err, subst}
+use Rattle.std.proofs.Common.{refl, ℕ, List, Option, IfOk, OnOk, Result, Ok, Err, subst}
 use Rattle.settings.specs.declared.whole.Settings.{Settings}
 use Rattle.nat_types.specs.declared.events.WorldEvent.{WorldEvent}
 use Rattle.frame_sim.specs.World.{World, founding}
 use Rattle.frame_sim.specs.Status.{IsNew}
+use Rattle.frame_sim.specs.Tapes.{TakesOn}
 use Rattle.loopback_run.specs.Loops.{IsLoop}
 use Rattle.loopback_run.specs.Runs.{TakesTurns}
+use Rattle.loopback_run.specs.Tapes.{AreTaped, IsTapedLoop}
 use Rattle.loopback_run.specs.Turns.{AreTurns, Passes, steps_in}
+use Rattle.loopback_run.proofs.Taping.{turns_of}
 use Rattle.loopback_run.proofs.Turning.{steps_of_turns}
 
 -- what holds of the value of a result holds by what follows from it
@@ -14,11 +17,12 @@ pub in_ok : {E : Type 0} {P Q : ℕ → Type 0} (r : Result ℕ E) → ((n : ℕ
 in_ok (Ok n) f h = f n h
 in_ok (Err e) f h = tt
 
-loop_from : {P : Type 0} (passes : Passes P) (settings : Settings) (w : World) (p : P) (events : List WorldEvent) (w2 : World) (p2 : P) (output printed : Option (List ℕ)) (status : ℕ)
-    → IsNew settings w → TakesTurns passes w p events w2 p2 output printed status → IsLoop passes settings events p p2 output printed status
+loop_from : {P T : Type 0} (passes : Passes P) (takes : TakesOn T) (settings : Settings) (w : World) (p : P) (t : T) (events : List WorldEvent) (w2 : World) (p2 : P) (t2 : T) (output printed : Option (List ℕ)) (status : ℕ)
+    → IsNew settings w → TakesTurns passes takes w p t events w2 p2 t2 output printed status → IsLoop passes settings events p p2 output printed status
 unfolding IsNew
-loop_from passes settings w p events w2 p2 output printed status new h =
-    let taken = subst (λ (x : World). AreTurns passes x p events h.turns w2 p2) new h.taken in
+loop_from passes takes settings w p t events w2 p2 t2 output printed status new h =
+    let turns = turns_of passes takes w p t events h.turns w2 p2 t2 h.taken in
+    let taken = subst (λ (x : World). AreTurns passes x p events h.turns w2 p2) new turns in
     record {
       turns = h.turns;
       run = record {
@@ -32,7 +36,20 @@ loop_from passes settings w p events w2 p2 output printed status new h =
       text = h.text;
     }
 
-pub loops_from : {E : Type 0} {P : Type 0} (r : Result ℕ E) (passes : Passes P) (settings : Settings) (w : World) (p : P) (events : List WorldEvent) (w2 : World) (p2 : P) (output printed : Option (List ℕ))
-    → IsNew settings w → IfOk r (TakesTurns passes w p events w2 p2 output printed) → IfOk r (IsLoop passes settings events p p2 output printed)
-loops_from r passes settings w p events w2 p2 output printed new h =
-    in_ok r (λ n t. loop_from passes settings w p events w2 p2 output printed n new t) h
+pub loops_from : {E P T : Type 0} (r : Result ℕ E) (passes : Passes P) (takes : TakesOn T) (settings : Settings) (w : World) (p : P) (t : T) (events : List WorldEvent) (w2 : World) (p2 : P) (t2 : T) (output printed : Option (List ℕ))
+    → IsNew settings w → IfOk r (TakesTurns passes takes w p t events w2 p2 t2 output printed) → IfOk r (IsLoop passes settings events p p2 output printed)
+loops_from r passes takes settings w p t events w2 p2 t2 output printed new h =
+    in_ok r (λ n turns. loop_from passes takes settings w p t events w2 p2 t2 output printed n new turns) h
+
+-- and the tape took it down
+pub taped_from : {E P T : Type 0} (r : Result ℕ E) (passes : Passes P) (takes : TakesOn T) (settings : Settings) (w : World) (p : P) (t : T) (events : List WorldEvent) (w2 : World) (p2 : P) (t2 : T) (output printed : Option (List ℕ))
+    → IsNew settings w → IfOk r (TakesTurns passes takes w p t events w2 p2 t2 output printed) → OnOk r (IsTapedLoop passes takes settings events p p2 t t2)
+unfolding IsNew
+taped_from (Ok n) passes takes settings w p t events w2 p2 t2 output printed new h =
+    (h.turns, (w2, subst (λ (x : World). AreTaped passes takes x p t events h.turns w2 p2 t2) new h.taken))
+taped_from (Err e) passes takes settings w p t events w2 p2 t2 output printed new h = tt
+
+-- what holds after a success holds by what follows from it
+pub when_done : {X E : Type 0} {A B : Type 0} (r : Result X E) → (A → B) → OnOk r A → OnOk r B
+when_done (Ok x) f h = f h
+when_done (Err e) f h = tt

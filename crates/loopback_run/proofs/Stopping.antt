@@ -1,160 +1,157 @@
 -- How far a run came, and what its fault leaves.
-use Rattle.std.proofs.Common.{◌≡◌, ◌∙◌, ◌+◌, ◌++◌, ◌≤◌, ◌⊎◌, inl, inr, ℕ, suc, Bool, List, [], Option, length, take, Result, Ok, Err, IfErr, OnErr, ap, refl, sym, subst, arith, append_assoc, append-nil}
+use Rattle.std.proofs.Common.{◌≡◌, ◌∙◌, ◌++◌, ◌⊎◌, ◌≢◌, inl, inr, ℕ, Bool, List, [], Option, Result, Ok, Err, IfErr, OnErr, refl, sym, subst, append-nil}
 use Rattle.std.specs.Io.KnownBytes.{Appends, Keeps}
-use Rattle.std.proofs.lemmas.List.{take_all}
+use Rattle.std.proofs.KnownBytes.{Appends-kept, Appends-trans}
 use Rattle.settings.specs.declared.whole.Settings.{Settings}
 use Rattle.nat_types.specs.declared.events.WorldEvent.{WorldEvent}
 use Rattle.loopback_run.specs.declared.ports.PortFault.{PortFault}
 use Rattle.loopback_run.specs.declared.ports.PortFault.TheVariants as ports
-use Rattle.frame_sim.specs.World.{World}
+use Rattle.frame_sim.specs.declared.events.Step.{Step}
+use Rattle.frame_sim.specs.World.{World, founding}
 use Rattle.faults.specs.Faults.{of_print}
 use Rattle.faults.specs.declared.faults.Fault.{Fault}
 use Rattle.faults.specs.declared.faults.Fault.TheVariants.{Words, Setting, BadLine, File, NotWritten, NotText, NoSocket, NoMemory}
 use Rattle.faults.specs.declared.prints.PrintFault.{PrintFault}
 use Rattle.faults.specs.declared.prints.PrintFault.TheVariants as prints
 use Rattle.frame_sim.specs.Status.{IsNew}
+use Rattle.frame_sim.specs.Tapes.{TakesOn}
 use Rattle.printing.specs.Lines.{Counts, no_counts}
 use Rattle.outlets.specs.Printed.{IsBegun, IsPart}
-use Rattle.outlets.proofs.Offered.{begun_more, part_begun, part_kept, part_more}
+use Rattle.outlets.proofs.Offered.{begun_more, part_begun, part_kept, part_none}
 use Rattle.frame_sim.specs.Texts.{world_lines}
 use Rattle.loopback_run.specs.Runs.{HasTurned}
-use Rattle.loopback_run.proofs.Turning.{Turning}
-use Rattle.loopback_run.specs.Texts.{loop_lines, turns_lines}
-use Rattle.loopback_run.specs.Turns.{AreTurns, Passes, of_port}
-use Rattle.loopback_run.specs.Stops.{Contents, HaveBegun, HaveEnded, IsRefused, IsStopped, Leaves, Opens, Refuses, Stops, StopsLoop}
+use Rattle.loopback_run.specs.Texts.{loop_lines, turn_lines, turns_lines}
+use Rattle.loopback_run.specs.Turns.{Passes, of_port}
+use Rattle.loopback_run.specs.Stops.{Contents, HaveBegun, HaveBroken, HaveEnded, IsRefused, IsStopped, Leaves, Opens, Refuses, StopsLoop}
+use Rattle.loopback_run.specs.Tapes.{BreaksOff, IsTapedUntil, StopsTaped, StopsTapedLoop, StopsTapedScript, TapedBroken, TapedEnded, TapedTurns}
+use Rattle.loopback_run.proofs.Taping.{turns_of}
 
--- ---- the text
+-- ---- behind the last turn
 
--- what a part of the turns' lines is missing, and the tables
-with_tables : (output some : Option (List ℕ)) (text lines tables : List ℕ) → IsPart output some text lines → IsPart output some (text ++ tables) (lines ++ tables)
-with_tables output some text lines tables h = record {
-  written = h.written;
-  split = ap (λ l. l ++ tables) h.split ∙ append_assoc h.written lines tables;
-  appended = h.appended;
-}
+-- a beginning of the tables was printed
+pub tables_begun : {P T : Type 0} (passes : Passes P) (takes : TakesOn T) (w : World) (p : P) (t : T) (es : List WorldEvent) (w2 : World) (p2 : P) (t2 : T) (output some more : Option (List ℕ)) (refused : Bool)
+    → HasTurned passes takes w p t es w2 p2 t2 output some refused → IsBegun some more (world_lines w2) → TapedEnded passes takes w p t es p2 t2 output more
+tables_begun passes takes w p t es w2 p2 t2 output some more refused h begun =
+    record { world = w2; some = some; turned = h.had; tables = begun }
 
--- all but the tables
-all_part : {P : Type 0} (passes : Passes P) (w : World) (p : P) (es : List WorldEvent) (w2 : World) (p2 : P) (output some : Option (List ℕ)) (refused : Bool)
-    → (h : HasTurned passes w p es w2 p2 output some refused) → IsPart output some (loop_lines es h.turns w2) (world_lines w2)
-all_part passes w p es w2 p2 output some refused h = record { written = turns_lines no_counts es h.turns; split = refl; appended = h.text }
-
--- ---- events that run
-
--- one more had its turn, and of its lines a beginning was printed
-pub begun_turning : {P : Type 0} (passes : Passes P) (w : World) (p : P) (es : List WorldEvent) (i : ℕ) (w2 : World) (p2 : P) (output some more : Option (List ℕ)) (refused : Bool) (counts : Counts) (lines : List ℕ)
-    → Turning passes w p (take (i + 1) es) w2 p2 output some refused counts lines → IsBegun some more lines → HaveBegun passes w p es p2 output more
-begun_turning passes w p es i w2 p2 output some more refused counts lines h begun = record {
-  count = i + 1;
-  some = omega arith;
-  turns = h.turns;
-  world = w2;
-  taken = h.taken;
-  text = begun_more output some more _ (lines ++ world_lines w2) lines (world_lines w2) (with_tables output some _ lines (world_lines w2) h.part) refl begun;
-}
-
--- none of them was
-pub unwritten_turning : {P : Type 0} (passes : Passes P) (w : World) (p : P) (es : List WorldEvent) (i : ℕ) (w2 : World) (p2 : P) (output some : Option (List ℕ)) (refused : Bool) (counts : Counts) (lines : List ℕ)
-    → Turning passes w p (take (i + 1) es) w2 p2 output some refused counts lines → HaveBegun passes w p es p2 output some
-unwritten_turning passes w p es i w2 p2 output some refused counts lines h = record {
-  count = i + 1;
-  some = omega arith;
-  turns = h.turns;
-  world = w2;
-  taken = h.taken;
-  text = part_begun output some _ (lines ++ world_lines w2) (with_tables output some _ lines (world_lines w2) h.part);
-}
-
--- all have had their turns, and of the tables a beginning was printed
-pub all_turned : {P : Type 0} (passes : Passes P) (w : World) (p : P) (es : List WorldEvent) (w2 : World) (p2 : P) (output some more : Option (List ℕ)) (refused : Bool)
-    → HasTurned passes w p es w2 p2 output some refused → IsBegun some more (world_lines w2) → HaveEnded passes w p es p2 output more
-all_turned passes w p es w2 p2 output some more refused h begun = record {
-  turns = h.turns;
-  world = w2;
-  taken = h.taken;
-  text = begun_more output some more _ (world_lines w2) (world_lines w2) [] (all_part passes w p es w2 p2 output some refused h) (sym (append-nil (world_lines w2))) begun;
-}
+-- all of them were, and then a fault came
+pub tables_kept : {P T : Type 0} (passes : Passes P) (takes : TakesOn T) (w : World) (p : P) (t : T) (es : List WorldEvent) (w2 : World) (p2 : P) (t2 : T) (output some more then : Option (List ℕ)) (refused : Bool)
+    → HasTurned passes takes w p t es w2 p2 t2 output some refused → Appends some more (world_lines w2) → Keeps more then → TapedEnded passes takes w p t es p2 t2 output then
+tables_kept passes takes w p t es w2 p2 t2 output some more then refused h written kept =
+    let whole : IsPart some more (world_lines w2) [] = record { written = world_lines w2; split = sym (append-nil (world_lines w2)); appended = written } in
+    record { world = w2; some = some; turned = h.had; tables = part_begun some then (world_lines w2) [] (part_kept some more then (world_lines w2) [] whole kept) }
 
 -- all of them were
-pub all_printed : {P : Type 0} (passes : Passes P) (w : World) (p : P) (es : List WorldEvent) (w2 : World) (p2 : P) (output some more : Option (List ℕ)) (refused : Bool)
-    → (h : HasTurned passes w p es w2 p2 output some refused) → Appends some more (world_lines w2) → IsPart output more (loop_lines es h.turns w2) []
-all_printed passes w p es w2 p2 output some more refused h written =
-    part_more output some more _ (world_lines w2) (world_lines w2) [] (all_part passes w p es w2 p2 output some refused h) (sym (append-nil (world_lines w2))) written
-
--- and then a fault came
-pub all_kept : {P : Type 0} (passes : Passes P) (w : World) (p : P) (es : List WorldEvent) (w2 : World) (p2 : P) (output some more then : Option (List ℕ)) (refused : Bool)
-    → HasTurned passes w p es w2 p2 output some refused → Appends some more (world_lines w2) → Keeps more then → HaveEnded passes w p es p2 output then
-all_kept passes w p es w2 p2 output some more then refused h written kept = record {
-  turns = h.turns;
-  world = w2;
-  taken = h.taken;
-  text = part_begun output then _ [] (part_kept output more then _ [] (all_printed passes w p es w2 p2 output some more refused h written) kept);
-}
-
--- and so some have
-pub ended_begun : {P : Type 0} (passes : Passes P) (w : World) (p : P) (es : List WorldEvent) (p2 : P) (output printed : Option (List ℕ))
-    → HaveEnded passes w p es p2 output printed → HaveBegun passes w p es p2 output printed
-ended_begun passes w p es p2 output printed h =
-    let within : length es ≤ suc (length es) = omega arith in
-    let all = sym (take_all (suc (length es)) es within) in
-    record {
-      count = suc (length es);
-      some = omega arith;
-      turns = h.turns;
-      world = h.world;
-      taken = subst (λ (xs : List WorldEvent). AreTurns passes w p xs h.turns h.world p2) all h.taken;
-      text = subst (λ (xs : List WorldEvent). IsBegun output printed (loop_lines xs h.turns h.world)) all h.text;
-    }
-
--- output is refused
-pub stops_unwritten : {P : Type 0} (passes : Passes P) (w : World) (p : P) (es : List WorldEvent) (p2 : P) (output printed : Option (List ℕ)) (fault : Fault)
-    → fault ≡ NotWritten → HaveBegun passes w p es p2 output printed → Stops passes w p es p2 output printed fault
-stops_unwritten passes w p es p2 output printed fault is h = subst (λ (f : Fault). Stops passes w p es p2 output printed f) (sym is) h
+pub tables_printed : {P T : Type 0} (passes : Passes P) (takes : TakesOn T) (w : World) (p : P) (t : T) (es : List WorldEvent) (w2 : World) (p2 : P) (t2 : T) (output some more then : Option (List ℕ))
+    → (h : TapedTurns passes takes w p t es w2 p2 t2 output some) → Appends some more (world_lines w2) → Keeps more then → Appends output then (loop_lines es h.turns w2)
+tables_printed passes takes w p t es w2 p2 t2 output some more then h written kept =
+    Appends-kept output more then (loop_lines es h.turns w2)
+    (Appends-trans output some more (turns_lines no_counts es h.turns) (world_lines w2) h.text written) kept
 
 -- the tables aren't printed
-pub stops_printing : {P : Type 0} (passes : Passes P) (w : World) (p : P) (es : List WorldEvent) (p2 : P) (output printed : Option (List ℕ)) (fault : PrintFault)
-    → HaveEnded passes w p es p2 output printed → Stops passes w p es p2 output printed (of_print fault)
-stops_printing passes w p es p2 output printed prints.NotWritten h = ended_begun passes w p es p2 output printed h
-stops_printing passes w p es p2 output printed prints.NoMemory h = h
+pub stops_printing : {P T : Type 0} (passes : Passes P) (takes refuses : TakesOn T) (w : World) (p : P) (t : T) (es : List WorldEvent) (p2 : P) (t2 : T) (output printed : Option (List ℕ)) (fault : PrintFault)
+    → TapedEnded passes takes w p t es p2 t2 output printed → StopsTaped passes takes refuses w p t es p2 t2 output printed (of_print fault)
+stops_printing passes takes refuses w p t es p2 t2 output printed prints.NotWritten h = inr h
+stops_printing passes takes refuses w p t es p2 t2 output printed prints.NoMemory h = h
 
 -- a fact holds where a result is an error
 pub on_err : {T E : Type 0} {Q : Type 0} (r : Result T E) → Q → OnErr r Q
 on_err (Ok x) q = tt
 on_err (Err e) q = q
 
+-- ---- without the tape
+
+-- of the last event's lines a beginning was printed, be it none
+begun_of : {T : Type 0} (takes refuses : TakesOn T) (t : T) (w : World) (e : WorldEvent) (step : Option Step) (t2 : T) (counts : Counts) (output printed : Option (List ℕ))
+    → BreaksOff takes refuses t w e step t2 counts output printed → IsBegun output printed (turn_lines counts e step)
+begun_of takes refuses t w e step t2 counts output printed (inl h) =
+    let lines = turn_lines counts e step in
+    part_begun output printed lines lines (subst (λ (x : Option (List ℕ)). IsPart output x lines lines) (sym h.1) (part_none output lines))
+begun_of takes refuses t w e step t2 counts output printed (inr h) = h.1
+
+broken_of : {P T : Type 0} (passes : Passes P) (takes refuses : TakesOn T) (w : World) (p : P) (t : T) (es : List WorldEvent) (p2 : P) (t2 : T) (output printed : Option (List ℕ))
+    → TapedBroken passes takes refuses w p t es p2 t2 output printed → HaveBroken passes w p es p2 output printed
+broken_of passes takes refuses w p t es p2 t2 output printed h = record {
+  first = h.first;
+  event = h.event;
+  rest = h.rest;
+  all = h.all;
+  world = h.world;
+  passage = h.passage;
+  some = h.some;
+  before = record {
+    turns = h.before.turns;
+    taken = turns_of passes takes w p t h.first h.before.turns h.world h.passage h.tape h.before.taken;
+    text = h.before.text;
+  };
+  turn = h.turn;
+  last = h.last;
+  taken = h.taken;
+  text = begun_of takes refuses h.tape h.last h.event _ t2 _ h.some printed h.broken;
+}
+
+ended_of : {P T : Type 0} (passes : Passes P) (takes : TakesOn T) (w : World) (p : P) (t : T) (es : List WorldEvent) (p2 : P) (t2 : T) (output printed : Option (List ℕ))
+    → TapedEnded passes takes w p t es p2 t2 output printed → HaveEnded passes w p es p2 output printed
+ended_of passes takes w p t es p2 t2 output printed h =
+    let turned = h.turned in
+    let tables = world_lines h.world in
+    let part : IsPart output h.some (loop_lines es turned.turns h.world) tables =
+    record { written = turns_lines no_counts es turned.turns; split = refl; appended = turned.text } in
+    record {
+      turns = turned.turns;
+      world = h.world;
+      taken = turns_of passes takes w p t es turned.turns h.world p2 t2 turned.taken;
+      text = begun_more output h.some printed (loop_lines es turned.turns h.world) tables tables [] part (sym (append-nil tables)) h.tables;
+    }
+
+begun_without : {P T : Type 0} (passes : Passes P) (takes refuses : TakesOn T) (w : World) (p : P) (t : T) (es : List WorldEvent) (p2 : P) (t2 : T) (output printed : Option (List ℕ))
+    → StopsTaped passes takes refuses w p t es p2 t2 output printed NotWritten → HaveBegun passes w p es p2 output printed
+begun_without passes takes refuses w p t es p2 t2 output printed (inl h) = inl (broken_of passes takes refuses w p t es p2 t2 output printed h)
+begun_without passes takes refuses w p t es p2 t2 output printed (inr h) = inr (ended_of passes takes w p t es p2 t2 output printed h)
+
 -- ---- on a new world
 
-loop_stops : {P O : Type 0} (passes : Passes P) (contents : Contents O) (settings : Settings) (w : World) (p : P) (es : List WorldEvent) (p2 : P) (o o2 : O) (fault : Fault)
-    → IsNew settings w → Stops passes w p es p2 (contents o) (contents o2) fault → StopsLoop passes contents settings es p p2 o o2 fault
+loop_broken : {P T O : Type 0} (passes : Passes P) (takes refuses : TakesOn T) (contents : Contents O) (settings : Settings) (w : World) (p : P) (t : T) (es : List WorldEvent) (p2 : P) (t2 : T) (o o2 : O) (fault : Fault)
+    → IsNew settings w → StopsTaped passes takes refuses w p t es p2 t2 (contents o) (contents o2) fault → StopsTapedLoop passes takes refuses contents settings es p p2 t t2 o o2 fault
 unfolding IsNew
-loop_stops passes contents settings w p es p2 o o2 NotWritten new h = record {
-  count = h.count;
-  some = h.some;
-  turns = h.turns;
-  world = h.world;
-  taken = subst (λ (x : World). AreTurns passes x p (take h.count es) h.turns h.world p2) new h.taken;
-  text = h.text;
-}
-loop_stops passes contents settings w p es p2 o o2 NoMemory new h = inr (record {
-  turns = h.turns;
-  world = h.world;
-  taken = subst (λ (x : World). AreTurns passes x p es h.turns h.world p2) new h.taken;
-  text = h.text;
-})
-loop_stops passes contents settings w p es p2 o o2 Words new h = absurd h
-loop_stops passes contents settings w p es p2 o o2 (Setting fault) new h = absurd h
-loop_stops passes contents settings w p es p2 o o2 (BadLine n) new h = absurd h
-loop_stops passes contents settings w p es p2 o o2 (File fault) new h = absurd h
-loop_stops passes contents settings w p es p2 o o2 NotText new h = absurd h
-loop_stops passes contents settings w p es p2 o o2 (NoSocket port) new h = absurd h
+loop_broken passes takes refuses contents settings w p t es p2 t2 o o2 NotWritten new h =
+    subst (λ (x : World). StopsTaped passes takes refuses x p t es p2 t2 (contents o) (contents o2) NotWritten) new h
+loop_broken passes takes refuses contents settings w p t es p2 t2 o o2 NoMemory new h =
+    inr (subst (λ (x : World). StopsTaped passes takes refuses x p t es p2 t2 (contents o) (contents o2) NoMemory) new h)
+loop_broken passes takes refuses contents settings w p t es p2 t2 o o2 Words new h = absurd h
+loop_broken passes takes refuses contents settings w p t es p2 t2 o o2 (Setting fault) new h = absurd h
+loop_broken passes takes refuses contents settings w p t es p2 t2 o o2 (BadLine n) new h = absurd h
+loop_broken passes takes refuses contents settings w p t es p2 t2 o o2 (File fault) new h = absurd h
+loop_broken passes takes refuses contents settings w p t es p2 t2 o o2 NotText new h = absurd h
+loop_broken passes takes refuses contents settings w p t es p2 t2 o o2 (NoSocket port) new h = absurd h
+
+-- and so without the tape
+loop_stops : {P T O : Type 0} (passes : Passes P) (takes refuses : TakesOn T) (contents : Contents O) (settings : Settings) (p : P) (t : T) (es : List WorldEvent) (p2 : P) (t2 : T) (o o2 : O) (fault : Fault)
+    → StopsTapedLoop passes takes refuses contents settings es p p2 t t2 o o2 fault → StopsLoop passes contents settings es p p2 o o2 fault
+loop_stops passes takes refuses contents settings p t es p2 t2 o o2 NotWritten h = begun_without passes takes refuses (founding settings) p t es p2 t2 (contents o) (contents o2) h
+loop_stops passes takes refuses contents settings p t es p2 t2 o o2 NoMemory (inl h) = inl h.0
+loop_stops passes takes refuses contents settings p t es p2 t2 o o2 NoMemory (inr h) = inr (ended_of passes takes (founding settings) p t es p2 t2 (contents o) (contents o2) h)
+loop_stops passes takes refuses contents settings p t es p2 t2 o o2 Words h = absurd h
+loop_stops passes takes refuses contents settings p t es p2 t2 o o2 (Setting fault) h = absurd h
+loop_stops passes takes refuses contents settings p t es p2 t2 o o2 (BadLine n) h = absurd h
+loop_stops passes takes refuses contents settings p t es p2 t2 o o2 (File fault) h = absurd h
+loop_stops passes takes refuses contents settings p t es p2 t2 o o2 NotText h = absurd h
+loop_stops passes takes refuses contents settings p t es p2 t2 o o2 (NoSocket port) h = absurd h
 
 -- what holds of the error of a result holds by what follows from it
 pub in_err : {T E : Type 0} {P Q : E → Type 0} (r : Result T E) → ((e : E) → P e → Q e) → IfErr r P → IfErr r Q
 in_err (Ok n) f h = tt
 in_err (Err e) f h = f e h
 
-pub loops_stop : {P O : Type 0} (r : Result ℕ Fault) (passes : Passes P) (contents : Contents O) (settings : Settings) (w : World) (p : P) (es : List WorldEvent) (p2 : P) (o o2 : O)
-    → IsNew settings w → IfErr r (Stops passes w p es p2 (contents o) (contents o2)) → IfErr r (StopsLoop passes contents settings es p p2 o o2)
-loops_stop r passes contents settings w p es p2 o o2 new h = in_err r (λ e s. loop_stops passes contents settings w p es p2 o o2 e new s) h
+pub loops_broken : {P T O : Type 0} (r : Result ℕ Fault) (passes : Passes P) (takes refuses : TakesOn T) (contents : Contents O) (settings : Settings) (w : World) (p : P) (t : T) (es : List WorldEvent) (p2 : P) (t2 : T) (o o2 : O)
+    → IsNew settings w → IfErr r (StopsTaped passes takes refuses w p t es p2 t2 (contents o) (contents o2)) → IfErr r (StopsTapedLoop passes takes refuses contents settings es p p2 t t2 o o2)
+loops_broken r passes takes refuses contents settings w p t es p2 t2 o o2 new h =
+    in_err r (λ e s. loop_broken passes takes refuses contents settings w p t es p2 t2 o o2 e new s) h
+
+pub loops_stop : {P T O : Type 0} (r : Result ℕ Fault) (passes : Passes P) (takes refuses : TakesOn T) (contents : Contents O) (settings : Settings) (w : World) (p : P) (t : T) (es : List WorldEvent) (p2 : P) (t2 : T) (o o2 : O)
+    → IsNew settings w → IfErr r (StopsTaped passes takes refuses w p t es p2 t2 (contents o) (contents o2)) → IfErr r (StopsLoop passes contents settings es p p2 o o2)
+loops_stop r passes takes refuses contents settings w p t es p2 t2 o o2 new h =
+    in_err r (λ e s. loop_stops passes takes refuses contents settings p t es p2 t2 o o2 e (loop_broken passes takes refuses contents settings w p t es p2 t2 o o2 e new s)) h
 
 -- ---- a script's run
 
@@ -177,6 +174,34 @@ leaves_stopped opens refuses passes contents text script before after output pri
 leaves_stopped opens refuses passes contents text script before after output printed (File fault) h = absurd h.stopped
 leaves_stopped opens refuses passes contents text script before after output printed NotText h = absurd h.stopped
 leaves_stopped opens refuses passes contents text script before after output printed (NoSocket port) h = absurd h.stopped
+
+-- and what it leaves of the tape
+module _ {P T O : Type 0} (opens : Opens P) (passes : Passes P) (takes refuses : TakesOn T) (contents : Contents O) (text script : List ℕ) (before after : P) (output printed : O) where
+  pub taped_until : (t t2 : T) (fault : Fault) → IsTapedUntil opens passes takes refuses contents text script before after t t2 output printed fault
+      → StopsTapedScript opens passes takes refuses contents text script before after t t2 output printed fault
+  taped_until t t2 NotWritten h = h
+  taped_until t t2 NoMemory h = inr h
+  taped_until t t2 Words h = absurd h.stopped
+  taped_until t t2 (Setting fault) h = absurd h.stopped
+  taped_until t t2 (BadLine n) h = absurd h.stopped
+  taped_until t t2 (File fault) h = absurd h.stopped
+  taped_until t t2 NotText h = absurd h.stopped
+  taped_until t t2 (NoSocket port) h = absurd h.stopped
+
+  -- it isn't asked for anything before the first event
+  pub never_asked : (t : T) (fault : Fault) → fault ≢ NotWritten → StopsTapedScript opens passes takes refuses contents text script before after t t output printed fault
+  never_asked t NotWritten read = absurd (read refl)
+  never_asked t NoMemory read = inl refl
+  never_asked t Words read = refl
+  never_asked t (Setting fault) read = refl
+  never_asked t (BadLine n) read = refl
+  never_asked t (File fault) read = refl
+  never_asked t NotText read = refl
+  never_asked t (NoSocket port) read = refl
+
+  pub never_asked_unopened : (t : T) (fault : PortFault) → StopsTapedScript opens passes takes refuses contents text script before after t t output printed (of_port fault)
+  never_asked_unopened t (ports.NoPort port) = refl
+  never_asked_unopened t ports.NoMemory = inl refl
 
 -- a fault's status is none of a run's
 pub isnt_1 : {A : Type 0} (n : ℕ) → n ≡ 1 → (n ≡ 0) ⊎ (n ≡ 3) → A

@@ -1,41 +1,36 @@
--- Events that are taken down one after another.
-use Rattle.std.proofs.Common.{List, [], ◌∷◌, ◌++◌, Option, OnOk, Result, Ok, Err, refl, subst}
+-- Events that have their turns and are taken down, one after another.
+use Rattle.std.proofs.Common.{List, [], ◌∷◌, ◌++◌, refl, subst}
 use Rattle.nat_types.specs.declared.events.WorldEvent.{WorldEvent}
-use Rattle.frame_sim.specs.declared.events.Step.{Step}
-use Rattle.frame_sim.specs.Status.{IsNew}
 use Rattle.frame_sim.specs.World.{World}
 use Rattle.frame_sim.specs.Tapes.{TakesOn}
-use Rattle.settings.specs.declared.whole.Settings.{Settings}
-use Rattle.loopback_run.specs.Tapes.{AreTaped, IsTapedLoop, TapesTurn}
-use Rattle.loopback_run.specs.Turns.{Passes, TakesTurn}
+use Rattle.loopback_run.specs.Tapes.{AreTaped, TapesTurn}
+use Rattle.loopback_run.specs.Turns.{AreTurns, IsTurn, Passes, Turn, step_of}
+
+-- their turns are those of the events
+pub turns_of : {P T : Type 0} (passes : Passes P) (takes : TakesOn T) (w : World) (p : P) (t : T) (es : List WorldEvent) (ts : List Turn)
+    (w2 : World) (p2 : P) (t2 : T) → AreTaped passes takes w p t es ts w2 p2 t2 → AreTurns passes w p es ts w2 p2
+turns_of passes takes w p t [] [] w2 p2 t2 h = (h.0, h.1.0)
+turns_of passes takes w p t [] (u ∷ us) w2 p2 t2 h = absurd h
+turns_of passes takes w p t (e ∷ es) [] w2 p2 t2 h = absurd h
+turns_of passes takes w p t (e ∷ es) (u ∷ us) w2 p2 t2 h =
+    (h.0.world, (h.0.passage, (h.0.taken, turns_of passes takes h.0.world h.0.passage h.0.tape es us w2 p2 t2 h.1)))
 
 -- one event more
-pub one_taped : {P T : Type 0} (passes : Passes P) (takes : TakesOn T) (w : World) (p : P) (t : T) (es : List WorldEvent) (mid : World) (q : P) (u : T)
-    (e : WorldEvent) (step : Option Step) (w2 : World) (p2 : P) (t2 : T) → AreTaped passes takes w p t es mid q u → TakesTurn passes mid q e step w2 p2
-    → TapesTurn takes u w2 e step t2 → AreTaped passes takes w p t (es ++ e ∷ []) w2 p2 t2
-one_taped {P = P} {T = T} passes takes w p t [] mid q u e step w2 p2 t2 before taken taped = (
+pub taped-push : {P T : Type 0} (passes : Passes P) (takes : TakesOn T) (w : World) (p : P) (t : T) (es : List WorldEvent) (ts : List Turn)
+    (mid : World) (q : P) (u : T) (e : WorldEvent) (turn : Turn) (w2 : World) (p2 : P) (t2 : T) → AreTaped passes takes w p t es ts mid q u
+    → IsTurn passes mid q e turn w2 p2 → TapesTurn takes u w2 e (step_of turn) t2
+    → AreTaped passes takes w p t (es ++ e ∷ []) (ts ++ turn ∷ []) w2 p2 t2
+taped-push {P = P} {T = T} passes takes w p t [] [] mid q u e turn w2 p2 t2 before taken taped = (
   record {
-    step = step;
     world = w2;
     passage = p2;
     tape = t2;
-    taken = subst (λ (x : World). TakesTurn passes x p e step w2 p2) before.0 (subst (λ (x : P). TakesTurn passes mid x e step w2 p2) before.1.0 taken);
-    taped = subst (λ (x : T). TapesTurn takes x w2 e step t2) before.1.1 taped;
+    taken = subst (λ (x : World). IsTurn passes x p e turn w2 p2) before.0 (subst (λ (x : P). IsTurn passes mid x e turn w2 p2) before.1.0 taken);
+    taped = subst (λ (x : T). TapesTurn takes x w2 e (step_of turn) t2) before.1.1 taped;
   },
   (refl, (refl, refl)),
 )
-one_taped passes takes w p t (f ∷ es) mid q u e step w2 p2 t2 before taken taped =
-    (before.0, one_taped passes takes before.0.world before.0.passage before.0.tape es mid q u e step w2 p2 t2 before.1 taken taped)
-
--- and so from a new world
-pub taped_from : {X E P T : Type 0} (r : Result X E) (passes : Passes P) (takes : TakesOn T) (settings : Settings) (w : World) (p : P) (t : T)
-    (es : List WorldEvent) (w2 : World) (p2 : P) (t2 : T) → IsNew settings w → OnOk r (AreTaped passes takes w p t es w2 p2 t2)
-    → OnOk r (IsTapedLoop passes takes settings es p p2 t t2)
-unfolding IsNew
-taped_from (Ok x) passes takes settings w p t es w2 p2 t2 new h = (w2, subst (λ (v : World). AreTaped passes takes v p t es w2 p2 t2) new h)
-taped_from (Err e) passes takes settings w p t es w2 p2 t2 new h = tt
-
--- what holds after a success holds by what follows from it
-pub when_done : {X E : Type 0} {A B : Type 0} (r : Result X E) → (A → B) → OnOk r A → OnOk r B
-when_done (Ok x) f h = f h
-when_done (Err e) f h = tt
+taped-push passes takes w p t [] (x ∷ xs) mid q u e turn w2 p2 t2 before taken taped = absurd before
+taped-push passes takes w p t (f ∷ es) [] mid q u e turn w2 p2 t2 before taken taped = absurd before
+taped-push passes takes w p t (f ∷ es) (x ∷ xs) mid q u e turn w2 p2 t2 before taken taped =
+    (before.0, taped-push passes takes before.0.world before.0.passage before.0.tape es xs mid q u e turn w2 p2 t2 before.1 taken taped)

@@ -1,7 +1,8 @@
 -- Turns in order, and one more.
-use Rattle.std.proofs.Common.{◌≡◌, ◌∙◌, ◌||◌, ℕ, Bool, true, false, List, [], ◌∷◌, ◌++◌, Option, Some, None, refl, sym, ap, subst, append_assoc, append-nil}
+use Rattle.std.proofs.Common.{◌≡◌, ◌∙◌, ◌<◌, ◌≤◌, ◌+◌, ◌||◌, ℕ, Bool, true, false, List, [], ◌∷◌, ◌++◌, Option, Some, None, drop, get_or, length, take, refl, sym, ap, subst, append_assoc, append-nil, take-append-drop}
 use Rattle.std.specs.Io.KnownBytes.{Appends}
-use Rattle.std.proofs.KnownBytes.{Appends-nil}
+use Rattle.std.proofs.KnownBytes.{Appends-nil, Appends-trans}
+use Rattle.std.proofs.lemmas.List.{drop_more, take_all}
 use Rattle.output.specs.Output.{none_told}
 use Rattle.frame_sim.specs.declared.events.Step.{Step}
 use Rattle.nat_types.specs.declared.events.WorldEvent.{WorldEvent}
@@ -12,9 +13,10 @@ use Rattle.loopback_run.specs.declared.passage.Passed.{Passed}
 use Rattle.loopback_run.specs.declared.passage.Passed.TheVariants.{Received, Lost}
 use Rattle.loopback_run.specs.Parcels.{Message}
 use Rattle.printing.specs.Lines.{Counts, no_counts}
-use Rattle.outlets.specs.Printed.{IsPart}
-use Rattle.outlets.proofs.Offered.{part_more, part_whole}
+use Rattle.frame_sim.specs.Tapes.{TakesOn}
 use Rattle.loopback_run.specs.Runs.{HasTurned}
+use Rattle.loopback_run.specs.Tapes.{BreaksOff, TapedBroken, TapesTurn}
+use Rattle.loopback_run.proofs.Taping.{taped-push, turns_of}
 use Rattle.loopback_run.specs.Texts.{counts_then, counts_through, turn_lines, turns_lines}
 use Rattle.loopback_run.specs.Turns.{AreTurns, HasSent, IsTurn, Passes, TakesTurn, Turn, handed, is_lost, is_refusal, left, lost, received, step_of, steps_in, without}
 
@@ -42,17 +44,7 @@ taken_turn {P = P} passes w p e r s w2 p2 sent kept answers = go (handed w e) r 
     go (Some parcel) (Some Received) is not h = record { turn = received parcel s; is = (is, h, answers); gives = refl }
     go (Some parcel) (Some Lost) is not h = absurd (cc)
 
--- ---- turns in order
-
-turns-push : {P : Type 0} (passes : Passes P) (w : World) (p : P) (es : List WorldEvent) (ts : List Turn) (mid : World) (q : P)
-    (e : WorldEvent) (t : Turn) (w2 : World) (p2 : P) → AreTurns passes w p es ts mid q → IsTurn passes mid q e t w2 p2
-    → AreTurns passes w p (es ++ e ∷ []) (ts ++ t ∷ []) w2 p2
-turns-push {P = P} passes w p [] [] mid q e t w2 p2 turns turn =
-    (w2, (p2, (subst (λ (x : World). IsTurn passes x p e t w2 p2) turns.0 (subst (λ (x : P). IsTurn passes mid x e t w2 p2) turns.1 turn), (refl, refl))))
-turns-push passes w p [] (u ∷ ts) mid q e t w2 p2 turns turn = absurd turns
-turns-push passes w p (f ∷ es) [] mid q e t w2 p2 turns turn = absurd turns
-turns-push passes w p (f ∷ es) (u ∷ ts) mid q e t w2 p2 turns turn =
-    (turns.0, (turns.1.0, (turns.1.1.0, turns-push passes turns.0 turns.1.0 es ts mid q e t w2 p2 turns.1.1.1 turn)))
+-- ---- a refusal among turns
 
 or_assoc : (a b c : Bool) → (a || (b || c)) ≡ ((a || b) || c)
 or_assoc true b c = refl
@@ -67,7 +59,7 @@ refusal_alone (without s) = or_false _
 refusal_alone (received parcel s) = or_false _
 refusal_alone (lost parcel) = refl
 
--- a refusal among turns, and one more
+-- one turn more
 refused-push : (ts : List Turn) (t : Turn) → has_refusal (steps_in (ts ++ t ∷ [])) ≡ (has_refusal (steps_in ts) || is_refusal (step_of t))
 refused-push [] t = refusal_alone t
 refused-push (without s ∷ ts) t =
@@ -99,27 +91,6 @@ counts-push passes w p (f ∷ es) [] mid q counts e t turns = absurd turns
 counts-push passes w p (f ∷ es) (u ∷ ts) mid q counts e t turns =
     counts-push passes turns.0 turns.1.0 es ts mid q (counts_then counts f (step_of u)) e t turns.1.1.1
 
--- events that have had their turns, and what the lines have counted
-pub record Turned {P : Type 0} (passes : Passes P) (w : World) (p : P) (es : List WorldEvent) (w2 : World) (p2 : P) (output printed : Option (List ℕ)) (refused : Bool) (counts : Counts) : Type 0 where
-  pub had : HasTurned passes w p es w2 p2 output printed refused
-  pub counted : counts ≡ counts_through no_counts es had.turns
-
--- no event has had its turn
-pub none_turned : {P : Type 0} (passes : Passes P) (w : World) (p : P) (output : Option (List ℕ)) (counts : Counts)
-    → counts ≡ no_counts → Turned passes w p [] w p output output false counts
-none_turned passes w p output counts none = record {
-  had = record { turns = []; taken = (refl, refl); text = Appends-nil output; refusals = refl };
-  counted = none;
-}
-
--- one event more has had its turn, and these lines of it are to be printed
-pub record Turning {P : Type 0} (passes : Passes P) (w : World) (p : P) (es : List WorldEvent) (w2 : World) (p2 : P) (output printed : Option (List ℕ)) (refused : Bool) (counts : Counts) (lines : List ℕ) : Type 0 where
-  pub turns : List Turn
-  pub taken : AreTurns passes w p es turns w2 p2
-  pub part : IsPart output printed (turns_lines no_counts es turns) lines
-  pub counted : counts ≡ counts_through no_counts es turns
-  pub refusals : refused ≡ has_refusal (steps_in turns)
-
 -- the lines of a turn, by what it gave
 lines_given : (counts through : Counts) (e : WorldEvent) (step of : Option Step) → counts ≡ through → step ≡ of
     → turn_lines through e of ≡ turn_lines counts e step
@@ -129,40 +100,82 @@ counts_given : (counts through : Counts) (e : WorldEvent) (step of : Option Step
     → counts_then counts e step ≡ counts_then through e of
 counts_given counts through e step of one other = rw (one, other) refl
 
-pub one_turning : {P : Type 0} (passes : Passes P) (w : World) (p : P) (es : List WorldEvent) (mid : World) (q : P) (output printed : Option (List ℕ)) (refused : Bool) (counts : Counts)
-    (e : WorldEvent) (step : Option Step) (w2 : World) (p2 : P) → Turned passes w p es mid q output printed refused counts → TakesTurn passes mid q e step w2 p2
-    → Turning passes w p (es ++ e ∷ []) w2 p2 output printed (refused || is_refusal step) (counts_then counts e step) (turn_lines counts e step)
-one_turning passes w p es mid q output printed refused counts e step w2 p2 before last =
-    let had = before.had in
+-- ---- events that have had their turns
+
+-- and what the lines have counted
+pub record Turned {P T : Type 0} (passes : Passes P) (takes : TakesOn T) (w : World) (p : P) (t : T) (es : List WorldEvent) (w2 : World) (p2 : P) (t2 : T) (output printed : Option (List ℕ)) (refused : Bool) (counts : Counts) : Type 0 where
+  pub turned : HasTurned passes takes w p t es w2 p2 t2 output printed refused
+  pub counted : counts ≡ counts_through no_counts es turned.had.turns
+
+-- no event has had its turn
+pub none_turned : {P T : Type 0} (passes : Passes P) (takes : TakesOn T) (w : World) (p : P) (t : T) (output : Option (List ℕ)) (counts : Counts)
+    → counts ≡ no_counts → Turned passes takes w p t [] w p t output output false counts
+none_turned passes takes w p t output counts none = record {
+  turned = record { had = record { turns = []; taken = (refl, (refl, refl)); text = Appends-nil output }; refusals = refl };
+  counted = none;
+}
+
+-- one event more has, was taken down, and its lines were printed
+pub one_turned : {P T : Type 0} (passes : Passes P) (takes : TakesOn T) (w : World) (p : P) (t : T) (es : List WorldEvent) (mid : World) (q : P) (u : T)
+    (output some : Option (List ℕ)) (refused : Bool) (counts : Counts) (e : WorldEvent) (step : Option Step) (w2 : World) (p2 : P) (t2 : T)
+    (more : Option (List ℕ)) (then : Counts) → Turned passes takes w p t es mid q u output some refused counts → TakesTurn passes mid q e step w2 p2
+    → TapesTurn takes u w2 e step t2 → Appends some more (turn_lines counts e step) → then ≡ counts_then counts e step
+    → Turned passes takes w p t (es ++ e ∷ []) w2 p2 t2 output more (refused || is_refusal step) then
+one_turned passes takes w p t es mid q u output some refused counts e step w2 p2 t2 more then before last taped written same =
+    let had = before.turned.had in
+    let turns = turns_of passes takes w p t es had.turns mid q u had.taken in
     let through = counts_through no_counts es had.turns in
-    let flags = ap (λ b. b || is_refusal step) had.refusals ∙ ap (λ o. has_refusal (steps_in had.turns) || is_refusal o) last.gives in
+    let lines = lines-push passes w p es had.turns mid q no_counts e last.turn turns
+    ∙ ap (λ l. turns_lines no_counts es had.turns ++ l) (lines_given counts through e step (step_of last.turn) before.counted last.gives) in
+    let whole = Appends-trans output some more (turns_lines no_counts es had.turns) (turn_lines counts e step) had.text written in
+    let flags = ap (λ b. b || is_refusal step) before.turned.refusals ∙ ap (λ o. has_refusal (steps_in had.turns) || is_refusal o) last.gives in
     record {
-      turns = had.turns ++ last.turn ∷ [];
-      taken = turns-push passes w p es had.turns mid q e last.turn w2 p2 had.taken last.is;
-      part = record {
-        written = turns_lines no_counts es had.turns;
-        split = lines-push passes w p es had.turns mid q no_counts e last.turn had.taken
-            ∙ ap (λ l. turns_lines no_counts es had.turns ++ l) (lines_given counts through e step (step_of last.turn) before.counted last.gives);
-        appended = had.text;
+      turned = record {
+        had = record {
+          turns = had.turns ++ last.turn ∷ [];
+          taken = taped-push passes takes w p t es had.turns mid q u e last.turn w2 p2 t2 had.taken last.is
+              (subst (λ (o : Option Step). TapesTurn takes u w2 e o t2) last.gives taped);
+          text = subst (λ (l : List ℕ). Appends output more l) (sym lines) whole;
+        };
+        refusals = flags ∙ sym (refused-push had.turns last.turn);
       };
-      counted = counts_given counts through e step (step_of last.turn) before.counted last.gives
-          ∙ sym (counts-push passes w p es had.turns mid q no_counts e last.turn had.taken);
-      refusals = flags ∙ sym (refused-push had.turns last.turn);
+      counted = same ∙ counts_given counts through e step (step_of last.turn) before.counted last.gives
+          ∙ sym (counts-push passes w p es had.turns mid q no_counts e last.turn turns);
     }
 
--- and then they were
-pub one_turned : {P : Type 0} (passes : Passes P) (w : World) (p : P) (es : List WorldEvent) (w2 : World) (p2 : P) (output some more : Option (List ℕ)) (refused : Bool) (then counts : Counts) (lines : List ℕ)
-    → Turning passes w p es w2 p2 output some refused then lines → Appends some more lines → counts ≡ then
-    → Turned passes w p es w2 p2 output more refused counts
-one_turned passes w p es w2 p2 output some more refused then counts lines h written same = record {
-  had = record {
-    turns = h.turns;
-    taken = h.taken;
-    text = part_whole output more _ [] (part_more output some more _ lines lines [] h.part (sym (append-nil lines)) written) refl;
-    refusals = h.refusals;
-  };
-  counted = same ∙ h.counted;
+-- one event more has, and at it the run breaks off
+pub one_broken : {P T : Type 0} (passes : Passes P) (takes refuses : TakesOn T) (w : World) (p : P) (t : T) (all es rest : List WorldEvent) (mid : World) (q : P) (u : T)
+    (output some : Option (List ℕ)) (refused : Bool) (counts : Counts) (e : WorldEvent) (step : Option Step) (w2 : World) (p2 : P) (t2 : T)
+    (more : Option (List ℕ)) → all ≡ es ++ e ∷ rest → Turned passes takes w p t es mid q u output some refused counts → TakesTurn passes mid q e step w2 p2
+    → BreaksOff takes refuses u w2 e step t2 counts some more → TapedBroken passes takes refuses w p t all p2 t2 output more
+one_broken passes takes refuses w p t all es rest mid q u output some refused counts e step w2 p2 t2 more split before last broken = record {
+  first = es;
+  event = e;
+  rest = rest;
+  all = split;
+  world = mid;
+  passage = q;
+  tape = u;
+  some = some;
+  before = before.turned.had;
+  turn = last.turn;
+  last = w2;
+  taken = last.is;
+  broken = subst (λ (o : Option Step). BreaksOff takes refuses u w2 e o t2 (counts_through no_counts es before.turned.had.turns) some more) last.gives
+      (subst (λ (c : Counts). BreaksOff takes refuses u w2 e step t2 c some more) before.counted broken);
 }
+
+-- all of them have
+pub all_turned : {P T : Type 0} (passes : Passes P) (takes : TakesOn T) (w : World) (p : P) (t : T) (es : List WorldEvent) (i : ℕ) (w2 : World) (p2 : P) (t2 : T) (output printed : Option (List ℕ)) (refused : Bool) (counts : Counts)
+    → length es ≤ i → Turned passes takes w p t (take i es) w2 p2 t2 output printed refused counts → HasTurned passes takes w p t es w2 p2 t2 output printed refused
+all_turned passes takes w p t es i w2 p2 t2 output printed refused counts within h =
+    subst (λ (xs : List WorldEvent). HasTurned passes takes w p t xs w2 p2 t2 output printed refused) (take_all i es within) h.turned
+
+-- those before an event, it, and the rest
+pub split_at : (es : List WorldEvent) (i : ℕ) (e : WorldEvent) → i < length es → e ≡ get_or es i e → es ≡ take i es ++ e ∷ drop (i + 1) es
+split_at es i e within is =
+    sym (take-append-drop i es)
+    ∙ ap (λ l. take i es ++ l) (drop_more es i e within ∙ ap (λ x. x ∷ drop (i + 1) es) (sym is))
 
 -- ---- what was left of the events
 

@@ -6,5 +6,5 @@ use Rattle.loopback_run.specs.declared.loopback.Hold.TheVariants.{Unasked, Bound
 -- how it stands by that
 abbrev pub standing_of : Hold → Standing
 standing_of Unasked = unasked
-standing_of (Bound ports settings) = bound settings.value
+standing_of (Bound ports) = bound ports.settings.value
 standing_of (Refused fault) = refused fault

@@ -6,4 +6,5 @@ pub mod Stops
 pub mod Tapes
 pub mod Parcels
 pub mod Standings
+pub mod Held
 pub mod Holds

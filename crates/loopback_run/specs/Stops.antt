@@ -1,5 +1,6 @@
 -- What a run through a passage leaves where a fault ends it.
-use Rattle.std.specs.Prelude.{◌≡◌, ◌⊎◌, ◌<◌, ℕ, List, Option, None, take}
+use Rattle.std.specs.Prelude.{◌≡◌, ◌⊎◌, ℕ, List, ◌∷◌, ◌++◌, Option, None}
+use Rattle.std.specs.Io.KnownBytes.{Appends}
 use Rattle.settings.specs.declared.whole.Settings.{Settings}
 use Rattle.settings_file.specs.Clashes.{clash_of_both}
 use Rattle.nat_types.specs.declared.events.WorldEvent.{WorldEvent}
@@ -12,8 +13,9 @@ use Rattle.scripts.specs.Script.{first_bad_line}
 use Rattle.faults.specs.declared.jobs.Job.{Job}
 use Rattle.faults.specs.Jobs.{IsJobOf}
 use Rattle.outlets.specs.Printed.{IsBegun}
-use Rattle.loopback_run.specs.Texts.{loop_lines}
-use Rattle.loopback_run.specs.Turns.{AreTurns, Passes, Turn}
+use Rattle.printing.specs.Lines.{no_counts}
+use Rattle.loopback_run.specs.Texts.{counts_through, loop_lines, turn_lines, turns_lines}
+use Rattle.loopback_run.specs.Turns.{AreTurns, IsTurn, Passes, Turn, step_of}
 use Rattle.loopback_run.specs.Loops.{TellsLoop}
 
 -- nothing was sent and nothing written: the passage and the output are what they were
@@ -26,31 +28,41 @@ Contents O = O → Option (List ℕ)
 
 -- ---- events that run
 
--- some of these events have had their turns, in order from the first: that one at least, where there is one; and a beginning
--- of their text was printed
-pub record HaveBegun {P : Type 0} (passes : Passes P) (w : World) (p : P) (es : List WorldEvent) (p2 : P) (output printed : Option (List ℕ)) : Type 0 where
-  pub count : ℕ
-  pub some : 0 < count
+-- these events have had their turns, in order, and just their text was printed
+pub record HaveTurned {P : Type 0} (passes : Passes P) (w : World) (p : P) (es : List WorldEvent) (w2 : World) (p2 : P) (output printed : Option (List ℕ)) : Type 0 where
   pub turns : List Turn
-  pub world : World
-  pub taken : AreTurns passes w p (take count es) turns world p2
-  pub text : IsBegun output printed (loop_lines (take count es) turns world)
+  pub taken : AreTurns passes w p es turns w2 p2
+  pub text : Appends output printed (turns_lines no_counts es turns)
 
--- all of them have
+-- the first of these events have, and the next one had its turn, of whose lines a beginning was printed; no more followed
+pub record HaveBroken {P : Type 0} (passes : Passes P) (w : World) (p : P) (es : List WorldEvent) (p2 : P) (output printed : Option (List ℕ)) : Type 0 where
+  pub first : List WorldEvent
+  pub event : WorldEvent
+  pub rest : List WorldEvent
+  pub all : es ≡ first ++ event ∷ rest
+  pub world : World
+  pub passage : P
+  pub some : Option (List ℕ)
+  pub before : HaveTurned passes w p first world passage output some
+  pub turn : Turn
+  pub last : World
+  pub taken : IsTurn passes world passage event turn last p2
+  pub text : IsBegun some printed (turn_lines (counts_through no_counts first before.turns) event (step_of turn))
+
+-- all of them have had their turns, and a beginning of their text was printed, with the tables behind it
 pub record HaveEnded {P : Type 0} (passes : Passes P) (w : World) (p : P) (es : List WorldEvent) (p2 : P) (output printed : Option (List ℕ)) : Type 0 where
   pub turns : List Turn
   pub world : World
   pub taken : AreTurns passes w p es turns world p2
   pub text : IsBegun output printed (loop_lines es turns world)
 
--- how far events have come from one world where a fault ends their run: output is refused after the first turn at the
--- earliest, and memory, which the tables want, after the last
-abbrev pub Stops : {P : Type 0} → Passes P → World → P → List WorldEvent → P → Option (List ℕ) → Option (List ℕ) → Fault → Type 0
-Stops passes w p es p2 output printed NotWritten = HaveBegun passes w p es p2 output printed
-Stops passes w p es p2 output printed NoMemory = HaveEnded passes w p es p2 output printed
-Stops passes w p es p2 output printed others = ⊥
+-- one of the two
+abbrev pub HaveBegun : {P : Type 0} → Passes P → World → P → List WorldEvent → P → Option (List ℕ) → Option (List ℕ) → Type 0
+HaveBegun passes w p es p2 output printed =
+    HaveBroken passes w p es p2 output printed ⊎ HaveEnded passes w p es p2 output printed
 
--- the same on a new world of these settings; for want of memory there may be none, and then nothing is touched
+-- How far events have come on a new world of these settings where a fault ends their run: output is refused after the first turn at
+-- the earliest, and memory, which the tables want, after the last; or there may be none for the world, and then nothing is touched.
 abbrev pub StopsLoop : {P O : Type 0} → Passes P → Contents O → Settings → List WorldEvent → P → P → O → O → Fault → Type 0
 StopsLoop passes contents settings events before after output printed NotWritten =
     HaveBegun passes (founding settings) before events after (contents output) (contents printed)

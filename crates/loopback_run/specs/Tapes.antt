@@ -1,38 +1,52 @@
 -- A tape that takes down a run through a passage.
-use Rattle.std.specs.Prelude.{◌≡◌, ℕ, List, [], ◌∷◌, Option, Some, None}
+use Rattle.std.specs.Prelude.{◌≡◌, ◌⊎◌, ℕ, List, [], ◌∷◌, ◌++◌, Option, Some, None}
+use Rattle.std.specs.Io.KnownBytes.{Appends}
 use Rattle.settings.specs.declared.whole.Settings.{Settings}
 use Rattle.nat_types.specs.declared.events.WorldEvent.{WorldEvent}
+use Rattle.faults.specs.declared.faults.Fault.{Fault}
+use Rattle.faults.specs.declared.faults.Fault.TheVariants.{NotWritten, NoMemory}
 use Rattle.faults.specs.declared.jobs.Job.{Job}
 use Rattle.faults.specs.Jobs.{IsJobOf}
+use Rattle.outlets.specs.Printed.{IsBegun}
+use Rattle.printing.specs.Lines.{Counts, no_counts}
 use Rattle.frame_sim.specs.declared.events.Step.{Step}
+use Rattle.frame_sim.specs.Texts.{world_lines}
 use Rattle.frame_sim.specs.World.{World, founding}
 use Rattle.frame_sim.specs.Tapes.{TakesOn}
-use Rattle.loopback_run.specs.Stops.{Opens}
-use Rattle.loopback_run.specs.Turns.{Passes, TakesTurn}
+use Rattle.loopback_run.specs.Stops.{Contents, HoldJob, Opens, Untouched}
+use Rattle.loopback_run.specs.Texts.{counts_through, turn_lines, turns_lines}
+use Rattle.loopback_run.specs.Turns.{IsTurn, Passes, Turn, step_of}
 
 -- an event that gave a step is taken down with it, by the world as it is then; one that is lost isn't
 abbrev pub TapesTurn : {T : Type 0} → TakesOn T → T → World → WorldEvent → Option Step → T → Type 0
 TapesTurn takes t w e None t2 = t2 ≡ t
 TapesTurn takes t w e (Some s) t2 = takes t w e s t2
 
--- an event has its turn, and then is taken down
-pub record TapedTurn {P T : Type 0} (passes : Passes P) (takes : TakesOn T) (w : World) (p : P) (t : T) (e : WorldEvent) : Type 0 where
-  pub step : Option Step
+-- an event that gave a step is refused, for which the tape is asked once; one that is lost is never asked for
+abbrev pub RefusesTurn : {T : Type 0} → TakesOn T → T → World → WorldEvent → Option Step → T → Type 0
+RefusesTurn refuses t w e None t2 = ⊥
+RefusesTurn refuses t w e (Some s) t2 = refuses t w e s t2
+
+-- an event has this turn, and then is taken down
+pub record TapedTurn {P T : Type 0} (passes : Passes P) (takes : TakesOn T) (w : World) (p : P) (t : T) (e : WorldEvent) (turn : Turn) : Type 0 where
   pub world : World
   pub passage : P
   pub tape : T
-  pub taken : TakesTurn passes w p e step world passage
-  pub taped : TapesTurn takes t world e step tape
+  pub taken : IsTurn passes w p e turn world passage
+  pub taped : TapesTurn takes t world e (step_of turn) tape
 
--- these events have their turns, in order, from one world, passage and tape to others; and each is taken down once, behind its turn
-abbrev pub AreTaped : {P T : Type 0} → Passes P → TakesOn T → World → P → T → List WorldEvent → World → P → T → Type 0
-AreTaped passes takes w p t [] w2 p2 t2 = (w2 ≡ w) × ((p2 ≡ p) × (t2 ≡ t))
-AreTaped passes takes w p t (e ∷ es) w2 p2 t2 =
-    (turn : TapedTurn passes takes w p t e) × AreTaped passes takes turn.world turn.passage turn.tape es w2 p2 t2
+-- these events have these turns, in order, from one world, passage and tape to others; and each is taken down once, behind its turn
+abbrev pub AreTaped : {P T : Type 0} → Passes P → TakesOn T → World → P → T → List WorldEvent → List Turn → World → P → T → Type 0
+AreTaped passes takes w p t [] [] w2 p2 t2 = (w2 ≡ w) × ((p2 ≡ p) × (t2 ≡ t))
+AreTaped passes takes w p t [] (turn ∷ turns) w2 p2 t2 = ⊥
+AreTaped passes takes w p t (e ∷ es) [] w2 p2 t2 = ⊥
+AreTaped passes takes w p t (e ∷ es) (turn ∷ turns) w2 p2 t2 =
+    (first : TapedTurn passes takes w p t e turn) × AreTaped passes takes first.world first.passage first.tape es turns w2 p2 t2
 
 -- the same on a new world of these settings
 abbrev pub IsTapedLoop : {P T : Type 0} → Passes P → TakesOn T → Settings → List WorldEvent → P → P → T → T → Type 0
-IsTapedLoop passes takes settings es p p2 t t2 = (w2 : World) × AreTaped passes takes (founding settings) p t es w2 p2 t2
+IsTapedLoop passes takes settings es p p2 t t2 =
+    (turns : List Turn) × ((w2 : World) × AreTaped passes takes (founding settings) p t es turns w2 p2 t2)
 
 -- such a run of a script's events, with the settings that a text holds, for which the passage had its ports
 pub record TapesScript {P T : Type 0} (opens : Opens P) (passes : Passes P) (takes : TakesOn T) (text script : List ℕ) (before after : P) (t t2 : T) : Type 0 where
@@ -41,3 +55,74 @@ pub record TapesScript {P T : Type 0} (opens : Opens P) (passes : Passes P) (tak
   pub open_passage : P
   pub opened : opens before job.settings open_passage
   pub taped : IsTapedLoop passes takes job.settings job.events.items open_passage after t t2
+
+-- ---- where a fault ends it
+
+-- these events have had their turns, in order, and each was taken down once, behind its turn; and just their text was printed
+pub record TapedTurns {P T : Type 0} (passes : Passes P) (takes : TakesOn T) (w : World) (p : P) (t : T) (es : List WorldEvent) (w2 : World) (p2 : P) (t2 : T) (output printed : Option (List ℕ)) : Type 0 where
+  pub turns : List Turn
+  pub taken : AreTaped passes takes w p t es turns w2 p2 t2
+  pub text : Appends output printed (turns_lines no_counts es turns)
+
+-- how a run breaks off at an event that had its turn, where lines have counted so far: the tape refuses it, once, and nothing of
+-- it is printed; or it is taken down, unless it is lost, and a beginning of its lines is printed
+abbrev pub BreaksOff : {T : Type 0} → TakesOn T → TakesOn T → T → World → WorldEvent → Option Step → T → Counts → Option (List ℕ) → Option (List ℕ) → Type 0
+BreaksOff takes refuses t w e step t2 counts output printed =
+    (RefusesTurn refuses t w e step t2 × (printed ≡ output))
+    ⊎ (TapesTurn takes t w e step t2 × IsBegun output printed (turn_lines counts e step))
+
+-- the first of these events have had their turns so, and at the next one, which had its turn, the run broke off; no more followed
+pub record TapedBroken {P T : Type 0} (passes : Passes P) (takes refuses : TakesOn T) (w : World) (p : P) (t : T) (es : List WorldEvent) (p2 : P) (t2 : T) (output printed : Option (List ℕ)) : Type 0 where
+  pub first : List WorldEvent
+  pub event : WorldEvent
+  pub rest : List WorldEvent
+  pub all : es ≡ first ++ event ∷ rest
+  pub world : World
+  pub passage : P
+  pub tape : T
+  pub some : Option (List ℕ)
+  pub before : TapedTurns passes takes w p t first world passage tape output some
+  pub turn : Turn
+  pub last : World
+  pub taken : IsTurn passes world passage event turn last p2
+  pub broken : BreaksOff takes refuses tape last event (step_of turn) t2 (counts_through no_counts first before.turns) some printed
+
+-- all of them have had their turns so, and behind their text a beginning of the world's tables was printed
+pub record TapedEnded {P T : Type 0} (passes : Passes P) (takes : TakesOn T) (w : World) (p : P) (t : T) (es : List WorldEvent) (p2 : P) (t2 : T) (output printed : Option (List ℕ)) : Type 0 where
+  pub world : World
+  pub some : Option (List ℕ)
+  pub turned : TapedTurns passes takes w p t es world p2 t2 output some
+  pub tables : IsBegun some printed (world_lines world)
+
+-- how far events have come from one world where a fault ends their run: the tape or output is refused at one of them, or output
+-- behind them all; and memory, which the tables want, behind them all
+abbrev pub StopsTaped : {P T : Type 0} → Passes P → TakesOn T → TakesOn T → World → P → T → List WorldEvent → P → T → Option (List ℕ) → Option (List ℕ) → Fault → Type 0
+StopsTaped passes takes refuses w p t es p2 t2 output printed NotWritten =
+    TapedBroken passes takes refuses w p t es p2 t2 output printed ⊎ TapedEnded passes takes w p t es p2 t2 output printed
+StopsTaped passes takes refuses w p t es p2 t2 output printed NoMemory = TapedEnded passes takes w p t es p2 t2 output printed
+StopsTaped passes takes refuses w p t es p2 t2 output printed others = ⊥
+
+-- the same on a new world of these settings; for want of memory there may be none, and then nothing is touched
+abbrev pub StopsTapedLoop : {P T O : Type 0} → Passes P → TakesOn T → TakesOn T → Contents O → Settings → List WorldEvent → P → P → T → T → O → O → Fault → Type 0
+StopsTapedLoop passes takes refuses contents settings es p p2 t t2 output printed NotWritten =
+    StopsTaped passes takes refuses (founding settings) p t es p2 t2 (contents output) (contents printed) NotWritten
+StopsTapedLoop passes takes refuses contents settings es p p2 t t2 output printed NoMemory =
+    (Untouched p p2 output printed × (t2 ≡ t))
+    ⊎ StopsTaped passes takes refuses (founding settings) p t es p2 t2 (contents output) (contents printed) NoMemory
+StopsTapedLoop passes takes refuses contents settings es p p2 t t2 output printed others = ⊥
+
+-- both texts are good, the passage got its ports, and then this fault ended the run that the tape took down
+pub record IsTapedUntil {P T O : Type 0} (opens : Opens P) (passes : Passes P) (takes refuses : TakesOn T) (contents : Contents O) (text script : List ℕ) (before after : P) (t t2 : T) (output printed : O) (fault : Fault) : Type 0 where
+  pub texts : HoldJob text script
+  pub open_passage : P
+  pub opened : opens before texts.job.settings open_passage
+  pub stopped : StopsTapedLoop passes takes refuses contents texts.job.settings texts.job.events.items open_passage after t t2 output printed fault
+
+-- what a fault leaves of a tape: refused output, or a refused tape, a run that has begun; memory may be wanted before it, too; and
+-- for other faults it is asked for nothing
+abbrev pub StopsTapedScript : {P T O : Type 0} → Opens P → Passes P → TakesOn T → TakesOn T → Contents O → List ℕ → List ℕ → P → P → T → T → O → O → Fault → Type 0
+StopsTapedScript opens passes takes refuses contents text script before after t t2 output printed NotWritten =
+    IsTapedUntil opens passes takes refuses contents text script before after t t2 output printed NotWritten
+StopsTapedScript opens passes takes refuses contents text script before after t t2 output printed NoMemory =
+    (t2 ≡ t) ⊎ IsTapedUntil opens passes takes refuses contents text script before after t t2 output printed NoMemory
+StopsTapedScript opens passes takes refuses contents text script before after t t2 output printed others = t2 ≡ t

@@ -1,5 +1,8 @@
 //! A passage through UDP sockets on the loopback address.
-ghost use Rattle.std.specs.Prelude.{◌≤◌, IfOk, IfSome};
+ghost use Rattle.std.specs.Prelude.{◌≡◌, ◌≤◌, IfOk, IfSome};
+ghost use Rattle.settings.specs.declared.gateway_settings.GatewaySettings.{GatewaySettings as OwnSettings};
+ghost use Rattle.settings.specs.declared.whole.Settings.{Settings as PairSettings};
+ghost use Rattle.loopback_run.specs.Held.{AreOf, AreOfBoth, AreSameBut, AreSameButOf};
 
 use crate::{Channel, Passed, PortFault};
 use mio::net::UdpSocket;
@@ -22,13 +25,20 @@ pub const LIMIT: u64 = 1_000;
 #[derive(Drop)]
 struct Port {
     socket: UdpSocket,
-    own: SocketAddr,
+    number: u16,
     poll: Poll,
     events: Events,
 }
 
+/// The address of a port of this number.
+fn address_of(number: u16) -> SocketAddr {
+    SocketAddr::V4(SocketAddrV4::new(Ipv4Addr::LOCALHOST, number))
+}
+
 impl Port {
-    fn bind<R: Net>(net: &R, alloc: Global, number: u16) -> Result<Port, PortFault> {
+    fn bind<R: Net>(net: &R, alloc: Global, number: u16) -> Result<Port, PortFault>
+        ensures { IfOk result (λ port. port.number ≡ number) }
+    {
         let Ok(events) = Events::with_capacity(alloc, 1) else {
             return Err(PortFault::NoMemory);
         };
@@ -38,11 +48,12 @@ impl Port {
         }
     }
 
-    fn open<R: Net>(net: &R, events: Events<Global>, number: u16) -> io::Result<Port> {
-        let own = SocketAddr::V4(SocketAddrV4::new(Ipv4Addr::LOCALHOST, number));
+    fn open<R: Net>(net: &R, events: Events<Global>, number: u16) -> io::Result<Port>
+        ensures { IfOk result (λ port. port.number ≡ number) }
+    {
         let mut port = Port {
-            socket: UdpSocket::bind(net, own)?,
-            own,
+            socket: UdpSocket::bind(net, address_of(number))?,
+            number,
             poll: Poll::new(net)?,
             events,
         };
@@ -51,11 +62,20 @@ impl Port {
         Ok(port)
     }
 
+    /// Sends bytes, and says whether just these came. A send, a receive or a clock that fails loses them.
+    fn pass<R: Clock>(&mut self, clock: &R, bytes: &[u8]) -> Passed
+        ensures { self.new.number ≡ self.old.number }
+    {
+        self.try_pass(clock, bytes).unwrap_or(Passed::Lost)
+    }
+
     /// Sends bytes, and waits until they come or the time is over. What else comes is ignored.
-    fn pass<R: Clock>(&mut self, clock: &R, bytes: &[u8]) -> io::Result<Passed> {
+    fn try_pass<R: Clock>(&mut self, clock: &R, bytes: &[u8]) -> io::Result<Passed>
+        ensures { self.new.number ≡ self.old.number }
+    {
         let limit = Duration::from_millis(LIMIT);
         let start = Instant::now(clock)?;
-        self.socket.send_to(bytes, self.own)?;
+        self.socket.send_to(bytes, address_of(self.number))?;
         let mut room = [0; LONGEST];
         for _ in 0..u64::MAX {
             let Some(left) = limit.checked_sub(start.elapsed(clock)?) else {
@@ -91,7 +111,9 @@ struct Ports {
 }
 
 impl Ports {
-    fn bind<R: Net>(net: &R, alloc: Global, own: &GatewaySettings) -> Result<Ports, PortFault> {
+    fn bind<R: Net>(net: &R, alloc: Global, own: &GatewaySettings) -> Result<Ports, PortFault>
+        ensures { IfOk result (AreOf own.now) }
+    {
         Ok(Ports {
             link: Port::bind(net, alloc, own.link)?,
             inside: Port::bind(net, alloc, own.inside_port)?,
@@ -99,13 +121,16 @@ impl Ports {
         })
     }
 
-    /// The port of a place; the operator's has none.
-    fn port(&mut self, place: Place) -> Option<&mut Port> {
+    /// Sends bytes through the port of a place, and through no other; the operator's has none, and loses them.
+    fn pass<R: Clock>(&mut self, clock: &R, place: Place, bytes: &[u8]) -> Passed
+        ensures only { AreSameBut place self.old self.new }
+        ensures numbers { (own : OwnSettings) → AreOf own self.old → AreOf own self.new }
+    {
         match place {
-            Place::Link => Some(&mut self.link),
-            Place::Side(Side::Inside) => Some(&mut self.inside),
-            Place::Side(Side::Outside) => Some(&mut self.outside),
-            Place::Operator => None,
+            Place::Link => self.link.pass(clock, bytes),
+            Place::Side(Side::Inside) => self.inside.pass(clock, bytes),
+            Place::Side(Side::Outside) => self.outside.pass(clock, bytes),
+            Place::Operator => Passed::Lost,
         }
     }
 }
@@ -118,18 +143,43 @@ struct Both {
 }
 
 impl Both {
-    fn bind<R: Net>(net: &R, alloc: Global, settings: &Settings) -> Result<Both, PortFault> {
+    fn bind<R: Net>(net: &R, alloc: Global, settings: &Settings) -> Result<Both, PortFault>
+        ensures { IfOk result (AreOfBoth settings.now) }
+    {
         Ok(Both {
             zero: Ports::bind(net, alloc, settings.gateway(GatewayId::Zero))?,
             one: Ports::bind(net, alloc, settings.gateway(GatewayId::One))?,
         })
     }
 
-    fn port(&mut self, id: GatewayId, place: Place) -> Option<&mut Port> {
+    /// Sends bytes through the port of a gateway's place, and through no other.
+    fn pass<R: Clock>(&mut self, clock: &R, id: GatewayId, place: Place, bytes: &[u8]) -> Passed
+        ensures only { AreSameButOf id place self.old self.new }
+        ensures numbers { (pair : PairSettings)
+            → AreOfBoth pair self.old → AreOfBoth pair self.new }
+    {
         match id {
-            GatewayId::Zero => self.zero.port(place),
-            GatewayId::One => self.one.port(place),
+            GatewayId::Zero => self.zero.pass(clock, place, bytes),
+            GatewayId::One => self.one.pass(clock, place, bytes),
         }
+    }
+}
+
+/// The ports of both gateways, by these settings.
+#[derive(Drop)]
+struct BoundPorts {
+    both: Both,
+    settings: Snapshot<Settings>,
+    ghost numbered: { AreOfBoth settings.value both },
+}
+
+impl BoundPorts {
+    /// Sends bytes through the port of a gateway's place, and through no other.
+    fn pass<R: Clock>(&mut self, clock: &R, id: GatewayId, place: Place, bytes: &[u8]) -> Passed
+        ensures only { AreSameButOf id place self.old.both self.new.both }
+        ensures settings { self.new.settings.value ≡ self.old.settings.value }
+    {
+        self.both.pass(clock, id, place, bytes)
     }
 }
 
@@ -137,8 +187,8 @@ impl Both {
 #[derive(Drop)]
 enum Hold {
     Unasked,
-    /// They are had, and these settings gave them.
-    Bound(Both, Snapshot<Settings>),
+    /// They are had.
+    Bound(BoundPorts),
     Refused(PortFault),
 }
 
@@ -159,7 +209,6 @@ impl<'a, R> Model for Loopback<'a, R> {
 }
 
 impl<'a, R: Net + Clock + AllocGlobal> Loopback<'a, R> {
-    ghost use Rattle.std.specs.Prelude.{◌≡◌};
     ghost use Rattle.loopback_run.specs.Standings.{unasked};
 
     /// Was never asked for its ports.
@@ -174,7 +223,6 @@ impl<'a, R: Net + Clock + AllocGlobal> Loopback<'a, R> {
 }
 
 impl<R: Net + Clock + AllocGlobal> Channel for Loopback<'_, R> {
-    ghost use Rattle.std.specs.Prelude.{◌≡◌};
     ghost use Rattle.loopback_run.specs.Standings.{bound, refused, MayBe};
 
     ghost opens = { λ _ settings after. after ≡ bound settings };
@@ -187,7 +235,8 @@ impl<R: Net + Clock + AllocGlobal> Channel for Loopback<'_, R> {
     fn open(&mut self, settings: &Settings) -> Result<(), PortFault> {
         match Both::bind(self.rt, self.rt.alloc(), settings) {
             Ok(both) => {
-                self.hold = Hold::Bound(both, Snapshot::of(settings));
+                let settings = Snapshot::of(settings);
+                self.hold = Hold::Bound(BoundPorts { both, settings });
                 Ok(())
             }
             Err(fault) => {
@@ -200,10 +249,7 @@ impl<R: Net + Clock + AllocGlobal> Channel for Loopback<'_, R> {
     /// A send, a receive or a clock that fails loses the bytes, and so does the operator's place.
     fn pass(&mut self, id: GatewayId, place: Place, bytes: &[u8]) -> Passed {
         match &mut self.hold {
-            Hold::Bound(both, _) => match both.port(id, place) {
-                Some(port) => port.pass(self.rt, bytes).unwrap_or(Passed::Lost),
-                None => Passed::Lost,
-            },
+            Hold::Bound(ports) => ports.pass(self.rt, id, place, bytes),
             Hold::Unasked | Hold::Refused(_) => Passed::Lost,
         }
     }

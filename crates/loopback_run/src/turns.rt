@@ -12,8 +12,8 @@ ghost use Rattle.loopback_run.specs.Runs.{HasTurned, TakesTurns};
 ghost use Rattle.loopback_run.specs.Texts.{counts_then, turn_lines};
 ghost use Rattle.loopback_run.specs.Turns.{HasSent, TakesTurn, handed, is_lost, is_refusal, of_port};
 ghost use Rattle.loopback_run.specs.Loops.{IsLoop, LoopsScript, TellsLoop};
-ghost use Rattle.loopback_run.specs.Tapes.{AreTaped, IsTapedLoop, TapesScript, TapesTurn};
-ghost use Rattle.loopback_run.specs.Stops.{FailsBy, FailsScript, HaveBegun, HoldJob, Leaves, Stops, StopsLoop, Untouched};
+ghost use Rattle.loopback_run.specs.Tapes.{IsTapedLoop, RefusesTurn, StopsTaped, StopsTapedLoop, StopsTapedScript, TapedBroken, TapesScript, TapesTurn};
+ghost use Rattle.loopback_run.specs.Stops.{FailsBy, FailsScript, HoldJob, Leaves, StopsLoop, Untouched};
 
 use crate::{Channel, Passed, PortFault};
 use faults::{Fault, job_of};
@@ -114,6 +114,9 @@ pub fn loop_captured<P: Channel, T: Tape, O: Write>(
         → Untouched passage.old passage.new output.old output.new }
     ensures taped { OnOk result (TapesScript P.opens P.passes T.takes settings.now script.now
         passage.old passage.new tape.old tape.new) }
+    ensures broken { IfErr result (StopsTapedScript P.opens P.passes T.takes T.refuses O.contents
+        settings.now script.now passage.old passage.new tape.old tape.new
+        output.old output.new) }
 {
     let job = job_of(alloc, settings, script)?;
     if let Some(key) = port_clash_of_both(&job.settings) {
@@ -165,6 +168,9 @@ pub fn play<P: Channel, T: Tape, O: Write>(
         passage.old passage.new output.old output.new) }
     ensures taped { OnOk result (IsTapedLoop P.passes T.takes settings.now events.now
         passage.old passage.new tape.old tape.new) }
+    ensures broken { IfErr result (StopsTapedLoop P.passes T.takes T.refuses O.contents
+        settings.now events.now passage.old passage.new tape.old tape.new
+        output.old output.new) }
 {
     match World::founded(alloc, settings) {
         Ok(mut world) => {
@@ -185,15 +191,14 @@ fn played<P: Channel, T: Tape, O: Write>(
     tape: &mut T,
     output: &mut O,
 ) -> Result<u8, Fault>
-    ensures run { IfOk result (TakesTurns P.passes world.old passage.old events.now world.new
-        passage.new (O.contents output.old) (O.contents output.new)) }
+    ensures run { IfOk result (TakesTurns P.passes T.takes world.old passage.old tape.old events.now
+        world.new passage.new tape.new (O.contents output.old) (O.contents output.new)) }
     ensures status { IfOk result (λ status. (status ≡ 0) ⊎ (status ≡ 3)) }
     ensures fault { IfErr result
         (λ fault. (fault ≡ faults.NotWritten) ⊎ (fault ≡ faults.NoMemory)) }
-    ensures stops { IfErr result (Stops P.passes world.old passage.old events.now passage.new
-        (O.contents output.old) (O.contents output.new)) }
-    ensures taped { OnOk result (AreTaped P.passes T.takes world.old passage.old tape.old
-        events.now world.new passage.new tape.new) }
+    ensures stops { IfErr result (StopsTaped P.passes T.takes T.refuses world.old passage.old
+        tape.old events.now passage.new tape.new (O.contents output.old)
+        (O.contents output.new)) }
 {
     let refused = turned(alloc, world, events, passage, tape, output)?;
     world.tables(output)?;
@@ -210,12 +215,11 @@ fn turned<P: Channel, T: Tape, O: Write>(
     tape: &mut T,
     output: &mut O,
 ) -> io::Result<bool>
-    ensures had { IfOk result (HasTurned P.passes world.old passage.old events.now world.new
-        passage.new (O.contents output.old) (O.contents output.new)) }
-    ensures begun { OnErr result (HaveBegun P.passes world.old passage.old events.now
-        passage.new (O.contents output.old) (O.contents output.new)) }
-    ensures taped { OnOk result (AreTaped P.passes T.takes world.old passage.old tape.old
-        events.now world.new passage.new tape.new) }
+    ensures had { IfOk result (HasTurned P.passes T.takes world.old passage.old tape.old events.now
+        world.new passage.new tape.new (O.contents output.old) (O.contents output.new)) }
+    ensures broken { OnErr result (TapedBroken P.passes T.takes T.refuses world.old passage.old
+        tape.old events.now passage.new tape.new (O.contents output.old)
+        (O.contents output.new)) }
 {
     let mut printer = Printer::new();
     let mut refused = false;
@@ -259,7 +263,10 @@ fn take_down<T: Tape>(
     event: &WorldEvent,
     step: &Option<Step>,
 ) -> io::Result<()>
-    ensures { OnOk result (TapesTurn T.takes tape.old world.now event.now step.now tape.new) }
+    ensures taken { OnOk result
+        (TapesTurn T.takes tape.old world.now event.now step.now tape.new) }
+    ensures refused { OnErr result
+        (RefusesTurn T.refuses tape.old world.now event.now step.now tape.new) }
 {
     match step {
         Some(step) => tape.take(world, event, step),

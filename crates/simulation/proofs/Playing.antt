@@ -1,5 +1,6 @@
 -- A run on a new world.
 use Rattle.std.proofs.Common.{◌≡◌, ◌≢◌, ◌⊎◌, inl, inr, ◌++◌, ◌∙◌, ℕ, List, [], ◌∷◌, Option, None, IfErr, IfOk, OnErr, OnOk, Result, Ok, Err, take, drop, ap, sym, subst, refl}
+use Rattle.std.specs.Prelude.{IsErrAnd}
 use Rattle.std.proofs.lemmas.List.{append_assoc, append-nil, take-append-drop}
 use Rattle.settings.specs.declared.whole.Settings.{Settings}
 use Rattle.frame_sim.specs.declared.events.Step.{Step}
@@ -15,7 +16,7 @@ use Rattle.faults.specs.Jobs.{IsJobOf, TellsRun}
 use Rattle.scripts.specs.Script.{first_bad_line}
 use Rattle.frame_sim.specs.World.{founding}
 use Rattle.simulation.specs.Stops.{Begins, BeginsScript, Leaves}
-use Rattle.simulation.specs.Tapes.{IsTapedRun, TapesSteps}
+use Rattle.simulation.specs.Tapes.{IsTapedRun, StopsTaped, StopsTapedScript, TapesSteps}
 
 -- what holds of the value of a result holds by what follows from it
 pub in_ok : {E : Type 0} {P Q : ℕ → Type 0} (r : Result ℕ E) → ((n : ℕ) → P n → Q n) → IfOk r P → IfOk r Q
@@ -84,6 +85,40 @@ leaves_begun (Err fault) text script job o o2 is good (inr which) h = rw which (
 pub on_err : {X E Q : Type 0} (r : Result X E) → Q → OnErr r Q
 on_err (Ok x) q = tt
 on_err (Err e) q = q
+
+-- what holds of the fault that is handed on holds of the end by it
+pub handed_on : {X : Type 0} (r : Result X Fault) (P : Fault → Type 0) (why : Fault) → IsErrAnd r (λ e. e ≡ why) → P why → IfErr r P
+handed_on (Ok x) P why is p = tt
+handed_on (Err e) P why is p = subst P (sym is) p
+
+-- what holds of each fault holds of the end by one
+pub of_each : {X : Type 0} (r : Result X Fault) (P : Fault → Type 0) → ((why : Fault) → P why) → IfErr r P
+of_each (Ok x) P all = tt
+of_each (Err e) P all = all e
+
+-- ---- a run that is taken down, and that a fault ends
+
+isnt_refused : NoMemory ≢ NotWritten
+isnt_refused same = absurd (let bad : NoMemory ≡ NotWritten = same in cc)
+
+-- there was no memory, and nothing was taken down
+pub none_taped : {T O : Type 0} (takes refuses : TakesOn T) (prints : O → Option (List ℕ)) (w : World) (events : List WorldEvent) (t : T) (o : O) (why : Fault)
+    → why ≡ NoMemory → StopsTaped takes refuses prints w events t t o o why
+none_taped takes refuses prints w events t o why is = rw is (inl (isnt_refused, (refl, refl)))
+
+-- a run from a new world stops as one from the world that it is
+pub stops_from : {X T O : Type 0} (r : Result X Fault) (takes refuses : TakesOn T) (prints : O → Option (List ℕ)) (settings : Settings) (w : World) (events : List WorldEvent) (t t2 : T) (o o2 : O)
+    → IsNew settings w → IfErr r (StopsTaped takes refuses prints w events t t2 o o2) → IfErr r (StopsTaped takes refuses prints (founding settings) events t t2 o o2)
+unfolding IsNew
+stops_from r takes refuses prints settings w events t t2 o o2 new h = subst (λ (x : World). IfErr r (StopsTaped takes refuses prints x events t t2 o o2)) new h
+
+-- and so does one of a script
+pub stops_script : {X T O : Type 0} (r : Result X Fault) (takes refuses : TakesOn T) (prints : O → Option (List ℕ)) (text script : List ℕ) (job : Job) (t t2 : T) (o o2 : O)
+    → IsJobOf text script job → IfErr r (StopsTaped takes refuses prints (founding job.settings) job.events.items t t2 o o2)
+    → IfErr r (StopsTapedScript takes refuses prints text script t t2 o o2)
+stops_script (Ok x) takes refuses prints text script job t t2 o o2 is h = tt
+stops_script (Err e) takes refuses prints text script job t t2 o o2 is (inl none) = inl none
+stops_script (Err e) takes refuses prints text script job t t2 o o2 is (inr some) = inr (job, (is, some))
 
 -- 0 and 3 aren't 1
 pub isnt_1 : {A : Type 0} (n : ℕ) → (n ≡ 0) ⊎ (n ≡ 3) → n ≡ 1 → A

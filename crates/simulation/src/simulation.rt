@@ -6,12 +6,12 @@ ghost use Rattle.scripts.specs.Script.{first_bad_line};
 ghost use Rattle.faults.specs.Jobs.{TellsRun};
 ghost use Rattle.faults.specs.Texts.{fault_text};
 ghost use Rattle.frame_sim.specs.Status.{has_refusal, run_status};
-ghost use Rattle.frame_sim.specs.Tapes.{AreTaken};
+ghost use Rattle.frame_sim.specs.Tapes.{AreTaken, RefusesOne};
 ghost use Rattle.outlets.specs.Printed.{Prints};
 ghost use Rattle.outlets.specs.Telling.{IsToldOf};
 ghost use Rattle.frame_sim.specs.World.{founding};
 ghost use Rattle.simulation.specs.Status.{RunsScript};
-ghost use Rattle.simulation.specs.Tapes.{IsTapedRun, TapesScript, TapesSteps};
+ghost use Rattle.simulation.specs.Tapes.{IsTapedRun, StopsTaped, StopsTapedScript, TapesScript, TapesSteps};
 ghost use Rattle.simulation.specs.Texts.{run_lines};
 ghost use Rattle.simulation.specs.Watched.{IsToldAll, IsToldPart, IsToldSome, OverhearsScript, WatchesScript};
 ghost use Rattle.simulation.specs.Stops.{Begins, BeginsScript, FailsBy, Leaves};
@@ -108,6 +108,8 @@ pub fn simulate_captured<P: Progress, T: Tape, O: Write>(
         (O.contents output.new)) }
     ensures leaves { IfErr result (Leaves settings.now script.now (O.contents output.old)
         (O.contents output.new)) }
+    ensures stopped { IfErr result (StopsTapedScript T.takes T.refuses O.contents settings.now
+        script.now tape.old tape.new output.old output.new) }
     ensures status { IfOk result (λ status. (status ≡ 0) ⊎ (status ≡ 3)) }
     ensures watched { OnOk result
         (WatchesScript P.hears settings.now script.now progress.old progress.new) }
@@ -144,6 +146,8 @@ pub fn play<P: Progress, T: Tape, O: Write>(
         (O.contents output.old) (O.contents output.new)) }
     ensures begun { OnErr result (Begins (founding settings.now) events.now (O.contents output.old)
         (O.contents output.new)) }
+    ensures stopped { IfErr result (StopsTaped T.takes T.refuses O.contents
+        (founding settings.now) events.now tape.old tape.new output.old output.new) }
     ensures status { IfOk result (λ status. (status ≡ 0) ⊎ (status ≡ 3)) }
     ensures fault { IfErr result
         (λ fault. (fault ≡ faults.NotWritten) ⊎ (fault ≡ faults.NoMemory)) }
@@ -177,6 +181,8 @@ fn played<P: Progress, T: Tape, O: Write>(
         (O.contents output.old) (O.contents output.new)) }
     ensures begun { OnErr result (Begins world.old events.now (O.contents output.old)
         (O.contents output.new)) }
+    ensures stopped { IfErr result (StopsTaped T.takes T.refuses O.contents world.old events.now
+        tape.old tape.new output.old output.new) }
     ensures status { IfOk result (λ status. (status ≡ 0) ⊎ (status ≡ 3)) }
     ensures fault { IfErr result
         (λ fault. (fault ≡ faults.NotWritten) ⊎ (fault ≡ faults.NoMemory)) }
@@ -198,8 +204,10 @@ fn take_down<T: Tape>(
     events: &[WorldEvent],
     steps: &[Step],
 ) -> io::Result<()>
-    ensures { OnOk result
+    ensures taken { OnOk result
         (AreTaken T.takes world.now tape.old events.now steps.now tape.new) }
+    ensures refused { OnErr result
+        (RefusesOne T.takes T.refuses world.now tape.old events.now steps.now tape.new) }
 {
     let mut rest = steps;
     for event in events {

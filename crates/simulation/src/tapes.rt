@@ -1,10 +1,10 @@
 //! A run taken down as a capture.
-ghost use Rattle.std.specs.Prelude.{◌≡◌, true, false, OnOk, IfOk, IsErr, IsOk};
+ghost use Rattle.std.specs.Prelude.{◌≡◌, true, false, OnOk, OnErr, IfOk, IsErr, IsOk};
 ghost use Rattle.std.specs.Io.KnownBytes.{Keeps};
 ghost use Rattle.frame_sim.specs.World.{World as Scenery};
 ghost use Rattle.frame_sim.specs.declared.events.Step.{Step as Given};
 ghost use Rattle.nat_types.specs.declared.events.WorldEvent.{WorldEvent as Happening};
-ghost use Rattle.simulation.specs.Captures.{Begins, Records};
+ghost use Rattle.simulation.specs.Captures.{Begins, Records, Refuses};
 
 use crate::Clocks;
 use crate::writing::write_event;
@@ -66,9 +66,13 @@ impl<W: Write + Drop> Capture<W> {
 impl<W: Write> Tape for Capture<W> {
     ghost takes = { λ c w e s c2. Records (W.contents c.output) c.clocks w e s (W.contents c2.output) c2.clocks };
 
+    ghost refuses = { λ c _ e s c2. Refuses c.clocks e s c2.clocks c2.is_refused };
+
     fn take(&mut self, world: &World<'_>, event: &WorldEvent, step: &Step) -> io::Result<()>
         ensures takes { OnOk result (Records (W.contents self.old.output) self.old.clocks world.now
             event.now step.now (W.contents self.new.output) self.new.clocks) }
+        ensures refuses { OnErr result (Refuses self.old.clocks event.now step.now self.new.clocks
+            self.new.is_refused) }
         ensures marked { IsErr result → self.new.is_refused ≡ true }
         ensures still { self.old.is_refused ≡ true → self.new.is_refused ≡ true }
         ensures unmarked { OnOk result (self.new.is_refused ≡ self.old.is_refused) }

@@ -2,10 +2,9 @@ use Rattle.std.proofs.Common.{List, inr, refl, subst, sym}
 use Rattle.nat_types.specs.declared.events.WorldEvent.{WorldEvent}
 use Rattle.loopback_run.specs.Loops.{IsLoop}
 use Rattle.loopback_run.specs.Stops.{StopsLoop}
-use Rattle.loopback_run.proofs.Looping.{in_ok}
-use Rattle.loopback_run.proofs.Stopping.{in_err, leaves_refused, leaves_stopped}
-use Rattle.loopback_run.specs.Tapes.{IsTapedLoop}
-use Rattle.loopback_run.proofs.Taping.{when_done}
+use Rattle.loopback_run.specs.Tapes.{IsTapedLoop, StopsTapedLoop}
+use Rattle.loopback_run.proofs.Looping.{in_ok, when_done}
+use Rattle.loopback_run.proofs.Stopping.{in_err, leaves_refused, leaves_stopped, never_asked_unopened, taped_until}
 use Rattle.loopback_run.proofs.Telling.{told_port}
 use Rattle.loopback_run.proofs.turns.loop_captured.Goals as goal
 
@@ -63,3 +62,14 @@ returns-in-Ok-clause-taped g c = when_done c.play.result (λ h. record {
   opened = c.in-Ok.ensures.opens;
   taped = subst (λ (es : List WorldEvent). IsTapedLoop g.P.Channel.passes g.T.Tape.takes c.in_ok-job.job.settings es c.open.new.self c.play.new.passage c.args.tape.now c.play.new.tape) c.as_slice.ensures.value h;
 }) c.play.ensures.taped
+
+pub returns-clause-broken : goal.returns-clause-broken
+returns-clause-broken g c = rw c.of_port.ensures (never_asked_unopened _ _ _ _ _ _ _ _ _ _ _ _ c.in-Err.fault)
+
+pub returns-in-Ok-clause-broken : goal.returns-in-Ok-clause-broken
+returns-in-Ok-clause-broken g c = in_err c.play.result (λ e h. taped_until _ _ _ _ _ _ _ _ _ _ _ _ _ e (record {
+  texts = record { job = c.in_ok-job.job; is = c.in_ok-job.ensures.job; good = c.in_ok-job.ensures.good; apart = sym c.in_default.ensures };
+  open_passage = c.open.new.self;
+  opened = c.in-Ok.ensures.opens;
+  stopped = subst (λ (es : List WorldEvent). StopsTapedLoop g.P.Channel.passes g.T.Tape.takes g.T.Tape.refuses g.O.Write.contents c.in_ok-job.job.settings es c.open.new.self c.play.new.passage c.args.tape.now c.play.new.tape c.args.output.now c.play.new.output e) c.as_slice.ensures.value h;
+})) c.play.ensures.broken

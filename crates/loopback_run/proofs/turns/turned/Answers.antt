@@ -1,51 +1,38 @@
-use Rattle.std.proofs.Common.{◌||◌, ◌+◌, ◌++◌, ◌∙◌, ◌∷◌, [], ap, refl, sym, take}
+use Rattle.std.proofs.Common.{◌+◌, ◌++◌, ◌∙◌, ◌∷◌, [], ap, inl, inr, refl, sym, take}
 use Rattle.std.proofs.lemmas.List.{take_more}
 use Rattle.nat_types.specs.declared.events.WorldEvent.{WorldEvent}
-use Rattle.loopback_run.specs.Texts.{counts_then, turn_lines}
-use Rattle.loopback_run.specs.Turns.{is_refusal}
-use Rattle.loopback_run.proofs.Taping.{one_taped}
-use Rattle.loopback_run.proofs.Turning.{Turning, none_turned, one_turned, one_turning}
-use Rattle.loopback_run.proofs.Stopping.{begun_turning, on_err, unwritten_turning}
+use Rattle.loopback_run.proofs.Turning.{all_turned, none_turned, one_broken, one_turned, split_at}
+use Rattle.loopback_run.proofs.Stopping.{on_err}
 use Rattle.loopback_run.proofs.turns.turned.Goals as goal
 
 pub loop-event-init : goal.loop-event-init
-loop-event-init g c = record { had = none_turned _ _ _ _ _ c.new-printer.ensures; taped = (refl, (refl, refl)) }
+loop-event-init g c = none_turned _ _ _ _ _ _ _ c.new-printer.ensures
 
 pub loop-event-preserved : goal.loop-event-preserved
 loop-event-preserved g c =
     let l = c.loop-event in
     let e = c.event-item.result in
-    let after = c.turn-step.new in
     let more = take_more c.args.events.now l.event-index e c.loop-event-test.true ∙ ap (λ (x : WorldEvent). take l.event-index c.args.events.now ++ x ∷ []) (sym c.event-item.is) in
-    let turning : Turning g.P.Channel.passes c.args.world.now c.args.passage.now (take (l.event-index + 1) c.args.events.now) after.world after.passage
-    (g.O.Write.contents c.args.output.now) (g.O.Write.contents l.output) (l.refused || is_refusal c.turn-step.result)
-    (counts_then l.printer e c.turn-step.result) (turn_lines l.printer e c.turn-step.result) =
-    rw more (one_turning _ _ _ (take l.event-index c.args.events.now) l.world l.passage _ _ l.refused l.printer e c.turn-step.result after.world after.passage l.invariant.had c.turn-step.ensures) in
-    record {
-      had = rw c.has_refused-refused.ensures (one_turned _ _ _ _ _ _ _ _ _ _ _ _ _ turning c.in_ok-print.ensures.printed c.in_ok-print.ensures.counted);
-      taped = rw more (one_taped _ _ _ _ _ _ _ _ _ e _ _ _ _ l.invariant.taped c.turn-step.ensures c.in_ok-take_down.ensures);
-    }
+    rw (more, c.has_refused-refused.ensures) (one_turned _ _ _ _ _ (take l.event-index c.args.events.now) l.world l.passage l.tape _ _ l.refused l.printer e
+    c.turn-step.result _ _ _ _ _ l.invariant c.turn-step.ensures c.in_ok-take_down.ensures.taken c.in_ok-print.ensures.printed c.in_ok-print.ensures.counted)
 
-pub returns-in_err-take_down-clause-begun : goal.returns-in_err-take_down-clause-begun
-returns-in_err-take_down-clause-begun g c =
+pub returns-in_err-take_down-clause-broken : goal.returns-in_err-take_down-clause-broken
+returns-in_err-take_down-clause-broken g c =
     let l = c.loop-event in
     let e = c.event-item.result in
-    let after = c.turn-step.new in
-    let more = take_more c.args.events.now l.event-index e c.loop-event-test.true ∙ ap (λ (x : WorldEvent). take l.event-index c.args.events.now ++ x ∷ []) (sym c.event-item.is) in
-    let turning : Turning g.P.Channel.passes c.args.world.now c.args.passage.now (take (l.event-index + 1) c.args.events.now) after.world after.passage
-    (g.O.Write.contents c.args.output.now) (g.O.Write.contents l.output) (l.refused || is_refusal c.turn-step.result)
-    (counts_then l.printer e c.turn-step.result) (turn_lines l.printer e c.turn-step.result) =
-    rw more (one_turning _ _ _ (take l.event-index c.args.events.now) l.world l.passage _ _ l.refused l.printer e c.turn-step.result after.world after.passage l.invariant.had c.turn-step.ensures) in
-    on_err c.from_residual.result (unwritten_turning _ _ _ c.args.events.now l.event-index _ _ _ _ _ _ _ turning)
+    let split = split_at c.args.events.now l.event-index e c.loop-event-test.true c.event-item.is in
+    on_err c.from_residual.result (one_broken _ _ _ _ _ _ c.args.events.now _ _ l.world l.passage l.tape _ _ l.refused l.printer e
+    c.turn-step.result _ _ _ _ split l.invariant c.turn-step.ensures (inl (c.in_err-take_down.ensures.refused, refl)))
 
-pub returns-in_err-print-clause-begun : goal.returns-in_err-print-clause-begun
-returns-in_err-print-clause-begun g c =
+pub returns-in_err-print-clause-broken : goal.returns-in_err-print-clause-broken
+returns-in_err-print-clause-broken g c =
     let l = c.loop-event in
     let e = c.event-item.result in
-    let after = c.turn-step.new in
-    let more = take_more c.args.events.now l.event-index e c.loop-event-test.true ∙ ap (λ (x : WorldEvent). take l.event-index c.args.events.now ++ x ∷ []) (sym c.event-item.is) in
-    let turning : Turning g.P.Channel.passes c.args.world.now c.args.passage.now (take (l.event-index + 1) c.args.events.now) after.world after.passage
-    (g.O.Write.contents c.args.output.now) (g.O.Write.contents l.output) (l.refused || is_refusal c.turn-step.result)
-    (counts_then l.printer e c.turn-step.result) (turn_lines l.printer e c.turn-step.result) =
-    rw more (one_turning _ _ _ (take l.event-index c.args.events.now) l.world l.passage _ _ l.refused l.printer e c.turn-step.result after.world after.passage l.invariant.had c.turn-step.ensures) in
-    on_err c.from_residual-in_err-print.result (begun_turning _ _ _ c.args.events.now l.event-index _ _ _ _ _ _ _ _ turning c.in_err-print.ensures.printed)
+    let split = split_at c.args.events.now l.event-index e c.loop-event-test.true c.event-item.is in
+    on_err c.from_residual-in_err-print.result (one_broken _ _ _ _ _ _ c.args.events.now _ _ l.world l.passage l.tape _ _ l.refused l.printer e
+    c.turn-step.result _ _ _ _ split l.invariant c.turn-step.ensures (inr (c.in_ok-take_down.ensures.taken, c.in_err-print.ensures.printed)))
+
+pub returns-clause-had : goal.returns-clause-had
+returns-clause-had g c =
+    let l = c.loop-event in
+    all_turned _ _ _ _ _ c.args.events.now l.event-index l.world l.passage l.tape _ _ l.refused l.printer c.loop-event-test.false l.invariant

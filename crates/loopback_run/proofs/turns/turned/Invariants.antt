@@ -1,11 +1,8 @@
 use Rattle.std.proofs.Common.{take}
-use Rattle.loopback_run.specs.Tapes.{AreTaped}
 use Rattle.loopback_run.proofs.Turning.{Turned}
 use Rattle.loopback_run.proofs.turns.turned.Given as goal
 
 abbrev pub invariant-loop-event : goal.invariant-loop-event
-invariant-loop-event g l = record {
-  had : Turned g.P.Channel.passes l.fn.world l.fn.passage (take l.event-index l.events) l.world l.passage
-      (g.O.Write.contents l.fn.output) (g.O.Write.contents l.output) l.refused l.printer;
-  taped : AreTaped g.P.Channel.passes g.T.Tape.takes l.fn.world l.fn.passage l.fn.tape (take l.event-index l.events) l.world l.passage l.tape;
-}
+invariant-loop-event g l =
+    Turned g.P.Channel.passes g.T.Tape.takes l.fn.world l.fn.passage l.fn.tape (take l.event-index l.events) l.world l.passage l.tape
+    (g.O.Write.contents l.fn.output) (g.O.Write.contents l.output) l.refused l.printer

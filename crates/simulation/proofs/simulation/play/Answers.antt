@@ -1,4 +1,4 @@
-use Rattle.simulation.proofs.Playing.{begins_from, runs_from}
+use Rattle.simulation.proofs.Playing.{begins_from, none_taped, runs_from, stops_from}
 use Rattle.std.proofs.Common.{refl}
 use Rattle.simulation.proofs.Telling.{part-some, told-never}
 use Rattle.simulation.proofs.simulation.play.Goals as goal
@@ -17,3 +17,9 @@ returns-in-Err-clause-part g c = told-never g.P.Progress.hears _ c.args.progress
 
 pub returns-in-Ok-clause-overheard : goal.returns-in-Ok-clause-overheard
 returns-in-Ok-clause-overheard g c = part-some c.played-status.result _ _ _ _ c.played-status.ensures.overheard
+
+pub returns-in-Err-clause-stopped : goal.returns-in-Err-clause-stopped
+returns-in-Err-clause-stopped g c = none_taped _ _ _ _ _ _ _ _ c.from.ensures
+
+pub returns-in-Ok-clause-stopped : goal.returns-in-Ok-clause-stopped
+returns-in-Ok-clause-stopped g c = stops_from c.played-status.result _ _ _ _ _ _ _ _ _ _ c.in-Ok.ensures c.played-status.ensures.stopped

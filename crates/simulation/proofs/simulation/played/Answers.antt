@@ -2,10 +2,12 @@ use Rattle.std.proofs.Common.{◌∙◌, List, ap, inl, inr, refl, subst}
 use Rattle.std.specs.Io.KnownBytes.{Appends}
 use Rattle.frame_sim.specs.declared.events.Step.{Step}
 use Rattle.frame_sim.specs.Status.{run_status}
-use Rattle.frame_sim.specs.Tapes.{AreTaken}
+use Rattle.frame_sim.specs.Tapes.{AreTaken, RefusesOne}
 use Rattle.outlets.specs.Printed.{IsBegun}
+use Rattle.faults.specs.declared.faults.Fault.TheVariants.{NoMemory, NotWritten}
+use Rattle.simulation.specs.Tapes.{StopsTaped}
 use Rattle.simulation.specs.Texts.{run_lines}
-use Rattle.simulation.proofs.Playing.{on_err}
+use Rattle.simulation.proofs.Playing.{handed_on, none_taped, of_each, on_err}
 use Rattle.simulation.proofs.Telling.{told-some}
 use Rattle.simulation.proofs.simulation.played.Goals as goal
 
@@ -30,7 +32,7 @@ returns-clause-run g c = record {
     answers = c.in_ok-steps.ensures.steps;
     refusals = c.status_of.ensures ∙ ap (λ xs. run_status xs) c.as_slice-3.ensures.value;
   };
-  taken = subst (λ (ss : List Step). AreTaken g.T.Tape.takes c.steps_of.new.world c.args.tape.now c.args.events.now ss c.take_down.new.tape) c.as_slice.ensures.value c.in_ok-take_down.ensures;
+  taken = subst (λ (ss : List Step). AreTaken g.T.Tape.takes c.steps_of.new.world c.args.tape.now c.args.events.now ss c.take_down.new.tape) c.as_slice.ensures.value c.in_ok-take_down.ensures.taken;
   text = subst (λ (ss : List Step). Appends (g.O.Write.contents c.args.output.now) (g.O.Write.contents c.print.new.output) (run_lines c.args.events.now ss c.steps_of.new.world)) c.as_slice-2.ensures.value c.in_ok-print.ensures;
 }
 
@@ -42,3 +44,34 @@ returns-in_err-take_down-clause-overheard g c = on_err c.from_residual-in_err-ta
 
 pub returns-in_err-print-clause-overheard : goal.returns-in_err-print-clause-overheard
 returns-in_err-print-clause-overheard g c = on_err c.from_residual-in_err-print.result (told-some _ _ _ _ c.in_ok-steps.ensures.watched)
+
+pub returns-in_err-steps-clause-stopped : goal.returns-in_err-steps-clause-stopped
+returns-in_err-steps-clause-stopped g c = handed_on c.from_residual.result
+    (StopsTaped g.T.Tape.takes g.T.Tape.refuses g.O.Write.contents c.args.world.now c.args.events.now c.args.tape.now c.args.tape.now c.args.output.now c.args.output.now)
+    NoMemory c.from_residual.ensures.1 (none_taped _ _ _ _ _ _ _ _ refl)
+
+pub returns-in_err-take_down-clause-stopped : goal.returns-in_err-take_down-clause-stopped
+returns-in_err-take_down-clause-stopped g c = handed_on c.from_residual-in_err-take_down.result
+    (StopsTaped g.T.Tape.takes g.T.Tape.refuses g.O.Write.contents c.args.world.now c.args.events.now c.args.tape.now c.take_down.new.tape c.args.output.now c.args.output.now)
+    NotWritten c.from_residual-in_err-take_down.ensures.1 (inr (record {
+      steps = c.in_ok-steps.steps.items;
+      last = c.steps_of.new.world;
+      answers = c.in_ok-steps.ensures.steps;
+      stopped = inl (
+        subst (λ (ss : List Step). RefusesOne g.T.Tape.takes g.T.Tape.refuses c.steps_of.new.world c.args.tape.now c.args.events.now ss c.take_down.new.tape) c.as_slice.ensures.value c.in_err-take_down.ensures.refused,
+        (refl, refl),
+      );
+    }))
+
+pub returns-in_err-print-clause-stopped : goal.returns-in_err-print-clause-stopped
+returns-in_err-print-clause-stopped g c = of_each c.from_residual-in_err-print.result
+    (StopsTaped g.T.Tape.takes g.T.Tape.refuses g.O.Write.contents c.args.world.now c.args.events.now c.args.tape.now c.take_down.new.tape c.args.output.now c.print.new.output)
+    (λ why. inr (record {
+      steps = c.in_ok-steps.steps.items;
+      last = c.steps_of.new.world;
+      answers = c.in_ok-steps.ensures.steps;
+      stopped = inr (
+        subst (λ (ss : List Step). AreTaken g.T.Tape.takes c.steps_of.new.world c.args.tape.now c.args.events.now ss c.take_down.new.tape) c.as_slice.ensures.value c.in_ok-take_down.ensures.taken,
+        subst (λ (ss : List Step). IsBegun (g.O.Write.contents c.args.output.now) (g.O.Write.contents c.print.new.output) (run_lines c.args.events.now ss c.steps_of.new.world)) c.as_slice-2.ensures.value c.in_err-print.ensures,
+      );
+    }))

@@ -1,11 +1,11 @@
-use Rattle.std.proofs.Common.{List, OnErr, inl, length, refl, subst}
+use Rattle.std.proofs.Common.{IfErr, List, OnErr, inl, length, refl, subst}
 use Rattle.std.proofs.lemmas.Result.{err_from_is_err_and}
 use Rattle.frame_sim.specs.World.{founding}
 use Rattle.nat_types.specs.declared.events.WorldEvent.{WorldEvent}
-use Rattle.simulation.specs.Tapes.{IsTapedRun}
+use Rattle.simulation.specs.Tapes.{IsTapedRun, StopsTaped}
 use Rattle.simulation.specs.Watched.{IsToldAll, IsToldPart}
 use Rattle.simulation.specs.Stops.{Begins}
-use Rattle.simulation.proofs.Playing.{begins_script, in_ok, leaves_begun, leaves_texts, on_err, when_done}
+use Rattle.simulation.proofs.Playing.{begins_script, in_ok, leaves_begun, leaves_texts, on_err, stops_script, when_done}
 use Rattle.simulation.proofs.Telling.{overheard}
 use Rattle.simulation.proofs.simulation.simulate_captured.Goals as goal
 
@@ -45,3 +45,12 @@ returns-clause-part g c = overheard c.play.result _ _ _ c.in_ok-job.job _ _ c.in
 
 pub returns-in_err-job-clause-overheard : goal.returns-in_err-job-clause-overheard
 returns-in_err-job-clause-overheard g c = on_err c.from_residual.result (0, (0, refl))
+
+pub returns-in_err-job-clause-stopped : goal.returns-in_err-job-clause-stopped
+returns-in_err-job-clause-stopped g c =
+    let p = err_from_is_err_and c.from_residual.result c.from_residual.ensures.1 in
+    rw (p.1, p.2) (inl (c.in_err-job.ensures.read, (refl, refl)))
+
+pub returns-clause-stopped : goal.returns-clause-stopped
+returns-clause-stopped g c = stops_script c.play.result _ _ _ _ _ c.in_ok-job.job _ _ _ _ c.in_ok-job.ensures.job
+    (subst (λ (es : List WorldEvent). IfErr c.play.result (StopsTaped g.T.Tape.takes g.T.Tape.refuses g.O.Write.contents (founding c.in_ok-job.job.settings) es c.args.tape.now c.play.new.tape c.args.output.now c.play.new.output)) c.as_slice.ensures.value c.play.ensures.stopped)
