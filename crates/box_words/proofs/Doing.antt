@@ -1,5 +1,5 @@
 -- Deeds, one behind the other, and the faults that they lead to.
-use Rattle.std.proofs.Common.{◌≡◌, ◌∙◌, ◌<◌, ◌≤◌, ◌-◌, ◌^◌, ◌+◌, ◌++◌, inl, inr, ℕ, suc, List, [], ◌∷◌, length, Option, Some, None, IsSome, is_some, Bool, false, not, Result, Ok, Err, OnOk, IfErr, refl, sym, ap, subst, arith, string_bytes}
+use Rattle.std.proofs.Common.{◌≡◌, ◌∙◌, ◌<◌, ◌≤◌, ◌-◌, ◌^◌, inl, inr, ℕ, suc, List, [], ◌∷◌, length, Option, Some, None, IsSome, is_some, Bool, false, not, Result, Ok, Err, OnOk, IfErr, refl, sym, ap, subst, arith, append-nil, string_bytes}
 use Rattle.std.specs.Prelude.{IsErrAnd, IsErrOf}
 use Rattle.std.specs.Io.KnownBytes.{Appends, Keeps}
 use Rattle.std.proofs.KnownBytes.{Appends-kept, Appends-trans}
@@ -15,13 +15,15 @@ use Rattle.control.specs.Paths.{IsBeside, Paths, socket_of}
 use Rattle.control.specs.declared.paths.PathFault.{PathFault}
 use Rattle.control.specs.declared.paths.PathFault.TheVariants as path
 use Rattle.control.specs.declared.words.Word.{Word}
-use Rattle.control.specs.declared.words.Word.TheVariants.{Pairs}
 use Rattle.faults.specs.Faults.{IsUnread, of_setting}
 use Rattle.faults.specs.declared.faults.Fault.{Fault}
 use Rattle.faults.specs.declared.faults.Fault.TheVariants.{NotWritten}
+use Rattle.outlets.specs.Printed.{IsBegun}
+use Rattle.reports.specs.declared.reports.Report.{Report}
 use Rattle.report_texts.specs.declared.pairs.Filter.{Filter}
-use Rattle.box_words.specs.Deeds.{Does, Fails, HasFailed, HasListed, HasPage, HasPages, HasSynced, HasTaken, HasUnlisted, IsAwaited, IsAwaitedInVain, IsBoxOf, IsBroken, IsInVain, IsNotSynced, IsSyncedAt, IsUnpaged, IsUnprinted, IsUnreached, IsWaitedFor, Lists, asked, lines_of, page_lines, read, unread}
+use Rattle.box_words.specs.Deeds.{Does, Fails, HasFailed, HasListed, HasPage, HasPages, HasReported, HasSynced, HasTaken, HasUnlisted, HasUnreported, IsAwaited, IsAwaitedInVain, IsBoxOf, IsBroken, IsCutShort, IsInVain, IsNotSynced, IsSyncedAt, IsUnpaged, IsUnreached, IsUnreported, IsWaitedFor, Lists, Reports, asked, lines_of, page_lines, read, text_of, unread}
 use Rattle.box_words.specs.Faults.{TellsNoPath, TellsSocket, of_path}
+use Rattle.box_words.specs.declared.asking.Form.{Form}
 use Rattle.box_words.specs.declared.refusals.BoxFault.{BoxFault}
 use Rattle.box_words.specs.declared.refusals.BoxFault.TheVariants as fault
 
@@ -197,37 +199,39 @@ reached_listed does settings id filter boot_file path old mid new before between
   };
 }
 
--- the first one couldn't be had
+-- the first one couldn't be had, or was cut short
 pub first_broken : {S O : Type 0} (does : Does S) (prints : O → Option (List ℕ)) (filter : Filter) (old new : O) (path : Paths) (why : BoxFault) (before after : S)
-    → IsUnpaged does None path why before after → IsUnprinted why old new → IsBroken does prints filter old new path why before after
-first_broken does prints filter old new path why before after last unprinted =
-    record { pages = []; between = before; listed = refl; last = inl (tt, last); printed = unprinted }
+    → IsUnpaged does prints filter None old new path why before after → IsBroken does prints filter old new path why before after
+first_broken does prints filter old new path why before after last =
+    record { pages = []; between = before; middle = old; listed = refl; printed = refl; last = inl (tt, last) }
 
--- the next one couldn't
+-- the next one couldn't, or was
 pub next_broken : {S O : Type 0} (does : Does S) (prints : O → Option (List ℕ)) (filter : Filter) (old mid new : O) (path : Paths) (next : Option Key) (why : BoxFault) (before middle after : S)
-    → HasPages does path next filter (prints old) (prints mid) before middle → IsSome next → IsUnpaged does next path why middle after
-    → IsUnprinted why mid new → IsBroken does prints filter old new path why before after
-next_broken {O = O} does prints filter old mid new path next why before middle after had some last unprinted = record {
+    → HasPages does path next filter (prints old) (prints mid) before middle → IsSome next → IsUnpaged does prints filter next mid new path why middle after
+    → IsBroken does prints filter old new path why before after
+next_broken does prints filter old mid new path next why before middle after had some last = record {
   pages = had.newest ∷ had.earlier;
   between = middle;
+  middle = mid;
   listed = had.listed;
+  printed = had.written;
   last = inl (
     subst (λ (k : Option Key). IsSome k) (sym had.goes_on) some,
-    subst (λ (k : Option Key). IsUnpaged does k path why middle after) (sym had.goes_on) last,
+    subst (λ (k : Option Key). IsUnpaged does prints filter k mid new path why middle after) (sym had.goes_on) last,
   );
-  printed = λ other. subst (λ (o : O). Appends (prints old) (prints o) (lines_of filter (had.newest ∷ had.earlier))) (sym (unprinted other)) had.written;
 }
 
--- the last one couldn't be written to its end
-pub last_broken : {S O : Type 0} (does : Does S) (prints : O → Option (List ℕ)) (filter : Filter) (old mid new : O) (path : Paths) (next : Option Key) (before after : S)
-    → HasPages does path next filter (prints old) (prints mid) before after
+-- all of them came, and couldn't be flushed
+pub last_broken : {S O : Type 0} (does : Does S) (prints : O → Option (List ℕ)) (filter : Filter) (old mid new : O) (path : Paths) (before after : S)
+    → HasPages does path None filter (prints old) (prints mid) before after → Keeps (prints mid) (prints new)
     → IsBroken does prints filter old new path (fault.Run NotWritten) before after
-last_broken does prints filter old mid new path next before after had = record {
-  pages = had.earlier;
-  between = had.listed.0;
-  listed = had.listed.1.0;
-  last = inl (had.listed.1.1.0, inr (had.newest, (had.listed.1.1.1, refl)));
-  printed = λ other. absurd (other refl);
+last_broken does prints filter old mid new path before after had kept = record {
+  pages = had.newest ∷ had.earlier;
+  between = after;
+  middle = mid;
+  listed = had.listed;
+  printed = had.written;
+  last = inr (inr (had.goes_on, (kept, (refl, refl))));
 }
 
 -- there are too many
@@ -237,18 +241,14 @@ pub too_many : {S O : Type 0} (does : Does S) (prints : O → Option (List ℕ))
 too_many does prints filter old new path count next why before after h many told = record {
   pages = h.0.newest ∷ h.0.earlier;
   between = after;
+  middle = new;
   listed = h.0.listed;
-  last = inr (many_pages count (length h.0.earlier) h.1 many, (refl, told));
-  printed = λ other. h.0.written;
+  printed = h.0.written;
+  last = inr (inl (many_pages count (length h.0.earlier) h.1 many, (refl, (refl, told))));
 }
   where
     many_pages : (count pages : ℕ) → pages ≡ count → 2 ^ 64 - 1 ≤ count → 2 ^ 64 ≤ suc pages
     many_pages count pages counted many = omega arith
-
--- an output that was refused may have anything
-pub refused : {T O : Type 0} (r : Result T BoxFault) (old new : O) → IsErrAnd r (λ e. e ≡ fault.Run NotWritten) → IfErr r (λ why. IsUnprinted why old new)
-refused (Ok x) old new is = tt
-refused (Err e) old new is = λ other. absurd (other is)
 
 -- no pages of a box that wasn't reached
 pub no_pages : {S T O : Type 0} (r : Result T BoxFault) (does : Does S) (prints : O → Option (List ℕ)) (settings : List ℕ) (id : GatewayId) (filter : Filter) (old : O) (why : BoxFault) (before after : S)
@@ -264,3 +264,59 @@ pub ended_pages : {S T O : Type 0} (r : Result T BoxFault) (does : Does S) (prin
 ended_pages r does prints settings id filter old new boot_file path why before between after box beside is broken =
     handed_on r (λ why. HasUnlisted does prints settings id filter why old new before after) why is
     (inr (record { path = path; between = between; reached = record { boot_file = boot_file; box = box; beside = beside }; done_it = broken }))
+
+-- ---- a text that is there before it is written
+
+-- the output refused it
+pub refused_in : {O : Type 0} (prints : O → Option (List ℕ)) (text bytes : List ℕ) (old new : O) → bytes ≡ text → IsBegun (prints old) (prints new) bytes
+    → IsCutShort prints text (fault.Run NotWritten) old new
+refused_in prints text bytes old new is begun = inr (refl, subst (λ (bs : List ℕ). IsBegun (prints old) (prints new) bs) is begun)
+
+-- it refused to be flushed, and has all of it
+pub refused_behind : {O : Type 0} (prints : O → Option (List ℕ)) (text bytes : List ℕ) (old mid new : O) → bytes ≡ text → Appends (prints old) (prints mid) bytes
+    → Keeps (prints mid) (prints new) → IsCutShort prints text (fault.Run NotWritten) old new
+refused_behind prints text bytes old mid new is written kept = refused_in prints text bytes old new is (record {
+  rest = [];
+  part = record { written = bytes; split = sym (append-nil bytes); appended = Appends-kept (prints old) (prints mid) (prints new) bytes written kept };
+})
+
+-- no report of a box that wasn't reached
+pub no_report : {S T O : Type 0} (r : Result T BoxFault) (does : Does S) (prints : O → Option (List ℕ)) (settings : List ℕ) (id : GatewayId) (form : Form) (old : O) (why : BoxFault) (before after : S)
+    → IsErrAnd r (λ e. e ≡ why) → IsUnreached does settings id why before after
+    → IfErr r (λ why. HasUnreported does prints settings id form why old old before after)
+no_report r does prints settings id form old why before after is unreached =
+    handed_on r (λ why. HasUnreported does prints settings id form why old old before after) why is (inl (unreached, refl))
+
+-- one that was reached answered by none
+pub none_came : {S T O : Type 0} (r : Result T BoxFault) (does : Does S) (prints : O → Option (List ℕ)) (settings : List ℕ) (id : GatewayId) (form : Form) (old : O) (boot_file : List ℕ) (path : Paths) (why : BoxFault) (before between after : S)
+    → IsBoxOf does settings id boot_file before between → IsBeside boot_file path → IsErrAnd r (λ e. e ≡ why)
+    → IsUnreported does path why between after → IfErr r (λ why. HasUnreported does prints settings id form why old old before after)
+none_came r does prints settings id form old boot_file path why before between after box beside is unreported =
+    handed_on r (λ why. HasUnreported does prints settings id form why old old before after) why is
+    (inr (record { path = path; between = between; reached = record { boot_file = boot_file; box = box; beside = beside }; done_it = inl (unreported, refl) }))
+
+-- it answered by one that was cut short
+pub report_cut : {S T O : Type 0} (r : Result T BoxFault) (does : Does S) (prints : O → Option (List ℕ)) (settings : List ℕ) (id : GatewayId) (form : Form) (old new : O) (boot_file : List ℕ) (path : Paths) (report : Report) (before between after : S)
+    → IsBoxOf does settings id boot_file before between → IsBeside boot_file path → Reports does path report between after
+    → IfErr r (λ why. IsCutShort prints (text_of form report) why old new) → IfErr r (λ why. HasUnreported does prints settings id form why old new before after)
+report_cut (Ok x) does prints settings id form old new boot_file path report before between after box beside came cut = tt
+report_cut (Err e) does prints settings id form old new boot_file path report before between after box beside came cut = inr (record {
+  path = path;
+  between = between;
+  reached = record { boot_file = boot_file; box = box; beside = beside };
+  done_it = inr (report, (came, cut));
+})
+
+-- it answered by one that was written
+pub report_written : {S T E : Type 0} (r : Result T E) (does : Does S) (settings : List ℕ) (id : GatewayId) (form : Form) (old new : Option (List ℕ)) (boot_file : List ℕ) (path : Paths) (report : Report) (before between after : S)
+    → IsBoxOf does settings id boot_file before between → IsBeside boot_file path → Reports does path report between after
+    → OnOk r (Appends old new (text_of form report)) → OnOk r (HasReported does settings id form old new before after)
+report_written (Ok x) does settings id form old new boot_file path report before between after box beside came written = record {
+  path = path;
+  between = between;
+  reached = record { boot_file = boot_file; box = box; beside = beside };
+  report = report;
+  reports = came;
+  written = written;
+}
+report_written (Err e) does settings id form old new boot_file path report before between after box beside came written = tt

@@ -1,6 +1,6 @@
 -- What an operator's command does at a site.
-use Rattle.std.specs.Prelude.{◌≡◌, ◌≢◌, ◌⊎◌, ◌≤◌, ◌^◌, ◌++◌, ℕ, zero, suc, List, [], ◌∷◌, length, Option, Some, None, IsSome, true, false, Ok, string_bytes, if◌then◌else◌}
-use Rattle.std.specs.Io.KnownBytes.{Appends}
+use Rattle.std.specs.Prelude.{◌≡◌, ◌⊎◌, ◌≤◌, ◌^◌, ◌++◌, ℕ, zero, suc, List, [], ◌∷◌, length, Option, Some, None, IsSome, true, false, Ok, string_bytes, if◌then◌else◌}
+use Rattle.std.specs.Io.KnownBytes.{Appends, Keeps}
 use Rattle.std.specs.List.{flat_map}
 use Rattle.toml.specs.Parse.{parse_document}
 use Rattle.nat_types.specs.declared.gateways.GatewayId.{GatewayId}
@@ -15,7 +15,8 @@ use Rattle.control.specs.declared.words.Word.TheVariants.{Pairs}
 use Rattle.boot_file.specs.declared.faults.FileFault.{FileFault}
 use Rattle.faults.specs.Faults.{IsUnread}
 use Rattle.faults.specs.declared.faults.Fault.{Fault}
-use Rattle.faults.specs.declared.faults.Fault.TheVariants.{NotWritten}
+use Rattle.faults.specs.declared.faults.Fault.TheVariants.{NoMemory, NotWritten}
+use Rattle.outlets.specs.Printed.{IsBegun}
 use Rattle.reports.specs.Formats.{reading}
 use Rattle.reports.specs.Pages.{Page, last_of}
 use Rattle.reports.specs.Reports.{page as page_format, report as report_format}
@@ -164,22 +165,20 @@ pub record HasReported {S : Type 0} (does : Does S) (settings : List ℕ) (id : 
 abbrev pub IsUnreported : {S : Type 0} → Does S → Paths → BoxFault → S → S → Type 0
 IsUnreported does path why before after = IsInVain does path (Some said_status) TellsUnreported why before after
 
--- what came couldn't be written
-abbrev pub IsUnwritten : {X S : Type 0} → (X → S → S → Type 0) → BoxFault → S → S → Type 0
-IsUnwritten {X = X} came why before after = (what : X) × (came what before after × (why ≡ fault.Run NotWritten))
+-- there was no memory for a text, and nothing was printed; or the output refused it, and has a beginning of it
+abbrev pub IsCutShort : {O : Type 0} → (O → Option (List ℕ)) → List ℕ → BoxFault → O → O → Type 0
+IsCutShort prints text why old new = ((why ≡ fault.Run NoMemory) × (new ≡ old))
+    ⊎ ((why ≡ fault.Run NotWritten) × IsBegun (prints old) (prints new) text)
 
--- that, or by one that couldn't be written
-abbrev pub IsUnshown : {S : Type 0} → Does S → Paths → BoxFault → S → S → Type 0
-IsUnshown does path why before after = IsUnreported does path why before after ⊎ IsUnwritten (Reports does path) why before after
+-- a box was asked how it stands, and answered by no report, and nothing was printed; or by one whose text was cut short
+abbrev pub IsUnshown : {S O : Type 0} → Does S → (O → Option (List ℕ)) → Form → O → O → Paths → BoxFault → S → S → Type 0
+IsUnshown does prints form old new path why before after = (IsUnreported does path why before after × (new ≡ old))
+    ⊎ ((report : Report) × (Reports does path report before after × IsCutShort prints (text_of form report) why old new))
 
--- only an output that is refused may have something
-abbrev pub IsUnprinted : {O : Type 0} → BoxFault → O → O → Type 0
-IsUnprinted why old new = why ≢ fault.Run NotWritten → new ≡ old
-
--- just that box was asked so, or none was reached; and nothing was printed but what an output that is refused may have
-pub record HasUnreported {S O : Type 0} (does : Does S) (settings : List ℕ) (id : GatewayId) (why : BoxFault) (old new : O) (before after : S) : Type 0 where
-  pub failed : HasFailed does settings id (IsUnshown does) why before after
-  pub unprinted : IsUnprinted why old new
+-- just that box was asked so; or none was reached, and nothing was printed
+abbrev pub HasUnreported : {S O : Type 0} → Does S → (O → Option (List ℕ)) → List ℕ → GatewayId → Form → BoxFault → O → O → S → S → Type 0
+HasUnreported does prints settings id form why old new before after = (IsUnreached does settings id why before after × (new ≡ old))
+    ⊎ IsDoneAt does settings id (λ path. IsUnshown does prints form old new path why) before after
 
 -- a box was asked how it stands, and answered that it is synced
 pub record IsSyncedAt {S : Type 0} (does : Does S) (path : Paths) (before after : S) : Type 0 where
@@ -253,13 +252,14 @@ AreListed {S = S} does path (page ∷ earlier) before after =
 abbrev pub IsUnlisted : {S : Type 0} → Does S → Option Key → Paths → BoxFault → S → S → Type 0
 IsUnlisted does behind path why before after = IsInVain does path (Some (Pairs behind)) TellsUnlisted why before after
 
--- that, or by one whose lines couldn't be written
-abbrev pub IsUnpaged : {S : Type 0} → Does S → Option Key → Paths → BoxFault → S → S → Type 0
-IsUnpaged does behind path why before after = IsUnlisted does behind path why before after ⊎ IsUnwritten (Lists does path behind) why before after
-
 -- the lines of a page's pairs that pass a filter
 abbrev pub page_lines : Filter → Page → List ℕ
 page_lines filter page = flat_map (wanted_line filter) page.entries
+
+-- a box was asked so, and answered by no page, and nothing more was printed; or by one whose lines were cut short
+abbrev pub IsUnpaged : {S O : Type 0} → Does S → (O → Option (List ℕ)) → Filter → Option Key → O → O → Paths → BoxFault → S → S → Type 0
+IsUnpaged does prints filter behind old new path why before after = (IsUnlisted does behind path why before after × (new ≡ old))
+    ⊎ ((page : Page) × (Lists does path behind page before after × IsCutShort prints (page_lines filter page) why old new))
 
 -- the lines of these pages, the newest of which comes first: they stand in the order of the pages
 abbrev pub lines_of : Filter → List Page → List ℕ
@@ -271,18 +271,31 @@ abbrev pub ArePrinted : {O : Type 0} → (O → Option (List ℕ)) → Filter �
 ArePrinted prints filter [] old new = new ≡ old
 ArePrinted prints filter (page ∷ earlier) old new = Appends (prints old) (prints new) (lines_of filter (page ∷ earlier))
 
--- behind so many pages none is asked for: as if nobody heard there
-abbrev pub AreTooMany : {S : Type 0} → Paths → List Page → BoxFault → S → S → Type 0
-AreTooMany path pages why before after = (2 ^ 64 ≤ length pages) × ((after ≡ before) × TellsSocket path.socket why)
+-- behind so many pages none is asked for, and nothing more is printed: as if nobody heard there
+abbrev pub AreTooMany : {S O : Type 0} → Paths → List Page → BoxFault → O → O → S → S → Type 0
+AreTooMany path pages why old new before after =
+    (2 ^ 64 ≤ length pages) × ((new ≡ old) × ((after ≡ before) × TellsSocket path.socket why))
 
--- some pages came; and then none, or one whose lines couldn't be written. Just theirs were printed, but for what an output that is
--- refused may have
+-- there are some, and none follows these
+abbrev pub AreAll : List Page → Type 0
+AreAll [] = ⊥
+AreAll (page ∷ earlier) = next_of page ≡ None
+
+-- none follows these, and nothing more was printed: the output, which has all of their lines, refused to be flushed
+abbrev pub AreUnflushed : {S O : Type 0} → (O → Option (List ℕ)) → List Page → BoxFault → O → O → S → S → Type 0
+AreUnflushed prints pages why old new before after =
+    AreAll pages × (Keeps (prints old) (prints new) × ((after ≡ before) × (why ≡ fault.Run NotWritten)))
+
+-- some pages came, and just their lines were printed; and then no page came, or one whose lines were cut short; or there were too many;
+-- or they were all, and couldn't be flushed
 pub record IsBroken {S O : Type 0} (does : Does S) (prints : O → Option (List ℕ)) (filter : Filter) (old new : O) (path : Paths) (why : BoxFault) (before after : S) : Type 0 where
   pub pages : List Page
   pub between : S
+  pub middle : O
   pub listed : AreListed does path pages before between
-  pub last : (IsFollowed pages × IsUnpaged does (next_behind pages) path why between after) ⊎ AreTooMany path pages why between after
-  pub printed : why ≢ fault.Run NotWritten → ArePrinted prints filter pages old new
+  pub printed : ArePrinted prints filter pages old middle
+  pub last : (IsFollowed pages × IsUnpaged does prints filter (next_behind pages) middle new path why between after)
+      ⊎ (AreTooMany path pages why middle new between after ⊎ AreUnflushed prints pages why middle new between after)
 
 -- just that box was asked for its pages, one behind the other, up to such a one; or none was reached, and nothing was printed
 abbrev pub HasUnlisted : {S O : Type 0} → Does S → (O → Option (List ℕ)) → List ℕ → GatewayId → Filter → BoxFault → O → O → S → S → Type 0

@@ -6,10 +6,10 @@ ghost use Rattle.control.specs.Answers.{answer_of};
 ghost use Rattle.control.specs.Paths.{IsBeside};
 ghost use Rattle.control.specs.Words.{word_of};
 ghost use Rattle.outlets.specs.Telling.{IsToldOf};
-ghost use Rattle.box_words.specs.Deeds.{HasFailed, HasListed, HasPage, HasPages, HasReported, HasSynced};
+ghost use Rattle.box_words.specs.Deeds.{HasListed, HasPage, HasPages, HasReported, HasSynced};
 ghost use Rattle.box_words.specs.Deeds.{HasUnlisted, HasUnreported, HasUnsynced, IsAwaited, IsAwaitedInVain, IsBroken};
-ghost use Rattle.box_words.specs.Deeds.{IsNotSynced, IsSyncedAt, IsUnheard, IsUnlisted, IsUnpaged, IsUnprinted, IsUnreported, IsUnshown};
-ghost use Rattle.box_words.specs.Deeds.{Lists, Reports, asked as deed_asked, next_of, text_of};
+ghost use Rattle.box_words.specs.Deeds.{IsCutShort, IsNotSynced, IsSyncedAt, IsUnheard, IsUnlisted, IsUnpaged, IsUnreported};
+ghost use Rattle.box_words.specs.Deeds.{Lists, Reports, asked as deed_asked, next_of, page_lines, text_of};
 ghost use Rattle.box_words.specs.Faults.{fault_text};
 ghost use Rattle.box_words.specs.Said.{said_status};
 
@@ -17,8 +17,8 @@ use crate::refusals::BoxFault;
 use crate::saying::{Line, line_to};
 use crate::sites::Site;
 use control::{Answer, spelled_pairs, spelled_pairs_after, spelled_status};
-use nat_types::{GatewayId, Key};
-use outlets::Tells;
+use nat_types::{GatewayId, Key, NoMemory};
+use outlets::{Tells, put};
 use report_texts::{Filter, write_json, write_metrics, write_pairs, write_people};
 use reports::{Page, Report};
 use std::alloc::Global;
@@ -58,7 +58,8 @@ pub fn status<S: Site, O: Write, E: Tells>(
         (O.contents output.new) site.old site.new }
     ensures quiet { result ≡ 0 → errors.new ≡ errors.old }
     ensures failed { result ≡ 1 → IsToldOf E.tells fault_text (λ fault. HasUnreported S.does
-        settings.now id fault output.old output.new site.old site.new) errors.old errors.new }
+        O.contents settings.now id form fault output.old output.new site.old site.new)
+        errors.old errors.new }
 {
     match written(alloc, site, settings, id, form, output) {
         Ok(()) => 0,
@@ -76,18 +77,45 @@ fn written<S: Site, O: Write>(
 ) -> Result<(), BoxFault>
     ensures reported { OnOk result (HasReported S.does settings.now id form
         (O.contents output.old) (O.contents output.new) site.old site.new) }
-    ensures failed { IfErr result (λ fault. HasFailed S.does settings.now id (IsUnshown S.does)
-        fault site.old site.new) }
-    ensures unprinted { IfErr result (λ fault. IsUnprinted fault output.old output.new) }
+    ensures failed { IfErr result (λ fault. HasUnreported S.does O.contents settings.now id form
+        fault output.old output.new site.old site.new) }
 {
     let line = line_to(alloc, site, settings, id)?;
     let report = reported(alloc, site, &line)?;
-    write_report(output, form, &report)?;
+    print_report(alloc, form, &report, output)
+}
+
+/// Prints a report in a form, to the text's end. All of the text is there before any of it is written.
+fn print_report<O: Write>(
+    alloc: Global,
+    form: Form,
+    report: &Report,
+    output: &mut O,
+) -> Result<(), BoxFault>
+    ensures written { OnOk result (Appends (O.contents output.old) (O.contents output.new)
+        (text_of form report.now)) }
+    ensures cut { IfErr result (λ fault. IsCutShort O.contents (text_of form report.now) fault
+        output.old output.new) }
+{
+    let text = report_text(alloc, form, report)?;
+    put(output, text.as_slice())?;
+    output.flush()?;
     Ok(())
 }
 
+/// The text of a report in a form.
+fn report_text(alloc: Global, form: Form, report: &Report) -> Result<Vec<u8>, NoMemory>
+    ensures { IfOk result (λ text. text.items ≡ text_of form report.now) }
+{
+    let mut text = Vec::new(alloc);
+    match write_report(&mut text, form, report) {
+        Ok(()) => Ok(text),
+        Err(_) => Err(NoMemory),
+    }
+}
+
 /// Writes a report in a form.
-fn put_report<O: Write>(output: &mut O, form: Form, report: &Report) -> io::Result<()>
+fn write_report<O: Write>(output: &mut O, form: Form, report: &Report) -> io::Result<()>
     ensures { OnOk result (Appends (O.contents output.old) (O.contents output.new)
         (text_of form report.now)) }
 {
@@ -96,15 +124,6 @@ fn put_report<O: Write>(output: &mut O, form: Form, report: &Report) -> io::Resu
         Form::Json => write_json(output, report),
         Form::Prometheus => write_metrics(output, report),
     }
-}
-
-/// The same, to its end.
-fn write_report<O: Write>(output: &mut O, form: Form, report: &Report) -> io::Result<()>
-    ensures { OnOk result (Appends (O.contents output.old) (O.contents output.new)
-        (text_of form report.now)) }
-{
-    put_report(output, form, report)?;
-    output.flush()
 }
 
 /// The report of the box at a line's end.
@@ -317,13 +336,40 @@ fn written_page<S: Site, O: Write>(
     requires beside { IsBeside (string_bytes line.now.boot_file) line.now.path }
     ensures page { IfOk result (λ next. HasPage S.does line.now.path behind next filter.now
         (O.contents output.old) (O.contents output.new) site.old site.new) }
-    ensures failed { IfErr result (λ fault. IsUnpaged S.does behind line.now.path fault
-        site.old site.new) }
-    ensures unprinted { IfErr result (λ fault. IsUnprinted fault output.old output.new) }
+    ensures failed { IfErr result (λ fault. IsUnpaged S.does O.contents filter.now behind
+        output.old output.new line.now.path fault site.old site.new) }
 {
     let page = page_behind(alloc, site, line, behind)?;
-    write_pairs(output, &page, filter)?;
+    print_page(alloc, &page, filter, output)?;
     Ok(next_key(&page))
+}
+
+/// Prints the lines of a page's pairs that pass a filter. All of them are there before any of them is written.
+fn print_page<O: Write>(
+    alloc: Global,
+    page: &Page,
+    filter: &Filter,
+    output: &mut O,
+) -> Result<(), BoxFault>
+    ensures written { OnOk result (Appends (O.contents output.old) (O.contents output.new)
+        (page_lines filter.now page.now)) }
+    ensures cut { IfErr result (λ fault. IsCutShort O.contents (page_lines filter.now page.now)
+        fault output.old output.new) }
+{
+    let lines = page_text(alloc, page, filter)?;
+    put(output, lines.as_slice())?;
+    Ok(())
+}
+
+/// The lines of a page's pairs that pass a filter.
+fn page_text(alloc: Global, page: &Page, filter: &Filter) -> Result<Vec<u8>, NoMemory>
+    ensures { IfOk result (λ text. text.items ≡ page_lines filter.now page.now) }
+{
+    let mut text = Vec::new(alloc);
+    match write_pairs(&mut text, page, filter) {
+        Ok(()) => Ok(text),
+        Err(_) => Err(NoMemory),
+    }
 }
 
 /// The key behind which the next page begins, where others follow.

@@ -13,7 +13,7 @@ returns-in_err-listed_at-clause-failed g c =
 pub returns-in_err-flush-clause-failed : goal.returns-in_err-flush-clause-failed
 returns-in_err-flush-clause-failed g c =
     ended_pages c.from_residual-in_err-flush.result _ _ _ _ _ _ _ _ _ _ _ _ _ c.in_ok-line.ensures.reached c.in_ok-line.ensures.beside
-    c.from_residual-in_err-flush.ensures.1 (last_broken _ _ _ _ _ _ _ _ _ _ c.in_ok-listed_at.ensures.listed)
+    c.from_residual-in_err-flush.ensures.1 (last_broken _ _ _ _ _ _ _ _ _ c.in_ok-listed_at.ensures.listed c.in_err-flush.ensures.bytes)
 
 pub returns-in_err-line-clause-failed : goal.returns-in_err-line-clause-failed
 returns-in_err-line-clause-failed g c = no_pages c.from_residual.result _ _ _ _ _ _ _ _ _ c.from_residual.ensures.1 c.in_err-line.ensures.unreached

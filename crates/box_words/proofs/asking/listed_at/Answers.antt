@@ -11,11 +11,11 @@ loop-preserved g c =
 
 pub returns-in_err-next-clause-broken : goal.returns-in_err-next-clause-broken
 returns-in_err-next-clause-broken g c = handed_on c.from_residual.result _ _ c.from_residual.ensures.1
-    (first_broken _ _ _ _ _ _ _ _ _ c.in_err-next.ensures.failed c.in_err-next.ensures.unprinted)
+    (first_broken _ _ _ _ _ _ _ _ _ c.in_err-next.ensures.failed)
 
 pub returns-in_err-next-2-clause-broken : goal.returns-in_err-next-2-clause-broken
 returns-in_err-next-2-clause-broken g c = handed_on c.from_residual-in_err-next-2.result _ _ c.from_residual-in_err-next-2.ensures.1
-    (next_broken _ _ _ _ _ _ _ _ _ _ _ _ c.loop.invariant.0 (some_left _ _ c.is_none.ensures c.if-is_none.false) c.in_err-next-2.ensures.failed c.in_err-next-2.ensures.unprinted)
+    (next_broken _ _ _ _ _ _ _ _ _ _ _ _ c.loop.invariant.0 (some_left _ _ c.is_none.ensures c.if-is_none.false) c.in_err-next-2.ensures.failed)
 
 pub returns-clause-broken : goal.returns-clause-broken
 returns-clause-broken g c = too_many _ _ _ _ _ _ _ _ _ _ _ c.loop.invariant (omega arith) c.unheard.ensures
