@@ -1,12 +1,18 @@
 -- The boot of a gateway that begins.
-use Rattle.std.proofs.Common.{IsErrOf, ◌≡◌, ◌⊎◌, inl, inr, ◌<◌, ◌≤◌, ℕ, Bool, true, false, Result, Ok, Err, IfOk, refl, sym, subst, arith, if◌then◌else◌}
+use Rattle.std.proofs.Common.{IsErrOf, ◌≡◌, ◌⊎◌, inl, inr, ◌<◌, ◌≤◌, ℕ, Bool, true, false, Result, Ok, Err, IfOk, refl, sym, ap, ◌∙◌, subst, arith, if◌then◌else◌}
 use Rattle.std.proofs.lemmas.Bool.{cases_lt}
 use Rattle.nat_types.specs.declared.gateways.GatewayId.{GatewayId}
 use Rattle.settings.specs.declared.whole.Settings.{Settings}
 use Rattle.slots.specs.declared.hashers.Hashers.{Hashers}
 use Rattle.spec_step.specs.Shown.{Shown}
 use Rattle.spec_step.specs.Founding.{begun, founded, hashing}
-use Rattle.gate.specs.Boots.{HasBoot, IsStart}
+use Rattle.boot_store.specs.Crash.{Decides}
+use Rattle.boot_store.specs.Moment.{Moment}
+use Rattle.boot_store.specs.declared.faults.BootFault.{BootFault}
+use Rattle.boot_store.specs.declared.faults.BootFault.TheVariants as boot
+use Rattle.box_words.specs.Faults.{of_boot}
+use Rattle.box_words.specs.declared.refusals.BoxFault.{BoxFault}
+use Rattle.gate.specs.Boots.{HasBoot, IsStart, TellsNumber}
 
 of_begun : (settings : Settings) (id : GatewayId) (hashers : Hashers) (boot : ℕ) → HasBoot boot (hashing hashers (begun settings id boot))
 unfolding HasBoot begun
@@ -47,3 +53,16 @@ none_failed n before after fault later failed = same (cases_lt before after)
     same : (before < after) ⊎ (after ≤ before) → after ≡ before
     same (inl less) = absurd (subst is_ok (failed less) tt)
     same (inr most) = omega (arith, later, most)
+
+-- and where none is, a call has failed, or the bytes decide
+pub tells_number : (found : Bool) (now now2 : Moment) (before after : ℕ) (reason : BootFault) (why : BoxFault)
+    → why ≡ of_boot reason → before ≤ after → (before < after → IsErrOf {T = ℕ} (Err reason) boot.Device)
+    → (after ≡ before → Decides found now now2 (Err reason)) → TellsNumber found now now2 why
+tells_number found now now2 before after reason why told later failed decided = by (cases_lt before after)
+  where
+    same : IsErrOf {T = ℕ} (Err reason) boot.Device → reason ≡ boot.Device
+    same is = cc
+
+    by : (before < after) ⊎ (after ≤ before) → TellsNumber found now now2 why
+    by (inl less) = inl (told ∙ ap of_boot (same (failed less)))
+    by (inr most) = inr (reason, (told, decided (omega (arith, later, most))))

@@ -1,3 +1,4 @@
 mod Beginning
+mod Failing
 mod Refusing
 mod Serving

@@ -1,142 +1,201 @@
--- Why a start is refused.
-use Rattle.std.proofs.Common.{◌≡◌, ◌⊎◌, inl, inr, subst, ℕ, Bool, Result, Ok, Err, IfErr}
+-- What is known of a fault at which a start ends.
+use Rattle.std.proofs.Common.{◌≡◌, ◌⊎◌, ⊎_elim, inl, inr, subst, sym, refl, ℕ, Bool, List, Option, Some, None, Result, Ok, Err, IfErr}
+use Rattle.std.specs.Io.KnownBytes.{Appends}
 use Rattle.boot_store.specs.Crash.{Decides}
 use Rattle.boot_store.specs.Moment.{Moment}
-use Rattle.sockets.specs.declared.ways.Ways.{Ways}
-use Rattle.box_words.specs.Faults.{IsBeforeBoot, IsOfNoWay, IsOfRun, IsOfStart}
-use Rattle.gate.specs.Boots.{IsInOrder, IsInSomeOrder, IsTaken}
-use Rattle.gate.specs.Starts.{AreWays, Refuses}
+use Rattle.box_words.specs.Faults.{IsBeforeBoot, IsOfRun}
 use Rattle.box_words.specs.declared.refusals.BoxFault.{BoxFault}
 use Rattle.box_words.specs.declared.refusals.BoxFault.TheVariants as fault
-use Rattle.gate.specs.declared.ways.WayTexts.{WayTexts}
+use Rattle.gate.specs.Boots.{boot_line}
+use Rattle.gate.specs.Failing.{IsUnbegun, IsUnrun, IsUnstarted, LacksBootFile, LacksControl, LacksOutput}
+use Rattle.gate.specs.Named.{WasGiven, boot_number}
+use Rattle.gate.specs.Orders.{IsInOrder, IsInSomeOrder, IsSilentOrTaken}
 
--- a fault of a run is one of a start
-run_of_start : (why : BoxFault) → IsOfRun why → IsOfStart why
-run_of_start (fault.Run reason) is = tt
-run_of_start (fault.NoWay side) is = absurd is
-run_of_start fault.NoWayOfLink is = absurd is
-run_of_start (fault.NoDescriptor reason) is = absurd is
-run_of_start fault.NoManager is = absurd is
-run_of_start (fault.NotOpen reason) is = absurd is
-run_of_start (fault.NoSocket reason) is = absurd is
-run_of_start (fault.NoControl path) is = absurd is
-run_of_start fault.LongPath is = absurd is
-run_of_start fault.Device is = absurd is
-run_of_start fault.Damaged is = absurd is
-run_of_start fault.BootsUsedUp is = absurd is
-run_of_start fault.FoundTwice is = absurd is
-run_of_start fault.InUse is = absurd is
-run_of_start (fault.NoFilter part) is = absurd is
-run_of_start (fault.NoCapture reason) is = absurd is
-run_of_start (fault.PeerOff reason) is = absurd is
-run_of_start (fault.NoReport reason) is = absurd is
-run_of_start fault.NotSynced is = absurd is
+-- a fault of a capture that isn't begun is one of a run
+pub unbegun_of_run : (capture : Option (List ℕ)) (why : BoxFault) → IsUnbegun capture why → IsOfRun why
+unbegun_of_run capture (fault.Run reason) is = tt
+unbegun_of_run capture (fault.NoWay side) is = absurd is
+unbegun_of_run capture fault.NoWayOfLink is = absurd is
+unbegun_of_run capture (fault.NoDescriptor reason) is = absurd is
+unbegun_of_run capture fault.NoManager is = absurd is
+unbegun_of_run capture (fault.NotOpen reason) is = absurd is
+unbegun_of_run capture (fault.NoSocket end) is = absurd is
+unbegun_of_run capture (fault.NoControl path) is = absurd is
+unbegun_of_run capture fault.LongPath is = absurd is
+unbegun_of_run capture fault.Device is = absurd is
+unbegun_of_run capture fault.Damaged is = absurd is
+unbegun_of_run capture fault.BootsUsedUp is = absurd is
+unbegun_of_run capture fault.FoundTwice is = absurd is
+unbegun_of_run capture fault.InUse is = absurd is
+unbegun_of_run capture (fault.NoFilter part) is = absurd is
+unbegun_of_run capture (fault.NoCapture reason) is = absurd is
+unbegun_of_run capture (fault.PeerOff reason) is = absurd is
+unbegun_of_run capture (fault.NoReport reason) is = absurd is
+unbegun_of_run capture fault.NotSynced is = absurd is
 
--- which is of no way
-start_of_no_way : (why : BoxFault) → IsOfStart why → IsOfNoWay why
-start_of_no_way (fault.Run reason) is = tt
-start_of_no_way (fault.NoWay side) is = absurd is
-start_of_no_way fault.NoWayOfLink is = absurd is
-start_of_no_way (fault.NoDescriptor reason) is = absurd is
-start_of_no_way fault.NoManager is = absurd is
-start_of_no_way (fault.NotOpen reason) is = absurd is
-start_of_no_way (fault.NoSocket reason) is = absurd is
-start_of_no_way (fault.NoControl path) is = absurd is
-start_of_no_way fault.LongPath is = absurd is
-start_of_no_way fault.Device is = tt
-start_of_no_way fault.Damaged is = tt
-start_of_no_way fault.BootsUsedUp is = tt
-start_of_no_way fault.FoundTwice is = tt
-start_of_no_way fault.InUse is = absurd is
-start_of_no_way (fault.NoFilter part) is = absurd is
-start_of_no_way (fault.NoCapture reason) is = absurd is
-start_of_no_way (fault.PeerOff reason) is = absurd is
-start_of_no_way (fault.NoReport reason) is = absurd is
-start_of_no_way fault.NotSynced is = absurd is
+-- which there is only where there is to be a capture
+unbegun_without : (why : BoxFault) → IsUnbegun None why → ⊥
+unbegun_without (fault.Run reason) is = absurd is.1
+unbegun_without (fault.NoWay side) is = absurd is
+unbegun_without fault.NoWayOfLink is = absurd is
+unbegun_without (fault.NoDescriptor reason) is = absurd is
+unbegun_without fault.NoManager is = absurd is
+unbegun_without (fault.NotOpen reason) is = absurd is
+unbegun_without (fault.NoSocket end) is = absurd is
+unbegun_without (fault.NoControl path) is = absurd is
+unbegun_without fault.LongPath is = absurd is
+unbegun_without fault.Device is = absurd is
+unbegun_without fault.Damaged is = absurd is
+unbegun_without fault.BootsUsedUp is = absurd is
+unbegun_without fault.FoundTwice is = absurd is
+unbegun_without fault.InUse is = absurd is
+unbegun_without (fault.NoFilter part) is = absurd is
+unbegun_without (fault.NoCapture reason) is = absurd is
+unbegun_without (fault.PeerOff reason) is = absurd is
+unbegun_without (fault.NoReport reason) is = absurd is
+unbegun_without fault.NotSynced is = absurd is
 
--- and of nothing before it
-not_before : {A : Type 0} (why : BoxFault) → IsOfStart why → IsBeforeBoot why → A
-not_before (fault.Run reason) is before = absurd before
-not_before (fault.NoWay side) is before = absurd is
-not_before fault.NoWayOfLink is before = absurd is
-not_before (fault.NoDescriptor reason) is before = absurd is
-not_before fault.NoManager is before = absurd is
-not_before (fault.NotOpen reason) is before = absurd is
-not_before (fault.NoSocket reason) is before = absurd is
-not_before (fault.NoControl path) is before = absurd is
-not_before fault.LongPath is before = absurd is
-not_before fault.Device is before = absurd before
-not_before fault.Damaged is before = absurd before
-not_before fault.BootsUsedUp is before = absurd before
-not_before fault.FoundTwice is before = absurd before
-not_before fault.InUse is before = absurd is
-not_before (fault.NoFilter part) is before = absurd is
-not_before (fault.NoCapture reason) is before = absurd is
-not_before (fault.PeerOff reason) is before = absurd is
-not_before (fault.NoReport reason) is before = absurd is
-not_before fault.NotSynced is before = absurd is
+-- which is of nothing before the boot number
+run_behind : {A : Type 0} (why : BoxFault) → IsOfRun why → IsBeforeBoot why → A
+run_behind (fault.Run reason) is before = absurd before
+run_behind (fault.NoWay side) is before = absurd is
+run_behind fault.NoWayOfLink is before = absurd is
+run_behind (fault.NoDescriptor reason) is before = absurd is
+run_behind fault.NoManager is before = absurd is
+run_behind (fault.NotOpen reason) is before = absurd is
+run_behind (fault.NoSocket end) is before = absurd is
+run_behind (fault.NoControl path) is before = absurd is
+run_behind fault.LongPath is before = absurd is
+run_behind fault.Device is before = absurd is
+run_behind fault.Damaged is before = absurd is
+run_behind fault.BootsUsedUp is before = absurd is
+run_behind fault.FoundTwice is before = absurd is
+run_behind fault.InUse is before = absurd is
+run_behind (fault.NoFilter part) is before = absurd is
+run_behind (fault.NoCapture reason) is before = absurd is
+run_behind (fault.PeerOff reason) is before = absurd is
+run_behind (fault.NoReport reason) is before = absurd is
+run_behind fault.NotSynced is before = absurd is
+
+-- nor is one of a gateway that isn't started
+start_behind : {A : Type 0} (why : BoxFault) → IsUnstarted why → IsBeforeBoot why → A
+start_behind (fault.Run reason) is before = absurd before
+start_behind (fault.NoWay side) is before = absurd is
+start_behind fault.NoWayOfLink is before = absurd is
+start_behind (fault.NoDescriptor reason) is before = absurd is
+start_behind fault.NoManager is before = absurd is
+start_behind (fault.NotOpen reason) is before = absurd is
+start_behind (fault.NoSocket end) is before = absurd is
+start_behind (fault.NoControl path) is before = absurd is
+start_behind fault.LongPath is before = absurd is
+start_behind fault.Device is before = absurd before
+start_behind fault.Damaged is before = absurd before
+start_behind fault.BootsUsedUp is before = absurd before
+start_behind fault.FoundTwice is before = absurd before
+start_behind fault.InUse is before = absurd is
+start_behind (fault.NoFilter part) is before = absurd is
+start_behind (fault.NoCapture reason) is before = absurd is
+start_behind (fault.PeerOff reason) is before = absurd is
+start_behind (fault.NoReport reason) is before = absurd is
+start_behind fault.NotSynced is before = absurd is
 
 -- and so does what ends with one
-pub ends_of_start : {T : Type 0} (result : Result T BoxFault) → IfErr result IsOfRun → IfErr result IsOfStart
-ends_of_start (Ok x) is = tt
-ends_of_start (Err why) is = run_of_start why is
+pub ends_unstarted : {T : Type 0} (A : Type 0) (r : Result T BoxFault) → IfErr r IsUnstarted → IfErr r (λ why. IsBeforeBoot why → A)
+ends_unstarted A (Ok x) is = tt
+ends_unstarted A (Err why) is = start_behind why is
 
-pub ends_of_no_way : {T : Type 0} (result : Result T BoxFault) → IfErr result IsOfStart → IfErr result IsOfNoWay
-ends_of_no_way (Ok x) is = tt
-ends_of_no_way (Err why) is = start_of_no_way why is
+pub ends_unrun : {T : Type 0} (A : Type 0) (capture : Option (List ℕ)) (r : Result T BoxFault) → IfErr r (IsUnrun capture) → IfErr r (λ why. IsBeforeBoot why → A)
+ends_unrun A capture (Ok x) is = tt
+ends_unrun A capture (Err why) is =
+    ⊎_elim (λ unbegun. run_behind why (unbegun_of_run capture why unbegun.1)) (start_behind why) is
 
-pub ends_behind : {T : Type 0} (A : Type 0) (result : Result T BoxFault) → IfErr result IsOfStart → IfErr result (λ why. IsBeforeBoot why → A)
-ends_behind A (Ok x) is = tt
-ends_behind A (Err why) is = not_before why is
+-- output that isn't written is a fault of a gateway that isn't started
+pub unwritten_unstarted : {T : Type 0} (r : Result T BoxFault) → WasGiven boot_number → IfErr r LacksOutput
+    → IfErr r IsUnstarted
+unwritten_unstarted (Ok x) given is = tt
+unwritten_unstarted (Err why) given is = subst IsUnstarted (sym is.0) (inl (refl, (given, is.1)))
 
--- a fault of what comes once a number was taken is in order, whatever was printed
-pub in_order : {T O : Type 0} (result : Result T BoxFault) (why : BoxFault) (honest : Type 0) (found : Bool) (before after : Moment) (boot : ℕ) (output output2 : O)
-    → result ≡ Err why → IfErr result IsOfRun → (honest → Decides found before after (Ok boot))
-    → IsInOrder honest found before after why output output2
-in_order result why honest found before after boot output output2 ends is taken =
-    inr (subst (λ r. IfErr r IsOfRun) ends is, λ h. (boot, taken h))
+-- where output alone is refused, only that is
+pub output_lacks : {T : Type 0} (r : Result T BoxFault) (P : BoxFault → Type 0) → IfErr r LacksOutput → IfErr r (λ why. LacksOutput why ⊎ P why)
+output_lacks (Ok x) P is = tt
+output_lacks (Err why) P is = inl is
 
-pub ends_in_order : {T O : Type 0} (result : Result T BoxFault) (honest : Type 0) (found : Bool) (before after : Moment) (boot : ℕ) (output output2 : O)
-    → IfErr result IsOfRun → (honest → Decides found before after (Ok boot))
-    → IfErr result (λ why. IsInOrder honest found before after why output output2)
-ends_in_order (Ok x) honest found before after boot output output2 is taken = tt
-ends_in_order (Err why) honest found before after boot output output2 is taken = inr (is, λ h. (boot, taken h))
+-- a gateway that isn't started isn't run
+pub unstarted_unrun : {T : Type 0} (capture : Option (List ℕ)) (r : Result T BoxFault) → IfErr r IsUnstarted → IfErr r (IsUnrun capture)
+unstarted_unrun capture (Ok x) is = tt
+unstarted_unrun capture (Err why) is = inr is
+
+-- the control socket beside a boot file, which is this one
+pub control_of : (path boot_file : List ℕ) (why : BoxFault) → path ≡ boot_file → LacksControl path why → LacksControl boot_file why
+control_of path boot_file why same lacks = subst (λ (p : List ℕ). LacksControl p why) same lacks
+
+-- and a boot file
+pub boot_file_at : (path boot_file : List ℕ) (why : BoxFault) → path ≡ boot_file → LacksBootFile path why → LacksBootFile boot_file why
+boot_file_at path boot_file why same lacks = subst (λ (p : List ℕ). LacksBootFile p why) same lacks
+
+-- what fails behind a part fails from that part on, with what was had of it
+pub behind_it : {T : Type 0} (r : Result T BoxFault) (P Q : BoxFault → Type 0) (A : Type 0) → A → IfErr r Q → IfErr r (λ why. P why ⊎ (A × Q why))
+behind_it (Ok x) P Q A had is = tt
+behind_it (Err why) P Q A had is = inr (had, is)
+
+-- output that is refused comes behind the number
+pub in_order : {T O : Type 0} (result : Result T BoxFault) (contents : O → Option (List ℕ)) (capture : Option (List ℕ)) (honest : Type 0) (found : Bool) (before after : Moment)
+    (boot : ℕ) (output output2 : O) → IfErr result LacksOutput → (honest → Decides found before after (Ok boot))
+    → IfErr result (λ why. IsInOrder contents capture honest found before after why output output2)
+in_order (Ok x) contents capture honest found before after boot output output2 is taken = tt
+in_order (Err why) contents capture honest found before after boot output output2 is taken = inr (boot, (taken, inl is))
+
+-- and so does a capture that isn't begun, where just the line was printed
+pub ends_in_order : {T O G M : Type 0} (result : Result T BoxFault) (contents : O → Option (List ℕ)) (path : List ℕ) (capture : Option (List ℕ)) (honest : Type 0) (found : Bool)
+    (before after : Moment) (boot : ℕ) (output between output2 : O) (g g2 : G) (m m2 : M) → capture ≡ Some path
+    → IfErr result (λ why. LacksOutput why ⊎ (IsUnbegun (Some path) why × ((output2 ≡ between) × ((m2 ≡ m) × (g2 ≡ g)))))
+    → (honest → Decides found before after (Ok boot)) → Appends (contents output) (contents between) (boot_line boot)
+    → IfErr result (λ why. IsInOrder contents capture honest found before after why output output2)
+ends_in_order (Ok x) contents path capture honest found before after boot output between output2 g g2 m m2 same is taken printed = tt
+ends_in_order (Err why) contents path capture honest found before after boot output between output2 g g2 m m2 same (inl lacks) taken printed =
+    inr (boot, (taken, inl lacks))
+ends_in_order (Err why) contents path capture honest found before after boot output between output2 g g2 m m2 same (inr unbegun) taken printed =
+    inr (
+      boot,
+      (
+        taken,
+        inr (
+          subst (λ p. IsUnbegun p why) (sym same) unbegun.0,
+          subst (λ o. Appends (contents output) (contents o) (boot_line boot)) (sym unbegun.1.0) printed,
+        ),
+      ),
+    )
+
+-- and both are of a gateway that isn't run
+pub unrun_so : {T O G M : Type 0} (result : Result T BoxFault) (path : List ℕ) (capture : Option (List ℕ)) (between output2 : O) (g g2 : G) (m m2 : M) → capture ≡ Some path
+    → WasGiven boot_number
+    → IfErr result (λ why. LacksOutput why ⊎ (IsUnbegun (Some path) why × ((output2 ≡ between) × ((m2 ≡ m) × (g2 ≡ g)))))
+    → IfErr result (IsUnrun capture)
+unrun_so (Ok x) path capture between output2 g g2 m m2 same given is = tt
+unrun_so (Err why) path capture between output2 g g2 m m2 same given (inl lacks) =
+    inr (subst IsUnstarted (sym lacks.0) (inl (refl, (given, lacks.1))))
+unrun_so (Err why) path capture between output2 g g2 m m2 same given (inr unbegun) =
+    inl (given, subst (λ p. IsUnbegun p why) (sym same) unbegun.0)
+
+-- what comes behind a number without a capture does so with one
+pub with_capture : {O : Type 0} (contents : O → Option (List ℕ)) (capture : Option (List ℕ)) (honest : Type 0) (found : Bool) (before after : Moment) (why : BoxFault)
+    (output output2 : O) → IsInOrder contents None honest found before after why output output2
+    → IsInOrder contents capture honest found before after why output output2
+with_capture contents capture honest found before after why output output2 (inl same) = inl same
+with_capture contents capture honest found before after why output output2 (inr (boot, (taken, inl lacks))) = inr (boot, (taken, inl lacks))
+with_capture contents capture honest found before after why output output2 (inr (boot, (taken, inr unbegun))) = absurd (unbegun_without why unbegun.0)
 
 -- what is in order of a disk is so of some disk
-pub of_some_disk : {T O D : Type 0} (result : Result T BoxFault) (honest : D → Type 0) (now : D → Moment) (found : Bool) (d d2 : D) (output output2 : O)
-    → IfErr result (λ why. IsInOrder (honest d) found (now d) (now d2) why output output2)
-    → IfErr result (λ why. IsInSomeOrder honest now found why output output2)
-of_some_disk (Ok x) honest now found d d2 output output2 is = tt
-of_some_disk (Err why) honest now found d d2 output output2 is = by is
-  where
-    by : (output2 ≡ output) ⊎ (IsOfRun why × IsTaken (honest d) found (now d) (now d2)) → IsInSomeOrder honest now found why output output2
-    by (inl same) = inl same
-    by (inr taken) = inr (taken.0, (d, (d2, taken.1)))
+pub of_some_disk : {T O D : Type 0} (result : Result T BoxFault) (contents : O → Option (List ℕ)) (capture : Option (List ℕ)) (honest : D → Type 0) (now : D → Moment) (found : Bool)
+    (d d2 : D) (output output2 : O)
+    → IfErr result (λ why. IsInOrder contents capture (honest d) found (now d) (now d2) why output output2)
+    → IfErr result (λ why. IsInSomeOrder contents capture honest now found why output output2)
+of_some_disk (Ok x) contents capture honest now found d d2 output output2 is = tt
+of_some_disk (Err why) contents capture honest now found d d2 output output2 (inl same) = inl same
+of_some_disk (Err why) contents capture honest now found d d2 output output2 (inr behind) = inr (d, (d2, behind))
 
--- where the ways are written, a fault of none refuses
-of_no_way : (texts : WayTexts) (ways : Ways) (why : BoxFault) → AreWays texts ways → IsOfNoWay why → Refuses texts why
-of_no_way texts ways (fault.Run reason) written is = tt
-of_no_way texts ways (fault.NoWay side) written is = absurd is
-of_no_way texts ways fault.NoWayOfLink written is = absurd is
-of_no_way texts ways (fault.NoDescriptor reason) written is = absurd is
-of_no_way texts ways fault.NoManager written is = record { ways = ways; written = written }
-of_no_way texts ways (fault.NotOpen reason) written is = record { ways = ways; written = written }
-of_no_way texts ways (fault.NoSocket reason) written is = record { ways = ways; written = written }
-of_no_way texts ways (fault.NoControl path) written is = record { ways = ways; written = written }
-of_no_way texts ways fault.LongPath written is = record { ways = ways; written = written }
-of_no_way texts ways fault.Device written is = record { ways = ways; written = written }
-of_no_way texts ways fault.Damaged written is = record { ways = ways; written = written }
-of_no_way texts ways fault.BootsUsedUp written is = record { ways = ways; written = written }
-of_no_way texts ways fault.FoundTwice written is = record { ways = ways; written = written }
-of_no_way texts ways fault.InUse written is = record { ways = ways; written = written }
-of_no_way texts ways (fault.NoFilter part) written is = record { ways = ways; written = written }
-of_no_way texts ways (fault.NoCapture reason) written is = record { ways = ways; written = written }
-of_no_way texts ways (fault.PeerOff reason) written is = record { ways = ways; written = written }
-of_no_way texts ways (fault.NoReport reason) written is = record { ways = ways; written = written }
-of_no_way texts ways fault.NotSynced written is = record { ways = ways; written = written }
-
--- and so does what ends with one
-pub ends_refused : {T : Type 0} (texts : WayTexts) (ways : Ways) (result : Result T BoxFault)
-    → AreWays texts ways → IfErr result IsOfNoWay → IfErr result (Refuses texts)
-ends_refused texts ways (Ok x) written is = tt
-ends_refused texts ways (Err why) written is = of_no_way texts ways why written is
+-- whatever it is
+pub silent_or_taken : {O D : Type 0} (contents : O → Option (List ℕ)) (capture : Option (List ℕ)) (honest : D → Type 0) (now : D → Moment) (found : Bool) (why : BoxFault)
+    (output output2 : O) → IsInSomeOrder contents capture honest now found why output output2 → IsSilentOrTaken honest now found output output2
+silent_or_taken contents capture honest now found why output output2 (inl same) = inl same
+silent_or_taken contents capture honest now found why output output2 (inr taken) = inr (taken.0, (taken.1.0, (taken.1.1.0, taken.1.1.1.0)))

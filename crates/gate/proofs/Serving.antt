@@ -1,5 +1,6 @@
 -- The rounds of a gateway, from its start on.
-use Rattle.std.proofs.Common.{◌≡◌, ◌⊎◌, ◌++◌, ◌∷◌, inl, inr, ap, ℕ, zero, suc, Bool, true, false, IsTrue, List, [], Option, Some, None, Result, Ok, Err, OnOk, codes, refl}
+use Rattle.std.proofs.Common.{◌≡◌, ◌⊎◌, ◌++◌, ◌∷◌, inl, inr, ap, ℕ, zero, suc, Bool, true, false, IsTrue, is_some, List, [], Option, Some, None, Result, Ok, Err, OnOk, codes, refl, subst, sym, true≢false}
+use Rattle.std.specs.Borrow.{Bor}
 use Rattle.std.specs.Io.KnownBytes.{Appends}
 use Rattle.nat_types.specs.declared.gateways.GatewayId.{GatewayId}
 use Rattle.settings.specs.declared.whole.Settings.{Settings}
@@ -10,8 +11,14 @@ use Rattle.rounds.specs.Rounds.{AnswersOwed, AreMade, AreRounds, Box, Calls, IsA
 use Rattle.rounds.specs.declared.judging.Question.{Question}
 use Rattle.rounds.specs.declared.judging.Reply.{Reply}
 use Rattle.rounds.specs.declared.judging.Reply.TheVariants.{Heard, Later, Refused}
+use Rattle.sockets.specs.declared.ways.Ways.{Ways}
+use Rattle.gate.specs.Asked.{IsFilter, IsWatched, boot_file_of, path_in}
 use Rattle.gate.specs.Boots.{HasStarted}
-use Rattle.gate.specs.Served.{AreHeld, HadRounds, HasRun, HasServed, any_reading, listed}
+use Rattle.gate.specs.Named.{IsCaptured, WasGiven, WasHad, begun_capture, number_of, tapped_wire}
+use Rattle.gate.specs.Served.{HadRounds, HasRun, HasServed, RunsOpened, any_reading, listed}
+use Rattle.gate.specs.Starts.{CanOpen}
+use Rattle.gate.specs.Wires.{IsOfSockets, IsOwnWire, RunsOn}
+use Rattle.gate.specs.declared.running.Start.{Start}
 
 -- ---- a run by a wire and a clock is one by any clock, and by the calls of the wire, listed
 
@@ -157,37 +164,124 @@ had_rounds does track until_eof reads rounds otherwise g w c g2 last c2 only h s
     by (inr (inl told)) = inr (inl (only told))
     by (inr (inr had)) = inr (inr had)
 
+-- ---- the same, on the wire itself
+
+any_round : {W C : Type 0} (does : Calls W) (track : Bool) (reads : Reads C) (b : Box W) (c : C) (b2 : Box W) (c2 : C) → IsRound does track reads b c b2 c2
+    → IsRound does track any_reading b tt b2 tt
+any_round does track reads b c b2 c2 r = record {
+  goes_on = r.goes_on;
+  answers = r.answers;
+  poll = r.poll;
+  between = r.between;
+  letters = r.letters;
+  moment = r.moment;
+  read = tt;
+  is_done = r.is_done;
+  ticked = r.ticked;
+  tick = r.tick;
+  answered = r.answered;
+}
+
+any_rounds : {W C : Type 0} (does : Calls W) (track : Bool) (reads : Reads C) (n : ℕ) (b : Box W) (c : C) (b2 : Box W) (c2 : C)
+    → AreRounds does track reads n b c b2 c2 → AreRounds does track any_reading n b tt b2 tt
+any_rounds does track reads zero b c b2 c2 h = (h.0, refl)
+any_rounds does track reads (suc n) b c b2 c2 h =
+    (h.0, (tt, (any_rounds does track reads n b c h.0 h.1.0 h.1.1.0, any_round does track reads h.0 h.1.0 b2 c2 h.1.1.1)))
+
+pub runs_on : {W C : Type 0} (does : Calls W) (track until_eof : Bool) (reads : Reads C) (rounds : Option ℕ) (otherwise : Type 0) (g : Shown) (w : W) (c : C)
+    (g2 : Shown) (w2 : W) (last : Box W) (c2 : C)
+    → (otherwise → IsTrue until_eof)
+    → IsRun does track reads (most_rounds rounds) otherwise (box g w 0 false None) c last c2 → last.shown ≡ g2 → last.wire ≡ w2
+    → RunsOn does rounds track until_eof g g2 w w2
+runs_on does track until_eof reads rounds otherwise g w c g2 w2 last c2 only h shows wire_is = record {
+  last = last;
+  had = record {
+    last = h.last;
+    all = record { count = h.all.count; within = h.all.within; rounds = any_rounds does track reads h.all.count _ c h.last _ h.all.rounds; over = by h.all.over };
+    is_done = h.is_done;
+    stop = h.stop;
+  };
+  shows = shows;
+  wire_is = wire_is;
+}
+  where
+    by : (h.last.ending ≡ true) ⊎ (otherwise ⊎ (h.all.count ≡ most_rounds rounds))
+        → (h.last.ending ≡ true) ⊎ (IsTrue until_eof ⊎ (h.all.count ≡ most_rounds rounds))
+    by (inl said) = inl said
+    by (inr (inl told)) = inr (inl (only told))
+    by (inr (inr had)) = inr (inr had)
+
+-- a box without a capture is run on the wire of its sockets
+pub on_sockets : {W : Type 0} (capture : Option (Bor (List ℕ))) (settings : Settings) (id : GatewayId) (wire : W) → is_some capture ≡ false
+    → IsOfSockets settings id wire → IsOwnWire (path_in capture) settings id wire
+on_sockets (Some path) settings id wire none own = absurd (true≢false none)
+on_sockets None settings id wire none own = own
+
+-- one with a capture on a wire whose packets go there
+pub on_tapped : {W : Type 0} (capture : Option (List ℕ)) (path : List ℕ) (settings : Settings) (id : GatewayId) (wire : W) → capture ≡ Some path
+    → WasHad (tapped_wire path id) wire → IsOwnWire capture settings id wire
+on_tapped capture path settings id wire captured tapped = subst (λ p. IsOwnWire p settings id wire) (sym captured) tapped
+
 -- ---- a start, rounds, and the end
 
-pub has_run : {T E : Type 0} (r : Result T E) (settings : Settings) (id : GatewayId) (rounds : Option ℕ) (found track until_eof : Bool)
-    (before between after : Option (List ℕ)) (start last : Shown)
-    → HasStarted settings id found before between start
-    → HadRounds rounds track until_eof start last → OnOk r (Appends between after (codes "end\n"))
-    → OnOk r (HasRun settings id rounds found track until_eof before after)
-has_run (Ok x) settings id rounds found track until_eof before between after start last started had ended =
-    record { start = start; between = between; started = started; last = last; rounds_had = had; ended = ended }
-has_run (Err e) settings id rounds found track until_eof before between after start last started had ended = tt
+-- where no capture was asked for none is owed
+uncaptured : (capture : Option (Bor (List ℕ))) → is_some capture ≡ false → IsCaptured (path_in capture)
+uncaptured (Some path) none = absurd (true≢false none)
+uncaptured None none = tt
 
--- the same, where the rounds were had only with an Ok
-pub had_run : {T E : Type 0} (r : Result T E) (settings : Settings) (id : GatewayId) (rounds : Option ℕ) (found track until_eof : Bool)
-    (before between after : Option (List ℕ)) (start last : Shown)
-    → HasStarted settings id found before between start
-    → OnOk r (HadRounds rounds track until_eof start last) → OnOk r (Appends between after (codes "end\n"))
-    → OnOk r (HasRun settings id rounds found track until_eof before after)
-had_run {E = E} (Ok x) settings id rounds found track until_eof before between after start last started had ended =
-    has_run {E = E} (Ok x) settings id rounds found track until_eof before between after start last started had ended
-had_run (Err e) settings id rounds found track until_eof before between after start last started had ended = tt
+pub has_run : {T E : Type 0} (r : Result T E) (settings : Settings) (start : Start) (before between after : Option (List ℕ)) (first last : Shown)
+    → HasStarted settings start.id start.found before between first
+    → HadRounds start.rounds start.track start.until_eof first last → OnOk r (Appends between after (codes "end\n"))
+    → WasGiven (number_of (boot_file_of settings start.id)) → IsWatched start.notify → IsFilter start.log → is_some start.capture ≡ false
+    → OnOk r (HasRun settings start before after)
+has_run (Ok x) settings start before between after first last started had ended numbered watched filter none = record {
+  first = first;
+  between = between;
+  started = started;
+  last = last;
+  rounds_had = had;
+  ended = ended;
+  numbered = numbered;
+  watched = watched;
+  filter = filter;
+  captured = uncaptured start.capture none;
+}
+has_run (Err e) settings start before between after first last started had ended numbered watched filter none = tt
 
-pub had_of : {T E : Type 0} (r : Result T E) (rounds : Option ℕ) (track until_eof : Bool) (g g2 : Shown)
-    → HadRounds rounds track until_eof g g2 → OnOk r (HadRounds rounds track until_eof g g2)
-had_of (Ok x) rounds track until_eof g g2 had = had
-had_of (Err e) rounds track until_eof g g2 had = tt
+-- the same with a capture, where the rounds were had only with an Ok
+pub had_run : {T E : Type 0} (r : Result T E) (settings : Settings) (start : Start) (path : List ℕ) (before between after : Option (List ℕ)) (first last : Shown)
+    → HasStarted settings start.id start.found before between first
+    → OnOk r (HadRounds start.rounds start.track start.until_eof first last) → OnOk r (Appends between after (codes "end\n"))
+    → WasGiven (number_of (boot_file_of settings start.id)) → IsWatched start.notify → IsFilter start.log → path_in start.capture ≡ Some path → OnOk r (WasGiven (begun_capture path))
+    → OnOk r (HasRun settings start before after)
+had_run (Ok x) settings start path before between after first last started had ended numbered watched filter captured begun = record {
+  first = first;
+  between = between;
+  started = started;
+  last = last;
+  rounds_had = had;
+  ended = ended;
+  numbered = numbered;
+  watched = watched;
+  filter = filter;
+  captured = subst IsCaptured (sym captured) begun;
+}
+had_run (Err e) settings start path before between after first last started had ended numbered watched filter captured begun = tt
 
--- with the settings of a text
-pub has_served : {T E : Type 0} (r : Result T E) (settings : Settings) (id : GatewayId) (rounds : Option ℕ) (found track until_eof : Bool)
-    (before after : Option (List ℕ))
-    → AreHeld settings → OnOk r (HasRun settings id rounds found track until_eof before after)
-    → OnOk r (HasServed id rounds found track until_eof before after)
-has_served (Ok x) settings id rounds found track until_eof before after held run =
-    record { settings = settings; held = held; run = run }
-has_served (Err e) settings id rounds found track until_eof before after held run = tt
+-- what was had is so at an Ok
+pub always : {T E : Type 0} (r : Result T E) (A : Type 0) → A → OnOk r A
+always (Ok x) A a = a
+always (Err e) A a = tt
+
+-- and beside what is so then
+pub also : {T E : Type 0} (r : Result T E) (A B : Type 0) → A → OnOk r B → OnOk r (A × B)
+also (Ok x) A B a b = (a, b)
+also (Err e) A B a b = tt
+
+-- with settings and ways by which its boot file can be opened
+pub has_served : {T E : Type 0} (r : Result T E) (start : Start) (settings : Settings) (ways : Ways) (before after : Option (List ℕ))
+    → CanOpen start settings ways → OnOk r (RunsOpened start settings ways before after)
+    → OnOk r (HasServed start before after)
+has_served (Ok x) start settings ways before after can run =
+    record { settings = settings; ways = ways; fits = can; run = run }
+has_served (Err e) start settings ways before after can run = tt

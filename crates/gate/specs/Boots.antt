@@ -1,11 +1,13 @@
 -- The gateway that a start begins, and the boot that it is in.
-use Rattle.std.specs.Prelude.{◌≡◌, ◌⊎◌, ◌<◌, ◌++◌, ℕ, Bool, true, List, Option, Ok, codes, if◌then◌else◌}
+use Rattle.std.specs.Prelude.{◌≡◌, ◌⊎◌, ◌<◌, ◌++◌, ℕ, Bool, true, List, Option, Err, codes, if◌then◌else◌}
 use Rattle.std.specs.Fmt.{decimal}
 use Rattle.std.specs.Io.KnownBytes.{Appends}
 use Rattle.boot_store.specs.Crash.{Decides}
 use Rattle.boot_store.specs.Moment.{Moment}
-use Rattle.box_words.specs.Faults.{IsOfRun}
+use Rattle.boot_store.specs.declared.faults.BootFault.{BootFault}
+use Rattle.box_words.specs.Faults.{of_boot}
 use Rattle.box_words.specs.declared.refusals.BoxFault.{BoxFault}
+use Rattle.box_words.specs.declared.refusals.BoxFault.TheVariants as fault
 use Rattle.nat_types.specs.declared.gateways.GatewayId.{GatewayId}
 use Rattle.settings.specs.declared.whole.Settings.{Settings}
 use Rattle.slots.specs.Hashers.{is_drawn}
@@ -43,22 +45,7 @@ pub record IsIdentity (settings : Settings) (id : GatewayId) (who : Identity) (g
   pub own_boot : HasBoot who.boot g
   pub own_digest : who.digest ≡ digest settings
 
--- a number was taken of a boot file: of an honest disk the one behind the greatest
-abbrev pub IsTaken : Type 0 → Bool → Moment → Moment → Type 0
-IsTaken honest found before after = honest → (boot : ℕ) × Decides found before after (Ok boot)
-
--- What is printed before a refusal: nothing; or it is one of a run, whose number was taken before.
-abbrev pub IsInOrder : {O : Type 0} → Type 0 → Bool → Moment → Moment → BoxFault → O → O → Type 0
-IsInOrder honest found before after why output output2 = (output2 ≡ output) ⊎ (IsOfRun why × IsTaken honest found before after)
-
--- a number was taken of some boot file
-abbrev pub IsTakenSomewhere : {D : Type 0} → (D → Type 0) → (D → Moment) → Bool → Type 0
-IsTakenSomewhere {D = D} honest now found = (before : D) × ((after : D) × IsTaken (honest before) found (now before) (now after))
-
--- the order of what is printed and refused, where the boot file is opened within the call
-abbrev pub IsInSomeOrder : {O D : Type 0} → (D → Type 0) → (D → Moment) → Bool → BoxFault → O → O → Type 0
-IsInSomeOrder honest now found why output output2 = (output2 ≡ output) ⊎ (IsOfRun why × IsTakenSomewhere honest now found)
-
--- the same, whatever the refusal is
-abbrev pub IsSilentOrTaken : {O D : Type 0} → (D → Type 0) → (D → Moment) → Bool → O → O → Type 0
-IsSilentOrTaken honest now found output output2 = (output2 ≡ output) ⊎ IsTakenSomewhere honest now found
+-- why no number is taken of an honest disk: a call failed; or so its bytes decide
+abbrev pub TellsNumber : Bool → Moment → Moment → BoxFault → Type 0
+TellsNumber found before after why =
+    (why ≡ fault.Device) ⊎ ((reason : BootFault) × ((why ≡ of_boot reason) × Decides found before after (Err reason)))

@@ -1,5 +1,9 @@
 pub mod Asked
 pub mod Boots
+pub mod Failing
+pub mod Named
+pub mod Orders
 pub mod Served
 pub mod Starts
 pub mod Told
+pub mod Wires

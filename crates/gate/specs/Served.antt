@@ -1,19 +1,17 @@
 -- The rounds of a gateway, from its start on.
 use Rattle.std.specs.Prelude.{◌≡◌, ◌++◌, ◌∷◌, ℕ, Bool, false, List, [], Option, None, IsTrue, codes}
 use Rattle.std.specs.Io.KnownBytes.{Appends}
-use Rattle.toml.specs.Parse.{parse_document}
-use Rattle.nat_types.specs.declared.gateways.GatewayId.{GatewayId}
 use Rattle.settings.specs.declared.whole.Settings.{Settings}
-use Rattle.settings_file.specs.Settings.{IsReadFrom}
 use Rattle.spec_step.specs.Shown.{Shown}
 use Rattle.sockets.specs.Letters.{Call}
 use Rattle.rounds.specs.Rounds.{Box, Calls, IsRun, Reads, box, most_rounds}
+use Rattle.sockets.specs.declared.ways.Ways.{Ways}
+use Rattle.gate.specs.Asked.{IsFilter, IsWatched, boot_file_of, box_ports, path_in}
 use Rattle.gate.specs.Boots.{HasStarted}
-
--- some text holds these settings
-pub record AreHeld (settings : Settings) : Type 0 where
-  pub text : List ℕ
-  pub read : IsReadFrom (parse_document text) settings
+use Rattle.control.specs.Paths.{socket_of}
+use Rattle.gate.specs.Named.{IsCaptured, WasGiven, control_socket, locked_file, number_of, own_sockets}
+use Rattle.gate.specs.Starts.{CanOpen}
+use Rattle.gate.specs.declared.running.Start.{Start}
 
 -- a clock of which nothing is known
 abbrev pub any_reading : Reads (Unit {0})
@@ -37,19 +35,40 @@ pub record HasRounds (rounds : Option ℕ) (track until_eof : Bool) (g g2 : Show
 abbrev pub HadRounds : Option ℕ → Bool → Bool → Shown → Shown → Type 0
 HadRounds rounds track until_eof g g2 = (calls : List Call) × HasRounds rounds track until_eof g g2 calls
 
--- With these settings the gateway of this id starts, in some boot, whose line is printed; it has its rounds, by calls of its
--- wire; and `end` is printed. There are such a boot, calls and events left out: nothing says which.
-pub record HasRun (settings : Settings) (id : GatewayId) (rounds : Option ℕ) (found track until_eof : Bool) (before after : Option (List ℕ)) : Type 0
-  where
-    pub start : Shown
-    pub between : Option (List ℕ)
-    pub started : HasStarted settings id found before between start
-    pub last : Shown
-    pub rounds_had : HadRounds rounds track until_eof start last
-    pub ended : Appends between after (codes "end\n")
+-- With these settings the start's gateway begins, in some boot, whose line is printed; it has its rounds, by calls of its
+-- wire; and `end` is printed. There are such a boot, calls and events left out: nothing says which. Where the start has a text for it, there
+-- is a service manager, whose descriptor never waits; a filter of its records, which the text is; and a capture, begun in its file.
+pub record HasRun (settings : Settings) (start : Start) (before after : Option (List ℕ)) : Type 0 where
+  pub first : Shown
+  pub between : Option (List ℕ)
+  pub started : HasStarted settings start.id start.found before between first
+  pub last : Shown
+  pub rounds_had : HadRounds start.rounds start.track start.until_eof first last
+  pub ended : Appends between after (codes "end\n")
+  pub numbered : WasGiven (number_of (boot_file_of settings start.id))
+  pub watched : IsWatched start.notify
+  pub filter : IsFilter start.log
+  pub captured : IsCaptured (path_in start.capture)
 
--- some text's settings were run so. There are such settings: nothing says which.
-pub record HasServed (id : GatewayId) (rounds : Option ℕ) (found track until_eof : Bool) (before after : Option (List ℕ)) : Type 0 where
+-- the same, once the sockets of its places were had,
+abbrev pub RunsWired : Start → Settings → Ways → Option (List ℕ) → Option (List ℕ) → Type 0
+RunsWired start settings ways before after =
+    WasGiven (own_sockets ways (box_ports settings start.id)) × HasRun settings start before after
+
+-- and a control socket before,
+abbrev pub RunsLocked : Start → Settings → Ways → Option (List ℕ) → Option (List ℕ) → Type 0
+RunsLocked start settings ways before after =
+    WasGiven (control_socket (socket_of (boot_file_of settings start.id))) × RunsWired start settings ways before after
+
+-- and its boot file, locked, before that
+abbrev pub RunsOpened : Start → Settings → Ways → Option (List ℕ) → Option (List ℕ) → Type 0
+RunsOpened start settings ways before after =
+    WasGiven (locked_file (boot_file_of settings start.id)) × RunsLocked start settings ways before after
+
+-- The settings of a text that was read at the start's path were run so, by ways that its texts write. By what settings and ways say, its
+-- boot file can be opened, and it was had, and so were its sockets. There are such a text, settings and ways: nothing says which.
+pub record HasServed (start : Start) (before after : Option (List ℕ)) : Type 0 where
   pub settings : Settings
-  pub held : AreHeld settings
-  pub run : HasRun settings id rounds found track until_eof before after
+  pub ways : Ways
+  pub fits : CanOpen start settings ways
+  pub run : RunsOpened start settings ways before after

@@ -1,14 +1,18 @@
 //! The file of a capture.
-ghost use Rattle.std.specs.Prelude.{◌≡◌, IfErr, IfOk, is_some, option_map};
-ghost use Rattle.box_words.specs.Faults.{IsOfCapture, IsOfNoWay, IsOfRun};
+ghost use Rattle.std.specs.Prelude.{◌≡◌, IfErr, IfOk, IfSome, OnOk, Some, is_some, option_map};
+ghost use Rattle.gate.specs.Failing.{IsUnbegun, LacksCapture};
+ghost use Rattle.gate.specs.Named.{IsOpened, WasGiven, WasHad, begun_capture, boot_number, capture_file, tapped_wire};
 
 use box_words::BoxFault;
 use faults::Fault;
+use log::{Log, warn};
+use nat_types::GatewayId;
+use sockets::Wire;
 use std::alloc::Global;
 use std::fs::{Files, OpenFile};
 use std::io::{Read, Seek, Write};
 use std::os::fd::AsRawFd;
-use tap::{CaptureFile, Reel, Vacant};
+use tap::{CaptureFile, Moments, Tapped, Vacant};
 
 /// A file that was opened for a capture, and its path.
 #[derive(Drop)]
@@ -25,27 +29,65 @@ pub(crate) fn capture_at<'a, R: Files + AllocGlobal>(
     ensures asked { IfOk result (λ capture. is_some capture ≡ is_some path.entry) }
     ensures path { IfOk result (λ capture. option_map (λ c. c.path.now) capture
         ≡ option_map (λ p. p.now) path.entry) }
-    ensures err { IfErr result IsOfCapture }
-    ensures no_way { IfErr result IsOfNoWay }
+    ensures given { OnOk result (IsOpened (option_map (λ p. p.now) path.entry)) }
+    ensures had { IfOk result (λ capture. IfSome capture
+        (λ c. WasHad (capture_file c.path.now) c.file)) }
+    ensures err { IfErr result (LacksCapture (option_map (λ p. p.now) path.entry)) }
 {
     let Some(path) = path else {
         return Ok(None);
     };
+    match opened_at(rt, path) {
+        Ok(capture) => Ok(Some(capture)),
+        Err(fault) => Err(fault),
+    }
+}
+
+/// The file at a path, opened for a capture.
+#[tactic(auto, unfolding(crate::specs::Named::WasGiven, crate::specs::Named::WasHad, crate::specs::Named::WasDenied))]
+fn opened_at<'a, R: Files + AllocGlobal>(
+    rt: &R,
+    path: &'a str,
+) -> Result<CaptureAt<'a, R::File>, BoxFault>
+    ensures path { IfOk result (λ capture. capture.path.now ≡ path.now) }
+    ensures given { OnOk result (WasGiven (capture_file path.now)) }
+    ensures had { IfOk result (λ capture. WasHad (capture_file capture.path.now) capture.file) }
+    ensures err { IfErr result (LacksCapture (Some path.now)) }
+{
     match tap::open(rt, path) {
-        Ok(file) => Ok(Some(CaptureAt { path, file })),
+        Ok(file) => Ok(CaptureAt { path, file }),
         Err(error) => Err(BoxFault::no_capture(rt.alloc(), path, &error)),
     }
 }
 
 impl<F: Read + Write + Seek + OpenFile + AsRawFd + Drop> CaptureAt<'_, F> {
-    /// A capture that is begun in the file, which loses what it has.
-    pub(crate) fn begin(self, alloc: Global) -> Result<Reel<CaptureFile<F>>, BoxFault>
-        ensures err { IfErr result IsOfRun }
+    /// A wire whose packets go to a capture that is begun in the file, which loses what it has.
+    #[tactic(auto, unfolding(crate::specs::Named::WasGiven, crate::specs::Named::WasHad, crate::specs::Named::WasDenied))]
+    pub(crate) fn begin<W: Wire + Drop, M: Moments + Drop>(
+        self,
+        alloc: Global,
+        wire: W,
+        id: GatewayId,
+        moments: M,
+    ) -> Result<Tapped<W, M, CaptureFile<F>>, BoxFault>
+        requires had { WasHad (capture_file self.path.now) self.file }
+        requires numbered { WasGiven boot_number }
+        ensures begun { OnOk result (WasGiven (begun_capture self.entry.path.now)) }
+        ensures had { IfOk result (WasHad (tapped_wire self.entry.path.now id)) }
+        ensures tapped { IfOk result (λ tapped. (tapped.wire ≡ wire) × (tapped.id ≡ id)) }
+        ensures err { IfErr result (IsUnbegun (Some self.entry.path.now)) }
     {
         let CaptureAt { path, file } = self;
         match tap::begin(alloc, file) {
-            Ok(reel) => Ok(reel),
+            Ok(reel) => Ok(Tapped::new(wire, id, moments, reel)),
             Err(error) => Err(BoxFault::Run(Fault::of_capture(alloc, path, &error))),
         }
+    }
+}
+
+/// Tells how many packets a capture has left out, if it has.
+pub(crate) fn tell_left_out<L: Log>(log: &L, packets: u64) {
+    if 0 < packets {
+        warn!(log; target: "natpair::capture", packets; "capture left out {packets} packets");
     }
 }

@@ -2,6 +2,9 @@
 #![tactic(auto)]
 
 mod capturing;
+mod opening;
+mod reading;
+mod records;
 mod running;
 mod ways;
 

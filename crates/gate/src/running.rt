@@ -1,46 +1,50 @@
 //! What is done at a box: its boot file and its rounds.
-ghost use Rattle.std.specs.Prelude.{◌≡◌, ◌⊎◌, ◌<◌, ◌↔◌, [], IfErr, IfOk, IfSome, IsTrue, None, Ok, OnOk, Some, codes, false, is_some, option_map, string_bytes, true};
+ghost use Rattle.std.specs.Prelude.{◌≡◌, ◌⊎◌, ◌<◌, ◌↔◌, [], IfErr, IfOk, IfSome, IsTrue, None, Ok, OnOk, Some, codes, false, is_some, true};
 ghost use Rattle.std.specs.Io.KnownBytes.{Appends};
 ghost use Rattle.nat_types.specs.declared.gateways.GatewayId.TheVariants.{Zero};
 ghost use Rattle.slots.specs.Hashers.{is_drawn};
-ghost use Rattle.control.specs.Paths.{IsBeside};
-ghost use Rattle.log.specs.Filter.{filtered_inner, filtered_rules};
+ghost use Rattle.control.specs.Paths.{IsBeside, socket_of};
 ghost use Rattle.journal.specs.Handed.{IsTold};
-ghost use Rattle.journal.specs.Sinks.{format_of};
 ghost use Rattle.journal.specs.declared.entries.Entry.TheVariants.{Boot};
-ghost use Rattle.settings.specs.Parts.{gateway_of};
 ghost use Rattle.sockets.specs.Boards.{Opens};
 ghost use Rattle.boot_store.specs.Crash.{Decides, Keeps, Rises, Since};
 ghost use Rattle.settings_file.specs.Clashes.{clash_of_one};
-ghost use Rattle.settings_file.specs.declared.keys.Key.{Key};
-ghost use Rattle.gate.specs.Asked.{IsChosenBy, IsNotified, box_ports, is_loopback, on_loopback};
+ghost use Rattle.gate.specs.Asked.{IsChosenBy, IsFilter, IsNotified, boot_file_of, box_ports, on_loopback, path_in};
 ghost use Rattle.box_words.specs.Deeds.{HasUnmade, made};
-ghost use Rattle.gate.specs.Boots.{HasBoot, HasStarted, IsIdentity, IsInOrder, IsInSomeOrder, IsSilentOrTaken, IsStart, boot_line};
-ghost use Rattle.box_words.specs.Faults.{IsBeforeBoot, IsOfFilter, IsOfNoWay, IsOfRun, IsOfStart, fault_text, of_clash};
+ghost use Rattle.spec_step.specs.Shown.{Shown};
+ghost use Rattle.gate.specs.Boots.{HasBoot, HasStarted, IsIdentity, IsStart, TellsNumber, boot_line};
+ghost use Rattle.box_words.specs.Faults.{IsBeforeBoot, fault_text};
+ghost use Rattle.box_words.specs.declared.refusals.BoxFault.TheVariants as faults;
+ghost use Rattle.faults.specs.declared.faults.Fault.TheVariants as reasons;
 ghost use Rattle.outlets.specs.Telling.{IsToldOf};
-ghost use Rattle.gate.specs.Served.{AreHeld, HadRounds, HasRun, HasServed};
-ghost use Rattle.gate.specs.Starts.{Refuses};
-ghost use Rattle.gate.specs.Told.{HearsAll};
+ghost use Rattle.gate.specs.Failing.{FailsHeard, FailsLocked, FailsLogged, FailsOpening, FailsWired, IsUnrun, IsUnstarted};
+ghost use Rattle.gate.specs.Failing.{IsUnbegun, LacksBootFile, LacksOutput};
+ghost use Rattle.gate.specs.Named.{IsNumberOf, WasGiven, WasHad, begun_capture, boot_number, capture_file, control_socket, descriptors, locked_file, own_sockets};
+ghost use Rattle.gate.specs.Orders.{IsInOrder, IsInSomeOrder, IsNumbered, IsSilentOrTaken};
+ghost use Rattle.gate.specs.Served.{HadRounds, HasRun, HasServed, RunsLocked, RunsOpened, RunsWired};
+ghost use Rattle.gate.specs.Starts.{AreHeld, AreRead, Refuses};
+ghost use Rattle.gate.specs.Told.{HearsAll, HearsAny};
+ghost use Rattle.gate.specs.Wires.{IsOfSockets, IsOwnWire, RunsOn};
 
-use crate::capturing::{CaptureAt, capture_at};
+use crate::capturing::{CaptureAt, capture_at, tell_left_out};
+use crate::opening::{control_at, sockets_of};
+use crate::reading::{inherited, manager_of, path_of, settings_at, without_clash};
+use crate::records::log_of;
 use crate::ways::{WayTexts, ways_of};
-use boot_file::{Blocks, FileDisk, FileFault, Lockable};
+use boot_file::{Blocks, FileDisk, Lockable};
 use boot_store::{Disk, next_boot};
-use box_words::{BoxFault, Site, SystemBinder, control_path, refused_end};
+use box_words::{BoxFault, Site};
 use checks::digest;
 use control::{Control, ControlPath};
-use faults::{Fault, text_of};
 use gateway::{Gateway, Hashers};
-use journal::{Entry, Format, Journal, StandardError, Unhindered, environment, filter_of, tell};
-use log::filter::FilteredLog;
-use log::{Log, warn};
+use journal::{Entry, Format, Journal, tell};
+use log::Log;
 use nat_types::{GatewayId, NoMemory};
 use outlets::Tells;
 use rounds::{Identity, InputEnd, Stopwatch, serve};
 use settings::Settings;
-use settings_file::{OnLoopback, SettingFault, port_clash};
 use slots::SystemDraws;
-use sockets::{SocketFault, Sockets, Way, Ways, Wire, ports_of};
+use sockets::{Sockets, Ways, Wire};
 use std::alloc::Global;
 use std::fs::Files;
 use std::io::Write;
@@ -49,7 +53,7 @@ use std::os::fd::AsRawFd;
 use std::random::RandomSource;
 use std::rt::{Clock, Env};
 use supervision::{Manager, Supervisor};
-use tap::{SinceFirst, Tapped};
+use tap::SinceFirst;
 
 /// Makes the boot file of a box. The answer is the exit status: 0, or 1 for a fault, which is told
 /// on `errors`.
@@ -106,15 +110,16 @@ where
     R::File: Blocks + Lockable + AsRawFd,
     requires found { IsTrue start.now.found → start.now.id ≡ Zero }
     ensures status { (result ≡ 0) ⊎ (result ≡ 1) }
-    ensures served { result ≡ 0 → HasServed start.now.id start.now.rounds start.now.found
-        start.now.track start.now.until_eof (O.contents output.old) (O.contents output.new) }
+    ensures served { result ≡ 0 → HasServed start.now
+        (O.contents output.old) (O.contents output.new) }
     ensures order { result ≡ 1 → IsSilentOrTaken
         ⟦<FileDisk<R::File> as Disk>⟧.honest ⟦<FileDisk<R::File> as Disk>⟧.now start.now.found
         output.old output.new }
     ensures quiet { result ≡ 0 → errors.new ≡ errors.old }
-    ensures failed { result ≡ 1 → IsToldOf E.tells fault_text (λ why. Refuses start.now.ways why
-        × IsInSomeOrder ⟦<FileDisk<R::File> as Disk>⟧.honest ⟦<FileDisk<R::File> as Disk>⟧.now
-        start.now.found why output.old output.new) errors.old errors.new }
+    ensures failed { result ≡ 1 → IsToldOf E.tells fault_text (λ why. Refuses start.now why
+        × IsInSomeOrder O.contents (path_in start.now.capture)
+        ⟦<FileDisk<R::File> as Disk>⟧.honest ⟦<FileDisk<R::File> as Disk>⟧.now start.now.found
+        why output.old output.new) errors.old errors.new }
 {
     match served(rt, start, output) {
         Ok(()) => 0,
@@ -135,10 +140,10 @@ fn served<R: Files + Net + Clock + RandomSource + Eprint + Env + Input + AllocGl
 where
     R::File: Blocks + Lockable + AsRawFd,
     requires found { IsTrue start.now.found → start.now.id ≡ Zero }
-    ensures ok { OnOk result (HasServed start.now.id start.now.rounds start.now.found
-        start.now.track start.now.until_eof (O.contents output.old) (O.contents output.new)) }
-    ensures err { IfErr result (Refuses start.now.ways) }
-    ensures order { IfErr result (λ why. IsInSomeOrder
+    ensures ok { OnOk result (HasServed start.now
+        (O.contents output.old) (O.contents output.new)) }
+    ensures err { IfErr result (Refuses start.now) }
+    ensures order { IfErr result (λ why. IsInSomeOrder O.contents (path_in start.now.capture)
         ⟦<FileDisk<R::File> as Disk>⟧.honest ⟦<FileDisk<R::File> as Disk>⟧.now start.now.found
         why output.old output.new) }
 {
@@ -158,19 +163,21 @@ fn reached<R: Files + Net + Clock + RandomSource + Eprint + Env + Input + AllocG
 where
     R::File: Blocks + Lockable + AsRawFd,
     requires found { IsTrue start.now.found → start.now.id ≡ Zero }
-    ensures ok { OnOk result (HasRun settings.now start.now.id start.now.rounds start.now.found
-        start.now.track start.now.until_eof (O.contents output.old) (O.contents output.new)) }
-    ensures err { IfErr result (Refuses start.now.ways) }
-    ensures order { IfErr result (λ why. IsInSomeOrder
+    requires held { AreHeld start.now.settings.now settings.now }
+    ensures ok { OnOk result (HasServed start.now
+        (O.contents output.old) (O.contents output.new)) }
+    ensures err { IfErr result (Refuses start.now) }
+    ensures order { IfErr result (λ why. IsInSomeOrder O.contents (path_in start.now.capture)
         ⟦<FileDisk<R::File> as Disk>⟧.honest ⟦<FileDisk<R::File> as Disk>⟧.now start.now.found
         why output.old output.new) }
 {
     let ways = ways_of(start.ways)?;
-    ways.inherit()?;
+    inherited(&ways)?;
     watched(rt, start, settings, &ways, output)
 }
 
 /// Takes over the service manager's descriptor, and looks whether the ports of the places on loopback can be had together.
+/// The control socket's path is made.
 fn watched<R: Files + Net + Clock + RandomSource + Eprint + Env + Input + AllocGlobal, O: Write>(
     rt: &R,
     start: &Start<'_>,
@@ -181,70 +188,28 @@ fn watched<R: Files + Net + Clock + RandomSource + Eprint + Env + Input + AllocG
 where
     R::File: Blocks + Lockable + AsRawFd,
     requires found { IsTrue start.now.found → start.now.id ≡ Zero }
-    ensures ok { OnOk result (HasRun settings.now start.now.id start.now.rounds start.now.found
-        start.now.track start.now.until_eof (O.contents output.old) (O.contents output.new)) }
-    ensures err { IfErr result IsOfNoWay }
-    ensures order { IfErr result (λ why. IsInSomeOrder
+    requires read { AreRead start.now settings.now ways.now }
+    requires inherited { WasGiven (descriptors ways.now) }
+    ensures ok { OnOk result (HasServed start.now
+        (O.contents output.old) (O.contents output.new)) }
+    ensures err { IfErr result (Refuses start.now) }
+    ensures order { IfErr result (λ why. IsInSomeOrder O.contents (path_in start.now.capture)
         ⟦<FileDisk<R::File> as Disk>⟧.honest ⟦<FileDisk<R::File> as Disk>⟧.now start.now.found
         why output.old output.new) }
 {
     let mut manager = manager_of(start.notify)?;
     without_clash(settings, start.id, ways)?;
-    locked(rt, start, settings, ways, &mut manager, output)
+    let path = path_of(rt.alloc(), settings, start.id)?;
+    locked(rt, start, settings, ways, &path, &mut manager, output)
 }
 
-/// The service manager whose descriptor a text writes, if there is one.
-fn manager_of(text: Option<&str>) -> Result<Option<Manager>, BoxFault>
-    ensures ok { IfOk result (IsNotified text.entry) }
-    ensures err { IfErr result IsOfNoWay }
-{
-    let Some(text) = text else {
-        return Ok(None);
-    };
-    let Some(manager) = Manager::read(text) else {
-        return Err(BoxFault::NoManager);
-    };
-    manager.inherit()?;
-    Ok(Some(manager))
-}
-
-/// Looks whether the ports of the places that are on loopback can be had together.
-fn without_clash(settings: &Settings, id: GatewayId, ways: &Ways) -> Result<(), BoxFault>
-    ensures ok { OnOk result (clash_of_one settings.now id (on_loopback ways.now) ≡ None) }
-    ensures told { IfErr result (λ why. (key : Key)
-        × (clash_of_one settings.now id (on_loopback ways.now) ≡ Some key) × (why ≡ of_clash key)) }
-    ensures err { IfErr result IsOfNoWay }
-{
-    let on = OnLoopback {
-        inside: is_loopback(ways.inside),
-        outside: is_loopback(ways.outside),
-        link: is_loopback(ways.link),
-    };
-    match port_clash(settings, id, on) {
-        Some(key) => {
-            let fault = SettingFault::CantWork(key);
-            Err(BoxFault::Run(Fault::Setting(fault)))
-        }
-        None => Ok(()),
-    }
-}
-
-/// Whether a place is on loopback.
-fn is_loopback(way: Way) -> bool
-    ensures { result ≡ is_loopback way }
-{
-    match way {
-        Way::Loopback => true,
-        Way::Udp(_) | Way::Vxlan(_, _) | Way::Descriptor(_) => false,
-    }
-}
-
-/// Opens and locks the boot file, for as long as the gateway runs. The control socket's path is made before.
+/// Opens and locks the boot file, for as long as the gateway runs.
 fn locked<R: Files + Net + Clock + RandomSource + Eprint + Env + Input + AllocGlobal, O: Write>(
     rt: &R,
     start: &Start<'_>,
     settings: &Settings,
     ways: &Ways,
+    path: &ControlPath,
     manager: &mut Option<Manager>,
     output: &mut O,
 ) -> Result<(), BoxFault>
@@ -253,18 +218,19 @@ where
     requires found { IsTrue start.now.found → start.now.id ≡ Zero }
     requires no_clash { clash_of_one settings.now start.now.id (on_loopback ways.now) ≡ None }
     requires notified { IsNotified start.now.notify manager.old }
-    ensures ok { OnOk result (HasRun settings.now start.now.id start.now.rounds start.now.found
-        start.now.track start.now.until_eof (O.contents output.old) (O.contents output.new)) }
-    ensures err { IfErr result IsOfNoWay }
-    ensures order { IfErr result (λ why. IsInSomeOrder
+    requires beside { IsBeside (boot_file_of settings.now start.now.id) path.now }
+    ensures ok { OnOk result (RunsOpened start.now settings.now ways.now
+        (O.contents output.old) (O.contents output.new)) }
+    ensures err { IfErr result (FailsOpening start.now settings.now ways.now) }
+    ensures heard { HearsAny ⟦<Option<Manager> as Supervisor>⟧.hears manager.old manager.new }
+    ensures order { IfErr result (λ why. IsInSomeOrder O.contents (path_in start.now.capture)
         ⟦<FileDisk<R::File> as Disk>⟧.honest ⟦<FileDisk<R::File> as Disk>⟧.now start.now.found
         why output.old output.new) }
 {
-    let path = control_path(rt.alloc(), settings, start.id)?;
     let boot_file = settings.gateway(start.id).boot_file.as_str();
     match locked_at(rt, boot_file) {
-        Ok(mut file) => connected(rt, start, settings, ways, &path, manager, &mut file, output),
-        Err(fault) => Err(BoxFault::of_boot_file(rt.alloc(), boot_file, fault)),
+        Ok(mut file) => connected(rt, start, settings, ways, path, manager, &mut file, output),
+        Err(fault) => Err(fault),
     }
 }
 
@@ -276,18 +242,26 @@ struct LockedFile<'a, F> {
 }
 
 /// Opens and locks the boot file at a path.
-fn locked_at<'a, R: Files>(rt: &R, path: &'a str) -> Result<LockedFile<'a, R::File>, FileFault>
+#[tactic(auto, unfolding(crate::specs::Named::WasGiven, crate::specs::Named::WasHad, crate::specs::Named::WasDenied))]
+fn locked_at<'a, R: Files + AllocGlobal>(
+    rt: &R,
+    path: &'a str,
+) -> Result<LockedFile<'a, R::File>, BoxFault>
 where
     R::File: Blocks + Lockable,
+    ensures given { OnOk result (WasGiven (locked_file path.now)) }
+    ensures had { IfOk result (λ file. WasHad (locked_file path.now) file.disk) }
     ensures locked { IfOk result (λ file. ⟦<R::File as Lockable>⟧.locked file.disk.file) }
     ensures path { IfOk result (λ file. file.path.now ≡ path.now) }
+    ensures err { IfErr result (LacksBootFile path.now) }
 {
-    let disk = boot_file::open(rt, path)?;
-    Ok(LockedFile { path, disk })
+    match boot_file::open(rt, path) {
+        Ok(disk) => Ok(LockedFile { path, disk }),
+        Err(fault) => Err(BoxFault::of_boot_file(rt.alloc(), path, fault)),
+    }
 }
 
-/// Opens the control socket, and the sockets that the ways need, while the boot file is locked: no other box listens there.
-/// Nothing is asked of the disk before all is had that comes before its number.
+/// Opens the control socket, while the boot file is locked: no other box listens there.
 fn connected<R: Files + Net + Clock + RandomSource + Eprint + Env + Input + AllocGlobal, O: Write>(
     rt: &R,
     start: &Start<'_>,
@@ -303,54 +277,74 @@ where
     requires found { IsTrue start.now.found → start.now.id ≡ Zero }
     requires notified { IsNotified start.now.notify manager.old }
     requires locked { ⟦<R::File as Lockable>⟧.locked file.old.disk.file }
-    requires own_file { file.old.path.now
-        ≡ string_bytes (gateway_of settings.now start.now.id).boot_file }
-    requires beside { IsBeside
-        (string_bytes (gateway_of settings.now start.now.id).boot_file) path.now }
-    ensures ok { OnOk result (HasRun settings.now start.now.id start.now.rounds start.now.found
-        start.now.track start.now.until_eof (O.contents output.old) (O.contents output.new)) }
-    ensures err { IfErr result IsOfNoWay }
-    ensures untouched { IfErr result (λ why. IsBeforeBoot why → file.new.disk ≡ file.old.disk) }
-    ensures order { IfErr result (λ why. IsInOrder
+    requires own_file { file.old.path.now ≡ boot_file_of settings.now start.now.id }
+    requires given { WasGiven (locked_file (boot_file_of settings.now start.now.id)) }
+    requires had { WasHad (locked_file (boot_file_of settings.now start.now.id)) file.old.disk }
+    requires beside { IsBeside (boot_file_of settings.now start.now.id) path.now }
+    ensures ok { OnOk result (RunsLocked start.now settings.now ways.now
+        (O.contents output.old) (O.contents output.new)) }
+    ensures err { IfErr result (FailsLocked start.now settings.now ways.now) }
+    ensures untouched { IfErr result (λ why. IsBeforeBoot why →
+        (file.new.disk ≡ file.old.disk) × (manager.new ≡ manager.old)) }
+    ensures decided { ⟦<FileDisk<R::File> as Disk>⟧.honest file.old.disk
+        → OnOk result (IsNumbered start.now.found
+        (⟦<FileDisk<R::File> as Disk>⟧.now file.old.disk)
+        (⟦<FileDisk<R::File> as Disk>⟧.now file.new.disk)) }
+    ensures heard { HearsAny ⟦<Option<Manager> as Supervisor>⟧.hears manager.old manager.new }
+    ensures order { IfErr result (λ why. IsInOrder O.contents (path_in start.now.capture)
         (⟦<FileDisk<R::File> as Disk>⟧.honest file.old.disk) start.now.found
         (⟦<FileDisk<R::File> as Disk>⟧.now file.old.disk)
         (⟦<FileDisk<R::File> as Disk>⟧.now file.new.disk) why output.old output.new) }
 {
-    let Ok(control) = Control::open(rt, path) else {
-        return Err(BoxFault::no_control(rt.alloc(), file.path));
-    };
-    match sockets_of(rt, settings, start.id, ways, control) {
-        Ok(wire) => logged(
-            rt,
-            start,
-            settings,
-            ways,
-            manager,
-            &mut file.disk,
-            wire,
-            output,
-        ),
-        Err(SocketFault::NoMemory) => Err(BoxFault::from(NoMemory)),
-        Err(SocketFault::NoSocket) => {
-            let ports = ports_of(settings, start.id);
-            let end = refused_end(&mut SystemBinder(rt), ways, ports);
-            Err(BoxFault::NoSocket(end))
-        }
-    }
+    let control = control_at(rt, path, file.path)?;
+    wired(
+        rt,
+        start,
+        settings,
+        ways,
+        manager,
+        &mut file.disk,
+        control,
+        output,
+    )
 }
 
-/// The sockets that the ways of a box need, and its control socket.
-fn sockets_of<R: Net + AllocGlobal>(
+/// Opens the sockets that the ways need. Nothing is asked of the disk before all is had that comes before its number.
+fn wired<
+    R: Files + Net + Clock + RandomSource + Eprint + Env + Input + AllocGlobal,
+    D: Disk,
+    O: Write,
+>(
     rt: &R,
+    start: &Start<'_>,
     settings: &Settings,
-    id: GatewayId,
     ways: &Ways,
+    manager: &mut Option<Manager>,
+    disk: &mut D,
     control: Control,
-) -> Result<Sockets, SocketFault>
-    ensures opened { IfOk result
-        (λ wire. Opens ways.now (box_ports settings.now id) wire.board) }
+    output: &mut O,
+) -> Result<(), BoxFault>
+where
+    R::File: AsRawFd,
+    requires found { IsTrue start.now.found → start.now.id ≡ Zero }
+    requires notified { IsNotified start.now.notify manager.old }
+    requires had { WasHad (locked_file (boot_file_of settings.now start.now.id)) disk.old }
+    requires heard { WasHad (control_socket (socket_of (boot_file_of settings.now start.now.id)))
+        control }
+    ensures ok { OnOk result (RunsWired start.now settings.now ways.now
+        (O.contents output.old) (O.contents output.new)) }
+    ensures err { IfErr result (FailsHeard start.now settings.now ways.now) }
+    ensures untouched { IfErr result (λ why. IsBeforeBoot why →
+        (disk.new ≡ disk.old) × (manager.new ≡ manager.old)) }
+    ensures decided { D.honest disk.old
+        → OnOk result (IsNumbered start.now.found (D.now disk.old) (D.now disk.new)) }
+    ensures heard { HearsAny ⟦<Option<Manager> as Supervisor>⟧.hears manager.old manager.new }
+    ensures order { IfErr result (λ why. IsInOrder O.contents (path_in start.now.capture)
+        (D.honest disk.old) start.now.found (D.now disk.old) (D.now disk.new)
+        why output.old output.new) }
 {
-    Sockets::open(rt, rt.alloc(), ways, ports_of(settings, id), control)
+    let wire = sockets_of(rt, settings, start.id, ways, control)?;
+    logged(rt, start, settings, ways, manager, disk, wire, output)
 }
 
 /// Reads the filter of the records.
@@ -368,13 +362,20 @@ where
     R::File: AsRawFd,
     requires found { IsTrue start.now.found → start.now.id ≡ Zero }
     requires notified { IsNotified start.now.notify manager.old }
+    requires had { WasHad (locked_file (boot_file_of settings.now start.now.id)) disk.old }
     requires opened { Opens ways.now (box_ports settings.now start.now.id) wire.board }
-    ensures ok { OnOk result (HasRun settings.now start.now.id start.now.rounds start.now.found
-        start.now.track start.now.until_eof (O.contents output.old) (O.contents output.new)) }
-    ensures err { IfErr result IsOfNoWay }
-    ensures untouched { IfErr result (λ why. IsBeforeBoot why → disk.new ≡ disk.old) }
-    ensures order { IfErr result (λ why. IsInOrder (D.honest disk.old) start.now.found
-        (D.now disk.old) (D.now disk.new) why output.old output.new) }
+    requires wire { WasHad (own_sockets ways.now (box_ports settings.now start.now.id)) wire }
+    ensures ok { OnOk result (HasRun settings.now start.now
+        (O.contents output.old) (O.contents output.new)) }
+    ensures err { IfErr result (FailsWired start.now) }
+    ensures untouched { IfErr result (λ why. IsBeforeBoot why →
+        (disk.new ≡ disk.old) × (manager.new ≡ manager.old)) }
+    ensures decided { D.honest disk.old
+        → OnOk result (IsNumbered start.now.found (D.now disk.old) (D.now disk.new)) }
+    ensures heard { HearsAny ⟦<Option<Manager> as Supervisor>⟧.hears manager.old manager.new }
+    ensures order { IfErr result (λ why. IsInOrder O.contents (path_in start.now.capture)
+        (D.honest disk.old) start.now.found (D.now disk.old) (D.now disk.new)
+        why output.old output.new) }
 {
     match log_of(rt, start.log, start.format) {
         Ok(log) => {
@@ -410,14 +411,22 @@ where
     R::File: AsRawFd,
     requires found { IsTrue start.now.found → start.now.id ≡ Zero }
     requires notified { IsNotified start.now.notify manager.old }
+    requires valid { IsFilter start.now.log }
+    requires had { WasHad (locked_file (boot_file_of settings.now start.now.id)) disk.old }
+    requires own { IsOfSockets settings.now start.now.id wire }
     requires chosen { IfSome (L.passes log.now) (IsChosenBy start.now.log) }
     requires format { L.writes log.now ≡ Some start.now.format }
-    ensures ok { OnOk result (HasRun settings.now start.now.id start.now.rounds start.now.found
-        start.now.track start.now.until_eof (O.contents output.old) (O.contents output.new)) }
-    ensures err { IfErr result IsOfNoWay }
-    ensures untouched { IfErr result (λ why. IsBeforeBoot why → disk.new ≡ disk.old) }
-    ensures order { IfErr result (λ why. IsInOrder (D.honest disk.old) start.now.found
-        (D.now disk.old) (D.now disk.new) why output.old output.new) }
+    ensures ok { OnOk result (HasRun settings.now start.now
+        (O.contents output.old) (O.contents output.new)) }
+    ensures err { IfErr result (FailsLogged start.now) }
+    ensures untouched { IfErr result (λ why. IsBeforeBoot why →
+        (disk.new ≡ disk.old) × (manager.new ≡ manager.old)) }
+    ensures decided { D.honest disk.old
+        → OnOk result (IsNumbered start.now.found (D.now disk.old) (D.now disk.new)) }
+    ensures heard { HearsAny ⟦<Option<Manager> as Supervisor>⟧.hears manager.old manager.new }
+    ensures order { IfErr result (λ why. IsInOrder O.contents (path_in start.now.capture)
+        (D.honest disk.old) start.now.found (D.now disk.old) (D.now disk.new)
+        why output.old output.new) }
 {
     match capture_at(rt, start.capture)? {
         Some(capture) => tapped(
@@ -450,13 +459,20 @@ where
     R::File: AsRawFd,
     requires found { IsTrue start.now.found → start.now.id ≡ Zero }
     requires notified { IsNotified start.now.notify manager.old }
-    requires captured { option_map (λ path. path.now) start.now.capture
-        ≡ Some capture.path.now }
-    ensures ok { OnOk result (HasRun settings.now start.now.id start.now.rounds start.now.found
-        start.now.track start.now.until_eof (O.contents output.old) (O.contents output.new)) }
-    ensures err { IfErr result IsOfStart }
-    ensures order { IfErr result (λ why. IsInOrder (D.honest disk.old) start.now.found
-        (D.now disk.old) (D.now disk.new) why output.old output.new) }
+    requires valid { IsFilter start.now.log }
+    requires captured { path_in start.now.capture ≡ Some capture.path.now }
+    requires own { IsOfSockets settings.now start.now.id wire }
+    requires had { WasHad (locked_file (boot_file_of settings.now start.now.id)) disk.old }
+    requires file { WasHad (capture_file capture.path.now) capture.file }
+    ensures ok { OnOk result (HasRun settings.now start.now
+        (O.contents output.old) (O.contents output.new)) }
+    ensures err { IfErr result (IsUnrun (path_in start.now.capture)) }
+    ensures decided { D.honest disk.old
+        → OnOk result (IsNumbered start.now.found (D.now disk.old) (D.now disk.new)) }
+    ensures heard { HearsAny ⟦<Option<Manager> as Supervisor>⟧.hears manager.old manager.new }
+    ensures order { IfErr result (λ why. IsInOrder O.contents (path_in start.now.capture)
+        (D.honest disk.old) start.now.found (D.now disk.old) (D.now disk.new)
+        why output.old output.new) }
 {
     let (identity, mut gateway) = started(rt, disk, settings, start.id, start.found, output, log)?;
     let ended = tapped_rounds(
@@ -465,6 +481,7 @@ where
         wire,
         capture,
         start,
+        settings,
         identity,
         manager,
         output,
@@ -482,6 +499,7 @@ fn tapped_rounds<R: Files + Clock + Input + AllocGlobal, W: Wire + Drop, O: Writ
     wire: W,
     capture: CaptureAt<'_, R::File>,
     start: &Start<'_>,
+    settings: &Settings,
     identity: Identity,
     manager: &mut Option<Manager>,
     output: &mut O,
@@ -490,70 +508,29 @@ fn tapped_rounds<R: Files + Clock + Input + AllocGlobal, W: Wire + Drop, O: Writ
 where
     R::File: AsRawFd,
     requires notified { IsNotified start.now.notify manager.old }
+    requires numbered { WasGiven boot_number }
+    requires captured { path_in start.now.capture ≡ Some capture.path.now }
+    requires own { IsOfSockets settings.now start.now.id wire }
+    requires identity { IsIdentity settings.now start.now.id identity gateway.old }
+    requires had { WasHad (capture_file capture.path.now) capture.file }
     ensures rounds { OnOk result (HadRounds start.now.rounds start.now.track start.now.until_eof
         gateway.old gateway.new) }
     ensures ended { OnOk result
         (Appends (O.contents output.old) (O.contents output.new) (codes "end\n")) }
-    ensures err { IfErr result IsOfRun }
+    ensures begun { OnOk result (WasGiven (begun_capture capture.entry.path.now)) }
+    ensures heard { HearsAny ⟦<Option<Manager> as Supervisor>⟧.hears manager.old manager.new }
+    ensures unrun { IfErr result (λ why. LacksOutput why
+        ⊎ (IsUnbegun (Some capture.entry.path.now) why × ((output.new ≡ output.old)
+        × ((manager.new ≡ manager.old) × (gateway.new ≡ gateway.old))))) }
 {
-    let reel = capture.begin(rt.alloc())?;
-    let mut wire = Tapped::new(wire, start.id, SinceFirst::new(rt), reel);
+    let moments = SinceFirst::new(rt);
+    let mut wire = capture.begin(rt.alloc(), wire, start.id, moments)?;
     let ended = rounds_of(
-        rt, gateway, &mut wire, start, identity, manager, output, log,
+        rt, gateway, &mut wire, start, settings, identity, manager, output, log,
     );
     wire.end();
     tell_left_out(log, wire.left_out());
     ended
-}
-
-/// Tells how many packets a capture has left out, if it has.
-fn tell_left_out<L: Log>(log: &L, packets: u64) {
-    if 0 < packets {
-        warn!(log; target: "natpair::capture", packets; "capture left out {packets} packets");
-    }
-}
-
-/// The box's records, on the standard error.
-fn log_of<'a, R: Eprint + Env + AllocGlobal>(
-    rt: &'a R,
-    option: Option<&str>,
-    format: Format,
-) -> Result<FilteredLog<Unhindered<StandardError<&'a R>>>, BoxFault>
-    ensures chosen { IfOk result (λ log. IsChosenBy option.entry (filtered_rules log)) }
-    ensures format { IfOk result (λ log. format_of (filtered_inner log) ≡ format) }
-    ensures err { IfErr result IsOfFilter }
-    ensures no_way { IfErr result IsOfNoWay }
-{
-    let said = match option {
-        Some(_) => Ok(None),
-        None => environment(rt),
-    };
-    match said {
-        Ok(said) => filtered(rt, option, said.as_ref(), format),
-        Err(fault) => Err(BoxFault::of_filter(rt.alloc(), fault)),
-    }
-}
-
-/// The same by the option's filter, or else by the environment's.
-fn filtered<'a, R: Eprint + AllocGlobal>(
-    rt: &'a R,
-    option: Option<&str>,
-    environment: Option<&String>,
-    format: Format,
-) -> Result<FilteredLog<Unhindered<StandardError<&'a R>>>, BoxFault>
-    ensures chosen { IfOk result (λ log. IsChosenBy option.entry (filtered_rules log)) }
-    ensures format { IfOk result (λ log. format_of (filtered_inner log) ≡ format) }
-    ensures err { IfErr result IsOfFilter }
-    ensures no_way { IfErr result IsOfNoWay }
-{
-    let environment = environment.map(|text| text.as_str());
-    match filter_of(rt.alloc(), option, environment) {
-        Ok(filter) => {
-            let sink = Unhindered::new(StandardError::new(rt), format);
-            Ok(FilteredLog::new(sink, filter))
-        }
-        Err(fault) => Err(BoxFault::of_filter(rt.alloc(), fault)),
-    }
 }
 
 /// Starts the gateway and runs its rounds, on a wire.
@@ -569,12 +546,21 @@ fn run<R: Clock + RandomSource + Input + AllocGlobal, D: Disk, W: Wire, O: Write
 ) -> Result<(), BoxFault>
     requires found { IsTrue start.now.found → start.now.id ≡ Zero }
     requires notified { IsNotified start.now.notify manager.old }
+    requires valid { IsFilter start.now.log }
     requires uncaptured { is_some start.now.capture ≡ false }
-    ensures ok { OnOk result (HasRun settings.now start.now.id start.now.rounds start.now.found
-        start.now.track start.now.until_eof (O.contents output.old) (O.contents output.new)) }
-    ensures err { IfErr result IsOfStart }
-    ensures order { IfErr result (λ why. IsInOrder (D.honest disk.old) start.now.found
-        (D.now disk.old) (D.now disk.new) why output.old output.new) }
+    requires had { WasHad (locked_file (boot_file_of settings.now start.now.id)) disk.old }
+    requires own { IsOfSockets settings.now start.now.id wire.old }
+    ensures ok { OnOk result (HasRun settings.now start.now
+        (O.contents output.old) (O.contents output.new)) }
+    ensures ran { OnOk result ((first : Shown) × ((last : Shown) × RunsOn W.does start.now.rounds
+        start.now.track start.now.until_eof first last wire.old wire.new)) }
+    ensures err { IfErr result IsUnstarted }
+    ensures decided { D.honest disk.old
+        → OnOk result (IsNumbered start.now.found (D.now disk.old) (D.now disk.new)) }
+    ensures heard { HearsAny ⟦<Option<Manager> as Supervisor>⟧.hears manager.old manager.new }
+    ensures order { IfErr result (λ why. IsInOrder O.contents (path_in start.now.capture)
+        (D.honest disk.old) start.now.found (D.now disk.old) (D.now disk.new)
+        why output.old output.new) }
 {
     let (identity, mut gateway) = started(rt, disk, settings, start.id, start.found, output, log)?;
     let ended = rounds_of(
@@ -582,6 +568,7 @@ fn run<R: Clock + RandomSource + Input + AllocGlobal, D: Disk, W: Wire, O: Write
         &mut gateway,
         wire,
         start,
+        settings,
         identity,
         manager,
         output,
@@ -593,24 +580,30 @@ fn run<R: Clock + RandomSource + Input + AllocGlobal, D: Disk, W: Wire, O: Write
 
 /// Runs a gateway until it is told to end, or has had its rounds. Its manager hears first that it is up. After an Err it was
 /// run too, and `end` isn't written.
+#[tactic(auto, unfolding(crate::specs::Named::WasDenied))]
 fn rounds_of<R: Clock + Input + AllocGlobal, W: Wire, O: Write, L: Journal>(
     rt: &R,
     gateway: &mut Gateway,
     wire: &mut W,
     start: &Start<'_>,
+    settings: &Settings,
     identity: Identity,
     manager: &mut Option<Manager>,
     output: &mut O,
     log: &L,
 ) -> Result<(), BoxFault>
     requires notified { IsNotified start.now.notify manager.old }
+    requires own { IsOwnWire (path_in start.now.capture) settings.now start.now.id wire.old }
+    requires identity { IsIdentity settings.now start.now.id identity gateway.old }
+    ensures runs { RunsOn W.does start.now.rounds start.now.track start.now.until_eof
+        gateway.old gateway.new wire.old wire.new }
     ensures rounds { HadRounds start.now.rounds start.now.track start.now.until_eof
         gateway.old gateway.new }
     ensures ended { OnOk result
         (Appends (O.contents output.old) (O.contents output.new) (codes "end\n")) }
     ensures told { HearsAll ⟦<Option<Manager> as Supervisor>⟧.hears identity.boot
         manager.old manager.new }
-    ensures err { IfErr result IsOfRun }
+    ensures err { IfErr result LacksOutput }
 {
     manager.ready(identity.boot);
     let mut clock = Stopwatch::start(rt);
@@ -635,7 +628,7 @@ fn rounds_of<R: Clock + Input + AllocGlobal, W: Wire, O: Write, L: Journal>(
 /// that it refuses.
 fn drawn<R: RandomSource>(rt: &R) -> Result<Hashers, BoxFault>
     ensures drawn { IfOk result (λ hashers. is_drawn hashers ≡ true) }
-    ensures err { IfErr result IsOfRun }
+    ensures err { IfErr result (λ why. why ≡ faults.Run reasons.NoMemory) }
 {
     let mut draws = SystemDraws(rt);
     let drawn = Hashers::drawn(&mut draws);
@@ -664,8 +657,12 @@ fn started<R: RandomSource + AllocGlobal, D: Disk, O: Write, L: Log>(
     ensures decided { D.honest disk.old → IfOk result (λ begun. Decides found
         (D.now disk.old) (D.now disk.new) (Ok begun.0.boot)) }
     ensures record { IfOk result (λ begun. IsTold L.enables log.now 0 (Boot begun.0.boot)) }
-    ensures err { IfErr result IsOfStart }
-    ensures order { IfErr result (λ why. IsInOrder (D.honest disk.old) found
+    ensures given { OnOk result (WasGiven boot_number) }
+    ensures own_number { OnOk result (IsNumberOf disk.old) }
+    ensures err { IfErr result IsUnstarted }
+    ensures printed { IfOk result (λ begun. Appends (O.contents output.old)
+        (O.contents output.new) (boot_line begun.0.boot)) }
+    ensures order { IfErr result (λ why. IsInOrder O.contents None (D.honest disk.old) found
         (D.now disk.old) (D.now disk.new) why output.old output.new) }
 {
     let digest = digest(rt.alloc(), settings)?;
@@ -684,10 +681,11 @@ fn started<R: RandomSource + AllocGlobal, D: Disk, O: Write, L: Log>(
 }
 
 /// Prints the number of a boot.
+#[tactic(auto, unfolding(crate::specs::Named::WasDenied))]
 fn announced<O: Write>(output: &mut O, boot: u64) -> Result<(), BoxFault>
     ensures printed { OnOk result
         (Appends (O.contents output.old) (O.contents output.new) (boot_line boot)) }
-    ensures err { IfErr result IsOfRun }
+    ensures err { IfErr result LacksOutput }
 {
     writeln!(output, "boot {boot}")?;
     output.flush()?;
@@ -708,7 +706,9 @@ fn booted<D: Disk>(
     ensures begins { IfOk result (λ start. IsStart settings.now id found hashers start.0 start.1) }
     ensures own { IfOk result (λ start. HasBoot start.0 start.1) }
     ensures above_zero { IfOk result (λ start. 0 < start.0) }
-    ensures err { IfErr result IsOfStart }
+    ensures given { OnOk result (WasGiven boot_number) }
+    ensures own_number { OnOk result (IsNumberOf disk.old) }
+    ensures err { IfErr result IsUnstarted }
     ensures rises { D.honest disk.old
         → IfOk result (λ start. Rises (D.now disk.old) (D.now disk.new) (Ok start.0)) }
     ensures decided { D.honest disk.old
@@ -717,9 +717,32 @@ fn booted<D: Disk>(
         → Since (D.past disk.old) (D.past disk.new) (Keeps (D.now disk.old) (D.now disk.new)) }
     ensures honesty { D.honest disk.old ↔ D.honest disk.new }
 {
-    let boot = next_boot(disk, found)?;
+    let boot = numbered(disk, found)?;
     let gateway = begun(alloc, settings, id, boot, found, hashers)?;
     Ok((boot, gateway))
+}
+
+/// The next boot number of a disk.
+#[tactic(auto, unfolding(crate::specs::Named::WasGiven))]
+fn numbered<D: Disk>(disk: &mut D, found: bool) -> Result<u64, BoxFault>
+    ensures given { OnOk result (WasGiven boot_number) }
+    ensures own_number { OnOk result (IsNumberOf disk.old) }
+    ensures above_zero { IfOk result (λ boot. 0 < boot) }
+    ensures err { IfErr result IsUnstarted }
+    ensures told { D.honest disk.old
+        → IfErr result (TellsNumber found (D.now disk.old) (D.now disk.new)) }
+    ensures rises { D.honest disk.old
+        → IfOk result (λ boot. Rises (D.now disk.old) (D.now disk.new) (Ok boot)) }
+    ensures decided { D.honest disk.old
+        → IfOk result (λ boot. Decides found (D.now disk.old) (D.now disk.new) (Ok boot)) }
+    ensures any_moment { D.honest disk.old
+        → Since (D.past disk.old) (D.past disk.new) (Keeps (D.now disk.old) (D.now disk.new)) }
+    ensures honesty { D.honest disk.old ↔ D.honest disk.new }
+{
+    match next_boot(disk, found) {
+        Ok(boot) => Ok(boot),
+        Err(fault) => Err(BoxFault::from(fault)),
+    }
 }
 
 /// A gateway that begins in this boot. What it shows stays closed to its caller here.
@@ -736,14 +759,4 @@ fn begun(
     ensures { IfOk result (IsStart settings.now id found hashers boot) }
 {
     Gateway::new(alloc, settings, id, boot, found, hashers)
-}
-
-/// The settings in the file at a path.
-fn settings_at<R: Files + AllocGlobal>(rt: &R, path: &str) -> Result<Settings, BoxFault>
-    ensures held { IfOk result AreHeld }
-    ensures err { IfErr result IsOfRun }
-{
-    let text = text_of(rt, path)?;
-    let settings = settings_file::read(rt.alloc(), text.as_str())?;
-    Ok(settings)
 }

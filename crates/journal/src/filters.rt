@@ -61,7 +61,9 @@ pub fn filter_of<'a>(
 /// `NoFilter` where it isn't text; `NoMemory` where memory is refused.
 pub fn environment<R: Env + Alloc<A = Global>>(
     rt: &R,
-) -> Result<Option<String>, FilterFault<'static>> {
+) -> Result<Option<String>, FilterFault<'static>>
+    ensures named { IfErr result IsOfVariable }
+{
     of_variable(env::var(rt, VARIABLE))
 }
 

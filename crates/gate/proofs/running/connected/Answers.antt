@@ -1,13 +1,37 @@
+use Rattle.std.proofs.Common.{inl, subst, ℕ, List}
+use Rattle.control.specs.Paths.{socket_of}
+use Rattle.gate.specs.Asked.{boot_file_of}
+use Rattle.gate.specs.Failing.{FailsHeard, FailsLocked, LacksControl}
+use Rattle.gate.specs.Named.{WasGiven, control_socket}
+use Rattle.gate.proofs.Failing.{handed_on}
+use Rattle.gate.proofs.Refusing.{behind_it, control_of}
+use Rattle.gate.proofs.Serving.{also}
 use Rattle.gate.proofs.running.connected.Goals as goal
 
-pub returns-in-Ok-sockets_of-clause-ok : goal.returns-in-Ok-sockets_of-clause-ok
-returns-in-Ok-sockets_of-clause-ok g c = c.logged.ensures.ok
+pub returns-clause-ok : goal.returns-clause-ok
+returns-clause-ok g c =
+    let given = subst (λ (path : List ℕ). WasGiven (control_socket (socket_of path))) c.requires.own_file c.in_ok-control.ensures.given in
+    also c.wired.result (WasGiven (control_socket (socket_of (boot_file_of c.args.settings.now c.args.start.now.id)))) _ given c.wired.ensures.ok
 
-pub returns-in-Ok-sockets_of-clause-err : goal.returns-in-Ok-sockets_of-clause-err
-returns-in-Ok-sockets_of-clause-err g c = c.logged.ensures.err
+pub returns-clause-err : goal.returns-clause-err
+returns-clause-err g c =
+    let given = subst (λ (path : List ℕ). WasGiven (control_socket (socket_of path))) c.requires.own_file c.in_ok-control.ensures.given in
+    behind_it c.wired.result (LacksControl (boot_file_of c.args.settings.now c.args.start.now.id))
+    (FailsHeard c.args.start.now c.args.settings.now c.args.ways.now) _ given c.wired.ensures.err
 
-pub returns-in-Ok-sockets_of-clause-untouched : goal.returns-in-Ok-sockets_of-clause-untouched
-returns-in-Ok-sockets_of-clause-untouched g c = c.logged.ensures.untouched
+pub returns-clause-untouched : goal.returns-clause-untouched
+returns-clause-untouched g c = c.wired.ensures.untouched
 
-pub returns-in-Ok-sockets_of-clause-order : goal.returns-in-Ok-sockets_of-clause-order
-returns-in-Ok-sockets_of-clause-order g c = c.logged.ensures.order
+pub returns-clause-order : goal.returns-clause-order
+returns-clause-order g c = c.wired.ensures.order
+
+pub returns-in_err-control-clause-err : goal.returns-in_err-control-clause-err
+returns-in_err-control-clause-err g c =
+    handed_on c.from_residual.result (FailsLocked c.args.start.now c.args.settings.now c.args.ways.now) _ c.from_residual.ensures.1
+    (inl (control_of _ _ _ c.requires.own_file c.in_err-control.ensures.err))
+
+pub returns-clause-decided : goal.returns-clause-decided
+returns-clause-decided g c = c.wired.ensures.decided
+
+pub returns-clause-heard : goal.returns-clause-heard
+returns-clause-heard g c = c.wired.ensures.heard

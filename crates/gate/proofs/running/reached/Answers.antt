@@ -1,5 +1,11 @@
-use Rattle.gate.proofs.Refusing.{ends_refused}
+use Rattle.gate.proofs.Failing.{by_descriptor, by_way}
 use Rattle.gate.proofs.running.reached.Goals as goal
 
-pub returns-clause-err : goal.returns-clause-err
-returns-clause-err g c = ends_refused _ _ _ c.in_ok-ways.ensures.ok c.watched.ensures.err
+pub returns-in_err-ways-clause-err : goal.returns-in_err-ways-clause-err
+returns-in_err-ways-clause-err g c =
+    by_way c.from_residual.result c.args.start.now c.args.settings.now _ c.from_residual.ensures.1 c.requires.held c.in_err-ways.ensures.err
+
+pub returns-in_err-inherited-clause-err : goal.returns-in_err-inherited-clause-err
+returns-in_err-inherited-clause-err g c =
+    by_descriptor c.from_residual-in_err-inherited.result c.args.start.now c.args.settings.now _ _ c.from_residual-in_err-inherited.ensures.1
+    (record { held = c.requires.held; written = c.in_ok-ways.ensures.ok }) c.in_err-inherited.ensures.err

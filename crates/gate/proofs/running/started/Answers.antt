@@ -1,6 +1,10 @@
-use Rattle.gate.proofs.Refusing.{in_order}
+use Rattle.std.proofs.Common.{inl, inr, refl, subst, sym}
+use Rattle.gate.specs.Failing.{IsUnstarted}
 use Rattle.gate.proofs.running.started.Goals as goal
+
+pub returns-in-Err-clause-err : goal.returns-in-Err-clause-err
+returns-in-Err-clause-err g c = subst IsUnstarted (sym c.in-Err.ensures.err.0) (inl (refl, (c.in_ok-boot.ensures.given, c.in-Err.ensures.err.1)))
 
 pub returns-in-Err-clause-order : goal.returns-in-Err-clause-order
 returns-in-Err-clause-order g c =
-    in_order c.announced.result _ _ _ _ _ _ _ _ c.in-Err.is c.announced.ensures.err c.in_ok-boot.ensures.decided
+    inr (_, (c.in_ok-boot.ensures.decided, inl c.in-Err.ensures.err))

@@ -1,0 +1,13 @@
+use Rattle.std.proofs.Common.{inl}
+use Rattle.gate.specs.Asked.{IsFilter}
+use Rattle.gate.specs.Failing.{FailsLogged, LacksFilter}
+use Rattle.gate.proofs.Refusing.{behind_it}
+use Rattle.gate.proofs.running.logged.Goals as goal
+
+pub returns-in-Ok-clause-err : goal.returns-in-Ok-clause-err
+returns-in-Ok-clause-err g c =
+    behind_it c.captured-ended.result (LacksFilter c.args.start.now.log) (FailsLogged c.args.start.now) (IsFilter c.args.start.now.log)
+    c.in-Ok.ensures.valid c.captured-ended.ensures.err
+
+pub returns-in-Err-clause-err : goal.returns-in-Err-clause-err
+returns-in-Err-clause-err g c = inl c.in-Err.ensures.err

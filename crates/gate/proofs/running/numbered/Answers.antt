@@ -1,0 +1,25 @@
+use Rattle.boot_store.specs.declared.faults.BootFault.{BootFault}
+use Rattle.boot_store.specs.declared.faults.BootFault.TheVariants as boot
+use Rattle.box_words.specs.Faults.{of_boot}
+use Rattle.gate.specs.Failing.{IsUnstarted}
+use Rattle.gate.specs.Named.{WasDenied}
+use Rattle.gate.proofs.Beginning.{none_failed, tells_number}
+use Rattle.gate.proofs.running.numbered.Goals as goal
+
+unnumbered : (reason : BootFault) → IsUnstarted (of_boot reason)
+unfolding WasDenied
+unnumbered boot.Device = tt
+unnumbered boot.Damaged = tt
+unnumbered boot.BootsUsedUp = tt
+unnumbered boot.FoundTwice = tt
+
+pub returns-in-Err-clause-err : goal.returns-in-Err-clause-err
+returns-in-Err-clause-err g c = rw c.from.ensures (unnumbered c.in-Err.fault)
+
+pub returns-in-Ok-clause-decided : goal.returns-in-Ok-clause-decided
+returns-in-Ok-clause-decided g c h =
+    c.in-Ok.ensures.decided h (none_failed _ _ _ _ c.in-Ok.ensures.later c.in-Ok.ensures.device)
+
+pub returns-in-Err-clause-told : goal.returns-in-Err-clause-told
+returns-in-Err-clause-told g c h =
+    tells_number c.args.found _ _ _ _ c.in-Err.fault _ c.from.ensures c.in-Err.ensures.later c.in-Err.ensures.device (c.in-Err.ensures.decided h)

@@ -1,0 +1,31 @@
+use Rattle.std.proofs.Common.{inl}
+use Rattle.gate.specs.Failing.{FailsHeard, FailsWired, LacksPlace}
+use Rattle.gate.proofs.Failing.{handed_on}
+use Rattle.gate.proofs.Refusing.{behind_it}
+use Rattle.gate.proofs.Serving.{also}
+use Rattle.gate.proofs.running.wired.Goals as goal
+
+pub returns-clause-ok : goal.returns-clause-ok
+returns-clause-ok g c = also c.logged.result _ _ c.in_ok-wire.ensures.given c.logged.ensures.ok
+
+pub returns-clause-err : goal.returns-clause-err
+returns-clause-err g c =
+    behind_it c.logged.result (LacksPlace c.args.settings.now c.args.start.now.id c.args.ways.now) (FailsWired c.args.start.now) _
+    c.in_ok-wire.ensures.given c.logged.ensures.err
+
+pub returns-clause-untouched : goal.returns-clause-untouched
+returns-clause-untouched g c = c.logged.ensures.untouched
+
+pub returns-clause-order : goal.returns-clause-order
+returns-clause-order g c = c.logged.ensures.order
+
+pub returns-in_err-wire-clause-err : goal.returns-in_err-wire-clause-err
+returns-in_err-wire-clause-err g c =
+    handed_on c.from_residual.result (FailsHeard c.args.start.now c.args.settings.now c.args.ways.now) _ c.from_residual.ensures.1
+    (inl c.in_err-wire.ensures.err)
+
+pub returns-clause-decided : goal.returns-clause-decided
+returns-clause-decided g c = c.logged.ensures.decided
+
+pub returns-clause-heard : goal.returns-clause-heard
+returns-clause-heard g c = c.logged.ensures.heard

@@ -1,0 +1,147 @@
+-- Why each part of a start fails, by what it has at hand.
+use Rattle.std.specs.Prelude.{◌≡◌, ◌≢◌, ◌⊎◌, ℕ, List, Option, Some, None, IfSome, IsSomeAnd, MatchOption, string_bytes}
+use Rattle.std.specs.Borrow.{Bor}
+use Rattle.std.specs.declared.io.ErrorKind.{ErrorKind}
+use Rattle.std.specs.declared.io.ErrorKind.TheVariants.{AlreadyExists, OutOfMemory}
+use Rattle.log.specs.Filter.{invalid_spec}
+use Rattle.nat_types.specs.declared.gateways.GatewayId.{GatewayId}
+use Rattle.settings.specs.declared.whole.Settings.{Settings}
+use Rattle.settings_file.specs.Clashes.{clash_of_one}
+use Rattle.settings_file.specs.declared.keys.Key.{Key}
+use Rattle.boot_file.specs.Locks.{IsOfOpening}
+use Rattle.boot_file.specs.declared.faults.FileFault.{FileFault}
+use Rattle.control.specs.Paths.{socket_of}
+use Rattle.sockets.specs.Ways.{Names}
+use Rattle.sockets.specs.declared.ways.Ways.{Ways}
+use Rattle.supervision.specs.Descriptors.{IsRefused}
+use Rattle.supervision.specs.Managers.{IsManagerText, IsNoManagerText}
+use Rattle.supervision.specs.declared.managers.Manager.{Manager}
+use Rattle.journal.specs.declared.filters.TheConstants.{VARIABLE}
+use Rattle.faults.specs.Faults.{IsOfFile, IsUnread, Tells}
+use Rattle.faults.specs.declared.faults.Fault.{Fault}
+use Rattle.faults.specs.declared.faults.Fault.TheVariants as run
+use Rattle.faults.specs.declared.files.Refusal.TheVariants.{Exists, NotWritten}
+use Rattle.box_words.specs.Ends.{IsNeeded}
+use Rattle.box_words.specs.Faults.{TellsBootFile, TellsSettings, TellsSocket, of_clash}
+use Rattle.box_words.specs.declared.refusals.BoxFault.{BoxFault}
+use Rattle.box_words.specs.declared.refusals.BoxFault.TheVariants as fault
+use Rattle.gate.specs.Asked.{IsFilter, boot_file_of, box_ports, on_loopback, path_in}
+use Rattle.gate.specs.Named.{IsOpened, WasDenied, WasGiven, WasRead, begun_capture, boot_number, capture_file, control_socket}
+use Rattle.gate.specs.Named.{descriptors, environment, locked_file, output, own_sockets, settings_text}
+use Rattle.gate.specs.declared.running.Start.{Start}
+
+-- no settings are had at this path: the file gives no text; or it gave this one, which holds none
+abbrev pub LacksSettings : List ℕ → BoxFault → Type 0
+LacksSettings path (fault.Run why) = (WasDenied (settings_text path) (fault.Run why) × IsUnread path why)
+    ⊎ ((text : List ℕ) × (WasRead path text × TellsSettings text (fault.Run why)))
+LacksSettings path other = ⊥
+
+-- a descriptor of a way isn't open
+abbrev pub LacksDescriptor : Ways → BoxFault → Type 0
+LacksDescriptor ways (fault.NoDescriptor why) = WasDenied (descriptors ways) (fault.NoDescriptor why) × Names ways why.0
+LacksDescriptor ways other = ⊥
+
+-- no service manager is had: there is a text, which writes none; or it writes one whose descriptor the system refuses
+abbrev pub LacksManager : Option (Bor (List ℕ)) → BoxFault → Type 0
+LacksManager notify fault.NoManager = IsSomeAnd notify (λ text. IsNoManagerText text.now)
+LacksManager notify (fault.NotOpen why) = IsSomeAnd notify (λ text.
+    (manager : Manager) × (IsManagerText text.now manager × ((why.0 ≡ manager.descriptor) × IsRefused manager.descriptor)))
+LacksManager notify other = ⊥
+
+-- ports on loopback can't be had together: that of this key is the first that stands twice
+abbrev pub Clashes : Settings → GatewayId → Ways → BoxFault → Type 0
+Clashes settings id ways why = (key : Key) × (clash_of_one settings id (on_loopback ways) ≡ Some key) × (why ≡ of_clash key)
+
+-- the boot file at this path isn't opened and locked
+abbrev pub LacksBootFile : List ℕ → BoxFault → Type 0
+LacksBootFile path why = WasDenied (locked_file path) why × ((reason : FileFault) × (IsOfOpening reason × TellsBootFile path reason why))
+
+-- the control socket beside this boot file isn't opened
+abbrev pub LacksControl : List ℕ → BoxFault → Type 0
+LacksControl boot_file why = WasDenied (control_socket (socket_of boot_file)) why × TellsSocket (socket_of boot_file) why
+
+-- a socket of a place isn't had: an end of its own, where that is known
+abbrev pub LacksPlace : Settings → GatewayId → Ways → BoxFault → Type 0
+LacksPlace settings id ways (fault.NoSocket end) =
+    WasDenied (own_sockets ways (box_ports settings id)) (fault.NoSocket end) × IfSome end.0 (IsNeeded ways (box_ports settings id))
+LacksPlace settings id ways (fault.Run why) = why ≡ run.NoMemory
+LacksPlace settings id ways other = ⊥
+
+-- this part is no directive of some text, which the environment had; or it names the variable, which holds no text
+abbrev pub IsOfEnvironment : List ℕ → Type 0
+IsOfEnvironment part = (part ≡ VARIABLE.now) ⊎ ((text : List ℕ) × (invalid_spec text ≡ Some part))
+
+-- No filter of the records is had: this part is the first of the option's text that is no directive; or there is no option, and it is of
+-- the environment.
+abbrev pub LacksFilter : Option (Bor (List ℕ)) → BoxFault → Type 0
+LacksFilter option (fault.NoFilter part) = MatchOption option
+    (WasDenied environment (fault.NoFilter part) × IsOfEnvironment (string_bytes part))
+    (λ text. invalid_spec text.now ≡ Some (string_bytes part))
+LacksFilter option (fault.Run why) = why ≡ run.NoMemory
+LacksFilter option other = ⊥
+
+-- just this is told of the capture in the file at a path, which can't be opened or begun for this cause; or there is no memory to tell it
+pub record IsOfCause (path : List ℕ) (cause : ErrorKind) (why : Fault) : Type 0 where
+  pub kind : IsOfFile why
+  pub memory : cause ≡ OutOfMemory → why ≡ run.NoMemory
+  pub exists : cause ≡ AlreadyExists → Tells Exists path None why
+  pub unwritten : cause ≢ OutOfMemory → cause ≢ AlreadyExists → Tells NotWritten path (Some cause) why
+
+-- so it is of the file of the capture, where there is to be one
+abbrev pub IsOfCaptureAt : Option (List ℕ) → Fault → Type 0
+IsOfCaptureAt (Some path) why = (cause : ErrorKind) × IsOfCause path cause why
+IsOfCaptureAt None why = ⊥
+
+-- that file isn't opened
+abbrev pub LacksCapture : Option (List ℕ) → BoxFault → Type 0
+LacksCapture capture (fault.NoCapture why) =
+    IfSome capture (λ path. WasDenied (capture_file path) (fault.NoCapture why)) × IsOfCaptureAt capture why
+LacksCapture capture other = ⊥
+
+-- no capture is begun in it
+abbrev pub IsUnbegun : Option (List ℕ) → BoxFault → Type 0
+IsUnbegun capture (fault.Run why) = IfSome capture (λ path. WasDenied (begun_capture path) (fault.Run why)) × IsOfCaptureAt capture why
+IsUnbegun capture other = ⊥
+
+-- output is refused
+abbrev pub LacksOutput : BoxFault → Type 0
+LacksOutput why = (why ≡ fault.Run run.NotWritten) × WasDenied output (fault.Run run.NotWritten)
+
+-- the gateway isn't started, or its end isn't told: it is of the boot number, of memory, or, once there is a number, of output
+abbrev pub IsUnstarted : BoxFault → Type 0
+IsUnstarted (fault.Run why) =
+    ((why ≡ run.NotWritten) × (WasGiven boot_number × WasDenied output (fault.Run run.NotWritten))) ⊎ (why ≡ run.NoMemory)
+IsUnstarted fault.Device = WasDenied boot_number fault.Device
+IsUnstarted fault.Damaged = WasDenied boot_number fault.Damaged
+IsUnstarted fault.BootsUsedUp = WasDenied boot_number fault.BootsUsedUp
+IsUnstarted fault.FoundTwice = WasDenied boot_number fault.FoundTwice
+IsUnstarted other = ⊥
+
+-- ---- from each part on
+
+-- the gateway isn't run, with a capture, which is begun only once there is a number, or without
+abbrev pub IsUnrun : Option (List ℕ) → BoxFault → Type 0
+IsUnrun capture why = (WasGiven boot_number × IsUnbegun capture why) ⊎ IsUnstarted why
+
+-- Once there is a log, the capture's file isn't opened; or it is, where there is to be one, and the gateway isn't run.
+abbrev pub FailsLogged : Start → BoxFault → Type 0
+FailsLogged start why = LacksCapture (path_in start.capture) why ⊎ (IsOpened (path_in start.capture) × IsUnrun (path_in start.capture) why)
+
+-- Once there are sockets, there is no filter; or there is, and it fails behind that.
+abbrev pub FailsWired : Start → BoxFault → Type 0
+FailsWired start why = LacksFilter start.log why ⊎ (IsFilter start.log × FailsLogged start why)
+
+-- Once there is a control socket, the others aren't had; or they are, and it fails behind that.
+abbrev pub FailsHeard : Start → Settings → Ways → BoxFault → Type 0
+FailsHeard start settings ways why =
+    LacksPlace settings start.id ways why ⊎ (WasGiven (own_sockets ways (box_ports settings start.id)) × FailsWired start why)
+
+-- Once the boot file is locked, there is no control socket beside it; or there is, and it fails behind that.
+abbrev pub FailsLocked : Start → Settings → Ways → BoxFault → Type 0
+FailsLocked start settings ways why = LacksControl (boot_file_of settings start.id) why
+    ⊎ (WasGiven (control_socket (socket_of (boot_file_of settings start.id))) × FailsHeard start settings ways why)
+
+-- Once all that a start says was looked at, its boot file isn't locked; or it is, and it fails behind that.
+abbrev pub FailsOpening : Start → Settings → Ways → BoxFault → Type 0
+FailsOpening start settings ways why = LacksBootFile (boot_file_of settings start.id) why
+    ⊎ (WasGiven (locked_file (boot_file_of settings start.id)) × FailsLocked start settings ways why)

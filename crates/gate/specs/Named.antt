@@ -1,0 +1,54 @@
+-- What the system gave a start, or refused it, by name.
+use Rattle.std.specs.Prelude.{ℕ, List, Option, Some, None}
+use Rattle.nat_types.specs.declared.gateways.GatewayId.{GatewayId}
+use Rattle.sockets.specs.declared.places.Ports.{Ports}
+use Rattle.sockets.specs.declared.ways.Ways.{Ways}
+use Rattle.box_words.specs.declared.refusals.BoxFault.{BoxFault}
+
+-- what a start asks the system for: the text of a file of settings, that descriptors never wait, a locked boot file, a control socket, the
+-- sockets of the places, the environment's filter, the file of a capture, that a capture begins in it, a wire whose packets go there, at the
+-- interfaces of a gateway, a boot number, that of the boot file at a path, output
+pub data Need : Type 0 where
+  settings_text : List ℕ → Need
+  descriptors : Ways → Need
+  locked_file : List ℕ → Need
+  control_socket : List ℕ → Need
+  own_sockets : Ways → Ports → Need
+  environment : Need
+  capture_file : List ℕ → Need
+  begun_capture : List ℕ → Need
+  tapped_wire : List ℕ → GatewayId → Need
+  boot_number : Need
+  number_of : List ℕ → Need
+  output : Need
+
+-- The system gave it. The system says nothing of such a call, so this, and the next three, are no more than names: who asks has one of them,
+-- and nobody else, since only those functions look what stands here that make the call.
+unfoldable pub WasGiven : Need → Type 0
+WasGiven need = Unit {0}
+
+-- it gave just this one
+unfoldable pub WasHad : {A : Type 0} → Need → A → Type 0
+WasHad need it = Unit {0}
+
+-- it refused it, and just this fault tells of that
+unfoldable pub WasDenied : Need → BoxFault → Type 0
+WasDenied need why = Unit {0}
+
+-- it gave this text of the file at this path
+unfoldable pub WasRead : List ℕ → List ℕ → Type 0
+WasRead path text = Unit {0}
+
+-- the file at a path was opened for a capture, where there is a path
+abbrev pub IsOpened : Option (List ℕ) → Type 0
+IsOpened (Some path) = WasGiven (capture_file path)
+IsOpened None = Unit {0}
+
+-- a capture was begun in the file at a path, where there is one
+abbrev pub IsCaptured : Option (List ℕ) → Type 0
+IsCaptured (Some path) = WasGiven (begun_capture path)
+IsCaptured None = Unit {0}
+
+-- a number was had of this disk: where that is the locked boot file at a path, it is of that one
+abbrev pub IsNumberOf : {D : Type 0} → D → Type 0
+IsNumberOf disk = (path : List ℕ) → WasHad (locked_file path) disk → WasGiven (number_of path)

@@ -1,0 +1,110 @@
+//! What a start says is read and looked at, before anything of the box's own is opened.
+ghost use Rattle.std.specs.Prelude.{◌≡◌, ◌≤◌, IfErr, IfOk, None, OnOk, length, string_bytes};
+ghost use Rattle.control.specs.Paths.{IsBeside, socket_of};
+ghost use Rattle.faults.specs.Faults.{IsUnread};
+ghost use Rattle.settings_file.specs.Clashes.{clash_of_one};
+ghost use Rattle.box_words.specs.Faults.{TellsNoPath};
+ghost use Rattle.gate.specs.Asked.{IsNotified, boot_file_of, is_loopback, on_loopback};
+ghost use Rattle.box_words.specs.declared.refusals.BoxFault.TheVariants as faults;
+ghost use Rattle.gate.specs.Failing.{Clashes, LacksDescriptor, LacksManager, LacksSettings};
+ghost use Rattle.gate.specs.Named.{WasDenied, WasGiven, WasRead, descriptors, settings_text};
+ghost use Rattle.gate.specs.Starts.{AreHeld};
+
+use box_words::BoxFault;
+use control::ControlPath;
+use faults::{Fault, text_of};
+use nat_types::GatewayId;
+use settings::Settings;
+use settings_file::{OnLoopback, SettingFault, port_clash};
+use sockets::{Way, Ways};
+use std::alloc::Global;
+use std::fs::Files;
+use supervision::Manager;
+
+/// The settings in the file at a path.
+pub(crate) fn settings_at<R: Files + AllocGlobal>(rt: &R, path: &str) -> Result<Settings, BoxFault>
+    ensures held { IfOk result (AreHeld path.now) }
+    ensures err { IfErr result (LacksSettings path.now) }
+{
+    let text = text_at(rt, path)?;
+    let settings = settings_file::read(rt.alloc(), text.as_str())?;
+    Ok(settings)
+}
+
+/// The text of the file at a path.
+#[tactic(auto, unfolding(crate::specs::Named::WasRead, crate::specs::Named::WasDenied))]
+fn text_at<R: Files + AllocGlobal>(rt: &R, path: &str) -> Result<String, Fault>
+    ensures read { IfOk result (λ text. WasRead path.now (string_bytes text)) }
+    ensures err { IfErr result (λ why. WasDenied (settings_text path.now) (faults.Run why)
+        × IsUnread path.now why) }
+{
+    text_of(rt, path)
+}
+
+/// Makes the descriptors of ways ones that never wait.
+#[tactic(auto, unfolding(crate::specs::Named::WasGiven, crate::specs::Named::WasDenied))]
+pub(crate) fn inherited(ways: &Ways) -> Result<(), BoxFault>
+    ensures ok { OnOk result (WasGiven (descriptors ways.now)) }
+    ensures err { IfErr result (LacksDescriptor ways.now) }
+{
+    ways.inherit()?;
+    Ok(())
+}
+
+/// The service manager whose descriptor a text writes, if there is one.
+pub(crate) fn manager_of(text: Option<&str>) -> Result<Option<Manager>, BoxFault>
+    ensures ok { IfOk result (IsNotified text.entry) }
+    ensures err { IfErr result (LacksManager text.entry) }
+{
+    let Some(text) = text else {
+        return Ok(None);
+    };
+    let Some(manager) = Manager::read(text) else {
+        return Err(BoxFault::NoManager);
+    };
+    manager.inherit()?;
+    Ok(Some(manager))
+}
+
+/// Looks whether the ports of the places that are on loopback can be had together.
+pub(crate) fn without_clash(settings: &Settings, id: GatewayId, ways: &Ways) -> Result<(), BoxFault>
+    ensures ok { OnOk result (clash_of_one settings.now id (on_loopback ways.now) ≡ None) }
+    ensures err { IfErr result (Clashes settings.now id ways.now) }
+{
+    let on = OnLoopback {
+        inside: is_loopback(ways.inside),
+        outside: is_loopback(ways.outside),
+        link: is_loopback(ways.link),
+    };
+    match port_clash(settings, id, on) {
+        Some(key) => {
+            let fault = SettingFault::CantWork(key);
+            Err(BoxFault::Run(Fault::Setting(fault)))
+        }
+        None => Ok(()),
+    }
+}
+
+/// Whether a place is on loopback.
+fn is_loopback(way: Way) -> bool
+    ensures { result ≡ is_loopback way }
+{
+    match way {
+        Way::Loopback => true,
+        Way::Udp(_) | Way::Vxlan(_, _) | Way::Descriptor(_) => false,
+    }
+}
+
+/// The path of a box's control socket, beside its boot file.
+pub(crate) fn path_of(
+    alloc: Global,
+    settings: &Settings,
+    id: GatewayId,
+) -> Result<ControlPath, BoxFault>
+    ensures beside { IfOk result (IsBeside (boot_file_of settings.now id)) }
+    ensures short { OnOk result (length (socket_of (boot_file_of settings.now id)) ≤ 107) }
+    ensures err { IfErr result (TellsNoPath (boot_file_of settings.now id)) }
+{
+    let path = ControlPath::beside(alloc, settings.gateway(id).boot_file.as_str())?;
+    Ok(path)
+}
