@@ -1,9 +1,11 @@
 -- What a meter was told, by what it is at a moment.
-use Rattle.std.proofs.Common.{◌≡◌, ◌∙◌, ◌*◌, ℕ, zero, suc, List, Bool, false, Result, Ok, Err, ap, refl}
-use Rattle.std.specs.Prelude.{OnErr, OnOk}
+use Rattle.std.proofs.Common.{◌≡◌, ◌∙◌, ◌*◌, inl, inr, ℕ, zero, suc, List, Bool, false, Result, Ok, Err, ap, refl}
+use Rattle.std.specs.Prelude.{OnErr, OnOk, length}
+use Rattle.faults.specs.Jobs.{IsJobOf}
+use Rattle.faults.specs.declared.jobs.Job.{Job}
 use Rattle.outlets.specs.Telling.{Telling}
-use Rattle.commands.specs.Meters.{HasHeard, HasOverheard, Overhears, Reads, telling}
-use Rattle.simulation.specs.Watched.{IsTold, IsToldAll, IsToldSome}
+use Rattle.commands.specs.Meters.{HasHeard, HasOverheard, HasOverheardScript, Overhears, Reads, telling}
+use Rattle.simulation.specs.Watched.{IsTold, IsToldAll, IsToldPart, IsToldSome, OverhearsScript}
 use Rattle.simulation.specs.Watched.{Hears as HearsBy}
 
 module _ {P Q N : Type 0} (part : P → Q) (name : P → N) (hears : HearsBy P) (plain : HearsBy Q)
@@ -23,9 +25,14 @@ module _ {P Q N : Type 0} (part : P → Q) (name : P → N) (hears : HearsBy P) 
   pub same_name : (all : ℕ) (p p2 : P) → IsToldAll hears all p p2 → name p2 ≡ name p
   same_name all p p2 h = (told_part all h.times p p2 h.told).0
 
-  -- the same where it was told some times
-  pub told_some : (p p2 : P) → IsToldSome hears p p2 → IsToldSome plain (part p) (part p2)
-  told_some p p2 h = (h.0, (h.1.0, (told_part h.0 h.1.0 p p2 h.1.1).1))
+  -- the same where it was told of some of them
+  pub told_some : (all : ℕ) (p p2 : P) → IsToldPart hears all p p2 → IsToldPart plain all (part p) (part p2)
+  told_some all p p2 h = record { times = h.times; told = (told_part all h.times p p2 h.told).1; no_more = h.no_more }
+
+  -- and of a script
+  pub told_script : (text script : List ℕ) (p p2 : P) → OverhearsScript hears text script p p2 → OverhearsScript plain text script (part p) (part p2)
+  told_script text script p p2 (inl same) = inl (ap part same)
+  told_script text script p p2 (inr h) = inr (h.0, (h.1.0, told_some (length h.0.events.items) p p2 h.1.1))
 
   -- its name is the same in any case
   pub same_name_of : {T E : Type 0} (r : Result T E) (p p2 : P) → OnOk r (name p2 ≡ name p) → OnErr r (IsToldSome hears p p2) → name p2 ≡ name p
@@ -46,16 +53,20 @@ pub on_err : {T E A B : Type 0} (r : Result T E) → OnErr r A → (A → B) →
 on_err (Ok x) a f = tt
 on_err (Err e) a f = f a
 
--- who hears all of a run heard some of it
-pub overheard_of : {T X C E : Type 0} (r : Result T X) (reads : Reads C) (tells : Telling E) (all : ℕ) (clock : C) (before after : E)
-    → OnOk r (HasHeard reads tells all clock before after) → OnErr r (HasOverheard reads tells clock before after)
-    → HasOverheard reads tells clock before after
-overheard_of (Ok x) reads tells all clock before after h some =
-    record { last = h.last; told = (all, (h.told.times, h.told.told)); is_last = h.is_last }
-overheard_of (Err e) reads tells all clock before after h some = some
+-- of a job that was had, who hears of all its events heard of some
+pub overheard_of : {T X C E : Type 0} (r : Result T X) (reads : Reads C) (tells : Telling E) (text script : List ℕ) (job : Job) (clock : C) (before after : E)
+    → IsJobOf text script job → OnOk r (HasHeard reads tells (length job.events.items) clock before after)
+    → OnErr r (HasOverheard reads tells (length job.events.items) clock before after) → HasOverheardScript reads tells text script clock before after
+overheard_of (Ok x) reads tells text script job clock before after held h some = record {
+  last = h.last;
+  told = inr (job, (held, record { times = h.told.times; told = h.told.told; no_more = h.told.no_more }));
+  is_last = h.is_last;
+}
+overheard_of (Err e) reads tells text script job clock before after held h some =
+    record { last = some.last; told = inr (job, (held, some.told)); is_last = some.is_last }
 
 -- nothing was heard yet
-pub unheard : {C E : Type 0} (is_watched : Bool) (reads : Reads C) (tells : Telling E) (clock : C) (before : E)
-    → Overhears is_watched reads tells clock before before
-unheard is_watched reads tells clock before =
-    (λ watched. record { last = telling clock 200 false before; told = (0, (0, refl)); is_last = refl }, λ unwatched. refl)
+pub unheard : {C E : Type 0} (is_watched : Bool) (reads : Reads C) (tells : Telling E) (clock : C) (text script : List ℕ) (before : E)
+    → Overhears is_watched reads tells clock text script before before
+unheard is_watched reads tells clock text script before =
+    (λ watched. record { last = telling clock 200 false before; told = inl refl; is_last = refl }, λ unwatched. refl)

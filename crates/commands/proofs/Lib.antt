@@ -1,7 +1,6 @@
 mod Statuses
 mod Asked
 mod Refusing
-mod Beginning
 mod Telling
 mod Passing
 mod Taping

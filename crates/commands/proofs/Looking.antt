@@ -4,11 +4,11 @@ use Rattle.std.specs.Prelude.{MatchOption}
 use Rattle.box_words.specs.Deeds.{Does}
 use Rattle.commands.specs.Acts.{HasChecked, HasCompared}
 use Rattle.commands.specs.Ends.{HasAlike, HasGood}
-use Rattle.commands.specs.Hosts.{Scene, Scope, Works}
+use Rattle.commands.specs.Hosts.{Scene, Scope, Work, Works}
 use Rattle.outlets.specs.Telling.{Telling}
 
 -- a status of 0: some text was good, or some two were alike
-pub looked : {S H O E X : Type 0} (does : Does S) (works : Works) (prints : O → Option (List ℕ)) (tells : Telling E)
+pub looked : {S H O E X : Type 0} (does : Does S) (works : Works Work H) (prints : O → Option (List ℕ)) (tells : Telling E)
     (path : List ℕ) (scope : Scope) (path_of : X → List ℕ) (other : Option X) (status : ℕ) (before after : Scene S H O E)
     → MatchOption other (HasChecked does works prints tells path scope status before after)
     (λ x. HasCompared does works prints tells path (path_of x) status before after)

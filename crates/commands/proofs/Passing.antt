@@ -1,5 +1,6 @@
 -- A run through sockets that weren't asked for before.
-use Rattle.std.proofs.Common.{◌≡◌, inl, inr, ℕ, List, Option, None, Result, Ok, Err, IfErr, IfOk, ap, subst}
+use Rattle.std.proofs.Common.{◌≡◌, ◌≢◌, inl, inr, ℕ, List, Option, None, Result, Ok, IfOk, subst}
+use Rattle.settings.specs.declared.whole.Settings.{Settings}
 use Rattle.settings_file.specs.declared.faults.SettingFault.TheVariants.{CantWork}
 use Rattle.faults.specs.Jobs.{IsJobOf, TellsRun}
 use Rattle.faults.specs.declared.faults.Fault.{Fault}
@@ -8,11 +9,10 @@ use Rattle.faults.specs.declared.jobs.Job.{Job}
 use Rattle.settings_file.specs.Clashes.{clash_of_both}
 use Rattle.loopback_run.specs.Standings.{Standing, unasked}
 use Rattle.loopback_run.specs.Loops.{IsLoop, LoopsScript, TellsLoop}
-use Rattle.loopback_run.specs.Stops.{FailsBy, Refuses, StopsLoop}
+use Rattle.loopback_run.specs.Stops.{FailsBy, Refuses}
 use Rattle.commands.specs.Acts.{FailsLoop}
-use Rattle.commands.specs.Captures.{IsOfPorts}
-use Rattle.commands.specs.Ends.{BeginsLoop, Loops, has_ports, may_pass, may_refuse}
-use Rattle.commands.proofs.Beginning.{whole}
+use Rattle.commands.specs.Captures.{IsOfPorts, IsUnlooped, IsUnopened}
+use Rattle.commands.specs.Ends.{Loops, has_ports, may_pass, may_refuse}
 
 pub has_loop : (text script : List ℕ) (before after : Standing) (output printed : Option (List ℕ)) (status : ℕ)
     → before ≡ unasked → LoopsScript has_ports may_pass text script before after output printed status → Loops text script output printed status
@@ -40,40 +40,6 @@ pub fails_loop : {O : Type 0} (contents : O → Option (List ℕ)) (text script 
 fails_loop contents text script before after output printed why new h =
     (after, subst (λ (from : Standing). FailsBy has_ports may_refuse may_pass contents text script from after output printed why) new h)
 
--- a beginning of its text was printed, also where it ended well
-pub loop_begun_of : {O : Type 0} (r : Result ℕ Fault) (contents : O → Option (List ℕ)) (text script : List ℕ) (job : Job) (before between after : Standing)
-    (output printed : O) → before ≡ unasked → IsJobOf text script job → has_ports before job.settings between
-    → IfOk r (IsLoop may_pass job.settings job.events.items between after (contents output) (contents printed))
-    → IfErr r (StopsLoop may_pass contents job.settings job.events.items between after output printed)
-    → BeginsLoop text script (contents output) (contents printed)
-loop_begun_of (Ok status) contents text script job before between after output printed new held opened looped stopped = inr (record {
-  job = job;
-  is = held;
-  ports = between;
-  opened = opened;
-  last = after;
-  begun = inr (record { turns = looped.turns; world = looped.run.world; taken = looped.taken; text = whole _ _ _ looped.text });
-})
-loop_begun_of (Err fault.NotWritten) contents text script job before between after output printed new held opened looped stopped = inr (record {
-  job = job;
-  is = held;
-  ports = between;
-  opened = opened;
-  last = after;
-  begun = inl stopped;
-})
-loop_begun_of (Err fault.NoMemory) contents text script job before between after output printed new held opened looped (inl same) =
-    inl (ap contents same.1)
-loop_begun_of (Err fault.NoMemory) contents text script job before between after output printed new held opened looped (inr ended) = inr (record {
-  job = job;
-  is = held;
-  ports = between;
-  opened = opened;
-  last = after;
-  begun = inr ended;
-})
-loop_begun_of (Err other) contents text script job before between after output printed new held opened looped stopped = absurd stopped
-
 -- a fault of the texts, as it is told of a run through sockets
 pub of_run : (text script : List ℕ) (why : Fault) → TellsRun text script why → TellsLoop text script why
 of_run text script (fault.Setting why) h = inl h
@@ -90,3 +56,17 @@ of_ports refuses before after text script job is good (fault.Setting (CantWork k
 of_ports refuses before after text script job is good (fault.NoSocket port) h = good
 of_ports refuses before after text script job is good fault.NoMemory h = tt
 of_ports refuses before after text script job is good other h = absurd h
+
+-- it isn't that output was refused
+pub is_of_ports : {P : Type 0} (refuses : Refuses P) (settings : Settings) (before after : P) (why : Fault)
+    → IsOfPorts refuses settings before after why → why ≢ fault.NotWritten
+is_of_ports refuses settings before after why h is = subst (λ (f : Fault). IsOfPorts refuses settings before after f) is h
+
+-- why sockets that weren't asked for before aren't had
+pub unlooped : (text script : List ℕ) (before last : Standing) (why : Fault) → before ≡ unasked → TellsLoop text script why
+    → IsUnopened may_refuse text script before last why → IsUnlooped text script why
+unlooped text script before last why new told unopened = record {
+  told = told;
+  last = last;
+  unopened = subst (λ (from : Standing). IsUnopened may_refuse text script from last why) new unopened;
+}

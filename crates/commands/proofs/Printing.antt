@@ -1,5 +1,5 @@
 -- A whole text is written, and then flushed.
-use Rattle.std.proofs.Common.{◌++◌, ℕ, List, [], Option, Result, Ok, Err, sym, append-nil}
+use Rattle.std.proofs.Common.{ℕ, List, [], Option, Result, Ok, Err, sym, append-nil}
 use Rattle.std.specs.Io.KnownBytes.{Appends, Keeps}
 use Rattle.std.proofs.KnownBytes.{Appends-kept}
 use Rattle.outlets.specs.Printed.{Prints}

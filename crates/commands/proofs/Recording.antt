@@ -1,18 +1,22 @@
 -- Runs that were taken down in a file.
-use Rattle.std.proofs.Common.{◌≡◌, ◌⊎◌, inl, inr, ℕ, true, List, Result, Ok, Err, IfErr, IfOk, refl, subst, sym}
+use Rattle.std.proofs.Common.{◌≡◌, ◌⊎◌, inl, inr, ℕ, true, List, Option, None, Result, Ok, Err, IfErr, IfOk, refl, subst, sym}
 use Rattle.std.specs.IoError.{error_kind}
 use Rattle.std.specs.Prelude.{OnOk, is_err}
 use Rattle.std.specs.declared.io.Error.{Error}
+use Rattle.settings_file.specs.Clashes.{clash_of_both}
 use Rattle.faults.specs.declared.faults.Fault.{Fault}
 use Rattle.faults.specs.Jobs.{IsJobOf}
 use Rattle.faults.specs.declared.jobs.Job.{Job}
 use Rattle.frame_sim.specs.Tapes.{TakesOn}
-use Rattle.simulation.specs.Tapes.{IsTapedRun}
+use Rattle.frame_sim.specs.World.{founding}
+use Rattle.simulation.specs.Tapes.{IsTapedRun, StopsTaped}
+use Rattle.loopback_run.specs.Loops.{IsLoop}
 use Rattle.loopback_run.specs.Standings.{Standing, unasked}
-use Rattle.loopback_run.specs.Tapes.{IsTapedLoop}
-use Rattle.commands.specs.Captures.{IsCaptured, IsLoopCaptured, IsOfEnd, IsOfEvents, IsOfTape}
+use Rattle.loopback_run.specs.Tapes.{IsTapedLoop, StopsTapedLoop}
+use Rattle.commands.specs.Captures.{IsCaptured, IsClosed, IsHeldBy, IsLoopCaptured, IsOfEvents, TapesSim, TapesSockets}
 use Rattle.commands.specs.Ends.{has_ports, may_pass}
 use Rattle.commands.specs.Hosts.{Begins, Closes, Written}
+use Rattle.commands.proofs.Passing.{has_loop}
 use Rattle.commands.proofs.Statuses.{isnt_1}
 
 -- a run that ends well has ended its tape
@@ -21,14 +25,54 @@ pub ended_of : {X Y A : Type 0} (written : Result X Y) (status : ℕ) → IfOk w
 ended_of (Ok x) status a refused done = a
 ended_of (Err e) status a refused done = isnt_1 status (refused refl) done
 
--- and one that doesn't, for this fault
-pub tape_of : {H T : Type 0} (begins : Begins H T) (closes : Closes H T) (path : List ℕ) (run : Result ℕ Fault) (written : Result (Unit {0}) Error) (why : Fault)
-    (host : H) (last : T) → IfErr run IsOfEvents → IfOk written (λ _. closes host last (Ok tt))
-    → IfErr written (λ error. closes host last (Err (error_kind error))) → IsOfEnd path run written why → IsOfTape begins closes path why host last
-tape_of begins closes path run (Err error) why host last events ended unended is = inl (error_kind error, unended, is)
-tape_of begins closes path (Err ending) (Ok done) why host last events ended unended is =
-    inr (ended, subst (λ (fault : Fault). IsOfEvents fault) (sym is) events)
-tape_of begins closes path (Ok status) (Ok done) why host last events ended unended is = absurd is
+-- what was answered where a tape was to be ended
+pub closed_of : {H T : Type 0} (begins : Begins H T) (closes : Closes H T) (written : Result (Unit {0}) Error) (host : H) (last : T)
+    → IfOk written (λ _. closes host last (Ok tt)) → IfErr written (λ error. closes host last (Err (error_kind error)))
+    → IsClosed begins closes host last written
+closed_of begins closes (Ok done) host last ended unended = ended
+closed_of begins closes (Err error) host last ended unended = unended
+
+-- how a run of the job of two texts ended, and what took it down
+pub tapes_sim : {T O : Type 0} (r : Result ℕ Fault) (takes refuses : TakesOn T) (contents : O → Option (List ℕ)) (text script : List ℕ) (job : Job) (first last : T)
+    (output printed : O) → IsJobOf text script job
+    → IfOk r (IsTapedRun takes job.settings job.events.items first last (contents output) (contents printed)) → IfErr r IsOfEvents
+    → IfErr r (StopsTaped takes refuses contents (founding job.settings) job.events.items first last output printed)
+    → TapesSim takes refuses contents text script r first last output printed
+tapes_sim (Ok status) takes refuses contents text script job first last output printed held taped events stopped =
+    record { job = job; is = held; run = taped }
+tapes_sim (Err why) takes refuses contents text script job first last output printed held taped events (inl untaped) = (events, inl untaped)
+tapes_sim (Err why) takes refuses contents text script job first last output printed held taped events (inr stopped) =
+    (events, inr (job, (held, stopped)))
+
+-- the same through sockets
+pub tapes_sockets : {T O : Type 0} (r : Result ℕ Fault) (takes refuses : TakesOn T) (contents : O → Option (List ℕ)) (text script : List ℕ) (job : Job)
+    (before between after : Standing) (first last : T) (output printed : O) → before ≡ unasked → IsHeldBy text script job
+    → IsJobOf text script job → clash_of_both job.settings ≡ None → has_ports before job.settings between
+    → IfOk r (IsLoop may_pass job.settings job.events.items between after (contents output) (contents printed))
+    → OnOk r (IsTapedLoop may_pass takes job.settings job.events.items between after first last)
+    → IfErr r (StopsTapedLoop may_pass takes refuses contents job.settings job.events.items between after first last output printed)
+    → TapesSockets takes refuses contents text script r first last output printed
+tapes_sockets (Ok status) takes refuses contents text script job before between after first last output printed new texts held apart opened looped taped stopped = (
+  has_loop text script before after (contents output) (contents printed) status new (record {
+    job = job;
+    is = held;
+    apart = apart;
+    open_passage = between;
+    opened = opened;
+    run = looped;
+  }),
+  (after, record { job = job; is = held; open_passage = between; opened = opened; taped = taped }),
+)
+tapes_sockets (Err why) takes refuses contents text script job before between after first last output printed new texts held apart opened looped taped stopped = (
+  after,
+  record {
+    texts = texts.0;
+    open_passage = between;
+    opened = subst (λ (j : Job). has_ports unasked j.settings between) (sym texts.1) opened;
+    stopped = subst (λ (j : Job). StopsTapedLoop may_pass takes refuses contents j.settings j.events.items between after first last output printed why)
+        (sym texts.1) stopped;
+  },
+)
 
 module _ {H T : Type 0} (takes : TakesOn T) (begins : Begins H T) (closes : Closes H T) where
   pub captured_of : {E : Type 0} (r : Result ℕ E) (path text script : List ℕ) (job : Job) (first last : T) (printed : Written) (status : ℕ) (host host2 : H)

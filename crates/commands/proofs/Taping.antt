@@ -3,18 +3,15 @@ use Rattle.std.proofs.Common.{◌≡◌, ◌∙◌, ◌⊎◌, inl, inr, ℕ, Op
 use Rattle.faults.specs.Faults.{status_of}
 use Rattle.faults.specs.Jobs.{IsJobOf, TellsRun}
 use Rattle.faults.specs.declared.faults.Fault.{Fault}
-use Rattle.faults.specs.declared.faults.Fault.TheVariants.{NoMemory, NotWritten}
 use Rattle.faults.specs.declared.jobs.Job.{Job}
-use Rattle.std.specs.Prelude.{List, OnErr, OnOk, length}
+use Rattle.std.specs.Prelude.{List, OnOk, length}
 use Rattle.commands.specs.Captures.{IsOfEvents}
 use Rattle.commands.specs.Meters.{HasHeard, HasHeardScript, Reads}
 use Rattle.frame_sim.specs.Tapes.{TakesOn}
-use Rattle.frame_sim.specs.World.{founding}
 use Rattle.outlets.specs.Telling.{Telling}
 use Rattle.simulation.specs.Status.{RunsScript}
-use Rattle.simulation.specs.Stops.{Begins, BeginsScript, FailsBy, Leaves}
+use Rattle.simulation.specs.Stops.{FailsBy, Leaves}
 use Rattle.simulation.specs.Tapes.{IsTapedRun}
-use Rattle.commands.proofs.Beginning.{whole}
 
 -- it is a run of the job of two texts
 pub run_of : {E T : Type 0} (r : Result ℕ E) (takes : TakesOn T) (text script : List ℕ) (job : Job) (before after : T) (output printed : Option (List ℕ)) (status : ℕ)
@@ -46,18 +43,6 @@ heard_of {E = E} {X = X} r reads tells text script job clock before after last s
   heard = subst (λ (e : E). HasHeard reads tells (length job.events.items) clock before e) (sym same)
       (subst (λ (x : Result ℕ X). OnOk x (HasHeard reads tells (length job.events.items) clock before after)) is heard);
 }
-
--- a beginning of its text was printed, also where it ended well
-pub begun_of : {T : Type 0} (r : Result ℕ Fault) (takes : TakesOn T) (text script : List ℕ) (job : Job) (before after : T) (output printed : Option (List ℕ))
-    → IsJobOf text script job → IfOk r (IsTapedRun takes job.settings job.events.items before after output printed)
-    → OnErr r (Begins (founding job.settings) job.events.items output printed) → BeginsScript text script output printed
-begun_of (Ok status) takes text script job before after output printed held taped begun = inr (record {
-  job = job;
-  is = held;
-  begun = record { steps = taped.run.steps; last = taped.run.world; answers = taped.run.answers; begun = whole _ _ _ taped.text };
-})
-begun_of (Err why) takes text script job before after output printed held taped (inl same) = inl same
-begun_of (Err why) takes text script job before after output printed held taped (inr begun) = inr (record { job = job; is = held; begun = begun })
 
 -- which fault ended a run, and what it leaves
 pub fails_of : (r : Result ℕ Fault) (text script : List ℕ) (output printed : Option (List ℕ)) → IfErr r (TellsRun text script)

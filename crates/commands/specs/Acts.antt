@@ -15,8 +15,7 @@ use Rattle.frame_sim.specs.Tapes.{TakesOn}
 use Rattle.outlets.specs.Printed.{IsBegun}
 use Rattle.outlets.specs.Telling.{IsTold, IsToldOf, Telling}
 use Rattle.simulation.specs.Status.{RunsScript}
-use Rattle.simulation.specs.Stops.{BeginsScript, FailsBy}
-use Rattle.loopback_run.specs.Loops.{TellsLoop}
+use Rattle.simulation.specs.Stops.{FailsBy}
 use Rattle.loopback_run.specs.Standings.{Standing, unasked}
 use Rattle.loopback_run.specs.Stops.{FailsBy as FailsLoopBy}
 use Rattle.box_words.specs.Deeds.{Does, HasListed, HasReported, HasSaid, HasSynced, HasTaken, HasUnlisted, HasUnmade, HasUnreported}
@@ -25,9 +24,9 @@ use Rattle.box_words.specs.Faults.{fault_text as box_text}
 use Rattle.box_words.specs.Said.{said_off, said_side, said_stop}
 use Rattle.box_words.specs.declared.refusals.BoxFault.{BoxFault}
 use Rattle.commands.specs.Asked.{filter_of, form_of}
-use Rattle.commands.specs.Captures.{IsCaptured, IsLoopCaptured, LeavesCapture}
-use Rattle.commands.specs.Ends.{BeginsLoop, Loops, has_ports, may_pass, may_refuse, version_line}
-use Rattle.commands.specs.Hosts.{Begins, Closes, HasWorked, Scene, Scope, Works, compared, looked, plan_of, scope_of, served, text_at, written}
+use Rattle.commands.specs.Captures.{IsCaptured, IsLoopCaptured, IsUnlooped, LeavesCapture, TapesSim, TapesSockets, Taping}
+use Rattle.commands.specs.Ends.{Loops, has_ports, may_pass, may_refuse, version_line}
+use Rattle.commands.specs.Hosts.{Begins, Closes, HasWorked, Scene, Scope, Work, Works, compared, looked, plan_of, scope_of, served, text_at, written}
 use Rattle.commands.specs.Meters.{Hearing, IsToldBehind}
 use Rattle.commands.specs.Reading.{AreNotHad, AreRead, IsNotHad}
 
@@ -61,12 +60,13 @@ abbrev pub IsAsked : {S : Type 0} → Does S → StatusWords → Option (List �
 IsAsked does words old new before after = IsAskedSo does words.until_synced words old new before after
 
 -- or it is asked so in vain, and this is the fault
-abbrev pub IsAskedInVainSo : {S O : Type 0} → Does S → Bool → StatusWords → BoxFault → O → O → S → S → Type 0
-IsAskedInVainSo does true words why old new before after = HasUnsynced does (string_bytes words.settings) words.id why before after
-IsAskedInVainSo does false words why old new before after = HasUnreported does (string_bytes words.settings) words.id why old new before after
+abbrev pub IsAskedInVainSo : {S O : Type 0} → Does S → (O → Option (List ℕ)) → Bool → StatusWords → BoxFault → O → O → S → S → Type 0
+IsAskedInVainSo does prints true words why old new before after = HasUnsynced does (string_bytes words.settings) words.id why before after
+IsAskedInVainSo does prints false words why old new before after =
+    HasUnreported does prints (string_bytes words.settings) words.id (form_of words.form) why old new before after
 
-abbrev pub IsAskedInVain : {S O : Type 0} → Does S → StatusWords → BoxFault → O → O → S → S → Type 0
-IsAskedInVain does words why old new before after = IsAskedInVainSo does words.until_synced words why old new before after
+abbrev pub IsAskedInVain : {S O : Type 0} → Does S → (O → Option (List ℕ)) → StatusWords → BoxFault → O → O → S → S → Type 0
+IsAskedInVain does prints words why old new before after = IsAskedInVainSo does prints words.until_synced words why old new before after
 
 -- ---- of `check`
 
@@ -76,13 +76,14 @@ IsAskedFor does tells path (Some text) before after old new = does before (read 
 IsAskedFor does tells path None before after old new =
     IsToldOf tells (λ why. text_with_path why path) (λ why. IsNotHad does path why before after) old new
 
-module _ {S H O E : Type 0} (does : Does S) (works : Works) (prints : O → Option (List ℕ)) (tells : Telling E) where
+module _ {S H O E : Type 0} (does : Does S) (works : Works Work H) (prints : O → Option (List ℕ)) (tells : Telling E) where
   -- just the file that is named was read, and its text looked at so, with this status: 0 only where it is good, or, where that
   -- is strict, clean
   pub record IsLookedAt (settings : List ℕ) (scope : Scope) (status : ℕ) (before after : Scene S H O E) : Type 0 where
     pub text : List ℕ
     pub is_read : does before.site (read settings text) after.site
-    pub work : HasWorked tells works (looked text scope) (written prints before.output after.output) status before.errors after.errors
+    pub work : HasWorked tells works (looked text scope) (written prints before.output after.output) status before.host after.host
+        before.errors after.errors
     pub good : status ≡ 0 → IsGoodText text
     pub clean : scope.strict ≡ true → status ≡ 0 → IsCleanText text
 
@@ -99,7 +100,7 @@ module _ {S H O E : Type 0} (does : Does S) (works : Works) (prints : O → Opti
     pub two : List ℕ
     pub are_read : AreRead does settings other one two before.site after.site
     pub work : HasWorked tells works (compared (text_at settings one) (text_at other two)) (written prints before.output after.output) status
-        before.errors after.errors
+        before.host after.host before.errors after.errors
     pub alike : status ≡ 0 → AreAlike one two
 
   -- both were asked for, the settings first, whatever came of them, and one wasn't had; nothing is printed: the status is 1
@@ -140,12 +141,9 @@ abbrev pub FailsLoop : {O : Type 0} → (O → Option (List ℕ)) → Failing O
 FailsLoop prints text script output printed why =
     (last : Standing) × FailsLoopBy has_ports may_refuse may_pass prints text script unasked last output printed why
 
--- the faults of the texts, and of the ports, which come before a capture is begun; and what is printed behind it
+-- the faults of the texts, and of the ports, which come before a capture is begun
 abbrev pub Reasons : Type 1
 Reasons = List ℕ → List ℕ → Fault → Type 0
-
-abbrev pub Beginning : Type 1
-Beginning = List ℕ → List ℕ → Option (List ℕ) → Option (List ℕ) → Type 0
 
 module _ {S H T O E : Type 0} (does : Does S) (takes : TakesOn T) (begins : Begins H T) (closes : Closes H T) (prints : O → Option (List ℕ)) where
   -- just the files that are named were read, the settings first, and the script run with this status; so much of it was told; and
@@ -169,30 +167,45 @@ module _ {S H T O E : Type 0} (does : Does S) (takes : TakesOn T) (begins : Begi
     pub captured : MatchOption files.capture (IsUncaptured before after)
         (λ path. IsLoopCaptured takes begins closes (string_bytes path) text script before.host after.host)
 
-module _ {S H T O E : Type 0} (does : Does S) (begins : Begins H T) (closes : Closes H T) (prints : O → Option (List ℕ)) where
-  -- just the files that are named were read, the settings first, and this fault ended the run: with a capture just where the words
-  -- name a file for that
-  pub record IsEndedRun (fails : Failing O) (reasons : Reasons) (begun : Beginning) (files : RunWords) (why : Fault) (before after : Scene S H O E) : Type 0 where
+module _ {S H T O E : Type 0} (does : Does S) (takes refuses : TakesOn T) (begins : Begins H T) (closes : Closes H T)
+    (prints : O → Option (List ℕ)) where
+  -- this fault ended the run of these texts: with a capture just where the words name a file for that
+  abbrev pub IsEnded : Failing O → Reasons → Taping T O → RunWords → List ℕ → List ℕ → Fault → Scene S H O E → Scene S H O E → Type 0
+  IsEnded fails reasons tapes files text script why before after =
+      MatchOption files.capture (IsUncaptured before after × fails text script before.output after.output why)
+      (λ path. LeavesCapture begins closes (string_bytes path) (reasons text script)
+      (λ run first last. tapes text script run first last before.output after.output) why
+      before.host after.host before.output after.output)
+
+  -- Just the files that are named were read, the settings first, and a fault ended their run: behind what was heard of it just that
+  -- fault's line was told
+  pub record IsEndedSim (tells : Telling E) (overhears : Hearing E) (files : RunWords) (before after : Scene S H O E) : Type 0 where
     pub text : List ℕ
     pub script : List ℕ
     pub are_read : AreRead does (string_bytes files.settings) (string_bytes files.script) text script before.site after.site
-    pub ended : MatchOption files.capture (IsUncaptured before after × fails text script before.output after.output why)
-        (λ path. LeavesCapture begins closes (string_bytes path) (reasons text script) (begun text script (prints before.output) (prints after.output)) why
-        before.host after.host before.output after.output)
+    pub told : IsToldBehind tells (overhears text script)
+        (λ why. IsEnded (FailsSim prints) TellsRun (TapesSim takes refuses prints) files text script why before after) before.errors after.errors
+
+  -- the same through sockets, where nothing is heard, and this is the fault
+  pub record IsEndedLoop (files : RunWords) (why : Fault) (before after : Scene S H O E) : Type 0 where
+    pub text : List ℕ
+    pub script : List ℕ
+    pub are_read : AreRead does (string_bytes files.settings) (string_bytes files.script) text script before.site after.site
+    pub ended : IsEnded (FailsLoop prints) IsUnlooped (TapesSockets takes refuses prints) files text script why before after
 
   -- or one of the files wasn't had, and nothing else was done
   abbrev pub IsUnbegunRun : RunWords → Fault → Scene S H O E → Scene S H O E → Type 0
   IsUnbegunRun files why before after = AreNotHad does (string_bytes files.settings) (string_bytes files.script) why before.site after.site
       × IsUnprinted before after × IsUncaptured before after
 
-  -- just why one of the files wasn't had was told; or, behind what was heard of the run, which fault ended it
-  abbrev pub EndsSim : Telling E → (E → E → Type 0) → RunWords → Scene S H O E → Scene S H O E → Type 0
+  -- just why one of the files wasn't had was told; or they were, and a fault ended their run
+  abbrev pub EndsSim : Telling E → Hearing E → RunWords → Scene S H O E → Scene S H O E → Type 0
   EndsSim tells overhears files before after =
       IsToldOf tells fault_text (λ why. IsUnbegunRun files why before after) before.errors after.errors
-      ⊎ IsToldBehind tells overhears (λ why. IsEndedRun (FailsSim prints) TellsRun BeginsScript files why before after) before.errors after.errors
+      ⊎ IsEndedSim tells overhears files before after
 
   abbrev pub EndsLoop : RunWords → Fault → Scene S H O E → Scene S H O E → Type 0
-  EndsLoop files why before after = IsEndedRun (FailsLoop prints) TellsLoop BeginsLoop files why before after ⊎ IsUnbegunRun files why before after
+  EndsLoop files why before after = IsEndedLoop files why before after ⊎ IsUnbegunRun files why before after
 
 -- ---- each task
 
@@ -200,23 +213,24 @@ module _ {S H T O E : Type 0} (does : Does S) (begins : Begins H T) (closes : Cl
 -- `stop`, `peer-off`, `side`, `status` and `pairs` that the settings that are named were read, and then just the box that is named was
 -- said just what the words say, and heard it, or took it, or was asked, and answered, and its answer was written. A status of 0 or 3 says
 -- of `sim` and `loop` that just the files that are named were read, and the script run, and captured just where that is asked for. At 0
--- nothing is told but how far a run of `sim` is, where somebody watches. A status of 1 says of each of them which fault ended it, that just its line was told, and
--- that what led to it was all that was done: just that file was tried, that box asked, those files read; and of `status`, `pairs`, `sim`,
--- `loop` and the version what was printed until then. Whatever the status, `check` looks at just what the words say, as they say it, and `gate` has
--- a gateway run as they say; what the host told is told, and nothing else.
--- Neither `gate` nor the version does anything at the site; only `sim` and `loop` begin a capture; and `init`, `stop`, `peer-off`,
--- `side` and `status --until synced` print nothing.
-module _ {S H T O E : Type 0} (does : Does S) (works : Works) (takes : TakesOn T) (begins : Begins H T) (closes : Closes H T)
-    (prints : O → Option (List ℕ)) (tells : Telling E) (hears : Hearing E) (overhears : E → E → Type 0) where
+-- nothing is told but how far a run of `sim` is, where somebody watches. A status of 1 says of each of them which fault ended it, that
+-- just its line was told, and that what led to it was all that was done: just that file was tried, that box asked, those files read; and
+-- of `status`, `pairs`, `sim`, `loop` and the version what was printed until then. Whatever the status, `check` looks at just what the
+-- words say, as they say it, and `gate` has just one gateway run, as they say; what the host told is told, and nothing else. Neither
+-- `gate` nor the version does anything at the site; only `sim` and `loop` begin a capture; and `init`, `stop`, `peer-off`, `side` and
+-- `status --until synced` print nothing.
+module _ {S H T O E : Type 0} (does : Does S) (works : Works Work H) (takes refuses : TakesOn T) (begins : Begins H T) (closes : Closes H T)
+    (prints : O → Option (List ℕ)) (tells : Telling E) (hears overhears : Hearing E) where
   abbrev pub Acts : Task → ℕ → Scene S H O E → Scene S H O E → Type 0
   Acts (task.Init file) status before after = IsUnprinted before after
       × EndsSo tells (λ b a. does b (made (string_bytes file)) a) (HasUnmade does (string_bytes file)) status before after
   Acts (task.Check words) status before after = IsUncaptured before after × (status ≡ 0 → IsUntold before after)
       × HasLooked does works prints tells words status before after
-  Acts (task.Gate words) status before after = (after.site ≡ before.site) × IsUncaptured before after × (status ≡ 0 → IsUntold before after)
-      × HasWorked tells works (served (plan_of words)) (written prints before.output after.output) status before.errors after.errors
+  Acts (task.Gate words) status before after = (after.site ≡ before.site) × (status ≡ 0 → IsUntold before after)
+      × HasWorked tells works (served (plan_of words)) (written prints before.output after.output) status before.host after.host
+      before.errors after.errors
   Acts (task.Status words) status before after = (words.until_synced ≡ true → IsUnprinted before after)
-      × EndsSo tells (IsAsked does words (prints before.output) (prints after.output)) (λ why. IsAskedInVain does words why before.output after.output) status before after
+      × EndsSo tells (IsAsked does words (prints before.output) (prints after.output)) (λ why. IsAskedInVain does prints words why before.output after.output) status before after
   Acts (task.Pairs words) status before after = EndsSo tells
       (HasListed does (string_bytes words.settings) words.id (filter_of words) (prints before.output) (prints after.output))
       (λ why. HasUnlisted does prints (string_bytes words.settings) words.id (filter_of words) why before.output after.output) status before after
@@ -231,10 +245,10 @@ module _ {S H T O E : Type 0} (does : Does S) (works : Works) (takes : TakesOn T
       (HasUnsaid does (string_bytes settings) id (Some (said_side side up))) status before after
   Acts (task.Sim files) status before after =
       ((status ≡ 0) ⊎ (status ≡ 3) → HasRunOf does takes begins closes prints hears files status before after)
-      × (status ≡ 1 → EndsSim does begins closes prints tells overhears files before after)
+      × (status ≡ 1 → EndsSim does takes refuses begins closes prints tells overhears files before after)
   Acts (task.Loop files) status before after =
       ((status ≡ 0) ⊎ (status ≡ 3) → HasLoopOf does takes begins closes prints files status before after)
-      × (status ≡ 1 → IsToldOf tells fault_text (λ why. EndsLoop does begins closes prints files why before after)
+      × (status ≡ 1 → IsToldOf tells fault_text (λ why. EndsLoop does takes refuses begins closes prints files why before after)
       before.errors after.errors)
   Acts task.Version status before after = (after.site ≡ before.site) × IsUncaptured before after × (status ≡ 0 → IsUntold before after)
       × (status ≡ 1 → IsTold tells before.errors (fault_text NotWritten) after.errors × IsBegun (prints before.output) (prints after.output) version_line)

@@ -1,5 +1,5 @@
 -- What is taken down of a run in a file, and why a run with a capture ends early.
-use Rattle.std.specs.Prelude.{◌≡◌, ◌≢◌, ◌⊎◌, ℕ, List, None, Some, Result, Ok, Err}
+use Rattle.std.specs.Prelude.{◌≡◌, ◌≢◌, ◌⊎◌, ℕ, List, Option, None, Some, Result, Ok, Err}
 use Rattle.std.specs.IoError.{error_kind}
 use Rattle.std.specs.declared.io.Error.{Error}
 use Rattle.std.specs.declared.io.ErrorKind.{ErrorKind}
@@ -14,12 +14,13 @@ use Rattle.faults.specs.declared.faults.Fault.{Fault}
 use Rattle.faults.specs.declared.faults.Fault.TheVariants as fault
 use Rattle.faults.specs.declared.files.Refusal.TheVariants.{Exists, NotWritten}
 use Rattle.frame_sim.specs.Tapes.{TakesOn}
-use Rattle.simulation.specs.Tapes.{TapesScript}
+use Rattle.simulation.specs.Tapes.{StopsTapedScript, TapesScript}
+use Rattle.loopback_run.specs.Loops.{TellsLoop}
 use Rattle.loopback_run.specs.Standings.{Standing, unasked}
-use Rattle.loopback_run.specs.Stops.{Refuses}
+use Rattle.loopback_run.specs.Stops.{HoldJob, Refuses}
 use Rattle.loopback_run.specs.declared.ports.PortFault.TheVariants as ports
-use Rattle.loopback_run.specs.Tapes.{TapesScript as TapesLoop}
-use Rattle.commands.specs.Ends.{has_ports, may_pass}
+use Rattle.loopback_run.specs.Tapes.{IsTapedUntil, TapesScript as TapesLoop}
+use Rattle.commands.specs.Ends.{Loops, has_ports, may_pass, may_refuse}
 use Rattle.commands.specs.Hosts.{Begins, Closes, Written}
 
 -- just this is told of the capture in the file at a path, which can't be begun or written for this cause; or there is no memory to tell it
@@ -34,13 +35,19 @@ IsOfEnd path run (Err error) why = IsOfCapture path (error_kind error) why
 IsOfEnd path (Err ending) (Ok done) why = why ≡ ending
 IsOfEnd path (Ok status) (Ok done) why = ⊥
 
--- the ports of settings can't be had together: that of this key is the first that stands twice, and the passage isn't asked for any; or it
--- is refused just this one, or memory
+-- The ports of settings aren't had: that of this key is the first that stands twice, and the passage isn't asked for any; or none stands
+-- twice, and the passage is refused just this one, or memory
 abbrev pub IsOfPorts : {P : Type 0} → Refuses P → Settings → P → P → Fault → Type 0
 IsOfPorts refuses settings before after (fault.Setting (CantWork key)) = (clash_of_both settings ≡ Some key) × (after ≡ before)
-IsOfPorts refuses settings before after (fault.NoSocket port) = refuses before settings (ports.NoPort port) after
-IsOfPorts refuses settings before after fault.NoMemory = refuses before settings ports.NoMemory after
+IsOfPorts refuses settings before after (fault.NoSocket port) =
+    (clash_of_both settings ≡ None) × refuses before settings (ports.NoPort port) after
+IsOfPorts refuses settings before after fault.NoMemory =
+    (clash_of_both settings ≡ None) × refuses before settings ports.NoMemory after
 IsOfPorts refuses settings before after other = ⊥
+
+-- both texts are good, and this is the job that they hold, none of whose ports stands twice
+abbrev pub IsHeldBy : List ℕ → List ℕ → Job → Type 0
+IsHeldBy text script job = (texts : HoldJob text script) × (texts.job ≡ job)
 
 -- the ports of the settings of these texts aren't had
 pub record IsWithoutPorts {P : Type 0} (refuses : Refuses P) (text script : List ℕ) (before after : P) (why : Fault) : Type 0 where
@@ -53,9 +60,34 @@ abbrev pub IsUnopened : {P : Type 0} → Refuses P → List ℕ → List ℕ →
 IsUnopened refuses text script before after why =
     ((after ≡ before) × TellsRun text script why) ⊎ IsWithoutPorts refuses text script before after why
 
+-- Why a run of these texts has no sockets: a fault that is told of such a run; and the texts hold no job, or its ports aren't had through
+-- sockets that weren't asked for before, which stand somehow then
+pub record IsUnlooped (text script : List ℕ) (why : Fault) : Type 0 where
+  pub told : TellsLoop text script why
+  pub last : Standing
+  pub unopened : IsUnopened may_refuse text script unasked last why
+
 -- a run of events ends early: what takes it down or its output is refused, or memory
 abbrev pub IsOfEvents : Fault → Type 0
 IsOfEvents why = (why ≡ fault.NotWritten) ⊎ (why ≡ fault.NoMemory)
+
+-- how a run of the texts of settings and of a script ends, what takes it down before and after, and the output before and after
+abbrev pub Taping : Type 0 → Type 0 → Type 1
+Taping T O = List ℕ → List ℕ → Result ℕ Fault → T → T → O → O → Type 0
+
+-- with a status just the run was taken down, and its text printed; else this fault ended it, and just so much was
+abbrev pub TapesSim : {T O : Type 0} → TakesOn T → TakesOn T → (O → Option (List ℕ)) → Taping T O
+TapesSim takes refuses prints text script (Ok status) first last output printed =
+    TapesScript takes text script first last (prints output) (prints printed) status
+TapesSim takes refuses prints text script (Err why) first last output printed =
+    IsOfEvents why × StopsTapedScript takes refuses prints text script first last output printed why
+
+-- the same through sockets, which are had
+abbrev pub TapesSockets : {T O : Type 0} → TakesOn T → TakesOn T → (O → Option (List ℕ)) → Taping T O
+TapesSockets takes refuses prints text script (Ok status) first last output printed = Loops text script (prints output) (prints printed) status
+    × ((after : Standing) × TapesLoop has_ports may_pass takes text script unasked after first last)
+TapesSockets takes refuses prints text script (Err why) first last output printed =
+    (after : Standing) × IsTapedUntil has_ports may_pass takes refuses prints text script unasked after first last output printed why
 
 module _ {H T : Type 0} (begins : Begins H T) (closes : Closes H T) where
   -- just the capture in the file at a path was to be begun, and couldn't be, which this fault tells
@@ -64,24 +96,29 @@ module _ {H T : Type 0} (begins : Begins H T) (closes : Closes H T) where
     pub unbegun : begins before path (Err cause) after
     pub told : IsOfCapture path cause why
 
-  -- it couldn't be ended, which this fault tells; or it was, and this fault ended its run
-  abbrev pub IsOfTape : List ℕ → Fault → H → T → Type 0
-  IsOfTape path why host last = ((cause : ErrorKind) × closes host last (Err cause) × IsOfCapture path cause why)
-      ⊎ (closes host last (Ok tt) × IsOfEvents why)
+  -- it was ended, or couldn't be
+  abbrev pub IsClosed : H → T → Result (Unit {0}) Error → Type 0
+  IsClosed host last (Ok done) = closes host last (Ok tt)
+  IsClosed host last (Err error) = closes host last (Err (error_kind error))
 
-  -- just the capture in that file was begun, and ended so
-  pub record IsBrokenOff (path : List ℕ) (why : Fault) (before after : H) : Type 0 where
+  -- Just the capture in that file was begun; it took down just so much of a run that ended so; and it was ended, or couldn't be: this is the
+  -- fault that is told of that
+  pub record IsBrokenOff (path : List ℕ) (tapes : Result ℕ Fault → T → T → Type 0) (why : Fault) (before after : H) : Type 0 where
     pub first : T
     pub last : T
     pub begun : begins before path (Ok first) after
-    pub told : IsOfTape path why after last
+    pub run : Result ℕ Fault
+    pub taped : tapes run first last
+    pub written : Result (Unit {0}) Error
+    pub closed : IsClosed after last written
+    pub told : IsOfEnd path run written why
 
   -- What a fault leaves that ends a run with a capture in the file at a path: none was begun, for such a fault of the texts or the ports,
-  -- or since it couldn't be, and nothing was printed; or it was begun and broken off, and so much was printed
-  abbrev pub LeavesCapture : {O : Type 0} → List ℕ → (Fault → Type 0) → Type 0 → Fault → H → H → O → O → Type 0
-  LeavesCapture path is_early begun why before after output printed =
-      ((printed ≡ output) × (((after ≡ before) × is_early why) ⊎ IsUnbegun path why before after))
-      ⊎ (begun × IsBrokenOff path why before after)
+  -- which is never that output was refused, or since it couldn't be, and nothing was printed; or it was begun and broken off
+  abbrev pub LeavesCapture : {O : Type 0} → List ℕ → (Fault → Type 0) → (Result ℕ Fault → T → T → Type 0) → Fault → H → H → O → O → Type 0
+  LeavesCapture path is_early tapes why before after output printed =
+      ((printed ≡ output) × (((after ≡ before) × (is_early why × (why ≢ fault.NotWritten))) ⊎ IsUnbegun path why before after))
+      ⊎ IsBrokenOff path tapes why before after
 
 module _ {H T : Type 0} (takes : TakesOn T) (begins : Begins H T) (closes : Closes H T) where
   -- just the capture in the file at a path was begun, took down just the run of a script by these texts, which was printed so, and was ended

@@ -1,22 +1,21 @@
 -- What an exit status says of what was done.
-use Rattle.std.specs.Prelude.{◌≡◌, ◌⊎◌, ℕ, Bool, true, List, Option, MatchOption, codes}
+use Rattle.std.specs.Prelude.{◌≡◌, ℕ, Bool, true, List, Option, MatchOption, codes}
 use Rattle.std.specs.Io.KnownBytes.{Appends}
 use Rattle.command_line.specs.Tasks.{IsAnswer}
 use Rattle.checks.specs.Counts.{AreAlike, IsCleanText, IsGoodText}
 use Rattle.command_line.specs.declared.tasks.Task.{Task}
 use Rattle.command_line.specs.declared.tasks.Task.TheVariants as task
 use Rattle.command_line.specs.declared.words.CheckWords.{CheckWords}
+use Rattle.command_line.specs.declared.words.GateWords.{GateWords}
 use Rattle.settings.specs.declared.whole.Settings.{Settings}
-use Rattle.faults.specs.Jobs.{IsJobOf}
-use Rattle.faults.specs.declared.jobs.Job.{Job}
-use Rattle.frame_sim.specs.World.{founding}
 use Rattle.gate.specs.Served.{HasServed}
+use Rattle.gate.specs.declared.running.Start.{Start}
 use Rattle.simulation.specs.Status.{RunsScript}
 use Rattle.loopback_run.specs.Standings.{MayBe, Standing, bound, refused, unasked}
 use Rattle.loopback_run.specs.Loops.{LoopsScript}
-use Rattle.loopback_run.specs.Stops.{HaveBegun, HaveEnded}
 use Rattle.loopback_run.specs.Turns.{Passes}
 use Rattle.loopback_run.specs.declared.ports.PortFault.{PortFault}
+use Rattle.commands.specs.Hosts.{plan_in, plan_of}
 
 -- the status of a run of some script, on a new world of the settings that some text holds, and just its text was printed
 pub record HasRun (before after : Option (List ℕ)) (status : ℕ) : Type 0 where
@@ -39,20 +38,6 @@ may_pass before parcel fate after = MayBe before fate × (after ≡ before)
 -- the status of such a run of these texts in which what each event hands in is first sent through these, and just its text was printed
 abbrev pub Loops : List ℕ → List ℕ → Option (List ℕ) → Option (List ℕ) → ℕ → Type 0
 Loops text script before after status = (last : Standing) × LoopsScript has_ports may_pass text script unasked last before after status
-
--- the script's run through these has begun, or all its events have had their turns; and a beginning of its text was printed
-pub record HasBegunLoop (text script : List ℕ) (before after : Option (List ℕ)) : Type 0 where
-  pub job : Job
-  pub is : IsJobOf text script job
-  pub ports : Standing
-  pub opened : has_ports unasked job.settings ports
-  pub last : Standing
-  pub begun : HaveBegun may_pass (founding job.settings) ports job.events.items last before after
-      ⊎ HaveEnded may_pass (founding job.settings) ports job.events.items last before after
-
--- that, or the output is as it was
-abbrev pub BeginsLoop : List ℕ → List ℕ → Option (List ℕ) → Option (List ℕ) → Type 0
-BeginsLoop text script before after = (after ≡ before) ⊎ HasBegunLoop text script before after
 
 -- such a run of some two texts
 pub record HasLoop (before after : Option (List ℕ)) (status : ℕ) : Type 0 where
@@ -80,12 +65,18 @@ pub record HasAlike : Type 0 where
 abbrev pub IsChecked : CheckWords → Type 0
 IsChecked words = MatchOption words.other (HasGood words.strict) (λ other. HasAlike)
 
--- The status with which a task is done, and what was printed until then: that of such a run for `sim` and `loop`, 0 for
--- the others; for `check` what was looked at is as it was asked; for `gate` there are a start and its rounds, and of the version just its line is printed.
+-- a gateway was served as words have it
+pub record IsServed (words : GateWords) (before after : Option (List ℕ)) : Type 0 where
+  pub start : Start
+  pub is_asked : plan_in start ≡ plan_of words
+  pub served : HasServed start before after
+
+-- The status with which a task is done, and what was printed until then: that of such a run for `sim` and `loop`, 0 for the others; for
+-- `check` what was looked at is as it was asked; for `gate` there are a start and its rounds, and of the version just its line is printed.
 abbrev pub Ends : Option (List ℕ) → Option (List ℕ) → Task → ℕ → Type 0
 Ends before after (task.Init file) status = status ≡ 0
 Ends before after (task.Check words) status = (status ≡ 0) × IsChecked words
-Ends before after (task.Gate gate) status = (status ≡ 0) × HasServed gate.id gate.rounds gate.found gate.track gate.until_eof before after
+Ends before after (task.Gate words) status = (status ≡ 0) × IsServed words before after
 Ends before after (task.Status words) status = status ≡ 0
 Ends before after (task.Pairs words) status = status ≡ 0
 Ends before after (task.Stop settings id) status = status ≡ 0

@@ -1,5 +1,5 @@
 -- What comes of works on this machine.
-use Rattle.std.specs.Prelude.{◌≡◌, ℕ, List, [], ◌∷◌, ◌++◌}
+use Rattle.std.specs.Prelude.{◌≡◌, ℕ, Bool, false, List, [], ◌∷◌, ◌++◌}
 use Rattle.outlets.specs.Telling.{IsToldOf, Telling}
 use Rattle.checks.specs.Comparing.{HasCompared}
 use Rattle.checks.specs.Reports.{HasChecked}
@@ -7,22 +7,33 @@ use Rattle.checks.specs.Sights.{Finds, Takes}
 use Rattle.checks.specs.declared.requests.Request.{Request}
 use Rattle.checks.specs.declared.requests.Source.{Source}
 use Rattle.box_words.specs.Faults.{fault_text}
+use Rattle.gate.specs.Served.{HasServed}
 use Rattle.gate.specs.Starts.{Refuses}
 use Rattle.gate.specs.declared.running.Start.{Start}
-use Rattle.commands.specs.Hosts.{Works, compared, looked, plan_in, scope_in, served, text_in}
+use Rattle.simulation.specs.Clocks.{Moments, founding_moments}
+use Rattle.commands.specs.Hosts.{Work, Works, Written, compared, looked, plan_in, scope_in, served, text_in}
 
 -- a list of lines, which is told one more
 abbrev pub lists : Telling (List (List ℕ))
 lists before line result after = after ≡ before ++ line ∷ []
 
+-- What comes of a start that this machine runs: at 0 a gateway was served so, and nothing is told; at 1 just one fault's line is, for which
+-- that start may be refused.
+abbrev pub ServesHere : Start → Written → List (List ℕ) → ℕ → Type 0
+ServesHere start printed lines status = (status ≡ 0 → (lines ≡ []) × HasServed start printed.before printed.after)
+    × (status ≡ 1 → IsToldOf lists fault_text (Refuses start) [] lines)
+
 -- Of a text `checks` says just what it finds of it, and tells just that the output or memory was refused, with the status that it says; in
--- what two differ so too, and of each that holds no settings why. Of a gateway nothing is told at 0, and at 1 just one fault, which is of
--- its ways only where it may be.
-abbrev pub WorksHere : {P : Type 0} → Finds P → Takes P → Works
-WorksHere {P = P} finds takes (looked text scope) printed lines status = (around : P) × (request : Request)
+-- what two differ so too, and of each that holds no settings why. Who runs gateways is handed just one start, which has the plan.
+abbrev pub WorksHere : {P G : Type 0} → Finds P → Takes P → Works Start G → Works Work G
+WorksHere {P = P} finds takes serves before (looked text scope) printed lines status after = (around : P) × (request : Request)
     × (scope_in request ≡ scope) × HasChecked finds takes (λ o. o) lists around text request printed.before printed.after [] lines status
-WorksHere finds takes (compared one other) printed lines status = (first : Source) × (second : Source)
+WorksHere finds takes serves before (compared one other) printed lines status after = (first : Source) × (second : Source)
     × (text_in first ≡ one) × (text_in second ≡ other)
     × HasCompared (λ o. o) lists first second printed.before printed.after [] lines status
-WorksHere finds takes (served plan) printed lines status = (status ≡ 0 → lines ≡ [])
-    × (status ≡ 1 → (start : Start) × (plan_in start ≡ plan) × IsToldOf lists fault_text (Refuses start.ways) [] lines)
+WorksHere finds takes serves before (served plan) printed lines status after = (start : Start)
+    × (plan_in start ≡ plan) × serves before start printed lines status after
+
+-- a capture is as it is begun: its clocks are those of a beginning, and nothing was refused yet
+abbrev pub IsFresh : Moments → Bool → Type 0
+IsFresh clocks is_refused = (clocks ≡ founding_moments) × (is_refused ≡ false)

@@ -116,14 +116,14 @@ pub record Written : Type 0 where
 abbrev pub written : {W : Type 0} → (W → Option (List ℕ)) → W → W → Written
 written contents before after = record { before = contents before; after = contents after }
 
--- what a work may print, which lines it may tell, one after the other, and with which status
-abbrev pub Works : Type 1
-Works = Work → Written → List (List ℕ) → ℕ → Type 0
+-- what a work may print, which lines it may tell, one after the other, with which status, and what its worker is then
+abbrev pub Works : Type 0 → Type 0 → Type 1
+Works W H = H → W → Written → List (List ℕ) → ℕ → H → Type 0
 
--- a work was done: it printed so, told just such lines, and has this status
-abbrev pub HasWorked : {E : Type 0} → Telling E → Works → Work → Written → ℕ → E → E → Type 0
-HasWorked tells works work printed status before after =
-    (lines : List (List ℕ)) × AreTold tells before lines after × works work printed lines status
+-- just one work was done: it printed so, told just such lines, and has this status
+abbrev pub HasWorked : {W H E : Type 0} → Telling E → Works W H → W → Written → ℕ → H → H → E → E → Type 0
+HasWorked tells works work printed status worker worker2 before after =
+    (lines : List (List ℕ)) × AreTold tells before lines after × works worker work printed lines status worker2
 
 -- what may be answered where a capture is to be begun in the file at a path, what takes a run down or why there is none, and what the
 -- host is then

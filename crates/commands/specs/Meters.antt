@@ -7,7 +7,7 @@ use Rattle.faults.specs.Texts.{fault_text}
 use Rattle.faults.specs.declared.faults.Fault.{Fault}
 use Rattle.faults.specs.declared.jobs.Job.{Job}
 use Rattle.outlets.specs.Telling.{IsToldOf, Telling as Tells}
-use Rattle.simulation.specs.Watched.{IsToldAll, IsToldSome}
+use Rattle.simulation.specs.Watched.{IsToldAll, IsToldPart, OverhearsScript}
 
 -- the line that says how far a run is
 abbrev pub line : ℕ → ℕ → List ℕ
@@ -73,16 +73,22 @@ abbrev pub Watches : {C E : Type 0} → Bool → Reads C → Tells E → C → H
 Watches is_watched reads tells clock text script before after =
     (is_watched ≡ true → HasHeardScript reads tells text script clock before after) × (is_watched ≡ false → after ≡ before)
 
--- who is told of a run heard so of it some times, or never, by a clock that was this one when it began
-pub record HasOverheard {C E : Type 0} (reads : Reads C) (tells : Tells E) (clock : C) (before after : E) : Type 0 where
+-- who is told of a run of so many events heard so of some of them, or of none, by a clock that was this one when it began
+pub record HasOverheard {C E : Type 0} (reads : Reads C) (tells : Tells E) (all : ℕ) (clock : C) (before after : E) : Type 0 where
   pub last : Telling C E
-  pub told : IsToldSome (Hears reads tells) (telling clock 200 false before) last
+  pub told : IsToldPart (Hears reads tells) all (telling clock 200 false before) last
   pub is_last : after ≡ last.errors
 
--- of a run that is watched so much was heard until a fault ended it; of one that isn't, nothing is told
-abbrev pub Overhears : {C E : Type 0} → Bool → Reads C → Tells E → C → E → E → Type 0
-Overhears is_watched reads tells clock before after =
-    (is_watched ≡ true → HasOverheard reads tells clock before after) × (is_watched ≡ false → after ≡ before)
+-- the same of a script's events; or nothing was heard
+pub record HasOverheardScript {C E : Type 0} (reads : Reads C) (tells : Tells E) (text script : List ℕ) (clock : C) (before after : E) : Type 0 where
+  pub last : Telling C E
+  pub told : OverhearsScript (Hears reads tells) text script (telling clock 200 false before) last
+  pub is_last : after ≡ last.errors
+
+-- of a script that is watched so much was heard until a fault ended its run; of one that isn't, nothing is told
+abbrev pub Overhears : {C E : Type 0} → Bool → Reads C → Tells E → C → Hearing E
+Overhears is_watched reads tells clock text script before after =
+    (is_watched ≡ true → HasOverheardScript reads tells text script clock before after) × (is_watched ≡ false → after ≡ before)
 
 -- behind what was heard of a run, just the line of such a fault was told
 abbrev pub IsToldBehind : {E : Type 0} → Tells E → (E → E → Type 0) → (Fault → Type 0) → E → E → Type 0

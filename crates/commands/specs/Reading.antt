@@ -1,5 +1,5 @@
 -- The files that are read, and why one isn't had.
-use Rattle.std.specs.Prelude.{◌≡◌, ◌⊎◌, ℕ, List, Option, None, Some}
+use Rattle.std.specs.Prelude.{◌⊎◌, ℕ, List}
 use Rattle.faults.specs.Faults.{IsUnread}
 use Rattle.faults.specs.declared.faults.Fault.{Fault}
 use Rattle.box_words.specs.Deeds.{Does, read, unread}

@@ -35,11 +35,11 @@ HasActed tells acts words status before after =
     ((asked : Task) × (IsAnswer words asked × acts asked status before after)) ⊎ IsRefusal tells words status before after
 
 -- the same at some site and by some host, where who watches hears by some clock
-pub record HasActedSomewhere {S H C O E : Type 0} (tells : Telling E) (acts : H → C → Task → ℕ → Scene S H O E → Scene S H O E → Type 0) (words : List (List ℕ)) (status : ℕ)
+pub record HasActedSomewhere {S H C O E : Type 0} (tells : Telling E) (acts : C → Task → ℕ → Scene S H O E → Scene S H O E → Type 0) (words : List (List ℕ)) (status : ℕ)
     (output printed : O) (before after : E) : Type 0 where
   pub site : S
   pub left : S
   pub host : H
   pub behind : H
   pub clock : C
-  pub acted : HasActed tells (acts host clock) words status (scene site host output before) (scene left behind printed after)
+  pub acted : HasActed tells (acts clock) words status (scene site host output before) (scene left behind printed after)

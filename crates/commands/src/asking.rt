@@ -32,7 +32,7 @@ pub(crate) fn look_at<S: Site, H: Host, O: Write, E: Tells>(
 ) -> u8
     ensures status { (result ≡ 0) ⊎ (result ≡ 1) }
     ensures quiet { result ≡ 0 → errors.new ≡ errors.old }
-    ensures looked { HasLooked S.does (H.works host.now) O.contents E.tells words.now result
+    ensures looked { HasLooked S.does H.works O.contents E.tells words.now result
         (scene site.old host.now output.old errors.old)
         (scene site.new host.now output.new errors.new) }
 {
@@ -63,7 +63,7 @@ fn look_at_one<S: Site, H: Host, O: Write, E: Tells>(
 ) -> u8
     ensures status { (result ≡ 0) ⊎ (result ≡ 1) }
     ensures quiet { result ≡ 0 → errors.new ≡ errors.old }
-    ensures checked { HasChecked S.does (H.works host.now) O.contents E.tells settings.now
+    ensures checked { HasChecked S.does H.works O.contents E.tells settings.now
         (scope_in request.now) result (scene site.old host.now output.old errors.old)
         (scene site.new host.now output.new errors.new) }
 {
@@ -85,7 +85,7 @@ fn look_at_both<S: Site, H: Host, O: Write, E: Tells>(
 ) -> u8
     ensures status { (result ≡ 0) ⊎ (result ≡ 1) }
     ensures quiet { result ≡ 0 → errors.new ≡ errors.old }
-    ensures compared { HasCompared S.does (H.works host.now) O.contents E.tells settings.now
+    ensures compared { HasCompared S.does H.works O.contents E.tells settings.now
         other.now result (scene site.old host.now output.old errors.old)
         (scene site.new host.now output.new errors.new) }
 {
@@ -155,8 +155,8 @@ pub(crate) fn state_of<R: Clock + AllocGlobal, S: Site, O: Write, E: Tells>(
     ensures asked { result ≡ 0 → IsAsked S.does words.now (O.contents output.old)
         (O.contents output.new) site.old site.new }
     ensures quiet { result ≡ 0 → errors.new ≡ errors.old }
-    ensures failed { result ≡ 1 → IsToldOf E.tells fault_text (λ why. IsAskedInVain S.does words.now
-        why output.old output.new site.old site.new) errors.old errors.new }
+    ensures failed { result ≡ 1 → IsToldOf E.tells fault_text (λ why. IsAskedInVain S.does
+        O.contents words.now why output.old output.new site.old site.new) errors.old errors.new }
     ensures unprinted { words.now.until_synced ≡ true → output.new ≡ output.old }
 {
     let settings = words.settings.as_str();

@@ -5,6 +5,7 @@ ghost use Rattle.faults.specs.Faults.{status_of};
 ghost use Rattle.faults.specs.Texts.{fault_text};
 ghost use Rattle.outlets.specs.Telling.{IsToldOf};
 ghost use Rattle.commands.specs.Captures.{IsOfCapture, IsOfEnd};
+ghost use Rattle.commands.specs.Here.{IsFresh};
 
 use captures::{Reader, open};
 use faults::{Fault, Job};
@@ -24,7 +25,9 @@ pub(crate) fn capture_at<R: Files + AllocGlobal>(
     rt: &R,
     path: &str,
     _job: &Job,
-) -> io::Result<Capture<BufWriter<R::File>>> {
+) -> io::Result<Capture<BufWriter<R::File>>>
+    ensures fresh { IfOk result (λ capture. IsFresh capture.clocks capture.is_refused) }
+{
     let file = open(rt, path, Reader::Awaited)?.clear()?;
     Capture::begin(BufWriter::new(rt.alloc(), file)?)
 }

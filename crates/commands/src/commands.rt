@@ -12,6 +12,7 @@ ghost use Rattle.commands.specs.Meters.{Overhears, Watches};
 use crate::asking::{look_at, pairs_of, state_of};
 use crate::hosts::{Host, ThisHost};
 use crate::runs::{repeat, sim};
+use crate::serving::SystemServes;
 use crate::versions::tell_version;
 use boot_file::{Blocks, Lockable};
 use box_words::{Machine, Site, peer_off, side, stop};
@@ -57,15 +58,17 @@ where
         (O.contents output.old) (O.contents output.new) result }
     ensures quiet { is_watched ≡ false → (result ≡ 0) ⊎ (result ≡ 3) → errors.new ≡ errors.old }
     ensures most { result ≤ 3 }
-    ensures acts { HasActedSomewhere E.tells (λ host clock. Acts
-        ⟦<Machine<'static, R> as Site>⟧.does (⟦<ThisHost<'static, R> as Host>⟧.works host)
-        ⟦<Capture<BufWriter<R::File>> as Tape>⟧.takes ⟦<ThisHost<'static, R> as Host>⟧.begins
-        ⟦<ThisHost<'static, R> as Host>⟧.ends O.contents E.tells
+    ensures acts { HasActedSomewhere E.tells (λ clock. Acts ⟦<Machine<'static, R> as Site>⟧.does
+        ⟦<ThisHost<'static, R, SystemServes<'static, R>> as Host>⟧.works
+        ⟦<Capture<BufWriter<R::File>> as Tape>⟧.takes
+        ⟦<Capture<BufWriter<R::File>> as Tape>⟧.refuses
+        ⟦<ThisHost<'static, R, SystemServes<'static, R>> as Host>⟧.begins
+        ⟦<ThisHost<'static, R, SystemServes<'static, R>> as Host>⟧.ends O.contents E.tells
         (Watches is_watched ⟦<Stopwatch<'static, R> as Clockwork>⟧.reads E.tells clock)
         (Overhears is_watched ⟦<Stopwatch<'static, R> as Clockwork>⟧.reads E.tells clock))
         (map string_bytes words.now) result output.old output.new errors.old errors.new }
 {
-    let (mut site, mut host, clock) = (Machine::new(rt), ThisHost(rt), Stopwatch::start(rt));
+    let (mut site, mut host, clock) = (Machine::new(rt), ThisHost::new(rt), Stopwatch::start(rt));
     act_at(
         rt, &mut site, &mut host, clock, words, is_watched, output, errors,
     )
@@ -95,8 +98,8 @@ fn act_at<R: Net + Clock + AllocGlobal, S: Site, H: Host, C: Clockwork + Drop, O
         (O.contents output.old) (O.contents output.new) result }
     ensures quiet { is_watched ≡ false → (result ≡ 0) ⊎ (result ≡ 3) → errors.new ≡ errors.old }
     ensures most { result ≤ 3 }
-    ensures acts { HasActed E.tells (Acts S.does (H.works host.old) H.Record.takes H.begins H.ends
-        O.contents E.tells (Watches is_watched C.reads E.tells clock)
+    ensures acts { HasActed E.tells (Acts S.does H.works H.Record.takes H.Record.refuses
+        H.begins H.ends O.contents E.tells (Watches is_watched C.reads E.tells clock)
         (Overhears is_watched C.reads E.tells clock))
         (map string_bytes words.now) result (scene site.old host.old output.old errors.old)
         (scene site.new host.new output.new errors.new) }
@@ -124,7 +127,8 @@ fn done<R: Net + Clock + AllocGlobal, S: Site, H: Host, C: Clockwork + Drop, O: 
     ensures done { (result ≡ 0) ⊎ (result ≡ 3)
         → Ends (O.contents output.old) (O.contents output.new) task.now result }
     ensures quiet { is_watched ≡ false → (result ≡ 0) ⊎ (result ≡ 3) → errors.new ≡ errors.old }
-    ensures acts { Acts S.does (H.works host.old) H.Record.takes H.begins H.ends O.contents E.tells
+    ensures acts { Acts S.does H.works H.Record.takes H.Record.refuses H.begins H.ends
+        O.contents E.tells
         (Watches is_watched C.reads E.tells clock)
         (Overhears is_watched C.reads E.tells clock) task.now result
         (scene site.old host.old output.old errors.old)

@@ -1,26 +1,23 @@
 //! Who looks at settings, runs gateways and takes runs down.
 ghost use Rattle.std.specs.IoError.{error_kind};
-ghost use Rattle.std.specs.Prelude.{◌≡◌, ◌⊎◌, Err, IfErr, IfOk, IsTrue, Ok, true};
+ghost use Rattle.std.specs.Prelude.{◌≡◌, ◌⊎◌, Err, IfErr, IfOk, IsErr, IsTrue, Ok, true};
 ghost use Rattle.nat_types.specs.declared.gateways.GatewayId.TheVariants.{Zero};
 ghost use Rattle.checks.specs.Counts.{AreAlike, IsCleanText, IsGoodText};
 ghost use Rattle.gate.specs.Served.{HasServed};
-ghost use Rattle.commands.specs.Here.{WorksHere};
+ghost use Rattle.commands.specs.Here.{IsFresh, WorksHere};
 ghost use Rattle.commands.specs.Hosts.{HasWorked, compared, looked, plan_in, scope_in, served, text_in, written};
 
 use crate::capture_files::capture_at;
-use boot_file::{Blocks, Lockable};
+use crate::serving::{Serves, SystemServes};
+use boot_file::Lockable;
 use checks::{Request, Source, Surroundings, ThisMachine, check, compare};
 use faults::Job;
 use frame_sim::Tape;
-use gate::{Start, gate};
+use gate::Start;
 use outlets::Tells;
 use simulation::Capture;
 use std::fs::Files;
 use std::io::{self, BufWriter, Write};
-use std::net::Net;
-use std::os::fd::AsRawFd;
-use std::random::RandomSource;
-use std::rt::{Clock, Env};
 
 /// Who looks at settings, runs gateways, and takes runs down in files.
 pub(crate) trait Host {
@@ -28,8 +25,8 @@ pub(crate) trait Host {
     ghost use Rattle.std.specs.declared.io.ErrorKind.{ErrorKind};
     ghost use Rattle.commands.specs.Hosts.{Work, Written};
 
-    /// What a work may print, which lines it may tell, and with which status.
-    ghost works: { Self → Work → Written → List (List ℕ) → ℕ → Type 0 };
+    /// What a work may print, which lines it may tell, with which status, and what the host is then.
+    ghost works: { Self → Work → Written → List (List ℕ) → ℕ → Self → Type 0 };
 
     /// What takes a run down.
     type Record: Tape + Drop;
@@ -59,8 +56,9 @@ pub(crate) trait Host {
         output: &mut O,
         errors: &mut E,
     ) -> u8
-        ensures works { HasWorked E.tells (works self.now) (looked text.now (scope_in request.now))
-            (written O.contents output.old output.new) result errors.old errors.new }
+        ensures works { HasWorked E.tells works (looked text.now (scope_in request.now))
+            (written O.contents output.old output.new) result self.now self.now
+            errors.old errors.new }
         ensures status { (result ≡ 0) ⊎ (result ≡ 1) }
         ensures quiet { result ≡ 0 → errors.new ≡ errors.old }
         ensures accepts { result ≡ 0 → IsGoodText text.now }
@@ -74,41 +72,51 @@ pub(crate) trait Host {
         output: &mut O,
         errors: &mut E,
     ) -> u8
-        ensures works { HasWorked E.tells (works self.now)
+        ensures works { HasWorked E.tells works
             (compared (text_in one.entry) (text_in other.entry))
-            (written O.contents output.old output.new) result errors.old errors.new }
+            (written O.contents output.old output.new) result self.now self.now
+            errors.old errors.new }
         ensures status { (result ≡ 0) ⊎ (result ≡ 1) }
         ensures quiet { result ≡ 0 → errors.new ≡ errors.old }
         ensures alike { result ≡ 0 → AreAlike one.entry.text.now other.entry.text.now };
 
     /// Runs a gateway.
-    fn serve<O: Write, E: Tells>(&self, start: &Start<'_>, output: &mut O, errors: &mut E) -> u8
+    fn serve<O: Write, E: Tells>(&mut self, start: &Start<'_>, output: &mut O, errors: &mut E) -> u8
         requires found { IsTrue start.now.found → start.now.id ≡ Zero }
-        ensures works { HasWorked E.tells (works self.now) (served (plan_in start.now))
-            (written O.contents output.old output.new) result errors.old errors.new }
+        ensures works { HasWorked E.tells works (served (plan_in start.now))
+            (written O.contents output.old output.new) result self.old self.new
+            errors.old errors.new }
         ensures status { (result ≡ 0) ⊎ (result ≡ 1) }
         ensures quiet { result ≡ 0 → errors.new ≡ errors.old }
-        ensures served { result ≡ 0 → HasServed start.now.id start.now.rounds start.now.found
-            start.now.track start.now.until_eof (O.contents output.old) (O.contents output.new) };
+        ensures served { result ≡ 0
+            → HasServed start.now (O.contents output.old) (O.contents output.new) };
 }
 
-/// This machine: of what it finds, and of files, nothing is known.
+/// This machine, and who runs gateways here: of what it finds, and of files, nothing is known.
 #[derive(Drop)]
-pub(crate) struct ThisHost<'a, R>(pub(crate) &'a R);
+pub(crate) struct ThisHost<'a, R, G>(&'a R, G);
 
-impl<R: Files + Net + Clock + RandomSource + Eprint + Env + Input + AllocGlobal> Host
-    for ThisHost<'_, R>
+impl<'a, R> ThisHost<'a, R, SystemServes<'a, R>> {
+    pub(crate) fn new(rt: &'a R) -> Self {
+        ThisHost(rt, SystemServes(rt))
+    }
+}
+
+impl<R: Files + AllocGlobal, G: Serves> Host for ThisHost<'_, R, G>
 where
-    R::File: Blocks + Lockable + AsRawFd,
+    R::File: Lockable,
 {
-    ghost works = { λ _. WorksHere ⟦<ThisMachine<'static, R> as Surroundings>⟧.finds
-        ⟦<ThisMachine<'static, R> as Surroundings>⟧.takes };
+    ghost works = { λ host work printed lines status host2.
+        WorksHere ⟦<ThisMachine<'static, R> as Surroundings>⟧.finds
+        ⟦<ThisMachine<'static, R> as Surroundings>⟧.takes
+        G.serves host.1 work printed lines status host2.1 };
 
     type Record = Capture<BufWriter<R::File>>;
 
-    ghost begins = { λ _ _ _ _. Unit {0} };
+    ghost begins = { λ host _ answer host2. (host2.1 ≡ host.1)
+        × IfOk answer (λ tape. IsFresh tape.clocks tape.is_refused) };
 
-    ghost ends = { λ _ _ _. Unit {0} };
+    ghost ends = { λ _ tape answer. tape.is_refused ≡ true → IsErr answer };
 
     fn begin(&mut self, path: &str, job: &Job) -> io::Result<Capture<BufWriter<R::File>>> {
         capture_at(self.0, path, job)
@@ -139,7 +147,12 @@ where
         compare(self.0.alloc(), one, other, output, errors)
     }
 
-    fn serve<O: Write, E: Tells>(&self, start: &Start<'_>, output: &mut O, errors: &mut E) -> u8 {
-        gate(self.0, start, output, errors)
+    fn serve<O: Write, E: Tells>(
+        &mut self,
+        start: &Start<'_>,
+        output: &mut O,
+        errors: &mut E,
+    ) -> u8 {
+        self.1.serve(start, output, errors)
     }
 }

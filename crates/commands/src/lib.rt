@@ -7,6 +7,7 @@ mod commands;
 mod hosts;
 mod meters;
 mod runs;
+mod serving;
 mod versions;
 
 pub use commands::act;

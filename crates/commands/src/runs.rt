@@ -1,23 +1,22 @@
 //! Scripts that are run, and captured where that is asked for.
-ghost use Rattle.std.specs.Prelude.{◌≡◌, ◌⊎◌, IfErr, IfOk, None, Ok, OnErr, OnOk, false, length, string_bytes, true};
+ghost use Rattle.std.specs.Prelude.{◌≡◌, ◌≢◌, ◌⊎◌, IfErr, IfOk, None, Ok, OnErr, OnOk, false, length, string_bytes, true};
 ghost use Rattle.faults.specs.Faults.{status_of};
+ghost use Rattle.faults.specs.declared.faults.Fault.TheVariants as faults;
 ghost use Rattle.faults.specs.Jobs.{IsJobOf, TellsRun};
 ghost use Rattle.faults.specs.Texts.{fault_text};
 ghost use Rattle.frame_sim.specs.World.{founding};
 ghost use Rattle.outlets.specs.Telling.{IsToldOf};
 ghost use Rattle.loopback_run.specs.Loops.{IsLoop, TellsLoop};
-ghost use Rattle.loopback_run.specs.Stops.{StopsLoop};
-ghost use Rattle.loopback_run.specs.Tapes.{IsTapedLoop};
+ghost use Rattle.loopback_run.specs.Tapes.{IsTapedLoop, StopsTapedLoop};
 ghost use Rattle.settings_file.specs.Clashes.{clash_of_both};
 ghost use Rattle.simulation.specs.Status.{RunsScript};
-ghost use Rattle.simulation.specs.Stops.{Begins, BeginsScript};
-ghost use Rattle.simulation.specs.Tapes.{IsTapedRun};
-ghost use Rattle.simulation.specs.Watched.{IsToldAll, IsToldSome, WatchesScript};
+ghost use Rattle.simulation.specs.Tapes.{IsTapedRun, StopsTaped};
+ghost use Rattle.simulation.specs.Watched.{IsToldAll, IsToldPart, OverhearsScript, WatchesScript};
 ghost use Rattle.commands.specs.Acts.{EndsLoop, EndsSim, FailsLoop, FailsSim, HasLoopOf, HasRunOf};
-ghost use Rattle.commands.specs.Captures.{IsCaptured, IsLoopCaptured, IsOfEvents, IsOfPorts, IsUnopened, LeavesCapture};
-ghost use Rattle.commands.specs.Ends.{BeginsLoop, Loops};
+ghost use Rattle.commands.specs.Captures.{IsCaptured, IsHeldBy, IsLoopCaptured, IsOfEvents, IsOfPorts, IsUnlooped, IsUnopened, LeavesCapture, TapesSim, TapesSockets};
+ghost use Rattle.commands.specs.Ends.{Loops};
 ghost use Rattle.commands.specs.Hosts.{scene, written};
-ghost use Rattle.commands.specs.Meters.{HasHeard, HasHeardScript, HasOverheard, Hears, IsToldBehind, Overhears, Watches, telling};
+ghost use Rattle.commands.specs.Meters.{HasHeard, HasHeardScript, HasOverheard, HasOverheardScript, Hears, IsToldBehind, Overhears, Watches, telling};
 ghost use Rattle.commands.specs.Reading.{AreNotHad, AreRead};
 
 use crate::capture_files::{ended, unmade};
@@ -54,8 +53,8 @@ pub(crate) fn sim<S: Site, H: Host, C: Clockwork + Drop, O: Write, E: Tells>(
         O.contents (Watches is_watched C.reads E.tells clock) files.now result
         (scene site.old host.old output.old errors.old)
         (scene site.new host.new output.new errors.new) }
-    ensures failed { result ≡ 1 → EndsSim S.does H.begins H.ends O.contents E.tells
-        (Overhears is_watched C.reads E.tells clock) files.now
+    ensures failed { result ≡ 1 → EndsSim S.does H.Record.takes H.Record.refuses
+        H.begins H.ends O.contents E.tells (Overhears is_watched C.reads E.tells clock) files.now
         (scene site.old host.old output.old errors.old)
         (scene site.new host.new output.new errors.new) }
 {
@@ -93,7 +92,8 @@ fn simulated<C: Clockwork + Drop, O: Write, E: Tells>(
         → HasHeardScript C.reads E.tells settings.now script.now clock errors.old errors.new }
     ensures quiet { is_watched ≡ false → (result ≡ 0) ⊎ (result ≡ 3)
         → errors.new ≡ errors.old }
-    ensures failed { result ≡ 1 → IsToldBehind E.tells (Overhears is_watched C.reads E.tells clock)
+    ensures failed { result ≡ 1 → IsToldBehind E.tells
+        (Overhears is_watched C.reads E.tells clock settings.now script.now)
         (FailsSim O.contents settings.now script.now output.old output.new)
         errors.old errors.new }
 {
@@ -123,8 +123,8 @@ fn watched<C: Clockwork + Drop, O: Write, E: Tells>(
         (FailsSim O.contents settings.now script.now output.old output.new) }
     ensures heard { OnOk result (HasHeardScript C.reads E.tells settings.now script.now
         clock errors.old errors.new) }
-    ensures overheard { OnErr result
-        (HasOverheard C.reads E.tells clock errors.old errors.new) }
+    ensures overheard { OnErr result (HasOverheardScript C.reads E.tells settings.now script.now
+        clock errors.old errors.new) }
 {
     let mut meter = Meter::start(alloc, clock, errors);
     metered(alloc, settings, script, &mut meter, output)
@@ -148,7 +148,8 @@ fn metered<C: Clockwork, O: Write, E: Tells>(
     ensures heard { OnOk result (WatchesScript (Hears C.reads E.tells) settings.now script.now
         (telling meter.old.clock meter.old.next meter.old.is_refused meter.old.errors.now)
         (telling meter.new.clock meter.new.next meter.new.is_refused meter.new.errors.now)) }
-    ensures overheard { OnErr result (IsToldSome (Hears C.reads E.tells)
+    ensures overheard { OnErr result
+        (OverhearsScript (Hears C.reads E.tells) settings.now script.now
         (telling meter.old.clock meter.old.next meter.old.is_refused meter.old.errors.now)
         (telling meter.new.clock meter.new.next meter.new.is_refused meter.new.errors.now)) }
 {
@@ -177,9 +178,11 @@ fn sim_captured<H: Host, C: Clockwork + Drop, O: Write, E: Tells>(
     ensures captured { (result ≡ 0) ⊎ (result ≡ 3) → IsCaptured H.Record.takes
         H.begins H.ends path.now settings.now script.now
         (written O.contents output.old output.new) result host.old host.new }
-    ensures failed { result ≡ 1 → IsToldBehind E.tells (Overhears is_watched C.reads E.tells clock)
+    ensures failed { result ≡ 1 → IsToldBehind E.tells
+        (Overhears is_watched C.reads E.tells clock settings.now script.now)
         (λ why. LeavesCapture H.begins H.ends path.now (TellsRun settings.now script.now)
-        (BeginsScript settings.now script.now (O.contents output.old) (O.contents output.new)) why
+        (λ run first last. TapesSim H.Record.takes H.Record.refuses O.contents settings.now
+        script.now run first last output.old output.new) why
         host.old host.new output.old output.new) errors.old errors.new }
 {
     match job_of(alloc, settings, script) {
@@ -210,12 +213,13 @@ fn taped<C: Clockwork + Drop, T: Tape, O: Write, E: Tells>(
     ensures status { IfOk result (λ status. (status ≡ 0) ⊎ (status ≡ 3)) }
     ensures known { IfErr result (λ fault. status_of fault ≡ 1) }
     ensures told { IfErr result IsOfEvents }
-    ensures begun { OnErr result (Begins (founding job.now.settings) job.now.events.items
-        (O.contents output.old) (O.contents output.new)) }
+    ensures stopped { IfErr result (StopsTaped T.takes T.refuses O.contents
+        (founding job.now.settings) job.now.events.items tape.old tape.new
+        output.old output.new) }
     ensures heard { is_watched ≡ true → OnOk result (HasHeard C.reads E.tells
         (length job.now.events.items) clock errors.old errors.new) }
-    ensures overheard { is_watched ≡ true → OnErr result
-        (HasOverheard C.reads E.tells clock errors.old errors.new) }
+    ensures overheard { is_watched ≡ true → OnErr result (HasOverheard C.reads E.tells
+        (length job.now.events.items) clock errors.old errors.new) }
     ensures quiet { is_watched ≡ false → errors.new ≡ errors.old }
 {
     if is_watched {
@@ -240,14 +244,16 @@ fn taped_metered<C: Clockwork, T: Tape, O: Write, E: Tells>(
     ensures status { IfOk result (λ status. (status ≡ 0) ⊎ (status ≡ 3)) }
     ensures known { IfErr result (λ fault. status_of fault ≡ 1) }
     ensures told { IfErr result IsOfEvents }
-    ensures begun { OnErr result (Begins (founding job.now.settings) job.now.events.items
-        (O.contents output.old) (O.contents output.new)) }
+    ensures stopped { IfErr result (StopsTaped T.takes T.refuses O.contents
+        (founding job.now.settings) job.now.events.items tape.old tape.new
+        output.old output.new) }
     ensures same_reference { meter.new.errors.ghost_name ≡ meter.old.errors.ghost_name }
     ensures heard { OnOk result
         (IsToldAll (Hears C.reads E.tells) (length job.now.events.items)
         (telling meter.old.clock meter.old.next meter.old.is_refused meter.old.errors.now)
         (telling meter.new.clock meter.new.next meter.new.is_refused meter.new.errors.now)) }
-    ensures overheard { OnErr result (IsToldSome (Hears C.reads E.tells)
+    ensures overheard { OnErr result
+        (IsToldPart (Hears C.reads E.tells) (length job.now.events.items)
         (telling meter.old.clock meter.old.next meter.old.is_refused meter.old.errors.now)
         (telling meter.new.clock meter.new.next meter.new.is_refused meter.new.errors.now)) }
 {
@@ -269,7 +275,8 @@ pub(crate) fn repeat<R: Net + Clock + AllocGlobal, S: Site, H: Host, O: Write, E
         O.contents files.now result (scene site.old host.old output.old errors.old)
         (scene site.new host.new output.new errors.new) }
     ensures failed { result ≡ 1 → IsToldOf E.tells fault_text
-        (λ why. EndsLoop S.does H.begins H.ends O.contents files.now why
+        (λ why. EndsLoop S.does H.Record.takes H.Record.refuses H.begins H.ends O.contents
+        files.now why
         (scene site.old host.old output.old errors.old)
         (scene site.new host.new output.new errors.new)) errors.old errors.new }
 {
@@ -324,8 +331,9 @@ fn repeat_captured<R: Net + Clock + AllocGlobal, H: Host, O: Write, E: Tells>(
     ensures captured { (result ≡ 0) ⊎ (result ≡ 3) → IsLoopCaptured H.Record.takes
         H.begins H.ends path.now settings.now script.now host.old host.new }
     ensures failed { result ≡ 1 → IsToldOf E.tells fault_text
-        (λ why. LeavesCapture H.begins H.ends path.now (TellsLoop settings.now script.now)
-        (BeginsLoop settings.now script.now (O.contents output.old) (O.contents output.new)) why
+        (λ why. LeavesCapture H.begins H.ends path.now (IsUnlooped settings.now script.now)
+        (λ run first last. TapesSockets H.Record.takes H.Record.refuses O.contents settings.now
+        script.now run first last output.old output.new) why
         host.old host.new output.old output.new) errors.old errors.new }
 {
     let mut passage = Loopback::new(rt);
@@ -350,10 +358,12 @@ fn opened<P: Channel>(
     passage: &mut P,
 ) -> Result<Job, Fault>
     ensures job { IfOk result (IsJobOf settings.now script.now) }
+    ensures held { IfOk result (IsHeldBy settings.now script.now) }
     ensures apart { IfOk result (λ job. clash_of_both job.settings ≡ None) }
     ensures opened { IfOk result (λ job. P.opens passage.old job.settings passage.new) }
     ensures known { IfErr result (λ fault. status_of fault ≡ 1) }
     ensures told { IfErr result (TellsLoop settings.now script.now) }
+    ensures read { IfErr result (λ fault. fault ≢ faults.NotWritten) }
     ensures unopened { IfErr result
         (IsUnopened P.refuses settings.now script.now passage.old passage.new) }
 {
@@ -393,8 +403,9 @@ fn looped<P: Channel, T: Tape, O: Write>(
     ensures status { IfOk result (λ status. (status ≡ 0) ⊎ (status ≡ 3)) }
     ensures known { IfErr result (λ fault. status_of fault ≡ 1) }
     ensures told { IfErr result IsOfEvents }
-    ensures stops { IfErr result (StopsLoop P.passes O.contents job.now.settings
-        job.now.events.items passage.old passage.new output.old output.new) }
+    ensures broken { IfErr result (StopsTapedLoop P.passes T.takes T.refuses O.contents
+        job.now.settings job.now.events.items passage.old passage.new tape.old tape.new
+        output.old output.new) }
     ensures taped { OnOk result (IsTapedLoop P.passes T.takes job.now.settings
         job.now.events.items passage.old passage.new tape.old tape.new) }
 {

@@ -15,7 +15,15 @@ returns-in-Check-clause-done g c h =
 pub returns-in-Gate-clause-done : goal.returns-in-Gate-clause-done
 returns-in-Gate-clause-done g c h =
     let none = is_0 _ c.serve.ensures.status h in
-    rw c.in-Gate.is (none, rw (← c.start_of.ensures.id, ← c.start_of.ensures.rounds, ← c.start_of.ensures.found, ← c.start_of.ensures.track, ← c.start_of.ensures.until_eof) (c.serve.ensures.served none))
+    let start = c.start_of.ensures in
+    rw c.in-Gate.is (
+      none,
+      record {
+        start = c.start_of.result;
+        is_asked = rw (start.settings, start.id, start.rounds, start.found, start.inside, start.outside, start.link, start.track, start.until_eof, start.log, start.format, start.capture, start.notify) refl;
+        served = c.serve.ensures.served none;
+      },
+    )
 
 pub returns-in-Status-clause-done : goal.returns-in-Status-clause-done
 returns-in-Status-clause-done g c h = rw c.in-Status.is (is_0 _ c.state_of.ensures.status h)
@@ -64,7 +72,6 @@ pub returns-in-Gate-clause-acts : goal.returns-in-Gate-clause-acts
 returns-in-Gate-clause-acts g c =
     let start = c.start_of.ensures in
     rw c.in-Gate.is (
-      refl,
       refl,
       c.serve.ensures.quiet,
       rw (start.settings, start.id, start.rounds, start.found, start.inside, start.outside, start.link, start.track, start.until_eof, start.log, start.format, start.capture, start.notify)

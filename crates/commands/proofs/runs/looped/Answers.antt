@@ -6,3 +6,6 @@ returns-clause-known g c = known c.play.result c.play.ensures.fault
 
 pub returns-clause-taped : goal.returns-clause-taped
 returns-clause-taped g c = rw c.as_slice-events.ensures.value at c.play.ensures.taped
+
+pub returns-clause-broken : goal.returns-clause-broken
+returns-clause-broken g c = rw c.as_slice-events.ensures.value at c.play.ensures.broken

@@ -1,5 +1,5 @@
 use Rattle.commands.specs.Meters.{Hears, telling}
-use Rattle.commands.proofs.Hearing.{on_err, on_ok, same_name, same_name_of, told_all, told_some}
+use Rattle.commands.proofs.Hearing.{on_err, on_ok, same_name, same_name_of, told_all, told_script}
 use Rattle.commands.proofs.Taping.{fails_of}
 use Rattle.commands.proofs.runs.metered.Goals as goal
 
@@ -19,7 +19,7 @@ returns-clause-heard g c =
 
 pub returns-clause-overheard : goal.returns-clause-overheard
 returns-clause-overheard g c =
-    on_err c.simulate_watched.result c.simulate_watched.ensures.overheard (λ h. told_some (λ m. telling m.clock m.next m.is_refused m.errors.now) (λ m. m.errors.ghost_name) _ (Hears g.C.Clockwork.reads g.E.Tells.tells) (λ p taken all p2 k. k) _ _ h)
+    on_err c.simulate_watched.result c.simulate_watched.ensures.part (λ h. told_script (λ m. telling m.clock m.next m.is_refused m.errors.now) (λ m. m.errors.ghost_name) _ (Hears g.C.Clockwork.reads g.E.Tells.tells) (λ p taken all p2 k. k) _ _ _ _ h)
 
 pub returns-clause-failed : goal.returns-clause-failed
 returns-clause-failed g c = fails_of c.simulate_watched.result _ _ _ _ c.simulate_watched.ensures.told c.simulate_watched.ensures.leaves

@@ -1,4 +1,4 @@
-use Rattle.std.proofs.Common.{inl, inr, refl}
+use Rattle.std.proofs.Common.{inl, refl}
 use Rattle.faults.specs.Texts.{fault_text}
 use Rattle.commands.proofs.Telling.{told_as}
 use Rattle.commands.proofs.runs.repeat.Goals as goal

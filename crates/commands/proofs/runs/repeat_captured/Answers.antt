@@ -1,6 +1,6 @@
 use Rattle.std.proofs.Common.{inl, inr, refl}
-use Rattle.commands.proofs.Passing.{has_loop_of, loop_begun_of}
-use Rattle.commands.proofs.Recording.{ended_of, loop_captured_of, tape_of}
+use Rattle.commands.proofs.Passing.{has_loop_of, unlooped}
+use Rattle.commands.proofs.Recording.{closed_of, ended_of, loop_captured_of, tapes_sockets}
 use Rattle.faults.specs.Texts.{fault_text}
 use Rattle.commands.proofs.Telling.{told_as}
 use Rattle.commands.proofs.runs.repeat_captured.Goals as goal
@@ -17,15 +17,20 @@ returns-in-Ok-begin-clause-captured g c h =
 
 pub returns-in-Ok-begin-clause-failed : goal.returns-in-Ok-begin-clause-failed
 returns-in-Ok-begin-clause-failed g c one =
-    told_as g.E.Tells.tells fault_text _ _ c.args.errors.now c.ended.new.errors (c.ended.ensures.told one) (λ why is. inr (
-      loop_begun_of c.looped-run.result g.O.Write.contents c.args.settings.now c.args.script.now c.in-Ok.job _ _ _ c.args.output.now
-          c.looped-run.new.output c.new-passage.ensures c.in-Ok.ensures.job c.in-Ok.ensures.opened c.looped-run.ensures.run
-          c.looped-run.ensures.stops,
-      record {
-        first = c.in-Ok-begin.tape;
-        last = c.looped-run.new.tape;
-        begun = c.in-Ok-begin.ensures.begun;
-        told = tape_of g.H.Host.begins g.H.Host.ends c.args.path.now c.looped-run.result c.end-written.result why _ c.looped-run.new.tape
-            c.looped-run.ensures.told c.end-written.ensures.ended c.end-written.ensures.unended is;
-      },
-    ))
+    told_as g.E.Tells.tells fault_text _ _ c.args.errors.now c.ended.new.errors (c.ended.ensures.told one) (λ why is. inr (record {
+      first = c.in-Ok-begin.tape;
+      last = c.looped-run.new.tape;
+      begun = c.in-Ok-begin.ensures.begun;
+      run = c.looped-run.result;
+      taped = tapes_sockets c.looped-run.result g.H.Record.Tape.takes g.H.Record.Tape.refuses g.O.Write.contents c.args.settings.now c.args.script.now c.in-Ok.job
+          _ _ _ c.in-Ok-begin.tape c.looped-run.new.tape c.args.output.now c.looped-run.new.output c.new-passage.ensures c.in-Ok.ensures.held
+          c.in-Ok.ensures.job c.in-Ok.ensures.apart c.in-Ok.ensures.opened c.looped-run.ensures.run c.looped-run.ensures.taped c.looped-run.ensures.broken;
+      written = c.end-written.result;
+      closed = closed_of g.H.Host.begins g.H.Host.ends c.end-written.result _ c.looped-run.new.tape c.end-written.ensures.ended c.end-written.ensures.unended;
+      told = is;
+    }))
+
+pub returns-clause-failed : goal.returns-clause-failed
+returns-clause-failed g c one =
+    let early = unlooped c.args.settings.now c.args.script.now _ _ c.in-Err.fault c.new-passage.ensures c.in-Err.ensures.told c.in-Err.ensures.unopened in
+    (c.in-Err.fault, (inl (refl {a = c.args.output.now}, inl (refl {a = c.args.host.now}, (early, c.in-Err.ensures.read))), c.tell.ensures.told))

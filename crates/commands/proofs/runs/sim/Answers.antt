@@ -31,23 +31,22 @@ returns-in-Ok-clause-named g c h = record {
 
 pub returns-in-Some-clause-failed : goal.returns-in-Some-clause-failed
 returns-in-Some-clause-failed g c one =
-    inr (told_behind_as g.E.Tells.tells (Overhears c.args.is_watched g.C.Clockwork.reads g.E.Tells.tells c.args.clock) _ _ c.args.errors.now
-    c.sim_captured.new.errors (c.sim_captured.ensures.failed one) (λ why left. record {
+    inr (record {
       text = _;
       script = _;
       are_read = c.in-Ok.ensures.read;
-      ended = rw c.in-Some.is (rw (c.as_str-settings.ensures.value, c.as_str-script.ensures.value, c.as_str-path.ensures.value) at left);
-    }))
+      told = rw c.in-Some.is (rw (c.as_str-settings.ensures.value, c.as_str-script.ensures.value, c.as_str-path.ensures.value) at (c.sim_captured.ensures.failed one));
+    })
 
 pub returns-in-Ok-clause-failed : goal.returns-in-Ok-clause-failed
 returns-in-Ok-clause-failed g c one =
-    inr (told_behind_as g.E.Tells.tells (Overhears c.args.is_watched g.C.Clockwork.reads g.E.Tells.tells c.args.clock) _ _ c.args.errors.now
-    c.simulated.new.errors (c.simulated.ensures.failed one) (λ why fails. record {
+    let failed = rw (c.as_str-settings.ensures.value, c.as_str-script.ensures.value) at (c.simulated.ensures.failed one) in
+    inr (record {
       text = _;
       script = _;
       are_read = c.in-Ok.ensures.read;
-      ended = rw c.in-None.is (refl, rw (c.as_str-settings.ensures.value, c.as_str-script.ensures.value) at fails);
-    }))
+      told = rw c.in-None.is (told_behind_as g.E.Tells.tells (Overhears c.args.is_watched g.C.Clockwork.reads g.E.Tells.tells c.args.clock _ _) _ _ c.args.errors.now c.simulated.new.errors failed (λ why fails. (refl, fails)));
+    })
 
 pub returns-clause-failed : goal.returns-clause-failed
 returns-clause-failed g c one =

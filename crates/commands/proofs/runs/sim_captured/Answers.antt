@@ -1,7 +1,7 @@
 use Rattle.std.proofs.Common.{◌∙◌, inl, inr, refl}
 use Rattle.commands.proofs.Hearing.{overheard_of, unheard}
-use Rattle.commands.proofs.Recording.{captured_of, ended_of, tape_of}
-use Rattle.commands.proofs.Taping.{begun_of, heard_of, isnt_1, run_of}
+use Rattle.commands.proofs.Recording.{captured_of, closed_of, ended_of, tapes_sim}
+use Rattle.commands.proofs.Taping.{heard_of, isnt_1, run_of}
 use Rattle.faults.specs.Texts.{fault_text}
 use Rattle.commands.proofs.Telling.{told_as}
 use Rattle.commands.proofs.runs.sim_captured.Goals as goal
@@ -35,21 +35,21 @@ returns-in-Ok-begin-clause-failed g c one = (
   c.taped-run.new.errors,
   (
     (
-      λ watched. overheard_of c.taped-run.result _ _ _ _ _ _ (c.taped-run.ensures.heard watched) (c.taped-run.ensures.overheard watched),
+      λ watched. overheard_of c.taped-run.result _ _ _ _ _ _ _ _ c.in-Ok.ensures.job (c.taped-run.ensures.heard watched) (c.taped-run.ensures.overheard watched),
       c.taped-run.ensures.quiet,
     ),
-    told_as g.E.Tells.tells fault_text _ _ c.taped-run.new.errors c.ended.new.errors (c.ended.ensures.told one) (λ why is. inr (
-      begun_of c.taped-run.result g.H.Record.Tape.takes c.args.settings.now c.args.script.now c.in-Ok.job c.in-Ok-begin.tape c.taped-run.new.tape
-          (g.O.Write.contents c.args.output.now) (g.O.Write.contents c.taped-run.new.output) c.in-Ok.ensures.job c.taped-run.ensures.run
-          c.taped-run.ensures.begun,
-      record {
-        first = c.in-Ok-begin.tape;
-        last = c.taped-run.new.tape;
-        begun = c.in-Ok-begin.ensures.begun;
-        told = tape_of g.H.Host.begins g.H.Host.ends c.args.path.now c.taped-run.result c.end-written.result why _ c.taped-run.new.tape
-            c.taped-run.ensures.told c.end-written.ensures.ended c.end-written.ensures.unended is;
-      },
-    )),
+    told_as g.E.Tells.tells fault_text _ _ c.taped-run.new.errors c.ended.new.errors (c.ended.ensures.told one) (λ why is. inr (record {
+      first = c.in-Ok-begin.tape;
+      last = c.taped-run.new.tape;
+      begun = c.in-Ok-begin.ensures.begun;
+      run = c.taped-run.result;
+      taped = tapes_sim c.taped-run.result g.H.Record.Tape.takes g.H.Record.Tape.refuses g.O.Write.contents c.args.settings.now c.args.script.now c.in-Ok.job
+          c.in-Ok-begin.tape c.taped-run.new.tape c.args.output.now c.taped-run.new.output c.in-Ok.ensures.job c.taped-run.ensures.run
+          c.taped-run.ensures.told c.taped-run.ensures.stopped;
+      written = c.end-written.result;
+      closed = closed_of g.H.Host.begins g.H.Host.ends c.end-written.result _ c.taped-run.new.tape c.end-written.ensures.ended c.end-written.ensures.unended;
+      told = is;
+    })),
   ),
 )
 
@@ -57,7 +57,7 @@ pub returns-in-Err-begin-clause-failed : goal.returns-in-Err-begin-clause-failed
 returns-in-Err-begin-clause-failed g c one = (
   c.args.errors.now,
   (
-    unheard _ _ _ _ _,
+    unheard _ _ _ _ _ _ _,
     told_as g.E.Tells.tells fault_text _ _ c.args.errors.now c.unmade.new.errors c.unmade.ensures.told (λ why is. inl (
       refl,
       inr (record {
@@ -71,4 +71,4 @@ returns-in-Err-begin-clause-failed g c one = (
 
 pub returns-in-Err-clause-failed : goal.returns-in-Err-clause-failed
 returns-in-Err-clause-failed g c one =
-    (c.args.errors.now, (unheard _ _ _ _ _, (c.in-Err.fault, (inl (refl, inl (refl, c.in-Err.ensures.told)), c.tell.ensures.told))))
+    (c.args.errors.now, (unheard _ _ _ _ _ _ _, (c.in-Err.fault, (inl (refl, inl (refl, (c.in-Err.ensures.told, c.in-Err.ensures.read))), c.tell.ensures.told))))

@@ -1,5 +1,4 @@
 use Rattle.std.proofs.Common.{◌∙◌}
-use Rattle.commands.proofs.Hearing.{unheard}
 use Rattle.commands.proofs.Taping.{isnt_1}
 use Rattle.commands.proofs.runs.simulated.Goals as goal
 

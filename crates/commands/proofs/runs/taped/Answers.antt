@@ -27,5 +27,5 @@ returns-then-is_watched-clause-overheard g c watched =
 pub returns-else-is_watched-clause-known : goal.returns-else-is_watched-clause-known
 returns-else-is_watched-clause-known g c = known c.play.result c.play.ensures.fault
 
-pub returns-else-is_watched-clause-begun : goal.returns-else-is_watched-clause-begun
-returns-else-is_watched-clause-begun g c = rw c.as_slice-events.ensures.value at c.play.ensures.begun
+pub returns-else-is_watched-clause-stopped : goal.returns-else-is_watched-clause-stopped
+returns-else-is_watched-clause-stopped g c = rw c.as_slice-events.ensures.value at c.play.ensures.stopped
