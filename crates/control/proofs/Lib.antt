@@ -1,4 +1,3 @@
 mod Rooms
 mod Coming
-mod Answering
 mod Turns

@@ -1,12 +1,15 @@
 -- Whom a box attends to at its control socket.
-use Rattle.std.specs.Prelude.{ℕ, suc, Bool, true, false, not, ◌&&◌, ◌≡◌, ◌≤◌, ◌⊎◌, ◌+◌, ◌-◌, ◌^◌, ◌==◌, min, nat_le, List, length, drop, Option, Some, None, Result, Ok, Err, if◌then◌else◌}
-use Rattle.std.specs.Io.KnownBytes.{Appends}
-use Rattle.outlets.specs.Printed.{IsBegun}
-use Rattle.outlets.specs.Writes.{Asks}
+use Rattle.std.specs.Prelude.{ℕ, suc, Bool, true, false, not, ◌&&◌, ◌≡◌, ◌≤◌, ◌⊎◌, ◌+◌, ◌-◌, ◌^◌, ◌==◌, min, nat_le, List, length, drop, Option, Some, None, is_some, Result, Ok, Err, if◌then◌else◌}
+use Rattle.std.specs.Io.KnownBytes.{WriteAppends}
 use Rattle.std.specs.declared.io.Error.{Error}
+use Rattle.outlets.specs.Writes.{Asks}
+use Rattle.mio.specs.declared.token.Token.{Token}
+use Rattle.control.specs.Words.{word_of}
+use Rattle.control.specs.declared.words.Word.{Word}
 
 -- somebody whose word was handed on waits for its answer; somebody may have called, or said something; how many called so far, with those
--- whom it failed to hear; how many callers are waited for, how many were refused, and how many went unanswered
+-- whom it failed to hear; how many callers are waited for, how many were refused, and how many went unanswered; the token under which waits
+-- report it and its callers, once it is registered; which word was handed on last
 pub record Attending : Type 0 where
   pub awaits : Bool
   pub ready : Bool
@@ -14,24 +17,36 @@ pub record Attending : Type 0 where
   pub callers : ℕ
   pub refused : ℕ
   pub unanswered : ℕ
+  pub token : Option Token
+  pub word : Option Word
 
--- at first nobody has called that is known of, and somebody may have
+-- at first nobody has called that is known of, and somebody may have; it isn't registered
 abbrev pub nobody_yet : Attending
-nobody_yet = record { awaits = false; ready = true; called = 0; callers = 0; refused = 0; unanswered = 0 }
+nobody_yet = record { awaits = false; ready = true; called = 0; callers = 0; refused = 0; unanswered = 0; token = None; word = None }
+
+-- waits report it under this token, and those who call from then on; all else stays
+abbrev pub registered : Token → Attending → Attending
+registered token a = record a { token = Some token }
 
 -- somebody may have called, or said something; all else stays
 abbrev pub woken : Attending → Attending
 woken a = record a { ready = true }
 
--- there may be somebody to hear, and no answer is awaited
+-- there may be somebody to hear, no answer is awaited, and waits report it
 abbrev pub is_ready : Attending → Bool
-is_ready a = a.ready && not a.awaits
+is_ready a = a.ready && not a.awaits && is_some a.token
 
 -- a count stays at its greatest number
 abbrev pub with_more : ℕ → ℕ → ℕ
 with_more count more = min (count + more) (2 ^ 64 - 1)
 
 -- ---- who is heard, and who is let in
+
+-- these bytes spell the word that was handed on last
+pub record SaysWord (bytes : List ℕ) (a : Attending) : Type 0 where
+  pub word : Word
+  pub spelled : word_of bytes ≡ Some word
+  pub kept : a.word ≡ Some word
 
 -- one who said a word; or nobody did
 abbrev pub speakers : {T : Type 0} → Option T → ℕ
@@ -65,6 +80,7 @@ pub record HasHeard (before after : Attending) : Type 0 where
   pub awaits : after.awaits ≡ true
   pub called : after.called ≡ before.called
   pub more : after.ready ≡ true
+  pub token : after.token ≡ before.token
 
 -- one where it is so
 abbrev pub one_if : Bool → ℕ
@@ -80,6 +96,8 @@ pub record HasLetIn (before after : Attending) : Type 0 where
   pub joined : AreJoined after.ready left after.callers refused after.refused
   pub called : after.called ≡ before.called + one_if after.ready
   pub awaits : after.awaits ≡ false
+  pub token : after.token ≡ before.token
+  pub word : after.word ≡ before.word
 
 -- by what was taken: a word, or none
 abbrev pub HasLooked : {T : Type 0} → Option T → Attending → Attending → Type 0
@@ -97,23 +115,20 @@ abbrev pub unanswered_after : {E : Type 0} → Result ℕ E → ℕ → ℕ → 
 unanswered_after (Ok count) whole before = if count == whole then before else with_more before 1
 unanswered_after (Err error) whole before = with_more before 1
 
--- the whole answer was written behind the known bytes, and the count stays; or a beginning of it, and it is counted
-abbrev pub IsToldOrCounted : Option (List ℕ) → Option (List ℕ) → List ℕ → ℕ → ℕ → Type 0
-IsToldOrCounted before after answer count count2 =
-    (Appends before after answer × (count2 ≡ count)) ⊎ (IsBegun before after answer × (count2 ≡ with_more count 1))
+-- what may be answered where somebody is told these bytes; he is let go then
+abbrev pub Telling : Type 0 → Type 1
+Telling S = S → List ℕ → Result ℕ Error → Type 0
 
--- one write was answered so, and so many went unanswered then
-abbrev pub IsOfOneWrite : {S : Type 0} → Asks S → S → List ℕ → ℕ → ℕ → S → Type 0
-IsOfOneWrite answers before bytes count count2 after =
-    (answer : Result ℕ Error) × (answers before bytes answer after × (count2 ≡ unanswered_after answer (length bytes) count))
+-- one write of these bytes was answered so; as many as it took stand behind the known ones
+abbrev pub IsWritten : {S : Type 0} → (S → Option (List ℕ)) → Asks S → Telling S
+IsWritten {S} held answers caller bytes answer = (after : S) × (WriteAppends (held caller) (held after) answer bytes × answers caller bytes answer after)
 
--- who is told an answer is told it once, by one write, and then so many went unanswered
-pub record IsAnsweredOnce {S : Type 0} (held : S → Option (List ℕ)) (answers : Asks S) (caller : S) (bytes : List ℕ) (count count2 : ℕ) : Type 0 where
-  pub after : S
-  pub told : IsToldOrCounted (held caller) (held after) bytes count count2
-  pub asked : IsOfOneWrite answers caller bytes count count2 after
+-- who is told an answer is told it once, by one write, and let go, and then so many went unanswered
+abbrev pub IsAnsweredOnce : {S : Type 0} → Telling S → S → List ℕ → ℕ → ℕ → Type 0
+IsAnsweredOnce tells caller bytes count count2 =
+    (answer : Result ℕ Error) × (tells caller bytes answer × (count2 ≡ unanswered_after answer (length bytes) count))
 
 -- nobody who awaits an answer is told nothing; one who does is told it once
-abbrev pub IsAnsweredIf : {S : Type 0} → (S → Option (List ℕ)) → Asks S → Option S → List ℕ → ℕ → ℕ → Type 0
-IsAnsweredIf held answers (Some caller) bytes count count2 = IsAnsweredOnce held answers caller bytes count count2
-IsAnsweredIf held answers None bytes count count2 = count2 ≡ count
+abbrev pub IsAnsweredIf : {S : Type 0} → Telling S → Option S → List ℕ → ℕ → ℕ → Type 0
+IsAnsweredIf tells (Some caller) bytes count count2 = IsAnsweredOnce tells caller bytes count count2
+IsAnsweredIf tells None bytes count count2 = count2 ≡ count

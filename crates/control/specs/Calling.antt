@@ -3,15 +3,16 @@ use Rattle.std.specs.Prelude.{ℕ, Bool, true, false, ◌≡◌, ◌≢◌, ◌�
 use Rattle.std.specs.IoError.{error_kind}
 use Rattle.std.specs.declared.io.Error.{Error}
 use Rattle.std.specs.declared.io.ErrorKind.TheVariants.{WouldBlock}
+use Rattle.mio.specs.declared.token.Token.{Token}
 use Rattle.control.specs.Attending.{with_room}
 
 -- who calls next, or why nobody does, and what the listener is then
 abbrev pub Calls : Type 0 → Type 0 → Type 1
 Calls L S = L → Result S Error → L → Type 0
 
--- what is answered where a caller is to be registered, what he is then, and what the listener is then
-abbrev pub Registers : Type 0 → Type 0 → Type 1
-Registers L S = L → S → Result (Unit {0}) Error → S → L → Type 0
+-- what is answered where a wait is to report somebody under a token, and what he is then
+abbrev pub Reports : Type 0 → Type 1
+Reports S = S → Token → Result (Unit {0}) Error → S → Type 0
 
 -- Once he is registered he is waited for, behind the others; or he is let go, where there is no room for more of them and no memory. One
 -- who can't be registered is let go.
@@ -19,14 +20,13 @@ abbrev pub IsKept : {S : Type 0} → Result (Unit {0}) Error → ℕ → List S 
 IsKept (Ok done) capacity callers caller callers2 = (callers2 ≡ callers ++ caller ∷ []) ⊎ ((callers2 ≡ callers) × (capacity ≤ length callers))
 IsKept (Err error) capacity callers caller callers2 = callers2 ≡ callers
 
--- Somebody calls, and is registered, once. Where eight are waited for, the one that was waited for longest makes room for him.
-pub record HasCalled {L S : Type 0} (calls : Calls L S) (registers : Registers L S) (before : L) (callers : List S) (capacity : ℕ) (after : L) (callers2 : List S) : Type 0 where
+-- Somebody calls, and is registered, once, under this token. Where eight are waited for, the one that was waited for longest makes room for him.
+pub record HasCalled {L S : Type 0} (calls : Calls L S) (reports : Reports S) (token : Token) (before : L) (callers : List S) (capacity : ℕ) (after : L) (callers2 : List S) : Type 0 where
   pub caller : S
-  pub between : L
-  pub called : calls before (Ok caller) between
+  pub called : calls before (Ok caller) after
   pub answer : Result (Unit {0}) Error
   pub registered : S
-  pub asked : registers between caller answer registered after
+  pub asked : reports caller token answer registered
   pub kept : IsKept answer capacity (with_room callers) registered callers2
 
 -- by whether somebody may call still, behind a call that failed so: just not where it would block
@@ -40,7 +40,7 @@ CallFails calls before callers more after callers2 = ((error : Error) × (calls 
 
 -- By whether there may be more who call. Somebody calls, beside callers for whom there is so much room; or it fails to hear who does. There
 -- aren't any more just where that would block.
-abbrev pub LetsIn : {L S : Type 0} → Calls L S → Registers L S → L → List S → ℕ → Bool → L → List S → Type 0
-LetsIn calls registers before callers capacity true after callers2 =
-    HasCalled calls registers before callers capacity after callers2 ⊎ CallFails calls before callers true after callers2
-LetsIn calls registers before callers capacity false after callers2 = CallFails calls before callers false after callers2
+abbrev pub LetsIn : {L S : Type 0} → Calls L S → Reports S → Token → L → List S → ℕ → Bool → L → List S → Type 0
+LetsIn calls reports token before callers capacity true after callers2 =
+    HasCalled calls reports token before callers capacity after callers2 ⊎ CallFails calls before callers true after callers2
+LetsIn calls reports token before callers capacity false after callers2 = CallFails calls before callers false after callers2

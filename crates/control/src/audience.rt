@@ -1,20 +1,24 @@
 //! Who is heard at a control socket, and answered.
-ghost use Rattle.std.specs.Prelude.{◌≡◌, ◌≤◌, ◌⊎◌, ◌||◌, false, true, length, vec_len, vec_capacity, is_some, IfSome, IsNone};
-ghost use Rattle.control.specs.Attending.{AreCounted, HasLooked, IsAnsweredIf, is_ready};
+ghost use Rattle.std.specs.Prelude.{◌≡◌, ◌≤◌, ◌⊎◌, ◌||◌, false, true, length, take, vec_len, vec_capacity, is_some, IfSome, IsNone, OnErr, OnOk};
+ghost use Rattle.control.specs.Attending.{AreCounted, HasLooked, IsAnsweredIf, SaysWord, is_ready};
 ghost use Rattle.control.specs.Attending.{nobody_yet, speakers, with_more};
-ghost use Rattle.control.specs.Audiences.{IsHeard, Looks, answered, attending_of, woken};
-ghost use Rattle.control.specs.Heard.{IsWord};
+ghost use Rattle.control.specs.Audiences.{IsHeard, Looks, answered, attending_of, registered, woken};
 
+use crate::awaiting::Awaits;
 use crate::callers::{answered, speaker_among};
-use crate::listeners::{Listens, let_in};
+use crate::listeners::{Listens, Reported, let_in};
 use crate::newcomers::Newcomers;
 use crate::speakers::Speaks;
-use outlets::Takes;
+use crate::{Word, word_of};
+use mio::{Registry, Token};
 use std::alloc::Global;
+use std::io;
 
 /// Who is heard at a control socket.
 #[derive(Drop)]
-pub(crate) struct Audience<S> {
+pub(crate) struct Audience<L, S> {
+    /// Where they call.
+    listener: L,
     /// Who is waited for.
     callers: Vec<S>,
     /// Whose word was handed on, until it is answered.
@@ -25,20 +29,27 @@ pub(crate) struct Audience<S> {
     called: Newcomers,
     refused: u64,
     unanswered: u64,
+    /// Under which waits report the listener and who called, once it is registered.
+    token: Option<Token>,
+    /// Which word was handed on last, for clauses alone.
+    word: Option<Word>,
 }
 
-impl<S> Audience<S> {
+impl<L, S> Audience<L, S> {
     /// Nobody yet.
-    pub(crate) fn nobody(alloc: Global) -> Audience<S>
+    pub(crate) fn nobody(listener: L, alloc: Global) -> Audience<L, S>
         ensures { attending_of result ≡ nobody_yet }
     {
         Audience {
+            listener,
             callers: Vec::new(alloc),
             speaker: None,
             ready: true,
             called: Newcomers::none(),
             refused: 0,
             unanswered: 0,
+            token: None,
+            word: None,
         }
     }
 
@@ -49,11 +60,12 @@ impl<S> Audience<S> {
         self.ready = true;
     }
 
-    /// Whether there may be somebody to hear, as far as is known: nobody is while an answer is awaited.
+    /// Whether there may be somebody to hear, as far as is known: nobody is while an answer is awaited, and before waits
+    /// report the listener.
     pub(crate) fn is_ready(&self) -> bool
         ensures { result ≡ is_ready (attending_of self.now) }
     {
-        self.ready && self.speaker.is_none()
+        self.ready && self.speaker.is_none() && self.token.is_some()
     }
 
     /// How many were refused.
@@ -71,23 +83,44 @@ impl<S> Audience<S> {
     }
 }
 
-impl<S: Speaks + Takes + Drop> Audience<S> {
+impl<L: Reported, S> Audience<L, S> {
+    /// Has waits report the listener under a token, and who calls from then on.
+    pub(crate) fn register(&mut self, registry: &Registry, token: Token) -> io::Result<()>
+        ensures reported { L.reports self.old.listener token result self.new.listener }
+        ensures ok { OnOk result (self.new ≡ registered token self.new.listener self.old) }
+        ensures err { OnErr result (attending_of self.new ≡ attending_of self.old) }
+    {
+        match self.listener.report(registry, token) {
+            Ok(()) => {
+                self.token = Some(token);
+                Ok(())
+            }
+            Err(error) => Err(error),
+        }
+    }
+}
+
+impl<L: Listens<S>, S: Speaks + Awaits + Reported + Drop> Audience<L, S> {
     /// A word that somebody says, if one is there: how many bytes of the room it has. Where nobody says one, who calls
     /// next is let in.
-    pub(crate) fn take<L: Listens<S>>(&mut self, listener: &mut L, room: &mut [u8]) -> Option<usize>
+    pub(crate) fn take(&mut self, registry: &Registry, room: &mut [u8]) -> Option<usize>
         ensures within { IfSome result (λ count. count ≤ length room.new) }
-        ensures words { IfSome result (λ count. IsWord count room.new) }
+        ensures words { IfSome result
+            (λ count. SaysWord (take count room.new) (attending_of self.new)) }
         ensures deaf { is_ready (attending_of self.old) ≡ false
-            → IsNone result × (self.new ≡ self.old) × (listener.new ≡ listener.old) }
+            → IsNone result × (self.new ≡ self.old) }
         ensures looks { is_ready (attending_of self.old) ≡ true
-            → Looks S.Speaks.answers L.calls L.registers self.old listener.old result
-            self.new listener.new room.new }
+            → IfSome self.old.token (λ token. Looks S.answers L.calls S.reports token
+            self.old result self.new room.new) }
         ensures looked { is_ready (attending_of self.old) ≡ true
             → HasLooked result (attending_of self.old) (attending_of self.new) }
         ensures refused { self.old.refused ≤ self.new.refused }
         ensures unanswered { self.new.unanswered ≡ self.old.unanswered }
         ensures most { vec_len self.old.callers ≤ 8 → vec_len self.new.callers ≤ 8 }
     {
+        let Some(token) = self.token else {
+            return None;
+        };
         if !self.is_ready() {
             return None;
         }
@@ -95,7 +128,9 @@ impl<S: Speaks + Takes + Drop> Audience<S> {
             return Some(count);
         }
         self.ready = let_in(
-            listener,
+            &mut self.listener,
+            registry,
+            token,
             &mut self.callers,
             &mut self.refused,
             &mut self.called,
@@ -107,13 +142,17 @@ impl<S: Speaks + Takes + Drop> Audience<S> {
     /// and who has gone is no longer waited for.
     fn hear(&mut self, room: &mut [u8]) -> Option<usize>
         ensures within { IfSome result (λ count. count ≤ length room.new) }
-        ensures words { IfSome result (λ count. IsWord count room.new) }
-        ensures heard { IsHeard S.Speaks.answers self.old result self.new room.new }
+        ensures words { IfSome result
+            (λ count. SaysWord (take count room.new) (attending_of self.new)) }
+        ensures silent { IsNone result → self.new.word ≡ self.old.word }
+        ensures heard { IsHeard S.answers self.old result self.new room.new }
         ensures counted { AreCounted (vec_len self.old.callers) (vec_len self.new.callers)
             (speakers result) self.old.refused self.new.refused }
         ensures more { self.old.refused ≤ self.new.refused }
         ensures awaits { is_some self.new.speaker ≡ (is_some result || is_some self.old.speaker) }
+        ensures listener { self.new.listener ≡ self.old.listener }
         ensures ready { self.new.ready ≡ self.old.ready }
+        ensures token { self.new.token ≡ self.old.token }
         ensures called { self.new.called ≡ self.old.called }
         ensures unanswered { self.new.unanswered ≡ self.old.unanswered }
         ensures capacity { vec_capacity self.new.callers ≡ vec_capacity self.old.callers }
@@ -121,6 +160,7 @@ impl<S: Speaks + Takes + Drop> Audience<S> {
         match speaker_among(&mut self.callers, &mut self.refused, room) {
             Some((speaker, count)) => {
                 self.speaker = Some(speaker);
+                self.word = word_of(&room[..count]);
                 Some(count)
             }
             None => None,
@@ -129,8 +169,8 @@ impl<S: Speaks + Takes + Drop> Audience<S> {
 
     /// Answers who awaits it, by one write, and lets him go.
     pub(crate) fn answer(&mut self, bytes: &[u8])
-        ensures told { IsAnsweredIf S.held S.Takes.answers self.old.speaker bytes.now
-            self.old.unanswered self.new.unanswered }
+        ensures told { IsAnsweredIf S.tells self.old.speaker bytes.now self.old.unanswered
+            self.new.unanswered }
         ensures rest { self.new ≡ answered self.old self.new.unanswered }
         ensures counted { (self.new.unanswered ≡ self.old.unanswered)
             ⊎ (self.new.unanswered ≡ with_more self.old.unanswered 1) }

@@ -1,14 +1,13 @@
 //! The end at which words are heard.
-ghost use Rattle.std.specs.Prelude.{◌≡◌, ◌≤◌, ◌||◌, ◌⊎◌, true, false, length, is_some, IfOk, IfSome, IsNone};
-ghost use Rattle.control.specs.Attending.{HasLooked, answered, is_ready, nobody_yet, with_more, woken};
-ghost use Rattle.control.specs.Heard.{IsWord};
+ghost use Rattle.std.specs.Prelude.{◌≡◌, ◌≤◌, ◌||◌, ◌⊎◌, true, false, length, take, is_some, IfOk, IfSome, IsNone, OnErr, OnOk};
+ghost use Rattle.control.specs.Attending.{HasLooked, SaysWord, answered, is_ready, nobody_yet};
+ghost use Rattle.control.specs.Attending.{registered, with_more, woken};
 
 use crate::audience::Audience;
 use crate::folders::{Machine, ready};
-use crate::listeners::SystemListens;
 use crate::{ControlPath, NoSocket};
 use mio::net::{UnixListener, UnixStream};
-use mio::{Interest, Registry, Token};
+use mio::{Registry, Token};
 use std::fs::Files;
 use std::io;
 use std::marker::Model;
@@ -17,8 +16,7 @@ use std::net::Net;
 /// The control socket of a box, in a folder that only the box's own user may enter.
 #[derive(Drop)]
 pub struct Control {
-    listener: UnixListener,
-    audience: Audience<UnixStream>,
+    audience: Audience<UnixListener, UnixStream>,
 }
 
 impl Model for Control {
@@ -48,17 +46,18 @@ impl Control {
         ensures { IfOk result (λ c. c ≡ nobody_yet) }
     {
         ready(&mut Machine(rt), path)?;
+        let listener = UnixListener::bind(rt, path.socket())?;
         Ok(Control {
-            listener: UnixListener::bind(rt, path.socket())?,
-            audience: Audience::nobody(rt.alloc()),
+            audience: Audience::nobody(listener, rt.alloc()),
         })
     }
 
-    /// Has a wait report who calls, and who says something, under a token.
+    /// Has a wait report who calls, and who says something, under a token. Nobody is heard before.
     pub fn register(&mut self, registry: &Registry, token: Token) -> io::Result<()>
-        ensures { self.new ≡ self.old }
+        ensures ok { OnOk result (self.new ≡ registered token self.old) }
+        ensures err { OnErr result (self.new ≡ self.old) }
     {
-        registry.register(&mut self.listener, token, Interest::READABLE)
+        self.audience.register(registry, token)
     }
 
     /// A wait has reported its token.
@@ -68,7 +67,8 @@ impl Control {
         self.audience.wake();
     }
 
-    /// Whether there may be somebody to hear, as far as is known: nobody is while an answer is awaited.
+    /// Whether there may be somebody to hear, as far as is known: nobody is while an answer is awaited, and before it is
+    /// registered.
     pub fn is_ready(&self) -> bool
         ensures { result ≡ is_ready self.now }
     {
@@ -93,9 +93,9 @@ impl Control {
     /// nobody else is heard before that. Before None everybody was looked at who is waited for, unless an answer is
     /// awaited, and one who calls was let in: no more of them a call, so that a flood of callers holds up nothing else.
     /// While somebody was let in, or it failed to hear who calls, `is_ready` says that there may be more.
-    pub fn take(&mut self, registry: &Registry, token: Token, room: &mut [u8]) -> Option<usize>
+    pub fn take(&mut self, registry: &Registry, room: &mut [u8]) -> Option<usize>
         ensures within { IfSome result (λ count. count ≤ length room.new) }
-        ensures words { IfSome result (λ count. IsWord count room.new) }
+        ensures words { IfSome result (λ count. SaysWord (take count room.new) self.new) }
         ensures one_by_one { self.old.awaits ≡ true → IsNone result }
         ensures awaits { self.new.awaits ≡ (is_some result || self.old.awaits) }
         ensures refused { self.old.refused ≤ self.new.refused }
@@ -104,8 +104,7 @@ impl Control {
         ensures looked { is_ready self.old ≡ true → HasLooked result self.old self.new }
         ensures most { self.new.callers ≤ 8 }
     {
-        let mut listener = SystemListens(&self.listener, registry, token);
-        self.audience.take(&mut listener, room)
+        self.audience.take(registry, room)
     }
 
     /// Answers who awaits it, by one write that doesn't wait, and lets him go. One who isn't there any more, or has no

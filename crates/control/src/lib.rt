@@ -4,6 +4,7 @@
 
 mod answers;
 mod audience;
+mod awaiting;
 mod callers;
 mod folders;
 mod hearing;

@@ -5,11 +5,35 @@ ghost use Rattle.control.specs.Calling.{IsKept, LetsIn};
 
 use crate::callers::make_room;
 use crate::newcomers::Newcomers;
+use mio::event::Source;
 use mio::net::{UnixListener, UnixStream};
 use mio::{Interest, Registry, Token};
 use std::io::{self, ErrorKind};
 
-/// Where somebody calls, and is registered, so that a wait reports what he says.
+/// What a wait reports, once it is registered.
+pub(crate) trait Reported {
+    ghost use Rattle.std.specs.Prelude.{Result};
+    ghost use Rattle.std.specs.declared.io.Error.{Error};
+    ghost use Rattle.mio.specs.declared.token.Token.{Token};
+
+    /// What is answered where it is to be registered under a token, and what it is then.
+    ghost reports: { Self → Token → Result (Unit {0}) Error → Self → Type 0 };
+
+    /// Registers it under a token.
+    fn report(&mut self, registry: &Registry, token: Token) -> io::Result<()>
+        ensures { reports self.old token result self.new };
+}
+
+/// Of what a source is then nothing is known.
+impl<S: Source> Reported for S {
+    ghost reports = { λ _ _ _ _. Unit {0} };
+
+    fn report(&mut self, registry: &Registry, token: Token) -> io::Result<()> {
+        registry.register(self, token, Interest::READABLE)
+    }
+}
+
+/// Where somebody calls.
 pub(crate) trait Listens<S> {
     ghost use Rattle.std.specs.Prelude.{Result};
     ghost use Rattle.std.specs.declared.io.Error.{Error};
@@ -17,54 +41,35 @@ pub(crate) trait Listens<S> {
     /// Who calls next, or why nobody does, and what it is then.
     ghost calls: { Self → Result S Error → Self → Type 0 };
 
-    /// What is answered where a caller is to be registered, what he is then, and what it is then.
-    ghost registers: { Self → S → Result (Unit {0}) Error → S → Self → Type 0 };
-
     /// Who calls next.
     fn call(&mut self) -> io::Result<S>
         ensures { calls self.old result self.new };
-
-    /// Registers a caller.
-    fn register(&mut self, caller: &mut S) -> io::Result<()>
-        ensures { registers self.old caller.old result caller.new self.new };
 }
 
-/// The system's listener, and the token under which waits report callers.
-#[derive(Drop)]
-pub(crate) struct SystemListens<'a>(
-    pub(crate) &'a UnixListener,
-    pub(crate) &'a Registry,
-    pub(crate) Token,
-);
-
-/// Of who calls nothing is known.
-impl Listens<UnixStream> for SystemListens<'_> {
+/// Of who calls at the system's nothing is known.
+impl Listens<UnixStream> for UnixListener {
     ghost calls = { λ _ _ _. Unit {0} };
 
-    ghost registers = { λ _ _ _ _ _. Unit {0} };
-
     fn call(&mut self) -> io::Result<UnixStream> {
-        let (caller, _) = self.0.accept()?;
+        let (caller, _) = self.accept()?;
         Ok(caller)
-    }
-
-    fn register(&mut self, caller: &mut UnixStream) -> io::Result<()> {
-        self.1.register(caller, self.2, Interest::READABLE)
     }
 }
 
-/// Lets in who calls next, and says whether there may be more: just not where the call would block. A wait reports the
-/// listener once for all who call, so behind any other failure, as where a process has as many descriptors as it may,
-/// those who call would wait until yet another one does. Who called is counted, and so is a call that failed otherwise.
-/// Where too many are waited for, who was waited for longest is refused. Who calls is let go where he can't be
-/// registered, or there is no memory for him.
-pub(crate) fn let_in<S: Drop, L: Listens<S>>(
+/// Lets in who calls next, registered under a token, and says whether there may be more: just not where the call would
+/// block. A wait reports the listener once for all who call, so behind any other failure, as where a process has as many
+/// descriptors as it may, those who call would wait until yet another one does. Who called is counted, and so is a call
+/// that failed otherwise. Where too many are waited for, who was waited for longest is refused. Who calls is let go where
+/// he can't be registered, or there is no memory for him.
+pub(crate) fn let_in<S: Reported + Drop, L: Listens<S>>(
     listener: &mut L,
+    registry: &Registry,
+    token: Token,
     callers: &mut Vec<S>,
     refused: &mut u64,
     called: &mut Newcomers,
 ) -> bool
-    ensures let_in { LetsIn L.calls L.registers listener.old callers.old.items
+    ensures let_in { LetsIn L.calls S.reports token listener.old callers.old.items
         (vec_capacity callers.old) result listener.new callers.new.items }
     ensures joined { AreJoined result (vec_len callers.old) (vec_len callers.new)
         refused.old refused.new }
@@ -76,7 +81,7 @@ pub(crate) fn let_in<S: Drop, L: Listens<S>>(
         Ok(mut caller) => {
             called.count();
             make_room(callers, refused);
-            let registered = listener.register(&mut caller);
+            let registered = caller.report(registry, token);
             keep(callers, caller, registered);
             true
         }
