@@ -101,6 +101,11 @@ impl Conduit for Memory {
 
     ghost sent = { λ m. m.traffic.sent };
 
+    /// What it keeps is only tested.
+    ghost sends = { λ _ _ _ _. Unit {0} };
+
+    ghost receives = { λ _ _ _ _. Unit {0} };
+
     fn send(&mut self, room: &[u8; LONGEST], count: usize) -> Result<(), SendFault> {
         let done = self.take(&room[..count]);
         self.traffic.sent(done, room, count);

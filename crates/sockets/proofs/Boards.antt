@@ -7,7 +7,9 @@ use Rattle.sockets.specs.declared.sockets.Board.{Board}
 use Rattle.sockets.specs.declared.wire.WireFault.{WireFault}
 use Rattle.sockets.specs.Hearing.{Attached, Hears, told}
 use Rattle.sockets.specs.Boards.{Tells, HearsAt, IsAsBefore, came, is_inside, is_link, is_outside, where_it_is}
+use Rattle.sockets.specs.Waking.{AreMaybeWoken}
 use Rattle.sockets.proofs.Hearing.{hears_nothing, hears_on}
+use Rattle.sockets.proofs.Waking.{none_woken}
 
 -- an attachment that is as it was has heard nothing
 still : (a a2 : Attached Channel) → a2 ≡ a → Hears came a a2 []
@@ -83,9 +85,21 @@ answered_on a b c (Err fault) room one two = heard_on a b c Operator _ one two
 
 -- it waited, was told of nothing, waited again, and then this was answered
 pub waited_twice : (a b c d e : Board) (found : Option (Place × ℕ)) (before : List ℕ)
-    (result : Result (Option (Place × ℕ)) WireFault) (room : List ℕ) → IsAsBefore a b → Tells {E = WireFault} b c (Ok found) before → found ≡ None
-    → IsAsBefore c d → Tells d e result room → Tells a e result room
+    (result : Result (Option (Place × ℕ)) WireFault) (room : List ℕ) → AreMaybeWoken a b → Tells {E = WireFault} b c (Ok found) before → found ≡ None
+    → AreMaybeWoken c d → Tells d e result room → Tells a e result room
 waited_twice a b c d e found before result room one two is three four =
     let quiet = subst (λ (f : Option (Place × ℕ)). Tells {E = WireFault} b c (Ok f) before) is two in
-    let first = heard_on a b c Operator [] (none_heard a b one) quiet in
-    answered_on a d e result room (heard_on a c d Operator [] first (none_heard c d three)) four
+    let first = heard_on a b c Operator [] (none_woken a b one) quiet in
+    answered_on a d e result room (heard_on a c d Operator [] first (none_woken c d three)) four
+
+-- it waited, and then this was answered
+pub waited_once : {E : Type 0} (a b c : Board) (result : Result (Option (Place × ℕ)) E) (room : List ℕ) → AreMaybeWoken a b → Tells b c result room
+    → Tells a c result room
+waited_once a b c result room one two = answered_on a b c result room (none_woken a b one) two
+
+-- it waited, was told of nothing, and waited again
+pub waited_in_vain : (a b c d : Board) (found : Option (Place × ℕ)) (before : List ℕ) → AreMaybeWoken a b → Tells {E = WireFault} b c (Ok found) before
+    → found ≡ None → AreMaybeWoken c d → HearsAt a d Operator []
+waited_in_vain a b c d found before one two is three =
+    let quiet = subst (λ (f : Option (Place × ℕ)). Tells {E = WireFault} b c (Ok f) before) is two in
+    heard_on a c d Operator [] (heard_on a b c Operator [] (none_woken a b one) quiet) (none_woken c d three)

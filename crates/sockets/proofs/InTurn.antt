@@ -2,7 +2,6 @@
 use Rattle.std.proofs.Common.{◌≡◌, ◌≤◌, ◌∙◌, ℕ, Bool, true, false, Option, Some, None, Result, Ok, Err, inl, refl, ap, sym, subst}
 use Rattle.control.specs.Attending.{Attending, is_ready}
 use Rattle.nat_types.specs.declared.gateways.Side.TheVariants.{Inside, Outside}
-use Rattle.sockets.specs.Boards.{after}
 use Rattle.sockets.specs.Looking.{IsLookedAt, Looks, LooksAt, is_among, turned}
 use Rattle.sockets.specs.Showing.{IsInTurn, TurnsFor}
 use Rattle.sockets.specs.declared.places.Place.{Place}

@@ -1,8 +1,11 @@
 mod Hearing
+mod Asking
 mod Boards
 mod Commas
 mod Texts
 mod WayTexts
 mod Inheriting
 mod Looking
+mod Polling
+mod Waking
 mod InTurn

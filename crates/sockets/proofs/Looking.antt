@@ -114,7 +114,7 @@ word_later Operator a b c had word = (word.0, (vain_vain a b word.0 had word.1.0
 
 -- ---- one place after another
 
-or_no : (b : Bool) → (b || false) ≡ true → b ≡ true
+pub or_no : (b : Bool) → (b || false) ≡ true → b ≡ true
 or_no true is = refl
 or_no false is = is
 

@@ -1,5 +1,7 @@
 -- What is told of each place of a box: what its own attachment has heard.
 use Rattle.std.specs.Prelude.{ℕ, Bool, true, false, ◌≡◌, List, [], ◌∷◌, ◌++◌, take, Option, Some, None, Result, Ok, Err}
+use Rattle.mio.specs.Events.{capacity}
+use Rattle.mio.specs.declared.token.Token.{Token}
 use Rattle.nat_types.specs.declared.gateways.Side.TheVariants.{Inside, Outside}
 use Rattle.sockets.specs.declared.places.Place.{Place}
 use Rattle.sockets.specs.declared.places.Place.TheVariants.{Link, Side, Operator}
@@ -12,6 +14,8 @@ use Rattle.sockets.specs.declared.sockets.Places.{Places}
 use Rattle.sockets.specs.FarEnds.{Arrival, far_end_of, head_of}
 use Rattle.sockets.specs.Hearing.{Attached, Hears}
 use Rattle.sockets.specs.Traffic.{handed_on}
+use Rattle.sockets.specs.Asking.{HandsOver, Receives, Sends, WasReceived, WasRegistered, WasSent}
+use Rattle.sockets.specs.declared.losses.SendFault.{SendFault}
 
 abbrev pub is_link : Place → Bool
 is_link Link = true
@@ -53,43 +57,59 @@ Tells b b2 (Ok (Some found)) room = HearsAt b b2 found.0 (take found.1 room ∷ 
 Tells b b2 (Ok None) room = HearsAt b b2 Operator []
 Tells b b2 (Err fault) room = HearsAt b b2 Operator []
 
--- none has heard anything, nor has anything come
+-- each is as it was
 pub record IsAsBefore (b b2 : Board) : Type 0 where
   pub link : b2.link ≡ b.link
   pub inside : b2.inside ≡ b.inside
   pub outside : b2.outside ≡ b.outside
 
--- bytes are handed on to the far end, behind what stands before them; or not, where the answer is an Err
-pub record HandsOn {T E : Type 0} (a a2 : Attached Channel) (result : Result T E) (bytes : List ℕ) : Type 0 where
+-- what answers is the system, where a channel is asked to send or for what came next
+abbrev pub was_sent : Sends Channel
+was_sent c bytes result c2 = WasSent c.socket bytes result
+
+abbrev pub was_received : Receives Channel
+was_received c result room c2 = WasReceived c.socket result room
+
+-- bytes are handed on to the far end, behind what stands before them: the system was asked to send just these; or not, where the answer is an Err
+pub record HandsOn (a a2 : Attached Channel) (result : Result (Unit {0}) SendFault) (bytes : List ℕ) : Type 0 where
+  pub asked : HandsOver was_sent a.conduit a2.conduit result (head_of a.far ++ bytes)
   pub sent : a2.conduit.traffic.sent ≡ a.conduit.traffic.sent ++ handed_on result (head_of a.far ++ bytes)
   pub came : came a2.conduit ≡ came a.conduit
   pub same_far : a2.far ≡ a.far
   pub strangers : a2.strangers ≡ a.strangers
 
-abbrev pub HandsOnWhere : {T E : Type 0} → Bool → Attached Channel → Attached Channel → Result T E → List ℕ → Type 0
+abbrev pub HandsOnWhere : Bool → Attached Channel → Attached Channel → Result (Unit {0}) SendFault → List ℕ → Type 0
 HandsOnWhere true a a2 result bytes = HandsOn a a2 result bytes
 HandsOnWhere false a a2 result bytes = a2 ≡ a
 
 -- bytes go to a place by its own attachment, and nothing by another
-pub record SendsAt {T E : Type 0} (b b2 : Board) (place : Place) (result : Result T E) (bytes : List ℕ) : Type 0 where
+pub record SendsAt (b b2 : Board) (place : Place) (result : Result (Unit {0}) SendFault) (bytes : List ℕ) : Type 0 where
   pub link : HandsOnWhere (is_link place) b.link b2.link result bytes
   pub inside : HandsOnWhere (is_inside place) b.inside b2.inside result bytes
   pub outside : HandsOnWhere (is_outside place) b.outside b2.outside result bytes
 
--- just opened by its way: nothing has come
-pub record IsNew (way : Way) (ports : ℕ × ℕ) (a : Attached Channel) : Type 0 where
+-- just opened by its way: nothing has come, and waits report it under the token of this number
+pub record IsNew (number : ℕ) (way : Way) (ports : ℕ × ℕ) (a : Attached Channel) : Type 0 where
   pub far : a.far ≡ far_end_of way ports
   pub came : came a.conduit ≡ []
   pub strangers : a.strangers ≡ 0
+  pub registered : WasRegistered number a.conduit.socket
 
--- each place has its own way, and its own ports where that is the loopback address
+-- the control socket's token, and that of its callers: it is none of the three places'
+abbrev pub control_token : Token
+control_token = record { 0 = 3 }
+
+-- each place has its own way, and its own ports where that is the loopback address; waits report the control socket under its token, and have
+-- room for eight events
 pub record Opens (ways : Ways) (ports : Ports) (b : Board) : Type 0 where
-  pub link : IsNew ways.link ports.link b.link
-  pub inside : IsNew ways.inside ports.inside b.inside
-  pub outside : IsNew ways.outside ports.outside b.outside
+  pub link : IsNew 0 ways.link ports.link b.link
+  pub inside : IsNew 1 ways.inside ports.inside b.inside
+  pub outside : IsNew 2 ways.outside ports.outside b.outside
+  pub control : b.control.token ≡ Some control_token
+  pub room : capacity b.events ≡ 8
 
 -- the same of the places before they are a box's
 pub record OpensPlaces (ways : Ways) (ports : Ports) (p : Places) : Type 0 where
-  pub link : IsNew ways.link ports.link p.link
-  pub inside : IsNew ways.inside ports.inside p.inside
-  pub outside : IsNew ways.outside ports.outside p.outside
+  pub link : IsNew 0 ways.link ports.link p.link
+  pub inside : IsNew 1 ways.inside ports.inside p.inside
+  pub outside : IsNew 2 ways.outside ports.outside p.outside

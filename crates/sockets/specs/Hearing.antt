@@ -4,14 +4,19 @@ use Rattle.sockets.specs.declared.far_ends.FarEnd.{FarEnd}
 use Rattle.sockets.specs.declared.losses.Losses.{Losses}
 use Rattle.sockets.specs.FarEnds.{Arrival, all_heard, strangers_among}
 
--- what carries a place's bytes, whom it speaks with, how much of others came, whether the last datagram failed, and how many
--- weren't sent
+-- what carries a place's bytes, whom it speaks with, how much of others came, whether the last datagram failed, how many
+-- weren't sent, and whether there may be something to receive
 pub record Attached (C : Type 0) : Type 0 where
   pub conduit : C
   pub far : FarEnd
   pub strangers : ℕ
   pub failing : Bool
   pub losses : Losses
+  pub ready : Bool
+
+-- a wait has reported it
+abbrev pub woken : {C : Type 0} → Attached C → Attached C
+woken a = record a { ready = true }
 
 -- the bytes that a receiver is told of
 abbrev pub told : {E : Type 0} → Result (Option ℕ) E → List ℕ → List (List ℕ)

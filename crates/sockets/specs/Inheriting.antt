@@ -33,3 +33,16 @@ AreInherited unblocks [] named before after = (named ≡ None) × (after ≡ bef
 AreInherited {D} unblocks (one ∷ others) named before after =
     (IsInherited unblocks one named before after × IsSome named)
     ⊎ ((between : D) × (IsInherited unblocks one None before between × AreInherited unblocks others named between after))
+
+-- The system answered this, where it was asked to make a descriptor one that never waits: whether it did. It is no more than a name for the
+-- call: who calls it has this, and nobody else.
+unfoldable pub WasUnblocked : ℕ → Bool → Type 0
+WasUnblocked number answer = Unit {0}
+
+-- the same, of descriptors of which nothing is known
+abbrev pub by_system : {D : Type 0} → D → ℕ → Bool → D → Type 0
+by_system before number answer after = WasUnblocked number answer
+
+-- the descriptors of a box's ways were made so by the system, up to the first that couldn't be: it is named
+abbrev pub AreUnblocked : Ways → Option ℕ → Type 0
+AreUnblocked ways named = AreInherited (by_system {D = Unit {0}}) (descriptors_of ways) named tt tt

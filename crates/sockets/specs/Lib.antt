@@ -12,8 +12,11 @@ pub mod Kept
 pub mod Losses
 pub mod Hearing
 pub mod Bringing
+pub mod Asking
 pub mod Boards
 pub mod Showing
 pub mod Doing
 pub mod Opening
 pub mod Looking
+pub mod Polling
+pub mod Waking

@@ -1,6 +1,6 @@
 -- When a box looks at its control socket, and whom it answers there.
-use Rattle.std.specs.Prelude.{ℕ, zero, suc, Bool, true, false, ◌≡◌, ◌<◌, ◌⊎◌, ◌||◌, List, [], ◌∷◌, Option, Some, None, IsNone, Result, Ok, Err, nat_le, if◌then◌else◌}
-use Rattle.control.specs.Attending.{Attending, HasHeard, HasLetIn, HasLooked, answered, is_ready, woken}
+use Rattle.std.specs.Prelude.{ℕ, zero, suc, Bool, true, false, ◌≡◌, ◌<◌, ◌⊎◌, ◌||◌, List, [], ◌∷◌, take, Option, Some, None, IsNone, Result, Ok, Err, nat_le, if◌then◌else◌}
+use Rattle.control.specs.Attending.{Attending, HasHeard, HasLetIn, HasLooked, SaysWord, answered, is_ready, woken}
 use Rattle.mio.specs.Event.{event_token}
 use Rattle.mio.specs.declared.event.event.Event.{Event}
 use Rattle.mio.specs.declared.token.Token.{Token}
@@ -42,6 +42,18 @@ abbrev pub HearsWordAt : Place → Attending → Attending → Type 0
 HearsWordAt Link c c2 = PassesInVain c c2
 HearsWordAt (Side side) c c2 = PassesInVain c c2
 HearsWordAt Operator c c2 = HearsWord c c2
+
+-- what came from the operator's place spells the word of who awaits his answer
+abbrev pub SaysAt : Place → List ℕ → Attending → Type 0
+SaysAt Link bytes c = Unit {0}
+SaysAt (Side side) bytes c = Unit {0}
+SaysAt Operator bytes c = SaysWord bytes c
+
+-- by what was received
+abbrev pub SaysFor : {E : Type 0} → Result (Option (Place × ℕ)) E → List ℕ → Attending → Type 0
+SaysFor (Ok (Some found)) room c = SaysAt found.0 (take found.1 room) c
+SaysFor (Ok None) room c = Unit {0}
+SaysFor (Err fault) room c = Unit {0}
 
 -- it isn't ready any more, since there is nothing or since an answer is awaited; or somebody called, or it failed to hear who does
 abbrev pub IsLookedAt : Attending → Attending → Type 0

@@ -1,12 +1,12 @@
 //! A place of a box, attached to what carries its bytes.
-ghost use Rattle.std.specs.Prelude.{◌≡◌, ◌<◌, ◌≤◌, ◌++◌, ◌∷◌, [], false, length, take, is_err, Err, IfOk, IfSome};
+ghost use Rattle.std.specs.Prelude.{◌≡◌, ◌≤◌, ◌++◌, ◌∷◌, [], false, true, take, is_err, IfOk, IfSome};
+ghost use Rattle.sockets.specs.Asking.{Asks, AsksOn, HandsOver, IsSpentBy, kind_brought, kind_heard, kind_told, state_of};
 ghost use Rattle.sockets.specs.Bringing.{IsHeardWithin, brought, ready_after};
-ghost use Rattle.sockets.specs.Hearing.{Hears, counted, failing_after, told};
-ghost use Rattle.sockets.specs.FarEnds.{all_heard, head_of, strangers_among};
+ghost use Rattle.sockets.specs.Hearing.{Hears, counted, failing_after, told, woken};
+ghost use Rattle.sockets.specs.FarEnds.{all_heard, head_of, heard, strangers_among};
 ghost use Rattle.sockets.specs.Losses.{none_lost, with_loss};
 ghost use Rattle.sockets.specs.Rooms.{arrival};
 ghost use Rattle.sockets.specs.Traffic.{handed_on};
-ghost use Rattle.sockets.specs.declared.losses.SendFault.TheVariants as faults;
 
 use crate::{Arrived, Conduit, FarEnd, LONGEST, Losses, SendFault, WireFault};
 use std::marker::Model;
@@ -39,6 +39,7 @@ impl<C> Model for Attachment<C> {
       strangers = a.strangers;
       failing = a.failing;
       losses = a.losses;
+      ready = a.ready;
     } };
 }
 
@@ -62,6 +63,7 @@ impl<C: Conduit> Attachment<C> {
           strangers = 0;
           failing = false;
           losses = none_lost;
+          ready = true;
         } }
     {
         Attachment {
@@ -84,13 +86,15 @@ impl<C: Conduit> Attachment<C> {
 
     /// A wait has reported the conduit.
     pub fn wake(&mut self)
-        ensures { self.new ≡ self.old }
+        ensures { self.new ≡ woken self.old }
     {
         self.ready = true;
     }
 
     /// Whether there may be something to receive, as far as is known.
-    pub fn is_ready(&self) -> bool {
+    pub fn is_ready(&self) -> bool
+        ensures { result ≡ self.now.ready }
+    {
         self.ready
     }
 
@@ -124,8 +128,9 @@ impl<C: Conduit> Attachment<C> {
         ensures strangers { self.new.strangers ≡ self.old.strangers }
         ensures failing { self.new.failing ≡ is_err result }
         ensures losses { self.new.losses ≡ with_loss result self.old.losses }
-        ensures too_long { 4096 < length (head_of self.old.far ++ bytes.now)
-            → result ≡ Err faults.TooLong }
+        ensures asked { HandsOver C.sends self.old.conduit self.new.conduit result
+            (head_of self.old.far ++ bytes.now) }
+        ensures ready { self.new.ready ≡ self.old.ready }
     {
         let result = self.hand_on(bytes);
         self.failing = result.is_err();
@@ -140,8 +145,9 @@ impl<C: Conduit> Attachment<C> {
         ensures far { self.new.far ≡ self.old.far }
         ensures strangers { self.new.strangers ≡ self.old.strangers }
         ensures losses { self.new.losses ≡ self.old.losses }
-        ensures too_long { 4096 < length (head_of self.old.far ++ bytes.now)
-            → result ≡ Err faults.TooLong }
+        ensures asked { HandsOver C.sends self.old.conduit self.new.conduit result
+            (head_of self.old.far ++ bytes.now) }
+        ensures ready { self.new.ready ≡ self.old.ready }
     {
         match self.far.lay(bytes, &mut self.room) {
             Some(count) => self.conduit.send(&self.room, count),
@@ -157,14 +163,24 @@ impl<C: Conduit> Attachment<C> {
         ensures sent { C.sent self.new.conduit ≡ C.sent self.old.conduit }
         ensures failing { self.new.failing ≡ failing_after result self.old.failing }
         ensures losses { self.new.losses ≡ self.old.losses }
+        ensures asked { AsksOn C.receives self.old self.new (kind_told result) }
+        ensures spent { IsSpentBy C.receives result self.new }
     {
         let result = self.look(room);
-        self.failing = match result {
+        self.note(result);
+        result
+    }
+
+    /// Whether it fails, once something was received or wasn't.
+    fn note(&mut self, found: Result<Option<usize>, WireFault>)
+        ensures { self.new
+            ≡ record self.old { failing = failing_after found self.old.failing } }
+    {
+        self.failing = match found {
             Ok(Some(_)) => false,
             Ok(None) => self.failing,
             Err(_) => true,
         };
-        result
     }
 
     fn look(&mut self, room: &mut [u8; LONGEST]) -> Result<Option<usize>, WireFault>
@@ -173,6 +189,7 @@ impl<C: Conduit> Attachment<C> {
         ensures sent { C.sent self.new.conduit ≡ C.sent self.old.conduit }
         ensures failing { self.new.failing ≡ self.old.failing }
         ensures losses { self.new.losses ≡ self.old.losses }
+        ensures asked { AsksOn C.receives self.old self.new (kind_told result) }
     {
         for _ in 0..MOST {
             match self.next(room) {
@@ -193,6 +210,8 @@ impl<C: Conduit> Attachment<C> {
         ensures sent { C.sent self.new.conduit ≡ C.sent self.old.conduit }
         ensures failing { self.new.failing ≡ self.old.failing }
         ensures losses { self.new.losses ≡ self.old.losses }
+        ensures asked { Asks C.receives self.old.far self.old.failing
+            (state_of self.old) (state_of self.new) (kind_brought result) }
     {
         if !self.ready {
             return Brought::Nothing;
@@ -219,6 +238,9 @@ impl<C: Conduit> Attachment<C> {
         ensures far { self.new.far ≡ self.old.far }
         ensures failing { self.new.failing ≡ self.old.failing }
         ensures losses { self.new.losses ≡ self.old.losses }
+        ensures ready { self.new.ready ≡ self.old.ready }
+        ensures kind { kind_brought result ≡ kind_heard
+            (heard self.old.far (arrival (take arrived.count room.old) arrived.sender)) }
     {
         match self.far.hears(arrived.sender, arrived.count, room) {
             Some(count) => Brought::Heard(count),

@@ -1,6 +1,7 @@
 //! The system's sockets and inherited descriptors as conduits.
-ghost use Rattle.std.specs.Prelude.{◌≡◌, ◌≢◌, ◌≤◌, ◌<ℤ◌, ◌++◌, ◌↔◌, pos, length, IfErr, IfOk, IfSome, IsErr, IsOk, OnOk, Some, None, Ok};
+ghost use Rattle.std.specs.Prelude.{◌≡◌, ◌≢◌, ◌≤◌, ◌<ℤ◌, ◌↔◌, pos, length, IfErr, IfOk, IfSome, IsErr, IsOk, OnOk, Some, None, Ok};
 ghost use Rattle.std.specs.IoError.{error_kind, raw_os_error};
+ghost use Rattle.sockets.specs.Asking.{WasReceived, WasRegistered, WasSent};
 ghost use Rattle.sockets.specs.Kept.{nothing_yet};
 ghost use Rattle.sockets.specs.Losses.{fault_of};
 ghost use Rattle.sockets.specs.Opening.{IsJoined, IsOpened};
@@ -87,10 +88,11 @@ impl Channel {
         way: Way,
         ports: (u16, u16),
     ) -> io::Result<Channel>
-        ensures { IfOk result (λ c. c.traffic ≡ nothing_yet) }
+        ensures traffic { IfOk result (λ c. c.traffic ≡ nothing_yet) }
+        ensures registered { IfOk result (λ c. WasRegistered token.0 c.socket) }
     {
         let mut socket = opened(&mut SystemBinds(net), way, ports)?;
-        socket.register(registry, token)?;
+        told_to_register(&mut socket, registry, token)?;
         Ok(Channel {
             socket,
             traffic: Traffic::none(),
@@ -99,21 +101,59 @@ impl Channel {
 }
 
 impl Conduit for Channel {
+    ghost use Rattle.sockets.specs.Boards.{was_received, was_sent};
+
     ghost came = { λ c. c.traffic.came };
 
     ghost sent = { λ c. c.traffic.sent };
 
+    ghost sends = { was_sent };
+
+    ghost receives = { was_received };
+
     fn send(&mut self, room: &[u8; LONGEST], count: usize) -> Result<(), SendFault> {
-        let result = self.socket.send(&room[..count]).map_err(|e| fault_of(&e));
+        let result = told_to_send(&mut self.socket, &room[..count]);
         self.traffic.sent(result, room, count);
         result
     }
 
     fn receive(&mut self, room: &mut [u8; LONGEST]) -> Result<Option<Arrived>, WireFault> {
-        let result = settled(self.socket.receive(room));
+        let result = told_to_receive(&mut self.socket, room);
         self.traffic.received(result, room);
         result
     }
+}
+
+/// Has waits report a socket under a token.
+#[tactic(auto, unfolding(crate::specs::Asking::WasRegistered))]
+fn told_to_register(
+    socket: &mut Socket<UdpSocket>,
+    registry: &Registry,
+    token: Token,
+) -> io::Result<()>
+    ensures { OnOk result (WasRegistered token.0 socket.new) }
+{
+    socket.register(registry, token)
+}
+
+/// Asks the system to send a datagram.
+#[tactic(auto, unfolding(crate::specs::Asking::WasSent))]
+fn told_to_send(socket: &mut Socket<UdpSocket>, bytes: &[u8]) -> Result<(), SendFault>
+    ensures { WasSent socket.old bytes.now result }
+{
+    socket.send(bytes).map_err(|e| fault_of(&e))
+}
+
+/// Asks the system for what came next.
+#[tactic(auto, unfolding(crate::specs::Asking::WasReceived))]
+fn told_to_receive(
+    socket: &mut Socket<UdpSocket>,
+    room: &mut [u8; LONGEST],
+) -> Result<Option<Arrived>, WireFault>
+    ensures within { IfOk result (λ found. IfSome found (λ arrived. arrived.count ≤ 4096)) }
+    ensures asked { WasReceived socket.old result room.new }
+{
+    settled(socket.receive(room))
 }
 
 /// The system's number for a datagram that is too long (Linux).

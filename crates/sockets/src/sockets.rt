@@ -1,12 +1,15 @@
 //! The sockets of a box, all waited for at once.
 ghost use Rattle.control.specs.Attending.{is_ready};
-ghost use Rattle.mio.specs.Events.{items};
-ghost use Rattle.std.specs.Prelude.{◌≡◌, ◌≤◌, [], IfErr, IfOk, IfSome, Ok, option_map, true};
-ghost use Rattle.sockets.specs.Boards.{HearsAt, IsAsBefore, IsNew, Opens, OpensPlaces, SendsAt, Tells, after};
+ghost use Rattle.mio.specs.Events.{capacity, items};
+ghost use Rattle.std.specs.Duration.{as_nanos};
+ghost use Rattle.std.specs.Prelude.{◌≡◌, ◌≤◌, [], IfErr, IfOk, IfSome, Ok, OnErr, OnOk, is_err, option_map, take, true};
+ghost use Rattle.sockets.specs.Boards.{HearsAt, IsNew, Opens, OpensPlaces, SendsAt, Tells, after};
 ghost use Rattle.sockets.specs.Doing.{DoesAt};
 ghost use Rattle.sockets.specs.Hearing.{told};
-ghost use Rattle.sockets.specs.Looking.{IsMaybeWoken, LooksAt, LooksFor, woken_by, woken_by_all};
-ghost use Rattle.sockets.specs.Showing.{HasFailed, IsOfLast, TurnsFor, attached_at, failing_at, losses_at, strangers_at};
+ghost use Rattle.sockets.specs.Looking.{IsMaybeWoken, LooksAt, LooksFor, SaysAt, SaysFor, woken_by, woken_by_all};
+ghost use Rattle.sockets.specs.Polling.{HasWaited, WaitsFor, WasPolled, most_of};
+ghost use Rattle.sockets.specs.Waking.{AreMaybeWoken, AreWoken, SpentFor, TakesAt, is_any_ready, woken_at, woken_at_all};
+ghost use Rattle.sockets.specs.Showing.{HasFailed, IsOfLast, IsOfWait, TurnsFor, attached_at, failing_at, losses_at, strangers_at};
 
 use crate::channels::Channel;
 use crate::wire::{LONGEST, Wire, WireFault};
@@ -134,14 +137,17 @@ impl Board {
         ensures hears { HearsAt self.old self.new place (told result room.new) }
         ensures within { IfOk result (λ found. IfSome found (λ count. count ≤ 4096)) }
         ensures looks { LooksAt place result self.old.control self.new.control }
+        ensures says { IfOk result
+            (λ found. IfSome found (λ count. SaysAt place (take count room.new) self.new.control)) }
         ensures first { self.new.first ≡ self.old.first }
+        ensures takes { TakesAt self.old self.new place result }
         ensures failing { IfErr result (λ fault. failing_at self.new place ≡ true) }
     {
         match place {
             Place::Link => self.link.take(room),
             Place::Side(Side::Inside) => self.inside.take(room),
             Place::Side(Side::Outside) => self.outside.take(room),
-            Place::Operator => Ok(self.control.take(self.poll.registry(), CONTROL, room)),
+            Place::Operator => Ok(self.control.take(self.poll.registry(), room)),
         }
     }
 
@@ -152,7 +158,9 @@ impl Board {
         ensures looks { LooksFor result self.old.control self.new.control }
         ensures called { self.old.control.called ≤ self.new.control.called }
         ensures turns { TurnsFor result self.old self.new }
+        ensures says { SaysFor result room.new self.new.control }
         ensures failed { IfErr result (λ fault. IsOfLast self.new) }
+        ensures spent { SpentFor result self.new }
     {
         for _ in 0..4_u8 {
             let place = self.first;
@@ -168,32 +176,36 @@ impl Board {
 
     /// Waits until a place has something, or `limit` has passed.
     fn wait(&mut self, limit: Duration) -> Result<(), WireFault>
-        ensures same { IsAsBefore self.old self.new }
+        ensures places { AreWoken (items self.new.events) self.old self.new }
         ensures control { IsMaybeWoken self.old.control self.new.control }
         ensures first { self.new.first ≡ self.old.first }
-        ensures failed { IfErr result (λ fault. items self.new.events ≡ []) }
+        ensures failed { IfErr result (λ fault. IsOfWait self.new) }
+        ensures polled { WasPolled limit (is_err result) (items self.new.events) }
+        ensures room { capacity self.new.events ≡ capacity self.old.events }
         ensures reported { self.new.control
             ≡ woken_by_all (items self.new.events) self.old.control }
     {
-        if self.poll.poll(&mut self.events, Some(limit)).is_err() {
-            return Err(WireFault);
+        match polled(&mut self.poll, &mut self.events, limit) {
+            Ok(()) => {
+                wake(
+                    &self.events,
+                    &mut self.link,
+                    &mut self.inside,
+                    &mut self.outside,
+                    &mut self.control,
+                );
+                Ok(())
+            }
+            Err(fault) => Err(fault),
         }
-        wake(
-            &self.events,
-            &mut self.link,
-            &mut self.inside,
-            &mut self.outside,
-            &mut self.control,
-        );
-        Ok(())
     }
 
     /// Hears the system, where there is time to wait and a place may have something already.
     fn catch_up(&mut self, limit: Duration) -> Result<(), WireFault>
-        ensures same { IsAsBefore self.old self.new }
+        ensures places { AreMaybeWoken self.old self.new }
         ensures control { IsMaybeWoken self.old.control self.new.control }
         ensures first { self.new.first ≡ self.old.first }
-        ensures failed { IfErr result (λ fault. items self.new.events ≡ []) }
+        ensures failed { IfErr result (λ fault. IsOfWait self.new) }
     {
         if limit > Duration::ZERO && self.is_any_ready() {
             self.wait(Duration::ZERO)
@@ -204,10 +216,12 @@ impl Board {
 
     /// Waits, but not where a place may still have something.
     fn wait_for_any(&mut self, limit: Duration) -> Result<(), WireFault>
-        ensures same { IsAsBefore self.old self.new }
+        ensures waited { OnOk result (HasWaited (most_of (as_nanos limit)
+            (is_any_ready self.old))) }
+        ensures places { AreMaybeWoken self.old self.new }
         ensures control { IsMaybeWoken self.old.control self.new.control }
         ensures first { self.new.first ≡ self.old.first }
-        ensures failed { IfErr result (λ fault. items self.new.events ≡ []) }
+        ensures failed { IfErr result (λ fault. IsOfWait self.new) }
     {
         if self.is_any_ready() {
             self.wait(Duration::ZERO)
@@ -218,7 +232,7 @@ impl Board {
 
     /// Whether a place may have something, as far as is known.
     fn is_any_ready(&self) -> bool
-        ensures { is_ready self.now.control ≡ true → result ≡ true }
+        ensures { result ≡ is_any_ready self.now }
     {
         self.link.is_ready()
             || self.inside.is_ready()
@@ -241,7 +255,10 @@ impl Board {
         ensures looks { LooksFor result self.old.control self.new.control }
         ensures called { self.old.control.called ≤ self.new.control.called }
         ensures turns { TurnsFor result self.old self.new }
+        ensures says { SaysFor result room.new self.new.control }
+        ensures waited { WaitsFor result (as_nanos limit) }
         ensures failed { IfErr result (λ fault. HasFailed self.new) }
+        ensures spent { SpentFor result self.new }
     {
         if self.catch_up(limit).is_err() {
             return Err(WireFault);
@@ -258,6 +275,19 @@ impl Board {
     }
 }
 
+/// Asks the system to wait for at most so long, and has what it reports instead of what it did before.
+#[tactic(auto, unfolding(crate::specs::Polling::WasPolled))]
+fn polled(poll: &mut Poll, events: &mut Events<Global>, limit: Duration) -> Result<(), WireFault>
+    ensures polled { WasPolled limit (is_err result) (items events.new) }
+    ensures failed { OnErr result (items events.new ≡ []) }
+    ensures room { capacity events.new ≡ capacity events.old }
+{
+    match poll.poll(events, Some(limit)) {
+        Ok(()) => Ok(()),
+        Err(_) => Err(WireFault),
+    }
+}
+
 /// Tells the places that a wait has reported, by their tokens.
 fn wake(
     events: &Events<Global>,
@@ -266,9 +296,9 @@ fn wake(
     outside: &mut Attachment<Channel>,
     control: &mut Control,
 )
-    ensures link { link.new ≡ link.old }
-    ensures inside { inside.new ≡ inside.old }
-    ensures outside { outside.new ≡ outside.old }
+    ensures link { link.new ≡ woken_at_all 0 (items events.now) link.old }
+    ensures inside { inside.new ≡ woken_at_all 1 (items events.now) inside.old }
+    ensures outside { outside.new ≡ woken_at_all 2 (items events.now) outside.old }
     ensures control { IsMaybeWoken control.old control.new }
     ensures reported { control.new ≡ woken_by_all (items events.now) control.old }
 {
@@ -285,9 +315,9 @@ fn wake_at(
     outside: &mut Attachment<Channel>,
     control: &mut Control,
 )
-    ensures link { link.new ≡ link.old }
-    ensures inside { inside.new ≡ inside.old }
-    ensures outside { outside.new ≡ outside.old }
+    ensures link { link.new ≡ woken_at 0 token link.old }
+    ensures inside { inside.new ≡ woken_at 1 token inside.old }
+    ensures outside { outside.new ≡ woken_at 2 token outside.old }
     ensures control { control.new ≡ woken_by token control.old }
 {
     match token {
@@ -342,7 +372,7 @@ fn attached<R: Net>(
     way: Way,
     ports: (u16, u16),
 ) -> io::Result<Attachment<Channel>>
-    ensures { IfOk result (IsNew way ports) }
+    ensures { IfOk result (IsNew number way ports) }
 {
     let channel = Channel::open(net, poll.registry(), Token(number), way, ports)?;
     Ok(Attachment::new(channel, way.far_end(ports)))

@@ -1,6 +1,6 @@
 //! By what way each place of a box is reached.
 ghost use Rattle.std.specs.Prelude.{◌≡◌, MatchOption, IfErr};
-ghost use Rattle.sockets.specs.Inheriting.{AreInherited, IsInherited, descriptor_of, descriptors_of, named_by};
+ghost use Rattle.sockets.specs.Inheriting.{AreInherited, AreUnblocked, IsInherited, descriptor_of, descriptors_of, named_by};
 ghost use Rattle.sockets.specs.Ways.{IsWayText, IsNoWayText, IsVxlanText, IsNoVxlanText, IsDescriptorText, IsNoDescriptorText, IsDescriptor, Names};
 
 use crate::{End, Ends, FarEnd, Network};
@@ -116,7 +116,8 @@ impl Ways {
     ///
     /// The first that isn't open, of the inside, the outside and the link.
     pub fn inherit(&self) -> Result<(), NoDescriptor>
-        ensures { IfErr result (λ fault. Names self.now fault.0) }
+        ensures named { IfErr result (λ fault. Names self.now fault.0) }
+        ensures first { AreUnblocked self.now (named_by result) }
     {
         inherit_all(&mut SystemDescriptors, self)
     }
@@ -139,8 +140,11 @@ trait Descriptors {
 struct SystemDescriptors;
 
 impl Descriptors for SystemDescriptors {
-    ghost unblocks = { λ _ _ _ _. Unit {0} };
+    ghost use Rattle.sockets.specs.Inheriting.{by_system};
 
+    ghost unblocks = { by_system };
+
+    #[tactic(auto, unfolding(crate::specs::Inheriting::WasUnblocked))]
     fn unblock(&mut self, number: u16) -> bool {
         os::set_nonblocking(RawFd::from(number), true) >= 0
     }

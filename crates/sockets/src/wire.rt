@@ -1,7 +1,7 @@
 //! What a box sends datagrams to and receives them from.
 ghost use Rattle.std.specs.Prelude.{◌≡◌, ◌≤◌, ◌-◌, ◌==◌, Bool, IfOk, IfSome};
 ghost use Rattle.std.specs.declared.time.Duration.{Duration};
-ghost use Rattle.sockets.specs.Failing.{FailsAt, FailsOr};
+ghost use Rattle.sockets.specs.Failing.{FailsAt};
 ghost use Rattle.sockets.specs.Letters.{Call, answer_of, answered, asked, sent};
 ghost use Rattle.sockets.specs.declared.losses.Losses.{Losses};
 ghost use Rattle.sockets.specs.declared.places.Place.{Place};

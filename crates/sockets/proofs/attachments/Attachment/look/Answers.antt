@@ -1,4 +1,5 @@
-use Rattle.std.proofs.Common.{◌∙◌}
+use Rattle.std.proofs.Common.{arith, ◌∙◌, ◌≤◌}
+use Rattle.sockets.proofs.Asking.{asked_enough, asked_last, asked_more}
 use Rattle.sockets.proofs.Hearing.{hears_on}
 use Rattle.sockets.proofs.attachments.Attachment.look.Goals as goal
 
@@ -20,4 +21,26 @@ loop-preserved g c = record {
   sent = c.next.ensures.sent ∙ c.loop.invariant.sent;
   failing = c.next.ensures.failing ∙ c.loop.invariant.failing;
   losses = c.next.ensures.losses ∙ c.loop.invariant.losses;
+  asked = asked_more g.C.Conduit.receives c.args.self.now c.loop.self c.next.new.self c.loop.counter c.loop.invariant.hears.same_far
+      c.loop.invariant.failing c.loop.invariant.asked c.in-Stranger.ensures.asked;
 }
+
+pub returns-in-Heard-clause-asked : goal.returns-in-Heard-clause-asked
+returns-in-Heard-clause-asked g c =
+    asked_last g.C.Conduit.receives c.args.self.now c.loop.self c.next.new.self c.loop.counter _ c.loop.invariant.hears.same_far c.loop.invariant.failing
+    c.loop.invariant.asked c.in-Heard.ensures.asked
+
+pub returns-in-Nothing-clause-asked : goal.returns-in-Nothing-clause-asked
+returns-in-Nothing-clause-asked g c =
+    asked_last g.C.Conduit.receives c.args.self.now c.loop.self c.next.new.self c.loop.counter _ c.loop.invariant.hears.same_far c.loop.invariant.failing
+    c.loop.invariant.asked c.in-Nothing.ensures.asked
+
+pub returns-in-Failed-clause-asked : goal.returns-in-Failed-clause-asked
+returns-in-Failed-clause-asked g c =
+    asked_last g.C.Conduit.receives c.args.self.now c.loop.self c.next.new.self c.loop.counter _ c.loop.invariant.hears.same_far c.loop.invariant.failing
+    c.loop.invariant.asked c.in-Failed.ensures.asked
+
+pub returns-clause-asked : goal.returns-clause-asked
+returns-clause-asked g c =
+    let many : 64 ≤ c.loop.counter = omega arith in
+    asked_enough g.C.Conduit.receives c.args.self.now c.loop.self c.loop.counter many c.loop.invariant.asked

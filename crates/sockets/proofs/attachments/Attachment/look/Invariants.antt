@@ -1,4 +1,5 @@
 use Rattle.std.proofs.Common.{◌≡◌, []}
+use Rattle.sockets.specs.Asking.{Asks, AsksStrangers, state_of}
 use Rattle.sockets.specs.Hearing.{Hears}
 use Rattle.sockets.proofs.attachments.Attachment.look.Given as goal
 
@@ -8,4 +9,5 @@ invariant-loop g l = record {
   sent : g.C.Conduit.sent l.self.conduit ≡ g.C.Conduit.sent l.fn.self.conduit;
   failing : l.self.failing ≡ l.fn.self.failing;
   losses : l.self.losses ≡ l.fn.self.losses;
+  asked : AsksStrangers (Asks g.C.Conduit.receives l.fn.self.far l.fn.self.failing) l.counter (state_of l.fn.self) (state_of l.self);
 }

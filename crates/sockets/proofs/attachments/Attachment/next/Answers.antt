@@ -13,6 +13,7 @@ returns-in-Ok-Some-clause-hears g c =
       strangers = c.self.inside.strangers;
       failing = c.self.inside.failing;
       losses = c.self.inside.losses;
+      ready = c.self.inside.ready;
     } in
     subst (λ (x : Attached g.row.C.Denot). Hears g.C.Conduit.came x c.judge.new.self (brought c.judge.result c.judge.new.room)) c.self.view_is
     (hears_one g.C.Conduit.came a _ (arrival (take c.in-Ok-Some.arrived.count c.receive-found.new.room) c.in-Ok-Some.arrived.sender) _

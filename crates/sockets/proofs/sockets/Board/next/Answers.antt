@@ -1,8 +1,11 @@
-use Rattle.std.proofs.Common.{arith, ◌∙◌, ◌≤◌, ◌≡◌, ℕ, ap, refl}
+use Rattle.std.proofs.Common.{arith, ◌∙◌, ◌≤◌, ◌≡◌, ℕ, ap, refl, take}
 use Rattle.sockets.proofs.Boards.{heard_failed, heard_some, heard_still, none_heard}
 use Rattle.sockets.proofs.Looking.{all_asked, looked_on, none_asked, rises, rises_at_err, turned_on, vain_failed, vain_on, vain_yet, word_on}
-use Rattle.sockets.specs.Looking.{turned}
+use Rattle.sockets.specs.Looking.{SaysAt, turned}
 use Rattle.sockets.proofs.InTurn.{looked_still, round}
+use Rattle.sockets.proofs.Polling.{if_some}
+use Rattle.sockets.proofs.Waking.{failed_at, inside_asked, link_asked, none_asked_yet, outside_asked, spent_on}
+use Rattle.sockets.specs.Boards.{is_inside, is_link, is_outside}
 use Rattle.sockets.proofs.sockets.Board.next.Goals as goal
 
 pub loop-init : goal.loop-init
@@ -12,6 +15,9 @@ loop-init c = record {
   looked = none_asked c.args.self.now.first c.args.self.now.control c.args.self.now.control;
   vain = vain_yet c.args.self.now.control;
   called = omega arith;
+  link = none_asked_yet is_link c.args.self.now.first c.args.self.now.link;
+  inside = none_asked_yet is_inside c.args.self.now.first c.args.self.now.inside;
+  outside = none_asked_yet is_outside c.args.self.now.first c.args.self.now.outside;
 }
 
 pub returns-in-Ok-Some-clause-hears : goal.returns-in-Ok-Some-clause-hears
@@ -36,6 +42,11 @@ returns-in-Ok-Some-clause-turns c = record {
       c.in-Ok-Some.field-0-is;
 }
 
+pub returns-in-Ok-Some-clause-says : goal.returns-in-Ok-Some-clause-says
+returns-in-Ok-Some-clause-says c =
+    if_some (λ (n : ℕ). SaysAt c.loop.self.first (take n c.take.new.room) c.take.new.self.control) c.in-Ok-Some.field-0 _ c.in-Ok-Some.ensures.says
+    c.in-Ok-Some.field-0-is
+
 pub returns-in-Err-clause-looks : goal.returns-in-Err-clause-looks
 returns-in-Err-clause-looks c = vain_failed _ _ _ c.loop.self.control _ c.loop.invariant.vain c.in-Err.ensures.looks
 
@@ -57,6 +68,12 @@ loop-preserved c =
           c.take.new.self.control c.loop.invariant.first c.loop.invariant.looked c.loop.invariant.called c.in-Ok-None.ensures.looks c.in-Ok-None.field-0-is;
       vain = vain_on _ c.in-Ok-None.field-0 _ c.loop.self.control _ c.loop.invariant.vain c.in-Ok-None.ensures.looks c.in-Ok-None.field-0-is;
       called = omega (arith, c.loop.invariant.called, more);
+      link = spent_on is_link c.loop.counter c.args.self.now.first c.loop.self.first c.in-Ok-None.field-0 c.loop.self.link c.take.new.self.link
+          c.loop.invariant.first c.loop.invariant.link c.in-Ok-None.ensures.takes.link c.in-Ok-None.field-0-is;
+      inside = spent_on is_inside c.loop.counter c.args.self.now.first c.loop.self.first c.in-Ok-None.field-0 c.loop.self.inside c.take.new.self.inside
+          c.loop.invariant.first c.loop.invariant.inside c.in-Ok-None.ensures.takes.inside c.in-Ok-None.field-0-is;
+      outside = spent_on is_outside c.loop.counter c.args.self.now.first c.loop.self.first c.in-Ok-None.field-0 c.loop.self.outside c.take.new.self.outside
+          c.loop.invariant.first c.loop.invariant.outside c.in-Ok-None.ensures.takes.outside c.in-Ok-None.field-0-is;
     }
 
 pub returns-clause-looks : goal.returns-clause-looks
@@ -68,3 +85,16 @@ pub returns-clause-turns : goal.returns-clause-turns
 returns-clause-turns c =
     let all : c.loop.counter ≡ 4 = omega arith in
     c.loop.invariant.first ∙ (ap (λ (n : ℕ). turned n c.args.self.now.first) all ∙ round c.args.self.now.first)
+
+pub returns-clause-spent : goal.returns-clause-spent
+returns-clause-spent c =
+    let all : c.loop.counter ≡ 4 = omega arith in
+    record {
+      link = c.loop.invariant.link (link_asked c.loop.counter c.args.self.now.first all);
+      inside = c.loop.invariant.inside (inside_asked c.loop.counter c.args.self.now.first all);
+      outside = c.loop.invariant.outside (outside_asked c.loop.counter c.args.self.now.first all);
+    }
+
+pub returns-in-Err-clause-failed : goal.returns-in-Err-clause-failed
+returns-in-Err-clause-failed c =
+    (c.loop.self.first, (c.take.ensures.first ∙ c.after-self.ensures, (c.in-Err.ensures.failing, failed_at c.loop.self.first _ _ _ c.in-Err.ensures.takes)))
