@@ -7,6 +7,7 @@ use Rattle.sockets.specs.declared.places.Place.{Place}
 use Rattle.sockets.specs.declared.wire.WireFault.{WireFault}
 use Rattle.rounds.specs.Rounds.{AreMade, AreRounds, AreRoundsAsked, Box, Calls, IsRound, Reads, TakesAll, TakesLetter}
 use Rattle.rounds.specs.Polls.{Asks, HasAsked, HasPolled}
+use Rattle.rounds.specs.declared.desk.Identity.{Identity}
 
 -- ---- what is sent
 
@@ -138,15 +139,15 @@ polled_most does track n most a b had is = record {
 -- ---- rounds
 
 -- one round more
-pub one_round_more : {W C : Type 0} (does : Calls W) (track : Bool) (reads : Reads C) (n : ℕ) (a b c : Box W) (x y z : C)
-    → AreRounds does track reads n a x b y → IsRound does track reads b y c z → AreRounds does track reads (n + 1) a x c z
-one_round_more does track reads n a b c x y z before last = rw add-one (b, (y, (before, last)))
+pub one_round_more : {W C : Type 0} (does : Calls W) (track : Bool) (who : Identity) (reads : Reads C) (n : ℕ) (a b c : Box W) (x y z : C)
+    → AreRounds does track who reads n a x b y → IsRound does track who reads b y c z → AreRounds does track who reads (n + 1) a x c z
+one_round_more does track who reads n a b c x y z before last = rw add-one (b, (y, (before, last)))
 
 -- the box is to end, as was told at its control socket or otherwise
-pub all_told : {W C : Type 0} (does : Calls W) (track : Bool) (reads : Reads C) (n most : ℕ) (otherwise goes_on : Type 0) (a b : Box W) (x y : C)
-    → AreRounds does track reads n a x b y → (0 < n → goes_on) → n < most → (b.ending ≡ true) ⊎ otherwise
-    → AreRoundsAsked does track reads most otherwise goes_on a x b y
-all_told does track reads n most otherwise goes_on a b x y had each below why =
+pub all_told : {W C : Type 0} (does : Calls W) (track : Bool) (who : Identity) (reads : Reads C) (n most : ℕ) (otherwise goes_on : Type 0) (a b : Box W) (x y : C)
+    → AreRounds does track who reads n a x b y → (0 < n → goes_on) → n < most → (b.ending ≡ true) ⊎ otherwise
+    → AreRoundsAsked does track who reads most otherwise goes_on a x b y
+all_told does track who reads n most otherwise goes_on a b x y had each below why =
     (record { count = n; within = omega (arith, below); rounds = had; over = by why }, each)
   where
     by : (b.ending ≡ true) ⊎ otherwise → (b.ending ≡ true) ⊎ (otherwise ⊎ (n ≡ most))
@@ -154,7 +155,7 @@ all_told does track reads n most otherwise goes_on a b x y had each below why =
     by (inr told) = inr (inl told)
 
 -- it has had the most
-pub all_had : {W C : Type 0} (does : Calls W) (track : Bool) (reads : Reads C) (n most : ℕ) (otherwise goes_on : Type 0) (a b : Box W) (x y : C)
-    → AreRounds does track reads n a x b y → (0 < n → goes_on) → n ≡ most → AreRoundsAsked does track reads most otherwise goes_on a x b y
-all_had does track reads n most otherwise goes_on a b x y had each is =
+pub all_had : {W C : Type 0} (does : Calls W) (track : Bool) (who : Identity) (reads : Reads C) (n most : ℕ) (otherwise goes_on : Type 0) (a b : Box W) (x y : C)
+    → AreRounds does track who reads n a x b y → (0 < n → goes_on) → n ≡ most → AreRoundsAsked does track who reads most otherwise goes_on a x b y
+all_had does track who reads n most otherwise goes_on a b x y had each is =
     (record { count = n; within = omega (arith, is); rounds = had; over = inr (inr is) }, each)

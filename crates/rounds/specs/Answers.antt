@@ -20,6 +20,7 @@ use Rattle.sockets.specs.declared.places.Place.TheVariants as place
 use Rattle.spec_binding.specs.Books.{is_synced}
 use Rattle.spec_step.specs.Shown.{Shown}
 use Rattle.rounds.specs.Gateways.{CountsEntries, owned_by, peer_seen}
+use Rattle.rounds.specs.declared.desk.Identity.{Identity}
 use Rattle.rounds.specs.declared.judging.Question.{Question}
 use Rattle.rounds.specs.declared.judging.Question.TheVariants.{Status, Pairs}
 
@@ -32,16 +33,23 @@ pub record SaysOf (g : Shown) (r : GatewayReport) : Type 0 where
   pub pairs : CountsEntries g.ledger.book.entries r.pairs
   pub owned : r.ports.owned ≡ length (owned_by g)
 
+-- a report is that of a box: it says whose it is, by the gateway's number, its boot and the digest of its settings, and how the gateway stands
+pub record IsReportOf (who : Identity) (g : Shown) (r : Report) : Type 0 where
+  pub id : r.id ≡ who.id
+  pub boot : r.boot ≡ who.boot
+  pub digest : r.digest ≡ who.digest
+  pub stands : SaysOf g r.gateway
+
 -- the page behind a key: the first 128 entries there, and whether others follow
 abbrev pub page_at : Shown → Option Key → Page
 page_at g last =
     let entries = behind last g.ledger.book.entries in
     listing (take MOST_ENTRIES entries) (nat_lt MOST_ENTRIES (length entries))
 
--- the whole answer to a question: a report of how the gateway stands, or the page behind the key
-abbrev pub IsAnswerTo : Shown → Question → List ℕ → Type 0
-IsAnswerTo g Status bytes = (r : Report) × (SaysOf g r.gateway × (answer_of bytes ≡ Some (report (spelling report_format r))))
-IsAnswerTo g (Pairs last) bytes = answer_of bytes ≡ Some (page (spelling page_format (page_at g last)))
+-- the whole answer to a question: a report of whose box it is and how its gateway stands, or the page behind the key
+abbrev pub IsAnswerTo : Identity → Shown → Question → List ℕ → Type 0
+IsAnswerTo who g Status bytes = (r : Report) × (IsReportOf who g r × (answer_of bytes ≡ Some (report (spelling report_format r))))
+IsAnswerTo who g (Pairs last) bytes = answer_of bytes ≡ Some (page (spelling page_format (page_at g last)))
 
 -- ---- what is counted
 

@@ -15,6 +15,7 @@ use Rattle.spec_step.specs.Steps.{IsStepOn}
 use Rattle.rounds.specs.Answers.{IsAnswerTo}
 use Rattle.rounds.specs.Letters.{event_of, is_end, reply_at}
 use Rattle.rounds.specs.Views.{seen}
+use Rattle.rounds.specs.declared.desk.Identity.{Identity}
 use Rattle.rounds.specs.declared.judging.Question.{Question}
 use Rattle.rounds.specs.declared.judging.Reply.{Reply}
 use Rattle.rounds.specs.declared.judging.Reply.TheVariants.{Heard, Refused, Later}
@@ -82,11 +83,11 @@ Replies does (Some (Refused refusal)) is_done b b2 = Says does (refused refusal)
 Replies does (Some Heard) true b b2 = Says does heard b b2
 Replies does (Some Heard) false b b2 = IsAnswered does [] b b2
 
--- what is owed is answered, of the gateway as it stands; or with nothing, where memory is refused for it
-abbrev pub AnswersOwed : {W : Type 0} → Calls W → Option Question → Box W → Box W → Type 0
-AnswersOwed does None b b2 = b2 ≡ b
-AnswersOwed does (Some question) b b2 =
-    (bytes : List ℕ) × (((bytes ≡ []) ⊎ IsAnswerTo b.shown question bytes) × IsAnswered does bytes (record b { owed = None }) b2)
+-- what is owed is answered, by who the box says it is, and of the gateway as it stands; or with nothing, where memory is refused for it
+abbrev pub AnswersOwed : {W : Type 0} → Calls W → Identity → Option Question → Box W → Box W → Type 0
+AnswersOwed does who None b b2 = b2 ≡ b
+AnswersOwed does who (Some question) b b2 =
+    (bytes : List ℕ) × (((bytes ≡ []) ⊎ IsAnswerTo who b.shown question bytes) × IsAnswered does bytes (record b { owed = None }) b2)
 
 -- the event that a letter is to a gateway that stands so, or that it is none; carriers are tracked or not
 pub record Brings (track : Bool) (view : View) (letter : ReceivedDatagram) (event : Option Event) : Type 0 where
@@ -131,9 +132,9 @@ pub record IsPoll (most : ℕ) (answers : List Polled) : Type 0 where
 abbrev pub Reads : Type 0 → Type 1
 Reads C = C → ℕ → C → Type 0
 
--- a round, of a box that isn't to end yet: a poll of its wire; then one tick, with the moment that the clock reads; and then the
+-- a round, of a box that says it is this one and isn't to end yet: a poll of its wire; then one tick, with the moment that the clock reads; and then the
 -- answer that is owed
-pub record IsRound {W C : Type 0} (does : Calls W) (track : Bool) (reads : Reads C) (b : Box W) (c : C) (b2 : Box W) (c2 : C) : Type 0 where
+pub record IsRound {W C : Type 0} (does : Calls W) (track : Bool) (who : Identity) (reads : Reads C) (b : Box W) (c : C) (b2 : Box W) (c2 : C) : Type 0 where
   pub goes_on : b.ending ≡ false
   pub answers : List Polled
   pub poll : IsPoll 256 answers
@@ -144,13 +145,13 @@ pub record IsRound {W C : Type 0} (does : Calls W) (track : Bool) (reads : Reads
   pub is_done : Bool
   pub ticked : Box W
   pub tick : Takes does is_done between (Tick moment) ticked
-  pub answered : AnswersOwed does ticked.owed ticked b2
+  pub answered : AnswersOwed does who ticked.owed ticked b2
 
 -- so many rounds
-abbrev pub AreRounds : {W C : Type 0} → Calls W → Bool → Reads C → ℕ → Box W → C → Box W → C → Type 0
-AreRounds does track reads zero b c b2 c2 = (b2 ≡ b) × (c2 ≡ c)
-AreRounds {W = W} {C = C} does track reads (suc n) b c b2 c2 =
-    (middle : Box W) × ((then : C) × (AreRounds does track reads n b c middle then × IsRound does track reads middle then b2 c2))
+abbrev pub AreRounds : {W C : Type 0} → Calls W → Bool → Identity → Reads C → ℕ → Box W → C → Box W → C → Type 0
+AreRounds does track who reads zero b c b2 c2 = (b2 ≡ b) × (c2 ≡ c)
+AreRounds {W = W} {C = C} does track who reads (suc n) b c b2 c2 =
+    (middle : Box W) × ((then : C) × (AreRounds does track who reads n b c middle then × IsRound does track who reads middle then b2 c2))
 
 -- how many rounds there are at most: so many, or what is as good as no end
 abbrev pub most_rounds : Option ℕ → ℕ
@@ -158,35 +159,35 @@ most_rounds (Some count) = count
 most_rounds None = 18446744073709551615
 
 -- rounds, until the control socket says that the box is to end, or it is told so otherwise, or has had the most
-pub record AreAllRounds {W C : Type 0} (does : Calls W) (track : Bool) (reads : Reads C) (most : ℕ) (otherwise : Type 0)
+pub record AreAllRounds {W C : Type 0} (does : Calls W) (track : Bool) (who : Identity) (reads : Reads C) (most : ℕ) (otherwise : Type 0)
     (b : Box W) (c : C) (b2 : Box W) (c2 : C) : Type 0
   where
     pub count : ℕ
     pub within : count ≤ most
-    pub rounds : AreRounds does track reads count b c b2 c2
+    pub rounds : AreRounds does track who reads count b c b2 c2
     pub over : (b2.ending ≡ true) ⊎ (otherwise ⊎ (count ≡ most))
 
 -- the same, of a box that asked before each round whether it was told otherwise, and wasn't
-abbrev pub AreRoundsAsked : {W C : Type 0} → Calls W → Bool → Reads C → ℕ → Type 0 → Type 0 → Box W → C → Box W → C → Type 0
-AreRoundsAsked does track reads most otherwise goes_on b c b2 c2 =
-    (all : AreAllRounds does track reads most otherwise b c b2 c2) × (0 < all.count → goes_on)
+abbrev pub AreRoundsAsked : {W C : Type 0} → Calls W → Bool → Identity → Reads C → ℕ → Type 0 → Type 0 → Box W → C → Box W → C → Type 0
+AreRoundsAsked does track who reads most otherwise goes_on b c b2 c2 =
+    (all : AreAllRounds does track who reads most otherwise b c b2 c2) × (0 < all.count → goes_on)
 
 -- all rounds, and then one Stop and nothing more
-pub record IsRun {W C : Type 0} (does : Calls W) (track : Bool) (reads : Reads C) (most : ℕ) (otherwise : Type 0)
+pub record IsRun {W C : Type 0} (does : Calls W) (track : Bool) (who : Identity) (reads : Reads C) (most : ℕ) (otherwise : Type 0)
     (b : Box W) (c : C) (b2 : Box W) (c2 : C) : Type 0
   where
     pub last : Box W
-    pub all : AreAllRounds does track reads most otherwise b c last c2
+    pub all : AreAllRounds does track who reads most otherwise b c last c2
     pub is_done : Bool
     pub stop : Takes does is_done last Stop b2
 
 -- a whole run, whatever is answered: a gateway shows this at its end, and its wire is this; it had a round only where nothing
 -- told it otherwise; and Ok answers how many events were left out
-pub record RunsTo {W C E : Type 0} (does : Calls W) (track : Bool) (reads : Reads C) (most : ℕ) (otherwise goes_on : Type 0)
+pub record RunsTo {W C E : Type 0} (does : Calls W) (track : Bool) (who : Identity) (reads : Reads C) (most : ℕ) (otherwise goes_on : Type 0)
     (b : Box W) (c : C) (g : Shown) (wire : W) (c2 : C) (result : Result ℕ E) : Type 0
   where
     pub last : Box W
-    pub run : IsRun does track reads most otherwise b c last c2
+    pub run : IsRun does track who reads most otherwise b c last c2
     pub asked : 0 < run.all.count → goes_on
     pub shown : last.shown ≡ g
     pub wire_is : last.wire ≡ wire

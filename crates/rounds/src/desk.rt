@@ -34,7 +34,6 @@ pub struct Identity {
 #[derive(Drop)]
 pub(crate) struct Desk {
     pub(crate) alloc: Global,
-    pub(crate) identity: Identity,
     pub(crate) out: Out,
     pub(crate) view: View,
     pub(crate) outages: Outages,
@@ -50,14 +49,13 @@ pub(crate) struct Desk {
 
 impl Desk {
     /// Nothing was told, counted, asked or left out yet.
-    pub(crate) fn new(alloc: Global, gateway: &Gateway, identity: Identity) -> Desk
+    pub(crate) fn new(alloc: Global, gateway: &Gateway) -> Desk
         ensures left { result.left ≡ 0 }
         ensures ending { result.ending ≡ false }
         ensures question { result.question ≡ None }
     {
         Desk {
             alloc,
-            identity,
             out: Out::new(alloc),
             view: view_of(gateway),
             outages: Outages::none(),

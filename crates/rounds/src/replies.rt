@@ -5,7 +5,7 @@ ghost use Rattle.spec_step.specs.Shown.{Shown};
 ghost use Rattle.rounds.specs.Answers.{CountsLosses, IsAnswerTo, SaysOf, with_losses};
 ghost use Rattle.rounds.specs.Rounds.{AnswersOwed, Replies, box};
 
-use crate::desk::Desk;
+use crate::desk::{Desk, Identity};
 use crate::judging::{Question, Reply};
 use crate::{gateway_report, page_behind};
 use control::{begun_page, begun_report, spelled_heard, spelled_refusal};
@@ -46,11 +46,12 @@ fn answer<W: Wire>(bytes: &[u8], wire: &mut W, desk: &mut Desk)
 pub(crate) fn answer_question<W: Wire, L: Journal>(
     gateway: &Gateway,
     wire: &mut W,
+    identity: Identity,
     room: &mut [u8; LONGEST],
     desk: &mut Desk,
     log: &L,
 )
-    ensures { AnswersOwed W.does desk.old.question
+    ensures { AnswersOwed W.does identity desk.old.question
         (box gateway.now wire.old desk.old.left desk.old.ending desk.old.question)
         (box gateway.now wire.new desk.new.left desk.new.ending desk.new.question) }
 {
@@ -58,7 +59,7 @@ pub(crate) fn answer_question<W: Wire, L: Journal>(
         return;
     };
     desk.question = None;
-    match answer_to(question, gateway, wire, room, desk, log) {
+    match answer_to(question, gateway, wire, identity, room, desk, log) {
         Ok(count) => answer(&room[..count], wire, desk),
         Err(NoMemory) => answer(&[], wire, desk),
     }
@@ -73,17 +74,18 @@ fn answer_to<W: Wire, L: Journal>(
     question: Question,
     gateway: &Gateway,
     wire: &W,
+    identity: Identity,
     room: &mut [u8; LONGEST],
     desk: &Desk,
     log: &L,
 ) -> Result<usize, NoMemory>
     ensures within { IfOk result (λ count. count ≤ 4096) }
     ensures answers { IfOk result (λ count.
-        IsAnswerTo gateway.now question (take count room.new)) }
+        IsAnswerTo identity gateway.now question (take count room.new)) }
 {
     match question {
         Question::Status => {
-            let report = report_of(gateway, wire, desk, log)?;
+            let report = report_of(gateway, wire, identity, desk, log)?;
             Ok(lay(begun_report(), report.bytes().as_slice(), room))
         }
         Question::Pairs(after) => {
@@ -93,25 +95,26 @@ fn answer_to<W: Wire, L: Journal>(
     }
 }
 
-/// How a box stands.
+/// Whose box it is, and how it stands.
 fn report_of<W: Wire, L: Journal>(
     gateway: &Gateway,
     wire: &W,
+    identity: Identity,
     desk: &Desk,
     log: &L,
 ) -> Result<Report, NoMemory>
-    ensures id { IfOk result (λ r. r.id ≡ desk.now.identity.id) }
-    ensures boot { IfOk result (λ r. r.boot ≡ desk.now.identity.boot) }
-    ensures digest { IfOk result (λ r. r.digest ≡ desk.now.identity.digest) }
+    ensures id { IfOk result (λ r. r.id ≡ identity.id) }
+    ensures boot { IfOk result (λ r. r.boot ≡ identity.boot) }
+    ensures digest { IfOk result (λ r. r.digest ≡ identity.digest) }
     ensures sides { IfOk result (λ r. r.sides ≡ desk.now.sides) }
     ensures gateway { IfOk result (λ r. SaysOf gateway.now r.gateway) }
     ensures counters { IfOk result (λ r.
         CountsLosses W.lost wire.now desk.now.counters r.counters) }
 {
     Ok(Report {
-        id: desk.identity.id,
-        boot: desk.identity.boot,
-        digest: desk.identity.digest,
+        id: identity.id,
+        boot: identity.boot,
+        digest: identity.digest,
         gateway: gateway_report(gateway)?,
         sides: desk.sides,
         counters: counted(wire, desk.counters),

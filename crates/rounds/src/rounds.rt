@@ -60,7 +60,7 @@ pub fn serve<W: Wire, C: Clockwork, T: Told, S: Supervisor, O: Write, L: Journal
     output: &mut O,
     log: &L,
 ) -> io::Result<LeftOut>
-    ensures rounds { RunsTo W.does track C.reads (most_rounds rounds)
+    ensures rounds { RunsTo W.does track identity C.reads (most_rounds rounds)
         (T.tells until.now) (T.goes_on until.now)
         (box gateway.old wire.old 0 false None) clock.old gateway.new wire.new clock.new result }
     ensures told { HearsRun S.hears supervisor.old supervisor.new }
@@ -89,15 +89,15 @@ pub fn run_rounds<W: Wire, C: Clockwork, T: Told, S: Supervisor, L: Journal>(
     log: &L,
 ) -> LeftOut
     ensures rounds { (ending : Bool) × (owed : Option Question) ×
-        AreRoundsAsked W.does track C.reads (most_rounds rounds)
+        AreRoundsAsked W.does track identity C.reads (most_rounds rounds)
         (T.tells until.now) (T.goes_on until.now)
         (box gateway.old wire.old 0 false None) clock.old
         (box gateway.new wire.new result ending owed) clock.new }
     ensures told { HearsRounds S.hears supervisor.old supervisor.new }
 {
-    let mut desk = Desk::new(alloc, gateway, identity);
+    let mut desk = Desk::new(alloc, gateway);
     all_rounds(
-        gateway, wire, clock, until, rounds, track, supervisor, &mut desk, log,
+        gateway, wire, clock, until, rounds, track, identity, supervisor, &mut desk, log,
     );
     tell_end(log, &desk.tally, gateway.moment());
     desk.left
@@ -117,15 +117,16 @@ fn run<W: Wire, C: Clockwork, T: Told, S: Supervisor, L: Journal>(
     log: &L,
 ) -> LeftOut
     ensures rounds { (ending : Bool) × (owed : Option Question) ×
-        ((run : IsRun W.does track C.reads (most_rounds rounds) (T.tells until.now)
+        ((run : IsRun W.does track identity C.reads (most_rounds rounds)
+        (T.tells until.now)
         (box gateway.old wire.old 0 false None) clock.old
         (box gateway.new wire.new result ending owed) clock.new)
         × (0 < run.all.count → T.goes_on until.now)) }
     ensures told { HearsRun S.hears supervisor.old supervisor.new }
 {
-    let mut desk = Desk::new(alloc, gateway, identity);
+    let mut desk = Desk::new(alloc, gateway);
     all_rounds(
-        gateway, wire, clock, until, rounds, track, supervisor, &mut desk, log,
+        gateway, wire, clock, until, rounds, track, identity, supervisor, &mut desk, log,
     );
     supervisor.ending();
     hand_in(gateway, Event::Stop, wire, &mut desk, log);
@@ -141,11 +142,12 @@ fn all_rounds<W: Wire, C: Clockwork, T: Told, S: Supervisor, L: Journal>(
     until: &T,
     rounds: Option<u32>,
     track: bool,
+    identity: Identity,
     supervisor: &mut S,
     desk: &mut Desk,
     log: &L,
 )
-    ensures rounds { AreRoundsAsked W.does track C.reads (most_rounds rounds)
+    ensures rounds { AreRoundsAsked W.does track identity C.reads (most_rounds rounds)
         (T.tells until.now) (T.goes_on until.now)
         (box gateway.old wire.old desk.old.left desk.old.ending desk.old.question) clock.old
         (box gateway.new wire.new desk.new.left desk.new.ending desk.new.question) clock.new }
@@ -157,7 +159,7 @@ fn all_rounds<W: Wire, C: Clockwork, T: Told, S: Supervisor, L: Journal>(
         if is_over(desk, until) {
             return;
         }
-        round(gateway, wire, clock, track, &mut room, desk, log);
+        round(gateway, wire, clock, track, identity, &mut room, desk, log);
         desk.tell_alive(gateway, supervisor);
     }
 }
@@ -188,12 +190,13 @@ fn round<W: Wire, C: Clockwork, L: Journal>(
     wire: &mut W,
     clock: &mut C,
     track: bool,
+    identity: Identity,
     room: &mut [u8; LONGEST],
     desk: &mut Desk,
     log: &L,
 )
     requires { desk.old.ending ≡ false }
-    ensures { IsRound W.does track C.reads
+    ensures { IsRound W.does track identity C.reads
         (box gateway.old wire.old desk.old.left desk.old.ending desk.old.question) clock.old
         (box gateway.new wire.new desk.new.left desk.new.ending desk.new.question) clock.new }
 {
@@ -201,7 +204,7 @@ fn round<W: Wire, C: Clockwork, L: Journal>(
     let tick = Event::Tick(clock.moment());
     hand_in(gateway, tick, wire, desk, log);
     look_again(&mut desk.sides, gateway);
-    answer_question(gateway, wire, room, desk, log);
+    answer_question(gateway, wire, identity, room, desk, log);
     desk.outages.tell(wire, gateway.moment(), log);
     tell_turn(log, &mut desk.tally, gateway.moment());
 }
