@@ -42,6 +42,19 @@ IsFirstRefused {B} answers (end ∷ ends) before found after =
     (IsAsked answers end before found after × IsSome found)
     ⊎ ((between : B) × (IsAsked answers end before None between × IsFirstRefused answers ends between found after))
 
+-- The system answered so when it was asked for a socket at this end: it refuses it, or not. It says nothing of such a call, so this is no more
+-- than a name for it: who makes the call has it, and nobody else, since only `SystemBinder` looks what stands here.
+unfoldable pub WasAsked : End → Bool → Type 0
+WasAsked end is_refused = Unit {0}
+
+-- so the system may answer
+abbrev pub by_system : {B : Type 0} → B → End → Bool → B → Type 0
+by_system before end is_refused after = WasAsked end is_refused
+
+-- of a box's own ends it is the first that the system refuses; or it refuses none
+abbrev pub IsFirstOf : Ways → Ports → Option End → Type 0
+IsFirstOf ways ports found = IsFirstRefused (by_system {B = Unit {0}}) (own_ends ways ports) tt found tt
+
 -- the socket's address, of version 4, is that of the end, and so is its port
 abbrev pub IsAt : End → SocketAddr → Type 0
 IsAt end (socket.V4 at) = IsIpv4OfBits (v4_ip at) end.address.0 × (v4_port at ≡ end.port)

@@ -143,22 +143,6 @@ IsBeforeBoot (fault.NoFilter part) = Unit {0}
 IsBeforeBoot (fault.NoCapture why) = Unit {0}
 IsBeforeBoot other = ⊥
 
--- it is of a gateway's start, or of its run: of its boot number, a file, output or memory
-abbrev pub IsOfStart : BoxFault → Type 0
-IsOfStart (fault.Run why) = Unit {0}
-IsOfStart fault.Device = Unit {0}
-IsOfStart fault.Damaged = Unit {0}
-IsOfStart fault.BootsUsedUp = Unit {0}
-IsOfStart fault.FoundTwice = Unit {0}
-IsOfStart other = ⊥
-
--- it is of no way, nor of a way's descriptor
-abbrev pub IsOfNoWay : BoxFault → Type 0
-IsOfNoWay (fault.NoWay side) = ⊥
-IsOfNoWay fault.NoWayOfLink = ⊥
-IsOfNoWay (fault.NoDescriptor why) = ⊥
-IsOfNoWay other = Unit {0}
-
 -- ---- texts
 
 -- a side by its name

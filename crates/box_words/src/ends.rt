@@ -1,6 +1,6 @@
 //! The end of its own that a box can't have.
 ghost use Rattle.std.specs.Prelude.{◌≡◌, ◌∷◌, ◌⊎◌, [], IfSome, Some};
-ghost use Rattle.box_words.specs.Ends.{IsAsked, IsAt, IsFirstRefused, IsNeeded, own_end, own_ends, refused_text};
+ghost use Rattle.box_words.specs.Ends.{IsAsked, IsAt, IsFirstRefused, IsNeeded, WasAsked, own_end, own_ends, refused_text};
 
 use sockets::{End, Ends, Ports, Way, Ways};
 use std::fmt;
@@ -19,13 +19,14 @@ pub trait Binder {
         ensures { answers self.old end result self.new };
 }
 
-/// The system, of whose answers nothing is known.
+/// The system, of whose answers nothing is known but that they came of the call.
 #[derive(Drop)]
 pub struct SystemBinder<'a, R>(pub &'a R);
 
 impl<R: Net> Binder for SystemBinder<'_, R> {
-    ghost answers = { λ _ _ _ _. Unit {0} };
+    ghost answers = { λ _ end refused _. WasAsked end refused };
 
+    #[tactic(auto, unfolding(crate::specs::Ends::WasAsked))]
     fn is_refused(&mut self, end: End) -> bool {
         UdpSocket::bind(self.0, address_of(end)).is_err()
     }

@@ -10,5 +10,5 @@ mod sites;
 pub use asking::{Form, await_synced, pairs, status};
 pub use ends::{Binder, Refused, SystemBinder, refused_end};
 pub use refusals::{BoxFault, Explained};
-pub use saying::{control_path, peer_off, side, stop};
+pub use saying::{peer_off, side, stop};
 pub use sites::{Machine, Site};

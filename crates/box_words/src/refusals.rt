@@ -2,7 +2,7 @@
 ghost use Rattle.std.specs.Prelude.{◌≡◌, ◌≢◌, None, Some};
 ghost use Rattle.std.specs.IoError.{error_kind};
 ghost use Rattle.std.specs.declared.io.ErrorKind.TheVariants as causes;
-ghost use Rattle.box_words.specs.Faults.{IsOfCapture, IsOfFilter, IsOfNoWay, IsOfSocket};
+ghost use Rattle.box_words.specs.Faults.{IsOfCapture, IsOfFilter, IsOfSocket};
 ghost use Rattle.box_words.specs.Faults.{TellsBootFile, TellsCapture, TellsFilter, TellsSocket};
 ghost use Rattle.box_words.specs.Faults.{explained_text, fault_text};
 ghost use Rattle.box_words.specs.declared.refusals.BoxFault.TheVariants as faults;
@@ -138,7 +138,6 @@ impl BoxFault {
     pub fn no_control(alloc: Global, boot_file: &str) -> BoxFault
         ensures kind { IsOfSocket result }
         ensures told { TellsSocket (socket_of boot_file.now) result }
-        ensures no_way { IsOfNoWay result }
     {
         match format!(in alloc; "{boot_file}.control/socket") {
             Ok(path) => BoxFault::NoControl(path),
@@ -149,7 +148,6 @@ impl BoxFault {
     /// Of a boot file that can't be had.
     pub fn of_boot_file(alloc: Global, path: &str, fault: FileFault) -> BoxFault
         ensures told { TellsBootFile path.now fault result }
-        ensures no_way { IsOfNoWay result }
     {
         let (refusal, cause) = match fault {
             FileFault::NoFile(cause) => (Refusal::NoFile, Some(cause)),
@@ -172,7 +170,6 @@ impl BoxFault {
         ensures told { error_kind error.now ≢ causes.OutOfMemory
             → error_kind error.now ≢ causes.AlreadyExists
             → TellsCapture refusals.NotWritten path.now (Some (error_kind error.now)) result }
-        ensures no_way { IsOfNoWay result }
     {
         BoxFault::NoCapture(Fault::of_capture(alloc, path, error))
     }

@@ -222,11 +222,7 @@ pub(crate) fn line_to<S: Site>(
 }
 
 /// Where the gateway's control socket lies: beside its boot file.
-pub fn control_path(
-    alloc: Global,
-    settings: &Settings,
-    id: GatewayId,
-) -> Result<ControlPath, PathFault>
+fn control_path(alloc: Global, settings: &Settings, id: GatewayId) -> Result<ControlPath, PathFault>
     ensures beside { IfOk result
         (IsBeside (string_bytes (gateway_of settings.now id).boot_file)) }
     ensures long { IsErrOf result PathFault.LongPath
