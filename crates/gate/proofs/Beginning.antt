@@ -57,12 +57,12 @@ none_failed n before after fault later failed = same (cases_lt before after)
 -- and where none is, a call has failed, or the bytes decide
 pub tells_number : (found : Bool) (now now2 : Moment) (before after : ℕ) (reason : BootFault) (why : BoxFault)
     → why ≡ of_boot reason → before ≤ after → (before < after → IsErrOf {T = ℕ} (Err reason) boot.Device)
-    → (after ≡ before → Decides found now now2 (Err reason)) → TellsNumber found now now2 why
+    → (after ≡ before → Decides found now now2 (Err reason)) → TellsNumber found before after now now2 why
 tells_number found now now2 before after reason why told later failed decided = by (cases_lt before after)
   where
     same : IsErrOf {T = ℕ} (Err reason) boot.Device → reason ≡ boot.Device
     same is = cc
 
-    by : (before < after) ⊎ (after ≤ before) → TellsNumber found now now2 why
-    by (inl less) = inl (told ∙ ap of_boot (same (failed less)))
+    by : (before < after) ⊎ (after ≤ before) → TellsNumber found before after now now2 why
+    by (inl less) = inl (told ∙ ap of_boot (same (failed less)), less)
     by (inr most) = inr (reason, (told, decided (omega (arith, later, most))))

@@ -1,8 +1,12 @@
 -- What is known of a fault at which a start ends.
-use Rattle.std.proofs.Common.{◌≡◌, ◌⊎◌, ⊎_elim, inl, inr, subst, sym, refl, ℕ, Bool, List, Option, Some, None, Result, Ok, Err, IfErr}
+use Rattle.std.proofs.Common.{◌≡◌, ◌⊎◌, ⊎_elim, inl, inr, subst, sym, refl, ℕ, Bool, List, [], ◌∷◌, Option, Some, None, Result, Ok, Err, IfErr}
 use Rattle.std.specs.Io.KnownBytes.{Appends}
 use Rattle.boot_store.specs.Crash.{Decides}
 use Rattle.boot_store.specs.Moment.{Moment}
+use Rattle.sockets.specs.declared.ends.End.{End}
+use Rattle.sockets.specs.declared.places.Ports.{Ports}
+use Rattle.sockets.specs.declared.ways.Ways.{Ways}
+use Rattle.box_words.specs.Ends.{IsAsked, IsFirstOf, IsFirstRefused, by_system}
 use Rattle.box_words.specs.Faults.{IsBeforeBoot, IsOfRun}
 use Rattle.box_words.specs.declared.refusals.BoxFault.{BoxFault}
 use Rattle.box_words.specs.declared.refusals.BoxFault.TheVariants as fault
@@ -199,3 +203,29 @@ pub silent_or_taken : {O D : Type 0} (contents : O → Option (List ℕ)) (captu
     (output output2 : O) → IsInSomeOrder contents capture honest now found why output output2 → IsSilentOrTaken honest now found output output2
 silent_or_taken contents capture honest now found why output output2 (inl same) = inl same
 silent_or_taken contents capture honest now found why output output2 (inr taken) = inr (taken.0, (taken.1.0, (taken.1.1.0, taken.1.1.1.0)))
+
+-- ---- which end is refused
+
+asked_of_it : {B : Type 0} (end found : Option End) (before after : B) → IsAsked (by_system {B = B}) end before found after → IsAsked (by_system {B = Unit {0}}) end tt found tt
+asked_of_it None found before after asked = (asked.0, refl)
+asked_of_it (Some end) None before after asked = asked
+asked_of_it (Some end) (Some found) before after asked = asked
+
+-- the first end that is refused is so whoever is asked for the system
+pub by_the_system : {B : Type 0} (ends : List (Option End)) (found : Option End) (before after : B) → IsFirstRefused (by_system {B = B}) ends before found after
+    → IsFirstRefused (by_system {B = Unit {0}}) ends tt found tt
+by_the_system [] found before after none = (none.0, refl)
+by_the_system (end ∷ ends) found before after (inl (asked, is)) = inl (asked_of_it end found before after asked, is)
+by_the_system (end ∷ ends) found before after (inr (between, (asked, rest))) =
+    inr (tt, (asked_of_it end None before between asked, by_the_system ends found between after rest))
+
+abbrev ports_at : ℕ × ℕ → ℕ × ℕ → ℕ × ℕ → Ports
+ports_at link inside outside = record { link = link; inside = inside; outside = outside }
+
+-- it is that of a box whose ports these are
+pub first_at : (ways : Ways) (ports : Ports) (link inside outside : ℕ × ℕ) (found : Option End) → ports.link ≡ link → ports.inside ≡ inside → ports.outside ≡ outside
+    → IsFirstOf ways ports found → IsFirstOf ways (ports_at link inside outside) found
+first_at ways ports link inside outside found links insides outsides first =
+    subst (λ (p : ℕ × ℕ). IsFirstOf ways (ports_at p inside outside) found) links
+    (subst (λ (p : ℕ × ℕ). IsFirstOf ways (ports_at ports.link p outside) found) insides
+    (subst (λ (p : ℕ × ℕ). IsFirstOf ways (ports_at ports.link ports.inside p) found) outsides first))

@@ -8,12 +8,13 @@ use Rattle.spec_step.specs.Shown.{Shown}
 use Rattle.spec_step.specs.declared.events.Event.{Event}
 use Rattle.sockets.specs.Letters.{Call, Polled, ReceivedDatagram, answered, asked, came, failed, nothing}
 use Rattle.rounds.specs.Rounds.{AnswersOwed, AreMade, AreRounds, Box, Calls, IsAnswered, IsRound, IsRun, Reads, Replies, Takes, TakesAll, TakesAnswer, TakesAny, TakesBy, TakesLetter, all_sent, box, most_rounds}
+use Rattle.rounds.specs.declared.desk.Identity.{Identity}
 use Rattle.rounds.specs.declared.judging.Question.{Question}
 use Rattle.rounds.specs.declared.judging.Reply.{Reply}
 use Rattle.rounds.specs.declared.judging.Reply.TheVariants.{Heard, Later, Refused}
 use Rattle.sockets.specs.declared.ways.Ways.{Ways}
 use Rattle.gate.specs.Asked.{IsFilter, IsWatched, boot_file_of, path_in}
-use Rattle.gate.specs.Boots.{HasStarted}
+use Rattle.gate.specs.Boots.{HasStarted, IsIdentity}
 use Rattle.gate.specs.Named.{IsCaptured, WasGiven, WasHad, begun_capture, number_of, tapped_wire}
 use Rattle.gate.specs.Served.{HadRounds, HasRun, HasServed, RunsOpened, any_reading, listed}
 use Rattle.gate.specs.Starts.{CanOpen}
@@ -67,10 +68,10 @@ replies does (Some Heard) true b b2 h calls =
     (rest.0, (h.0, (h.1.0, rest.1)))
 replies does (Some Heard) false b b2 h calls = is_answered does [] b b2 h calls
 
-answers_owed : {W : Type 0} (does : Calls W) (owed : Option Question) (b b2 : Box W) → AnswersOwed does owed b b2 → (calls : List Call)
-    → (calls2 : List Call) × AnswersOwed listed owed (with b calls) (with b2 calls2)
-answers_owed does None b b2 h calls = (calls, ap (λ (x : Box _). with x calls) h)
-answers_owed does (Some question) b b2 h calls =
+answers_owed : {W : Type 0} (does : Calls W) (who : Identity) (owed : Option Question) (b b2 : Box W) → AnswersOwed does who owed b b2 → (calls : List Call)
+    → (calls2 : List Call) × AnswersOwed listed who owed (with b calls) (with b2 calls2)
+answers_owed does who None b b2 h calls = (calls, ap (λ (x : Box _). with x calls) h)
+answers_owed does who (Some question) b b2 h calls =
     let rest = is_answered does h.0 (record b { owed = None }) b2 h.1.1 calls in
     (rest.0, (h.0, (h.1.0, rest.1)))
 
@@ -104,12 +105,12 @@ takes_all does track b (answer ∷ rest) b2 h calls =
     let then = takes_all does track h.1.1.0 rest b2 h.1.1.1.1 one.0 in
     (then.0, (calls ++ asked answer ∷ [], (refl, (with h.1.1.0 one.0, (one.1, then.1)))))
 
-is_round : {W C : Type 0} (does : Calls W) (track : Bool) (reads : Reads C) (b : Box W) (c : C) (b2 : Box W) (c2 : C) → IsRound does track reads b c b2 c2 → (calls : List Call)
-    → (calls2 : List Call) × IsRound listed track any_reading (with b calls) tt (with b2 calls2) tt
-is_round does track reads b c b2 c2 r calls =
+is_round : {W C : Type 0} (does : Calls W) (track : Bool) (who : Identity) (reads : Reads C) (b : Box W) (c : C) (b2 : Box W) (c2 : C) → IsRound does track who reads b c b2 c2 → (calls : List Call)
+    → (calls2 : List Call) × IsRound listed track who any_reading (with b calls) tt (with b2 calls2) tt
+is_round does track who reads b c b2 c2 r calls =
     let letters = takes_all does track b r.answers r.between r.letters calls in
     let tick = takes does r.is_done r.between _ r.ticked r.tick letters.0 in
-    let last = answers_owed does r.ticked.owed r.ticked b2 r.answered tick.0 in (
+    let last = answers_owed does who r.ticked.owed r.ticked b2 r.answered tick.0 in (
       last.0,
       record {
         goes_on = r.goes_on;
@@ -126,23 +127,23 @@ is_round does track reads b c b2 c2 r calls =
       },
     )
 
-are_rounds : {W C : Type 0} (does : Calls W) (track : Bool) (reads : Reads C) (n : ℕ) (b : Box W) (c : C) (b2 : Box W) (c2 : C)
-    → AreRounds does track reads n b c b2 c2 → (calls : List Call)
-    → (calls2 : List Call) × AreRounds listed track any_reading n (with b calls) tt (with b2 calls2) tt
-are_rounds does track reads zero b c b2 c2 h calls = (calls, (ap (λ (x : Box _). with x calls) h.0, refl))
-are_rounds does track reads (suc n) b c b2 c2 h calls =
-    let first = are_rounds does track reads n b c h.0 h.1.0 h.1.1.0 calls in
-    let last = is_round does track reads h.0 h.1.0 b2 c2 h.1.1.1 first.0 in
+are_rounds : {W C : Type 0} (does : Calls W) (track : Bool) (who : Identity) (reads : Reads C) (n : ℕ) (b : Box W) (c : C) (b2 : Box W) (c2 : C)
+    → AreRounds does track who reads n b c b2 c2 → (calls : List Call)
+    → (calls2 : List Call) × AreRounds listed track who any_reading n (with b calls) tt (with b2 calls2) tt
+are_rounds does track who reads zero b c b2 c2 h calls = (calls, (ap (λ (x : Box _). with x calls) h.0, refl))
+are_rounds does track who reads (suc n) b c b2 c2 h calls =
+    let first = are_rounds does track who reads n b c h.0 h.1.0 h.1.1.0 calls in
+    let last = is_round does track who reads h.0 h.1.0 b2 c2 h.1.1.1 first.0 in
     (last.0, (with h.0 first.0, (tt, (first.1, last.1))))
 
 -- a run by a clock, which something may have told to end, as one by any, which only what that comes of may have told
-pub had_rounds : {W C : Type 0} (does : Calls W) (track until_eof : Bool) (reads : Reads C) (rounds : Option ℕ) (otherwise : Type 0) (g : Shown) (w : W) (c : C)
+pub had_rounds : {W C : Type 0} (does : Calls W) (track until_eof : Bool) (who : Identity) (reads : Reads C) (rounds : Option ℕ) (otherwise : Type 0) (g : Shown) (w : W) (c : C)
     (g2 : Shown) (last : Box W) (c2 : C)
     → (otherwise → IsTrue until_eof)
-    → IsRun does track reads (most_rounds rounds) otherwise (box g w 0 false None) c last c2 → last.shown ≡ g2
-    → HadRounds rounds track until_eof g g2
-had_rounds does track until_eof reads rounds otherwise g w c g2 last c2 only h shows =
-    let all = are_rounds does track reads h.all.count (box g w 0 false None) c h.last c2 h.all.rounds [] in
+    → IsRun does track who reads (most_rounds rounds) otherwise (box g w 0 false None) c last c2 → last.shown ≡ g2
+    → HadRounds who rounds track until_eof g g2
+had_rounds does track until_eof who reads rounds otherwise g w c g2 last c2 only h shows =
+    let all = are_rounds does track who reads h.all.count (box g w 0 false None) c h.last c2 h.all.rounds [] in
     let stop = takes does h.is_done h.last _ last h.stop all.0 in (
       stop.0,
       record {
@@ -166,9 +167,9 @@ had_rounds does track until_eof reads rounds otherwise g w c g2 last c2 only h s
 
 -- ---- the same, on the wire itself
 
-any_round : {W C : Type 0} (does : Calls W) (track : Bool) (reads : Reads C) (b : Box W) (c : C) (b2 : Box W) (c2 : C) → IsRound does track reads b c b2 c2
-    → IsRound does track any_reading b tt b2 tt
-any_round does track reads b c b2 c2 r = record {
+any_round : {W C : Type 0} (does : Calls W) (track : Bool) (who : Identity) (reads : Reads C) (b : Box W) (c : C) (b2 : Box W) (c2 : C) → IsRound does track who reads b c b2 c2
+    → IsRound does track who any_reading b tt b2 tt
+any_round does track who reads b c b2 c2 r = record {
   goes_on = r.goes_on;
   answers = r.answers;
   poll = r.poll;
@@ -182,22 +183,22 @@ any_round does track reads b c b2 c2 r = record {
   answered = r.answered;
 }
 
-any_rounds : {W C : Type 0} (does : Calls W) (track : Bool) (reads : Reads C) (n : ℕ) (b : Box W) (c : C) (b2 : Box W) (c2 : C)
-    → AreRounds does track reads n b c b2 c2 → AreRounds does track any_reading n b tt b2 tt
-any_rounds does track reads zero b c b2 c2 h = (h.0, refl)
-any_rounds does track reads (suc n) b c b2 c2 h =
-    (h.0, (tt, (any_rounds does track reads n b c h.0 h.1.0 h.1.1.0, any_round does track reads h.0 h.1.0 b2 c2 h.1.1.1)))
+any_rounds : {W C : Type 0} (does : Calls W) (track : Bool) (who : Identity) (reads : Reads C) (n : ℕ) (b : Box W) (c : C) (b2 : Box W) (c2 : C)
+    → AreRounds does track who reads n b c b2 c2 → AreRounds does track who any_reading n b tt b2 tt
+any_rounds does track who reads zero b c b2 c2 h = (h.0, refl)
+any_rounds does track who reads (suc n) b c b2 c2 h =
+    (h.0, (tt, (any_rounds does track who reads n b c h.0 h.1.0 h.1.1.0, any_round does track who reads h.0 h.1.0 b2 c2 h.1.1.1)))
 
-pub runs_on : {W C : Type 0} (does : Calls W) (track until_eof : Bool) (reads : Reads C) (rounds : Option ℕ) (otherwise : Type 0) (g : Shown) (w : W) (c : C)
+pub runs_on : {W C : Type 0} (does : Calls W) (track until_eof : Bool) (who : Identity) (reads : Reads C) (rounds : Option ℕ) (otherwise : Type 0) (g : Shown) (w : W) (c : C)
     (g2 : Shown) (w2 : W) (last : Box W) (c2 : C)
     → (otherwise → IsTrue until_eof)
-    → IsRun does track reads (most_rounds rounds) otherwise (box g w 0 false None) c last c2 → last.shown ≡ g2 → last.wire ≡ w2
-    → RunsOn does rounds track until_eof g g2 w w2
-runs_on does track until_eof reads rounds otherwise g w c g2 w2 last c2 only h shows wire_is = record {
+    → IsRun does track who reads (most_rounds rounds) otherwise (box g w 0 false None) c last c2 → last.shown ≡ g2 → last.wire ≡ w2
+    → RunsOn does who rounds track until_eof g g2 w w2
+runs_on does track until_eof who reads rounds otherwise g w c g2 w2 last c2 only h shows wire_is = record {
   last = last;
   had = record {
     last = h.last;
-    all = record { count = h.all.count; within = h.all.within; rounds = any_rounds does track reads h.all.count _ c h.last _ h.all.rounds; over = by h.all.over };
+    all = record { count = h.all.count; within = h.all.within; rounds = any_rounds does track who reads h.all.count _ c h.last _ h.all.rounds; over = by h.all.over };
     is_done = h.is_done;
     stop = h.stop;
   };
@@ -229,15 +230,17 @@ uncaptured : (capture : Option (Bor (List ℕ))) → is_some capture ≡ false �
 uncaptured (Some path) none = absurd (true≢false none)
 uncaptured None none = tt
 
-pub has_run : {T E : Type 0} (r : Result T E) (settings : Settings) (start : Start) (before between after : Option (List ℕ)) (first last : Shown)
-    → HasStarted settings start.id start.found before between first
-    → HadRounds start.rounds start.track start.until_eof first last → OnOk r (Appends between after (codes "end\n"))
+pub has_run : {T E : Type 0} (r : Result T E) (settings : Settings) (start : Start) (before between after : Option (List ℕ)) (first last : Shown) (who : Identity)
+    → HasStarted settings start.id start.found before between first → IsIdentity settings start.id who first
+    → HadRounds who start.rounds start.track start.until_eof first last → OnOk r (Appends between after (codes "end\n"))
     → WasGiven (number_of (boot_file_of settings start.id)) → IsWatched start.notify → IsFilter start.log → is_some start.capture ≡ false
     → OnOk r (HasRun settings start before after)
-has_run (Ok x) settings start before between after first last started had ended numbered watched filter none = record {
+has_run (Ok x) settings start before between after first last who started identity had ended numbered watched filter none = record {
   first = first;
   between = between;
   started = started;
+  who = who;
+  identity = identity;
   last = last;
   rounds_had = had;
   ended = ended;
@@ -246,18 +249,20 @@ has_run (Ok x) settings start before between after first last started had ended 
   filter = filter;
   captured = uncaptured start.capture none;
 }
-has_run (Err e) settings start before between after first last started had ended numbered watched filter none = tt
+has_run (Err e) settings start before between after first last who started identity had ended numbered watched filter none = tt
 
 -- the same with a capture, where the rounds were had only with an Ok
-pub had_run : {T E : Type 0} (r : Result T E) (settings : Settings) (start : Start) (path : List ℕ) (before between after : Option (List ℕ)) (first last : Shown)
-    → HasStarted settings start.id start.found before between first
-    → OnOk r (HadRounds start.rounds start.track start.until_eof first last) → OnOk r (Appends between after (codes "end\n"))
+pub had_run : {T E : Type 0} (r : Result T E) (settings : Settings) (start : Start) (path : List ℕ) (before between after : Option (List ℕ)) (first last : Shown) (who : Identity)
+    → HasStarted settings start.id start.found before between first → IsIdentity settings start.id who first
+    → OnOk r (HadRounds who start.rounds start.track start.until_eof first last) → OnOk r (Appends between after (codes "end\n"))
     → WasGiven (number_of (boot_file_of settings start.id)) → IsWatched start.notify → IsFilter start.log → path_in start.capture ≡ Some path → OnOk r (WasGiven (begun_capture path))
     → OnOk r (HasRun settings start before after)
-had_run (Ok x) settings start path before between after first last started had ended numbered watched filter captured begun = record {
+had_run (Ok x) settings start path before between after first last who started identity had ended numbered watched filter captured begun = record {
   first = first;
   between = between;
   started = started;
+  who = who;
+  identity = identity;
   last = last;
   rounds_had = had;
   ended = ended;
@@ -266,7 +271,7 @@ had_run (Ok x) settings start path before between after first last started had e
   filter = filter;
   captured = subst IsCaptured (sym captured) begun;
 }
-had_run (Err e) settings start path before between after first last started had ended numbered watched filter captured begun = tt
+had_run (Err e) settings start path before between after first last who started identity had ended numbered watched filter captured begun = tt
 
 -- what was had is so at an Ok
 pub always : {T E : Type 0} (r : Result T E) (A : Type 0) → A → OnOk r A

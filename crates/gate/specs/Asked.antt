@@ -1,5 +1,5 @@
 -- What a start's words ask for.
-use Rattle.std.specs.Prelude.{◌≡◌, ℕ, Bool, true, false, List, Option, Some, None, IfSome, option_map, string_bytes}
+use Rattle.std.specs.Prelude.{◌≡◌, ℕ, Bool, true, false, List, [], Option, Some, None, IfSome, option_map, string_bytes, unwrap_or}
 use Rattle.log.specs.Filter.{Rule, invalid_spec, or_errors}
 use Rattle.journal.specs.Filters.{rules_of}
 use Rattle.nat_types.specs.declared.gateways.GatewayId.{GatewayId}
@@ -15,7 +15,7 @@ use Rattle.sockets.specs.declared.ways.Ways.{Ways}
 use Rattle.supervision.specs.Descriptors.{NeverWaits}
 use Rattle.supervision.specs.Managers.{IsManagerText, manager_at}
 use Rattle.supervision.specs.declared.managers.Manager.{Manager}
-use Rattle.gate.specs.Named.{WasGiven, environment}
+use Rattle.gate.specs.Named.{WasSaid}
 
 -- the service manager whose descriptor a text writes, which was told nothing yet, where there is a text
 abbrev pub IsManagerOf : Option (Bor (List ℕ)) → Option Manager → Type 0
@@ -55,12 +55,16 @@ path_in text = option_map (λ path. path.now) text
 abbrev pub boot_file_of : Settings → GatewayId → List ℕ
 boot_file_of settings id = string_bytes (gateway_of settings id).boot_file
 
--- each part of an option's text is a filter's directive, where there is a text; else the environment was asked for one
+-- the environment's text for a filter, of which this holds; where it has none, the empty one
+abbrev pub IsSaid : (List ℕ → Type 0) → Type 0
+IsSaid Holds = (said : Option (List ℕ)) × (WasSaid said × Holds (unwrap_or said []))
+
+-- each part of an option's text is a filter's directive, where there is a text; else each part of the environment's
 abbrev pub IsFilter : Option (Bor (List ℕ)) → Type 0
 IsFilter (Some text) = invalid_spec text.now ≡ None
-IsFilter None = WasGiven environment
+IsFilter None = IsSaid (λ text. invalid_spec text ≡ None)
 
--- these rules are those of an option's text, where there is one
+-- these rules are those of an option's text, where there is one; else those of the environment's
 abbrev pub IsChosenBy : Option (Bor (List ℕ)) → List Rule → Type 0
 IsChosenBy (Some text) rules = rules ≡ or_errors (rules_of text.now)
-IsChosenBy None rules = Unit {0}
+IsChosenBy None rules = IsSaid (λ text. rules ≡ or_errors (rules_of text))

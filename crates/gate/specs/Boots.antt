@@ -45,7 +45,7 @@ pub record IsIdentity (settings : Settings) (id : GatewayId) (who : Identity) (g
   pub own_boot : HasBoot who.boot g
   pub own_digest : who.digest ≡ digest settings
 
--- why no number is taken of an honest disk: a call failed; or so its bytes decide
-abbrev pub TellsNumber : Bool → Moment → Moment → BoxFault → Type 0
-TellsNumber found before after why =
-    (why ≡ fault.Device) ⊎ ((reason : BootFault) × ((why ≡ of_boot reason) × Decides found before after (Err reason)))
+-- why no number is taken of an honest disk: a call failed, so that more have failed than before; or so its bytes decide
+abbrev pub TellsNumber : Bool → ℕ → ℕ → Moment → Moment → BoxFault → Type 0
+TellsNumber found failed failed2 before after why =
+    ((why ≡ fault.Device) × (failed < failed2)) ⊎ ((reason : BootFault) × ((why ≡ of_boot reason) × Decides found before after (Err reason)))

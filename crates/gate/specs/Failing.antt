@@ -11,7 +11,7 @@ use Rattle.settings_file.specs.declared.keys.Key.{Key}
 use Rattle.boot_file.specs.Locks.{IsOfOpening}
 use Rattle.boot_file.specs.declared.faults.FileFault.{FileFault}
 use Rattle.control.specs.Paths.{socket_of}
-use Rattle.sockets.specs.Ways.{Names}
+use Rattle.sockets.specs.Inheriting.{AreUnblocked}
 use Rattle.sockets.specs.declared.ways.Ways.{Ways}
 use Rattle.supervision.specs.Descriptors.{IsRefused}
 use Rattle.supervision.specs.Managers.{IsManagerText, IsNoManagerText}
@@ -21,13 +21,13 @@ use Rattle.faults.specs.Faults.{IsOfFile, IsUnread, Tells}
 use Rattle.faults.specs.declared.faults.Fault.{Fault}
 use Rattle.faults.specs.declared.faults.Fault.TheVariants as run
 use Rattle.faults.specs.declared.files.Refusal.TheVariants.{Exists, NotWritten}
-use Rattle.box_words.specs.Ends.{IsNeeded}
+use Rattle.box_words.specs.Ends.{IsFirstOf}
 use Rattle.box_words.specs.Faults.{TellsBootFile, TellsSettings, TellsSocket, of_clash}
 use Rattle.box_words.specs.declared.refusals.BoxFault.{BoxFault}
 use Rattle.box_words.specs.declared.refusals.BoxFault.TheVariants as fault
-use Rattle.gate.specs.Asked.{IsFilter, boot_file_of, box_ports, on_loopback, path_in}
+use Rattle.gate.specs.Asked.{IsSaid, IsFilter, boot_file_of, box_ports, on_loopback, path_in}
 use Rattle.gate.specs.Named.{IsOpened, WasDenied, WasGiven, WasRead, begun_capture, boot_number, capture_file, control_socket}
-use Rattle.gate.specs.Named.{descriptors, environment, locked_file, output, own_sockets, settings_text}
+use Rattle.gate.specs.Named.{environment, locked_file, output, own_sockets, settings_text}
 use Rattle.gate.specs.declared.running.Start.{Start}
 
 -- no settings are had at this path: the file gives no text; or it gave this one, which holds none
@@ -36,9 +36,9 @@ LacksSettings path (fault.Run why) = (WasDenied (settings_text path) (fault.Run 
     ⊎ ((text : List ℕ) × (WasRead path text × TellsSettings text (fault.Run why)))
 LacksSettings path other = ⊥
 
--- a descriptor of a way isn't open
+-- a descriptor of a way isn't open: the first that the system refuses
 abbrev pub LacksDescriptor : Ways → BoxFault → Type 0
-LacksDescriptor ways (fault.NoDescriptor why) = WasDenied (descriptors ways) (fault.NoDescriptor why) × Names ways why.0
+LacksDescriptor ways (fault.NoDescriptor why) = AreUnblocked ways (Some why.0)
 LacksDescriptor ways other = ⊥
 
 -- no service manager is had: there is a text, which writes none; or it writes one whose descriptor the system refuses
@@ -60,22 +60,18 @@ LacksBootFile path why = WasDenied (locked_file path) why × ((reason : FileFaul
 abbrev pub LacksControl : List ℕ → BoxFault → Type 0
 LacksControl boot_file why = WasDenied (control_socket (socket_of boot_file)) why × TellsSocket (socket_of boot_file) why
 
--- a socket of a place isn't had: an end of its own, where that is known
+-- a socket of a place isn't had: the first of the own ends that the system refuses, where it refuses one by itself
 abbrev pub LacksPlace : Settings → GatewayId → Ways → BoxFault → Type 0
 LacksPlace settings id ways (fault.NoSocket end) =
-    WasDenied (own_sockets ways (box_ports settings id)) (fault.NoSocket end) × IfSome end.0 (IsNeeded ways (box_ports settings id))
+    WasDenied (own_sockets ways (box_ports settings id)) (fault.NoSocket end) × IsFirstOf ways (box_ports settings id) end.0
 LacksPlace settings id ways (fault.Run why) = why ≡ run.NoMemory
 LacksPlace settings id ways other = ⊥
 
--- this part is no directive of some text, which the environment had; or it names the variable, which holds no text
-abbrev pub IsOfEnvironment : List ℕ → Type 0
-IsOfEnvironment part = (part ≡ VARIABLE.now) ⊎ ((text : List ℕ) × (invalid_spec text ≡ Some part))
-
--- No filter of the records is had: this part is the first of the option's text that is no directive; or there is no option, and it is of
--- the environment.
+-- No filter of the records is had: this part is the first of the option's text that is no directive; or there is no option, and it is so of the
+-- environment's text, or names the variable, which holds no text.
 abbrev pub LacksFilter : Option (Bor (List ℕ)) → BoxFault → Type 0
 LacksFilter option (fault.NoFilter part) = MatchOption option
-    (WasDenied environment (fault.NoFilter part) × IsOfEnvironment (string_bytes part))
+    ((WasDenied environment (fault.NoFilter part) × (string_bytes part ≡ VARIABLE.now)) ⊎ IsSaid (λ text. invalid_spec text ≡ Some (string_bytes part)))
     (λ text. invalid_spec text.now ≡ Some (string_bytes part))
 LacksFilter option (fault.Run why) = why ≡ run.NoMemory
 LacksFilter option other = ⊥

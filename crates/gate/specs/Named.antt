@@ -5,15 +5,16 @@ use Rattle.sockets.specs.declared.places.Ports.{Ports}
 use Rattle.sockets.specs.declared.ways.Ways.{Ways}
 use Rattle.box_words.specs.declared.refusals.BoxFault.{BoxFault}
 
--- what a start asks the system for: the text of a file of settings, that descriptors never wait, a locked boot file, a control socket, the
--- sockets of the places, the environment's filter, the file of a capture, that a capture begins in it, a wire whose packets go there, at the
--- interfaces of a gateway, a boot number, that of the boot file at a path, output
+-- what a start asks the system for: the text of a file of settings, that the descriptors of its ways never wait, a locked boot file, a control
+-- socket, the sockets of the places, all that it needs, the environment's filter, the file of a capture, that a capture begins in it, a wire whose
+-- packets go there, at the interfaces of a gateway, a boot number, that of the boot file at a path, output
 pub data Need : Type 0 where
   settings_text : List ℕ → Need
-  descriptors : Ways → Need
+  descriptors : Need
   locked_file : List ℕ → Need
   control_socket : List ℕ → Need
   own_sockets : Ways → Ports → Need
+  all_sockets : Need
   environment : Need
   capture_file : List ℕ → Need
   begun_capture : List ℕ → Need
@@ -22,7 +23,7 @@ pub data Need : Type 0 where
   number_of : List ℕ → Need
   output : Need
 
--- The system gave it. The system says nothing of such a call, so this, and the next three, are no more than names: who asks has one of them,
+-- The system gave it. The system says nothing of such a call, so this, and the next four, are no more than names: who asks has one of them,
 -- and nobody else, since only those functions look what stands here that make the call.
 unfoldable pub WasGiven : Need → Type 0
 WasGiven need = Unit {0}
@@ -38,6 +39,10 @@ WasDenied need why = Unit {0}
 -- it gave this text of the file at this path
 unfoldable pub WasRead : List ℕ → List ℕ → Type 0
 WasRead path text = Unit {0}
+
+-- it has this text for a filter in the environment, or none
+unfoldable pub WasSaid : Option (List ℕ) → Type 0
+WasSaid text = Unit {0}
 
 -- the file at a path was opened for a capture, where there is a path
 abbrev pub IsOpened : Option (List ℕ) → Type 0

@@ -6,6 +6,7 @@ use Rattle.settings.specs.declared.whole.Settings.{Settings}
 use Rattle.settings_file.specs.Clashes.{clash_of_one}
 use Rattle.settings_file.specs.Settings.{IsReadFrom}
 use Rattle.control.specs.Paths.{socket_of}
+use Rattle.sockets.specs.Inheriting.{AreUnblocked}
 use Rattle.sockets.specs.Ways.{IsWayText, IsNoWayText}
 use Rattle.sockets.specs.declared.ways.Way.{Way}
 use Rattle.sockets.specs.declared.ways.Ways.{Ways}
@@ -17,7 +18,7 @@ use Rattle.box_words.specs.declared.refusals.BoxFault.TheVariants as fault
 use Rattle.gate.specs.Asked.{IsFilter, IsWatched, boot_file_of, box_ports, on_loopback, path_in}
 use Rattle.gate.specs.Failing.{Clashes, IsUnbegun, IsUnstarted, LacksBootFile, LacksCapture, LacksControl, LacksDescriptor}
 use Rattle.gate.specs.Failing.{LacksFilter, LacksManager, LacksPlace, LacksSettings}
-use Rattle.gate.specs.Named.{IsOpened, WasDenied, WasGiven, WasRead, boot_number, control_socket, descriptors, locked_file, output, own_sockets}
+use Rattle.gate.specs.Named.{IsOpened, WasDenied, WasGiven, WasRead, boot_number, control_socket, locked_file, output, own_sockets}
 use Rattle.gate.specs.declared.running.Start.{Start}
 use Rattle.gate.specs.declared.ways.WayTexts.{WayTexts}
 
@@ -51,7 +52,7 @@ pub record AreRead (start : Start) (settings : Settings) (ways : Ways) : Type 0 
 -- and the descriptors of the ways never wait
 pub record AreInherited (start : Start) (settings : Settings) (ways : Ways) : Type 0 where
   pub read : AreRead start settings ways
-  pub inherited : WasGiven (descriptors ways)
+  pub inherited : AreUnblocked ways None
 
 -- and the service manager is had, where one is asked for
 pub record AreWatched (start : Start) (settings : Settings) (ways : Ways) : Type 0 where

@@ -1,7 +1,7 @@
 //! The file of a capture.
 ghost use Rattle.std.specs.Prelude.{◌≡◌, IfErr, IfOk, IfSome, OnOk, Some, is_some, option_map};
 ghost use Rattle.gate.specs.Failing.{IsUnbegun, LacksCapture};
-ghost use Rattle.gate.specs.Named.{IsOpened, WasGiven, WasHad, begun_capture, boot_number, capture_file, tapped_wire};
+ghost use Rattle.gate.specs.Named.{IsOpened, WasGiven, WasHad, all_sockets, begun_capture, boot_number, capture_file, tapped_wire};
 
 use box_words::BoxFault;
 use faults::Fault;
@@ -26,6 +26,7 @@ pub(crate) fn capture_at<'a, R: Files + AllocGlobal>(
     rt: &R,
     path: Option<&'a str>,
 ) -> Result<Option<CaptureAt<'a, R::File>>, BoxFault>
+    requires wired { WasGiven all_sockets }
     ensures asked { IfOk result (λ capture. is_some capture ≡ is_some path.entry) }
     ensures path { IfOk result (λ capture. option_map (λ c. c.path.now) capture
         ≡ option_map (λ p. p.now) path.entry) }
@@ -43,12 +44,13 @@ pub(crate) fn capture_at<'a, R: Files + AllocGlobal>(
     }
 }
 
-/// The file at a path, opened for a capture.
+/// The file at a path, opened for a capture once the sockets were had: a start that is refused before makes none.
 #[tactic(auto, unfolding(crate::specs::Named::WasGiven, crate::specs::Named::WasHad, crate::specs::Named::WasDenied))]
 fn opened_at<'a, R: Files + AllocGlobal>(
     rt: &R,
     path: &'a str,
 ) -> Result<CaptureAt<'a, R::File>, BoxFault>
+    requires wired { WasGiven all_sockets }
     ensures path { IfOk result (λ capture. capture.path.now ≡ path.now) }
     ensures given { OnOk result (WasGiven (capture_file path.now)) }
     ensures had { IfOk result (λ capture. WasHad (capture_file capture.path.now) capture.file) }

@@ -2,15 +2,16 @@
 ghost use Rattle.std.specs.Prelude.{IfErr, IfOk, OnOk};
 ghost use Rattle.control.specs.Paths.{IsBeside, socket_of};
 ghost use Rattle.sockets.specs.Boards.{Opens};
+ghost use Rattle.box_words.specs.Ends.{IsFirstOf};
 ghost use Rattle.gate.specs.Asked.{boot_file_of, box_ports};
 ghost use Rattle.gate.specs.Failing.{LacksControl, LacksPlace};
-ghost use Rattle.gate.specs.Named.{WasDenied, WasGiven, WasHad, control_socket, locked_file, own_sockets};
+ghost use Rattle.gate.specs.Named.{WasDenied, WasGiven, WasHad, all_sockets, control_socket, locked_file, own_sockets};
 
-use box_words::{BoxFault, SystemBinder, refused_end};
+use box_words::{BoxFault, Refused, SystemBinder, refused_end};
 use control::{Control, ControlPath};
 use nat_types::{GatewayId, NoMemory};
 use settings::Settings;
-use sockets::{SocketFault, Sockets, Ways, ports_of};
+use sockets::{Ports, SocketFault, Sockets, Ways, ports_of};
 use std::fs::Files;
 use std::net::Net;
 
@@ -45,6 +46,7 @@ pub(crate) fn sockets_of<R: Net + AllocGlobal>(
 ) -> Result<Sockets, BoxFault>
     requires heard { WasHad (control_socket (socket_of (boot_file_of settings.now id))) control }
     ensures given { OnOk result (WasGiven (own_sockets ways.now (box_ports settings.now id))) }
+    ensures wired { OnOk result (WasGiven all_sockets) }
     ensures had { IfOk result (WasHad (own_sockets ways.now (box_ports settings.now id))) }
     ensures opened { IfOk result
         (λ wire. Opens ways.now (box_ports settings.now id) wire.board) }
@@ -55,8 +57,15 @@ pub(crate) fn sockets_of<R: Net + AllocGlobal>(
         Ok(sockets) => Ok(sockets),
         Err(SocketFault::NoMemory) => Err(BoxFault::from(NoMemory)),
         Err(SocketFault::NoSocket) => {
-            let end = refused_end(&mut SystemBinder(rt), ways, ports);
+            let end = first_refused(rt, ways, ports);
             Err(BoxFault::NoSocket(end))
         }
     }
+}
+
+/// The first of a box's own ends that the system refuses, if it refuses one by itself.
+fn first_refused<R: Net>(rt: &R, ways: &Ways, ports: Ports) -> Refused
+    ensures { IsFirstOf ways.now ports result.0 }
+{
+    refused_end(&mut SystemBinder(rt), ways, ports)
 }

@@ -1,6 +1,7 @@
 //! What a start says is read and looked at, before anything of the box's own is opened.
 ghost use Rattle.std.specs.Prelude.{◌≡◌, ◌≤◌, IfErr, IfOk, None, OnOk, length, string_bytes};
 ghost use Rattle.control.specs.Paths.{IsBeside, socket_of};
+ghost use Rattle.sockets.specs.Inheriting.{AreUnblocked};
 ghost use Rattle.faults.specs.Faults.{IsUnread};
 ghost use Rattle.settings_file.specs.Clashes.{clash_of_one};
 ghost use Rattle.box_words.specs.Faults.{TellsNoPath};
@@ -42,9 +43,10 @@ fn text_at<R: Files + AllocGlobal>(rt: &R, path: &str) -> Result<String, Fault>
 }
 
 /// Makes the descriptors of ways ones that never wait.
-#[tactic(auto, unfolding(crate::specs::Named::WasGiven, crate::specs::Named::WasDenied))]
+#[tactic(auto, unfolding(crate::specs::Named::WasGiven))]
 pub(crate) fn inherited(ways: &Ways) -> Result<(), BoxFault>
-    ensures ok { OnOk result (WasGiven (descriptors ways.now)) }
+    ensures ok { OnOk result (AreUnblocked ways.now None) }
+    ensures given { OnOk result (WasGiven descriptors) }
     ensures err { IfErr result (LacksDescriptor ways.now) }
 {
     ways.inherit()?;

@@ -11,7 +11,7 @@ ghost use Rattle.boot_store.specs.Crash.{Decides, Keeps, Rises, Since};
 ghost use Rattle.settings_file.specs.Clashes.{clash_of_one};
 ghost use Rattle.gate.specs.Asked.{IsChosenBy, IsFilter, IsNotified, boot_file_of, box_ports, on_loopback, path_in};
 ghost use Rattle.box_words.specs.Deeds.{HasUnmade, made};
-ghost use Rattle.spec_step.specs.Shown.{Shown};
+ghost use Rattle.sockets.specs.Inheriting.{AreUnblocked};
 ghost use Rattle.gate.specs.Boots.{HasBoot, HasStarted, IsIdentity, IsStart, TellsNumber, boot_line};
 ghost use Rattle.box_words.specs.Faults.{IsBeforeBoot, fault_text};
 ghost use Rattle.box_words.specs.declared.refusals.BoxFault.TheVariants as faults;
@@ -19,12 +19,12 @@ ghost use Rattle.faults.specs.declared.faults.Fault.TheVariants as reasons;
 ghost use Rattle.outlets.specs.Telling.{IsToldOf};
 ghost use Rattle.gate.specs.Failing.{FailsHeard, FailsLocked, FailsLogged, FailsOpening, FailsWired, IsUnrun, IsUnstarted};
 ghost use Rattle.gate.specs.Failing.{IsUnbegun, LacksBootFile, LacksOutput};
-ghost use Rattle.gate.specs.Named.{IsNumberOf, WasGiven, WasHad, begun_capture, boot_number, capture_file, control_socket, descriptors, locked_file, own_sockets};
+ghost use Rattle.gate.specs.Named.{IsNumberOf, WasGiven, WasHad, all_sockets, begun_capture, boot_number, capture_file, control_socket, descriptors, locked_file, own_sockets};
 ghost use Rattle.gate.specs.Orders.{IsInOrder, IsInSomeOrder, IsNumbered, IsSilentOrTaken};
 ghost use Rattle.gate.specs.Served.{HadRounds, HasRun, HasServed, RunsLocked, RunsOpened, RunsWired};
 ghost use Rattle.gate.specs.Starts.{AreHeld, AreRead, Refuses};
 ghost use Rattle.gate.specs.Told.{HearsAll, HearsAny};
-ghost use Rattle.gate.specs.Wires.{IsOfSockets, IsOwnWire, RunsOn};
+ghost use Rattle.gate.specs.Wires.{IsOfSockets, IsOwnWire, RanOn, RunsOn};
 
 use crate::capturing::{CaptureAt, capture_at, tell_left_out};
 use crate::opening::{control_at, sockets_of};
@@ -189,7 +189,8 @@ where
     R::File: Blocks + Lockable + AsRawFd,
     requires found { IsTrue start.now.found → start.now.id ≡ Zero }
     requires read { AreRead start.now settings.now ways.now }
-    requires inherited { WasGiven (descriptors ways.now) }
+    requires inherited { AreUnblocked ways.now None }
+    requires asked { WasGiven descriptors }
     ensures ok { OnOk result (HasServed start.now
         (O.contents output.old) (O.contents output.new)) }
     ensures err { IfErr result (Refuses start.now) }
@@ -216,6 +217,7 @@ fn locked<R: Files + Net + Clock + RandomSource + Eprint + Env + Input + AllocGl
 where
     R::File: Blocks + Lockable + AsRawFd,
     requires found { IsTrue start.now.found → start.now.id ≡ Zero }
+    requires inherited { WasGiven descriptors }
     requires no_clash { clash_of_one settings.now start.now.id (on_loopback ways.now) ≡ None }
     requires notified { IsNotified start.now.notify manager.old }
     requires beside { IsBeside (boot_file_of settings.now start.now.id) path.now }
@@ -241,7 +243,7 @@ struct LockedFile<'a, F> {
     disk: FileDisk<F>,
 }
 
-/// Opens and locks the boot file at a path.
+/// Opens and locks the boot file at a path, once descriptors were inherited: it could be taken for one of them.
 #[tactic(auto, unfolding(crate::specs::Named::WasGiven, crate::specs::Named::WasHad, crate::specs::Named::WasDenied))]
 fn locked_at<'a, R: Files + AllocGlobal>(
     rt: &R,
@@ -249,6 +251,7 @@ fn locked_at<'a, R: Files + AllocGlobal>(
 ) -> Result<LockedFile<'a, R::File>, BoxFault>
 where
     R::File: Blocks + Lockable,
+    requires inherited { WasGiven descriptors }
     ensures given { OnOk result (WasGiven (locked_file path.now)) }
     ensures had { IfOk result (λ file. WasHad (locked_file path.now) file.disk) }
     ensures locked { IfOk result (λ file. ⟦<R::File as Lockable>⟧.locked file.disk.file) }
@@ -364,6 +367,7 @@ where
     requires notified { IsNotified start.now.notify manager.old }
     requires had { WasHad (locked_file (boot_file_of settings.now start.now.id)) disk.old }
     requires opened { Opens ways.now (box_ports settings.now start.now.id) wire.board }
+    requires wired { WasGiven all_sockets }
     requires wire { WasHad (own_sockets ways.now (box_ports settings.now start.now.id)) wire }
     ensures ok { OnOk result (HasRun settings.now start.now
         (O.contents output.old) (O.contents output.new)) }
@@ -414,6 +418,7 @@ where
     requires valid { IsFilter start.now.log }
     requires had { WasHad (locked_file (boot_file_of settings.now start.now.id)) disk.old }
     requires own { IsOfSockets settings.now start.now.id wire }
+    requires wired { WasGiven all_sockets }
     requires chosen { IfSome (L.passes log.now) (IsChosenBy start.now.log) }
     requires format { L.writes log.now ≡ Some start.now.format }
     ensures ok { OnOk result (HasRun settings.now start.now
@@ -513,8 +518,8 @@ where
     requires own { IsOfSockets settings.now start.now.id wire }
     requires identity { IsIdentity settings.now start.now.id identity gateway.old }
     requires had { WasHad (capture_file capture.path.now) capture.file }
-    ensures rounds { OnOk result (HadRounds start.now.rounds start.now.track start.now.until_eof
-        gateway.old gateway.new) }
+    ensures rounds { OnOk result (HadRounds identity start.now.rounds start.now.track
+        start.now.until_eof gateway.old gateway.new) }
     ensures ended { OnOk result
         (Appends (O.contents output.old) (O.contents output.new) (codes "end\n")) }
     ensures begun { OnOk result (WasGiven (begun_capture capture.entry.path.now)) }
@@ -552,8 +557,7 @@ fn run<R: Clock + RandomSource + Input + AllocGlobal, D: Disk, W: Wire, O: Write
     requires own { IsOfSockets settings.now start.now.id wire.old }
     ensures ok { OnOk result (HasRun settings.now start.now
         (O.contents output.old) (O.contents output.new)) }
-    ensures ran { OnOk result ((first : Shown) × ((last : Shown) × RunsOn W.does start.now.rounds
-        start.now.track start.now.until_eof first last wire.old wire.new)) }
+    ensures ran { OnOk result (RanOn W.does settings.now start.now wire.old wire.new) }
     ensures err { IfErr result IsUnstarted }
     ensures decided { D.honest disk.old
         → OnOk result (IsNumbered start.now.found (D.now disk.old) (D.now disk.new)) }
@@ -595,9 +599,9 @@ fn rounds_of<R: Clock + Input + AllocGlobal, W: Wire, O: Write, L: Journal>(
     requires notified { IsNotified start.now.notify manager.old }
     requires own { IsOwnWire (path_in start.now.capture) settings.now start.now.id wire.old }
     requires identity { IsIdentity settings.now start.now.id identity gateway.old }
-    ensures runs { RunsOn W.does start.now.rounds start.now.track start.now.until_eof
-        gateway.old gateway.new wire.old wire.new }
-    ensures rounds { HadRounds start.now.rounds start.now.track start.now.until_eof
+    ensures runs { RunsOn W.does identity start.now.rounds start.now.track
+        start.now.until_eof gateway.old gateway.new wire.old wire.new }
+    ensures rounds { HadRounds identity start.now.rounds start.now.track start.now.until_eof
         gateway.old gateway.new }
     ensures ended { OnOk result
         (Appends (O.contents output.old) (O.contents output.new) (codes "end\n")) }
@@ -729,8 +733,8 @@ fn numbered<D: Disk>(disk: &mut D, found: bool) -> Result<u64, BoxFault>
     ensures own_number { OnOk result (IsNumberOf disk.old) }
     ensures above_zero { IfOk result (λ boot. 0 < boot) }
     ensures err { IfErr result IsUnstarted }
-    ensures told { D.honest disk.old
-        → IfErr result (TellsNumber found (D.now disk.old) (D.now disk.new)) }
+    ensures told { D.honest disk.old → IfErr result (TellsNumber found (D.failures disk.old)
+        (D.failures disk.new) (D.now disk.old) (D.now disk.new)) }
     ensures rises { D.honest disk.old
         → IfOk result (λ boot. Rises (D.now disk.old) (D.now disk.new) (Ok boot)) }
     ensures decided { D.honest disk.old

@@ -6,7 +6,7 @@ use Rattle.gate.proofs.running.run.Goals as goal
 
 pub returns-clause-ok : goal.returns-clause-ok
 returns-clause-ok g c =
-    has_run c.rounds_of-ended.result c.args.settings.now c.args.start.now _ _ _ _ _ c.in_ok-identity.ensures.start
+    has_run c.rounds_of-ended.result c.args.settings.now c.args.start.now _ _ _ _ _ _ c.in_ok-identity.ensures.start c.in_ok-identity.ensures.identity
     c.rounds_of-ended.ensures.rounds c.rounds_of-ended.ensures.ended (c.in_ok-identity.ensures.own_number _ c.requires.had)
     (_, c.requires.notified) c.requires.valid c.requires.uncaptured
 
@@ -29,4 +29,4 @@ returns-in_err-identity-clause-order g c =
     (with_capture g.O.Write.contents _ _ _ _ _ _ _ _ c.in_err-identity.ensures.order)
 
 pub returns-clause-ran : goal.returns-clause-ran
-returns-clause-ran g c = always c.rounds_of-ended.result _ (_, (_, c.rounds_of-ended.ensures.runs))
+returns-clause-ran g c = always c.rounds_of-ended.result _ (_, (_, (_, (c.in_ok-identity.ensures.identity, c.rounds_of-ended.ensures.runs))))

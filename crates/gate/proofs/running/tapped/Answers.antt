@@ -8,7 +8,7 @@ use Rattle.gate.proofs.running.tapped.Goals as goal
 
 pub returns-clause-ok : goal.returns-clause-ok
 returns-clause-ok g c =
-    had_run c.tapped_rounds-ended.result c.args.settings.now c.args.start.now c.args.capture.path.now _ _ _ _ _ c.in_ok-identity.ensures.start
+    had_run c.tapped_rounds-ended.result c.args.settings.now c.args.start.now c.args.capture.path.now _ _ _ _ _ _ c.in_ok-identity.ensures.start c.in_ok-identity.ensures.identity
     c.tapped_rounds-ended.ensures.rounds c.tapped_rounds-ended.ensures.ended
     (c.in_ok-identity.ensures.own_number _ c.requires.had) (_, c.requires.notified) c.requires.valid
     c.requires.captured c.tapped_rounds-ended.ensures.begun
