@@ -3,3 +3,4 @@ mod Looping
 mod Telling
 mod Stopping
 mod Taping
+mod Holding

@@ -22,7 +22,7 @@ use Rattle.frame_sim.specs.Texts.{world_lines}
 use Rattle.loopback_run.specs.Runs.{HasTurned}
 use Rattle.loopback_run.specs.Texts.{loop_lines, turn_lines, turns_lines}
 use Rattle.loopback_run.specs.Turns.{Passes, of_port}
-use Rattle.loopback_run.specs.Stops.{Contents, HaveBegun, HaveBroken, HaveEnded, IsRefused, IsStopped, Leaves, Opens, Refuses, StopsLoop}
+use Rattle.loopback_run.specs.Stops.{Contents, HaveBegun, HaveBroken, HaveEnded, IsRefused, IsStopped, Leaves, Opens, Refuses, StopsLoop, Untouched}
 use Rattle.loopback_run.specs.Tapes.{BreaksOff, IsTapedUntil, StopsTaped, StopsTapedLoop, StopsTapedScript, TapedBroken, TapedEnded, TapedTurns}
 use Rattle.loopback_run.proofs.Taping.{turns_of}
 
@@ -176,9 +176,9 @@ leaves_stopped opens refuses passes contents text script before after output pri
 leaves_stopped opens refuses passes contents text script before after output printed (NoSocket port) h = absurd h.stopped
 
 -- and what it leaves of the tape
-module _ {P T O : Type 0} (opens : Opens P) (passes : Passes P) (takes refuses : TakesOn T) (contents : Contents O) (text script : List ℕ) (before after : P) (output printed : O) where
+module _ {P T O : Type 0} (opens : Opens P) (unopens : Refuses P) (passes : Passes P) (takes refuses : TakesOn T) (contents : Contents O) (text script : List ℕ) (before after : P) (output printed : O) where
   pub taped_until : (t t2 : T) (fault : Fault) → IsTapedUntil opens passes takes refuses contents text script before after t t2 output printed fault
-      → StopsTapedScript opens passes takes refuses contents text script before after t t2 output printed fault
+      → StopsTapedScript opens unopens passes takes refuses contents text script before after t t2 output printed fault
   taped_until t t2 NotWritten h = h
   taped_until t t2 NoMemory h = inr h
   taped_until t t2 Words h = absurd h.stopped
@@ -189,19 +189,21 @@ module _ {P T O : Type 0} (opens : Opens P) (passes : Passes P) (takes refuses :
   taped_until t t2 (NoSocket port) h = absurd h.stopped
 
   -- it isn't asked for anything before the first event
-  pub never_asked : (t : T) (fault : Fault) → fault ≢ NotWritten → StopsTapedScript opens passes takes refuses contents text script before after t t output printed fault
-  never_asked t NotWritten read = absurd (read refl)
-  never_asked t NoMemory read = inl refl
-  never_asked t Words read = refl
-  never_asked t (Setting fault) read = refl
-  never_asked t (BadLine n) read = refl
-  never_asked t (File fault) read = refl
-  never_asked t NotText read = refl
-  never_asked t (NoSocket port) read = refl
+  pub never_asked : (t : T) (fault : Fault) → fault ≢ NotWritten → Untouched before after output printed
+      → StopsTapedScript opens unopens passes takes refuses contents text script before after t t output printed fault
+  never_asked t NotWritten read same = absurd (read refl)
+  never_asked t NoMemory read same = inl (refl, inl same)
+  never_asked t Words read same = refl
+  never_asked t (Setting fault) read same = refl
+  never_asked t (BadLine n) read same = refl
+  never_asked t (File fault) read same = refl
+  never_asked t NotText read same = refl
+  never_asked t (NoSocket port) read same = refl
 
-  pub never_asked_unopened : (t : T) (fault : PortFault) → StopsTapedScript opens passes takes refuses contents text script before after t t output printed (of_port fault)
-  never_asked_unopened t (ports.NoPort port) = refl
-  never_asked_unopened t ports.NoMemory = inl refl
+  pub never_asked_unopened : (t : T) (want : PortFault) → IsRefused unopens text script before after output printed want
+      → StopsTapedScript opens unopens passes takes refuses contents text script before after t t output printed (of_port want)
+  never_asked_unopened t (ports.NoPort port) h = refl
+  never_asked_unopened t ports.NoMemory h = inl (refl, inr h)
 
 -- a fault's status is none of a run's
 pub isnt_1 : {A : Type 0} (n : ℕ) → n ≡ 1 → (n ≡ 0) ⊎ (n ≡ 3) → A

@@ -7,4 +7,5 @@ pub mod Tapes
 pub mod Parcels
 pub mod Standings
 pub mod Held
+pub mod Binding
 pub mod Holds

@@ -13,7 +13,8 @@ use Rattle.frame_sim.specs.declared.events.Step.{Step}
 use Rattle.frame_sim.specs.Texts.{world_lines}
 use Rattle.frame_sim.specs.World.{World, founding}
 use Rattle.frame_sim.specs.Tapes.{TakesOn}
-use Rattle.loopback_run.specs.Stops.{Contents, HoldJob, Opens, Untouched}
+use Rattle.loopback_run.specs.declared.ports.PortFault.TheVariants as ports
+use Rattle.loopback_run.specs.Stops.{Contents, HoldJob, IsRefused, Opens, Refuses, Untouched}
 use Rattle.loopback_run.specs.Texts.{counts_through, turn_lines, turns_lines}
 use Rattle.loopback_run.specs.Turns.{IsTurn, Passes, Turn, step_of}
 
@@ -118,11 +119,18 @@ pub record IsTapedUntil {P T O : Type 0} (opens : Opens P) (passes : Passes P) (
   pub opened : opens before texts.job.settings open_passage
   pub stopped : StopsTapedLoop passes takes refuses contents texts.job.settings texts.job.events.items open_passage after t t2 output printed fault
 
+-- for want of memory the run hasn't begun: the tape was asked for nothing; nothing is touched, or the passage was refused its ports
+-- for this
+abbrev pub IsUnbegun : {P T O : Type 0} → Refuses P → List ℕ → List ℕ → P → P → T → T → O → O → Type 0
+IsUnbegun unopens text script before after t t2 output printed = (t2 ≡ t)
+    × (Untouched before after output printed ⊎ IsRefused unopens text script before after output printed ports.NoMemory)
+
 -- what a fault leaves of a tape: refused output, or a refused tape, a run that has begun; memory may be wanted before it, too; and
 -- for other faults it is asked for nothing
-abbrev pub StopsTapedScript : {P T O : Type 0} → Opens P → Passes P → TakesOn T → TakesOn T → Contents O → List ℕ → List ℕ → P → P → T → T → O → O → Fault → Type 0
-StopsTapedScript opens passes takes refuses contents text script before after t t2 output printed NotWritten =
+abbrev pub StopsTapedScript : {P T O : Type 0} → Opens P → Refuses P → Passes P → TakesOn T → TakesOn T → Contents O → List ℕ → List ℕ → P → P → T → T → O → O → Fault → Type 0
+StopsTapedScript opens unopens passes takes refuses contents text script before after t t2 output printed NotWritten =
     IsTapedUntil opens passes takes refuses contents text script before after t t2 output printed NotWritten
-StopsTapedScript opens passes takes refuses contents text script before after t t2 output printed NoMemory =
-    (t2 ≡ t) ⊎ IsTapedUntil opens passes takes refuses contents text script before after t t2 output printed NoMemory
-StopsTapedScript opens passes takes refuses contents text script before after t t2 output printed others = t2 ≡ t
+StopsTapedScript opens unopens passes takes refuses contents text script before after t t2 output printed NoMemory =
+    IsUnbegun unopens text script before after t t2 output printed
+    ⊎ IsTapedUntil opens passes takes refuses contents text script before after t t2 output printed NoMemory
+StopsTapedScript opens unopens passes takes refuses contents text script before after t t2 output printed others = t2 ≡ t

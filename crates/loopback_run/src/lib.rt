@@ -1,12 +1,14 @@
 //! Runs a script whose frames and datagrams are first sent through a passage.
 #![tactic(auto)]
 
+mod carriers;
 mod loopback;
 mod passage;
 mod ports;
 mod turns;
 
-pub use loopback::{LIMIT, Loopback};
+pub use carriers::LIMIT;
+pub use loopback::Loopback;
 pub use passage::{Channel, Passed};
 pub use ports::PortFault;
 pub use turns::{loop_captured, loop_script, play, run_loop};

@@ -1,130 +1,77 @@
 //! A passage through UDP sockets on the loopback address.
-ghost use Rattle.std.specs.Prelude.{◌≡◌, ◌≤◌, IfOk, IfSome};
-ghost use Rattle.settings.specs.declared.gateway_settings.GatewaySettings.{GatewaySettings as OwnSettings};
-ghost use Rattle.settings.specs.declared.whole.Settings.{Settings as PairSettings};
-ghost use Rattle.loopback_run.specs.Held.{AreOf, AreOfBoth, AreSameBut, AreSameButOf};
+ghost use Rattle.std.specs.Prelude.{◌≡◌, IfOk};
+ghost use Rattle.loopback_run.specs.Held.{AreOf, AreOfBoth, AsksOne, AsksOneOf, AsksPort};
+ghost use Rattle.loopback_run.specs.Binding.{BindsBoth, BindsPort, BindsPorts};
 
+use crate::carriers::{Binds, Carries, SystemBinds, SystemCarries, Unbound};
 use crate::{Channel, Passed, PortFault};
-use mio::net::UdpSocket;
-use mio::{Events, Interest, Poll, Token};
 use nat_types::{GatewayId, Side};
 use settings::{GatewaySettings, Settings};
-use sockets::{LONGEST, Place};
-use std::alloc::Global;
-use std::io::{self, ErrorKind};
+use sockets::Place;
 use std::marker::Model;
-use std::net::{Ipv4Addr, Net, SocketAddr, SocketAddrV4};
+use std::net::Net;
 use std::rt::Clock;
 use std::snapshot::Snapshot;
-use std::time::{Duration, Instant};
 
-/// How long what was sent is waited for, in milliseconds.
-pub const LIMIT: u64 = 1_000;
-
-/// A socket that sends to itself, and never waits but in a poll.
+/// A port that sends to itself: its number, and what carries its bytes.
 #[derive(Drop)]
-struct Port {
-    socket: UdpSocket,
+struct Port<S> {
     number: u16,
-    poll: Poll,
-    events: Events,
+    carrier: S,
 }
 
-/// The address of a port of this number.
-fn address_of(number: u16) -> SocketAddr {
-    SocketAddr::V4(SocketAddrV4::new(Ipv4Addr::LOCALHOST, number))
-}
-
-impl Port {
-    fn bind<R: Net>(net: &R, alloc: Global, number: u16) -> Result<Port, PortFault>
-        ensures { IfOk result (λ port. port.number ≡ number) }
+impl<S> Port<S> {
+    /// The port of this number. Where it isn't had, it is the one that is named.
+    fn bind<B: Binds<S>>(system: &mut B, number: u16) -> Result<Port<S>, PortFault>
+        ensures number { IfOk result (λ port. port.number ≡ number) }
+        ensures bound { BindsPort B.binds number system.old result system.new }
     {
-        let Ok(events) = Events::with_capacity(alloc, 1) else {
-            return Err(PortFault::NoMemory);
-        };
-        match Port::open(net, events, number) {
-            Ok(port) => Ok(port),
-            Err(_) => Err(PortFault::NoPort(number)),
+        match system.bind(number) {
+            Ok(carrier) => Ok(Port { number, carrier }),
+            Err(Unbound::NoSocket) => Err(PortFault::NoPort(number)),
+            Err(Unbound::NoMemory) => Err(PortFault::NoMemory),
         }
     }
+}
 
-    fn open<R: Net>(net: &R, events: Events<Global>, number: u16) -> io::Result<Port>
-        ensures { IfOk result (λ port. port.number ≡ number) }
-    {
-        let mut port = Port {
-            socket: UdpSocket::bind(net, address_of(number))?,
-            number,
-            poll: Poll::new(net)?,
-            events,
-        };
-        let registry = port.poll.registry();
-        registry.register(&mut port.socket, Token(0), Interest::READABLE)?;
-        Ok(port)
-    }
-
-    /// Sends bytes, and says whether just these came. A send, a receive or a clock that fails loses them.
+impl<S: Carries> Port<S> {
+    /// Sends bytes to itself, once, and says whether just these came.
     fn pass<R: Clock>(&mut self, clock: &R, bytes: &[u8]) -> Passed
-        ensures { self.new.number ≡ self.old.number }
+        ensures { AsksPort S.asks bytes.now result self.old self.new }
     {
-        self.try_pass(clock, bytes).unwrap_or(Passed::Lost)
-    }
-
-    /// Sends bytes, and waits until they come or the time is over. What else comes is ignored.
-    fn try_pass<R: Clock>(&mut self, clock: &R, bytes: &[u8]) -> io::Result<Passed>
-        ensures { self.new.number ≡ self.old.number }
-    {
-        let limit = Duration::from_millis(LIMIT);
-        let start = Instant::now(clock)?;
-        self.socket.send_to(bytes, address_of(self.number))?;
-        let mut room = [0; LONGEST];
-        for _ in 0..u64::MAX {
-            let Some(left) = limit.checked_sub(start.elapsed(clock)?) else {
-                break;
-            };
-            match self.next(&mut room)? {
-                Some(count) if &room[..count] == bytes => return Ok(Passed::Received),
-                Some(_) => {}
-                None => self.poll.poll(&mut self.events, Some(left))?,
-            }
-        }
-        Ok(Passed::Lost)
-    }
-
-    /// The next datagram that is there, if one is.
-    fn next(&self, room: &mut [u8; LONGEST]) -> io::Result<Option<usize>>
-        ensures { IfOk result (λ found. IfSome found (λ count. count ≤ 4096)) }
-    {
-        match self.socket.recv_from(room) {
-            Ok((count, _)) => Ok(Some(count)),
-            Err(error) if error.kind() == ErrorKind::WouldBlock => Ok(None),
-            Err(error) => Err(error),
-        }
+        self.carrier.carry(clock, self.number, bytes)
     }
 }
 
 /// The three ports of a gateway.
 #[derive(Drop)]
-struct Ports {
-    link: Port,
-    inside: Port,
-    outside: Port,
+struct Ports<S> {
+    link: Port<S>,
+    inside: Port<S>,
+    outside: Port<S>,
 }
 
-impl Ports {
-    fn bind<R: Net>(net: &R, alloc: Global, own: &GatewaySettings) -> Result<Ports, PortFault>
-        ensures { IfOk result (AreOf own.now) }
+impl<S: Drop> Ports<S> {
+    /// Those of a gateway's settings, one after the other up to the first that isn't had.
+    fn bind<B: Binds<S>>(system: &mut B, own: &GatewaySettings) -> Result<Ports<S>, PortFault>
+        ensures numbers { IfOk result (AreOf own.now) }
+        ensures bound { BindsPorts B.binds own.now system.old result system.new }
     {
+        let link = Port::bind(system, own.link)?;
+        let inside = Port::bind(system, own.inside_port)?;
+        let outside = Port::bind(system, own.outside_port)?;
         Ok(Ports {
-            link: Port::bind(net, alloc, own.link)?,
-            inside: Port::bind(net, alloc, own.inside_port)?,
-            outside: Port::bind(net, alloc, own.outside_port)?,
+            link,
+            inside,
+            outside,
         })
     }
+}
 
-    /// Sends bytes through the port of a place, and through no other; the operator's has none, and loses them.
+impl<S: Carries> Ports<S> {
+    /// Sends bytes through the port of a place, once, and through no other; the operator's has none, and loses them.
     fn pass<R: Clock>(&mut self, clock: &R, place: Place, bytes: &[u8]) -> Passed
-        ensures only { AreSameBut place self.old self.new }
-        ensures numbers { (own : OwnSettings) → AreOf own self.old → AreOf own self.new }
+        ensures { AsksOne S.asks place bytes.now result self.old self.new }
     {
         match place {
             Place::Link => self.link.pass(clock, bytes),
@@ -137,26 +84,27 @@ impl Ports {
 
 /// The ports of both gateways.
 #[derive(Drop)]
-struct Both {
-    zero: Ports,
-    one: Ports,
+struct Both<S> {
+    zero: Ports<S>,
+    one: Ports<S>,
 }
 
-impl Both {
-    fn bind<R: Net>(net: &R, alloc: Global, settings: &Settings) -> Result<Both, PortFault>
-        ensures { IfOk result (AreOfBoth settings.now) }
+impl<S: Drop> Both<S> {
+    /// Those of both gateways' settings, gateway 0's first, up to the first that isn't had.
+    fn bind<B: Binds<S>>(system: &mut B, settings: &Settings) -> Result<Both<S>, PortFault>
+        ensures numbers { IfOk result (AreOfBoth settings.now) }
+        ensures bound { BindsBoth B.binds settings.now system.old result system.new }
     {
-        Ok(Both {
-            zero: Ports::bind(net, alloc, settings.gateway(GatewayId::Zero))?,
-            one: Ports::bind(net, alloc, settings.gateway(GatewayId::One))?,
-        })
+        let zero = Ports::bind(system, settings.gateway(GatewayId::Zero))?;
+        let one = Ports::bind(system, settings.gateway(GatewayId::One))?;
+        Ok(Both { zero, one })
     }
+}
 
-    /// Sends bytes through the port of a gateway's place, and through no other.
+impl<S: Carries> Both<S> {
+    /// Sends bytes through the port of a gateway's place, once, and through no other.
     fn pass<R: Clock>(&mut self, clock: &R, id: GatewayId, place: Place, bytes: &[u8]) -> Passed
-        ensures only { AreSameButOf id place self.old self.new }
-        ensures numbers { (pair : PairSettings)
-            → AreOfBoth pair self.old → AreOfBoth pair self.new }
+        ensures { AsksOneOf S.asks id place bytes.now result self.old self.new }
     {
         match id {
             GatewayId::Zero => self.zero.pass(clock, place, bytes),
@@ -167,16 +115,16 @@ impl Both {
 
 /// The ports of both gateways, by these settings.
 #[derive(Drop)]
-struct BoundPorts {
-    both: Both,
+struct BoundPorts<S> {
+    both: Both<S>,
     settings: Snapshot<Settings>,
     ghost numbered: { AreOfBoth settings.value both },
 }
 
-impl BoundPorts {
-    /// Sends bytes through the port of a gateway's place, and through no other.
+impl<S: Carries> BoundPorts<S> {
+    /// Sends bytes through the port of a gateway's place, once, and through no other.
     fn pass<R: Clock>(&mut self, clock: &R, id: GatewayId, place: Place, bytes: &[u8]) -> Passed
-        ensures only { AreSameButOf id place self.old.both self.new.both }
+        ensures asked { AsksOneOf S.asks id place bytes.now result self.old.both self.new.both }
         ensures settings { self.new.settings.value ≡ self.old.settings.value }
     {
         self.both.pass(clock, id, place, bytes)
@@ -188,7 +136,7 @@ impl BoundPorts {
 enum Hold {
     Unasked,
     /// They are had.
-    Bound(BoundPorts),
+    Bound(BoundPorts<SystemCarries>),
     Refused(PortFault),
 }
 
@@ -229,11 +177,11 @@ impl<R: Net + Clock + AllocGlobal> Channel for Loopback<'_, R> {
 
     ghost refuses = { λ _ _ fault after. after ≡ refused fault };
 
-    ghost passes = { λ before _ fate after. MayBe before fate × (after ≡ before) };
+    ghost passes = { λ before parcel fate after. MayBe before parcel fate × (after ≡ before) };
 
     /// After an Err it has no ports, also where it had some before.
     fn open(&mut self, settings: &Settings) -> Result<(), PortFault> {
-        match Both::bind(self.rt, self.rt.alloc(), settings) {
+        match Both::bind(&mut SystemBinds(self.rt), settings) {
             Ok(both) => {
                 let settings = Snapshot::of(settings);
                 self.hold = Hold::Bound(BoundPorts { both, settings });

@@ -114,8 +114,8 @@ pub fn loop_captured<P: Channel, T: Tape, O: Write>(
         → Untouched passage.old passage.new output.old output.new }
     ensures taped { OnOk result (TapesScript P.opens P.passes T.takes settings.now script.now
         passage.old passage.new tape.old tape.new) }
-    ensures broken { IfErr result (StopsTapedScript P.opens P.passes T.takes T.refuses O.contents
-        settings.now script.now passage.old passage.new tape.old tape.new
+    ensures broken { IfErr result (StopsTapedScript P.opens P.refuses P.passes T.takes T.refuses
+        O.contents settings.now script.now passage.old passage.new tape.old tape.new
         output.old output.new) }
 {
     let job = job_of(alloc, settings, script)?;

@@ -64,10 +64,14 @@ returns-in-Ok-clause-taped g c = when_done c.play.result (λ h. record {
 }) c.play.ensures.taped
 
 pub returns-clause-broken : goal.returns-clause-broken
-returns-clause-broken g c = rw c.of_port.ensures (never_asked_unopened _ _ _ _ _ _ _ _ _ _ _ _ c.in-Err.fault)
+returns-clause-broken g c = rw c.of_port.ensures (never_asked_unopened _ _ _ _ _ _ _ _ _ _ _ _ _ c.in-Err.fault (record {
+  texts = record { job = c.in_ok-job.job; is = c.in_ok-job.ensures.job; good = c.in_ok-job.ensures.good; apart = sym c.in_default.ensures };
+  refused = c.in-Err.ensures.refuses;
+  unwritten = refl;
+}))
 
 pub returns-in-Ok-clause-broken : goal.returns-in-Ok-clause-broken
-returns-in-Ok-clause-broken g c = in_err c.play.result (λ e h. taped_until _ _ _ _ _ _ _ _ _ _ _ _ _ e (record {
+returns-in-Ok-clause-broken g c = in_err c.play.result (λ e h. taped_until _ _ _ _ _ _ _ _ _ _ _ _ _ _ e (record {
   texts = record { job = c.in_ok-job.job; is = c.in_ok-job.ensures.job; good = c.in_ok-job.ensures.good; apart = sym c.in_default.ensures };
   open_passage = c.open.new.self;
   opened = c.in-Ok.ensures.opens;

@@ -1,0 +1,48 @@
+-- Ports keep their numbers, whichever of them is asked.
+use Rattle.std.proofs.Common.{◌≡◌, ◌∙◌, ℕ, List, ap, subst, sym}
+use Rattle.nat_types.specs.declared.gateways.GatewayId.{GatewayId}
+use Rattle.nat_types.specs.declared.gateways.GatewayId.TheVariants.{Zero, One}
+use Rattle.nat_types.specs.declared.gateways.Side.TheVariants.{Inside, Outside}
+use Rattle.settings.specs.declared.gateway_settings.GatewaySettings.{GatewaySettings}
+use Rattle.settings.specs.declared.whole.Settings.{Settings}
+use Rattle.sockets.specs.declared.places.Place.{Place}
+use Rattle.sockets.specs.declared.places.Place.TheVariants.{Link, Side, Operator}
+use Rattle.loopback_run.specs.declared.loopback.Port.{Port}
+use Rattle.loopback_run.specs.declared.loopback.Ports.{Ports}
+use Rattle.loopback_run.specs.declared.loopback.Both.{Both}
+use Rattle.loopback_run.specs.declared.passage.Passed.{Passed}
+use Rattle.loopback_run.specs.Held.{AreOf, AreOfBoth, Asks, AsksOne, AsksOneOf}
+
+-- a port that is what it was has the number that it had
+same : {S : Type 0} (old new : Port S) (n : ℕ) → new ≡ old → old.number ≡ n → new.number ≡ n
+same old new n is had = ap (λ (port : Port _). port.number) is ∙ had
+
+kept : {S : Type 0} (asks : Asks S) (own : GatewaySettings) (place : Place) (bytes : List ℕ) (fate : Passed) (old new : Ports S)
+    → AsksOne asks place bytes fate old new → AreOf own old → AreOf own new
+kept asks own Link bytes fate old new h are = record {
+  link = h.0.1 ∙ are.link;
+  inside = same old.inside new.inside own.inside_port h.1.0 are.inside;
+  outside = same old.outside new.outside own.outside_port h.1.1 are.outside;
+}
+kept asks own (Side Inside) bytes fate old new h are = record {
+  link = same old.link new.link own.link h.1.0 are.link;
+  inside = h.0.1 ∙ are.inside;
+  outside = same old.outside new.outside own.outside_port h.1.1 are.outside;
+}
+kept asks own (Side Outside) bytes fate old new h are = record {
+  link = same old.link new.link own.link h.1.0 are.link;
+  inside = same old.inside new.inside own.inside_port h.1.1 are.inside;
+  outside = h.0.1 ∙ are.outside;
+}
+kept asks own Operator bytes fate old new h are = subst (λ (ports : Ports _). AreOf own ports) (sym h.1) are
+
+pub kept_by_both : {S : Type 0} (asks : Asks S) (settings : Settings) (id : GatewayId) (place : Place) (bytes : List ℕ) (fate : Passed) (old new : Both S)
+    → AsksOneOf asks id place bytes fate old new → AreOfBoth settings old → AreOfBoth settings new
+kept_by_both asks settings Zero place bytes fate old new h are = record {
+  zero = kept asks settings.zero place bytes fate old.zero new.zero h.0 are.zero;
+  one = subst (λ (ports : Ports _). AreOf settings.one ports) (sym h.1) are.one;
+}
+kept_by_both asks settings One place bytes fate old new h are = record {
+  zero = subst (λ (ports : Ports _). AreOf settings.zero ports) (sym h.1) are.zero;
+  one = kept asks settings.one place bytes fate old.one new.one h.0 are.one;
+}
