@@ -114,3 +114,8 @@ ended_lines tells text P Q before after answer (inl none) quiet failed from =
 ended_lines tells text P Q before after answer (inr one) quiet failed from =
     let l = fault_lines tells text P Q before after [] (failed one) from in
     (l.0, l.1, λ none. absurd (let bad : 1 ≡ 0 = sym one ∙ none in cc), λ is. l.2)
+
+-- of two each leads to its own
+pub each_of : {A B C D : Type 0} → A ⊎ B → (A → C) → (B → D) → C ⊎ D
+each_of (inl a) f g = inl (f a)
+each_of (inr b) f g = inr (g b)

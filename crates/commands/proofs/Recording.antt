@@ -11,12 +11,11 @@ use Rattle.frame_sim.specs.Tapes.{TakesOn}
 use Rattle.frame_sim.specs.World.{founding}
 use Rattle.simulation.specs.Tapes.{IsTapedRun, StopsTaped}
 use Rattle.loopback_run.specs.Loops.{IsLoop}
-use Rattle.loopback_run.specs.Standings.{Standing, unasked}
+use Rattle.loopback_run.specs.Stops.{Opens}
 use Rattle.loopback_run.specs.Tapes.{IsTapedLoop, StopsTapedLoop}
-use Rattle.commands.specs.Captures.{IsCaptured, IsClosed, IsHeldBy, IsLoopCaptured, IsOfEvents, TapesSim, TapesSockets}
-use Rattle.commands.specs.Ends.{has_ports, may_pass}
+use Rattle.loopback_run.specs.Turns.{Passes}
+use Rattle.commands.specs.Captures.{IsCaptured, IsClosed, IsHeldBy, IsLoopCaptured, IsOfEvents, TapesPassed, TapesSim}
 use Rattle.commands.specs.Hosts.{Begins, Closes, Written}
-use Rattle.commands.proofs.Passing.{has_loop}
 use Rattle.commands.proofs.Statuses.{isnt_1}
 
 -- a run that ends well has ended its tape
@@ -44,35 +43,25 @@ tapes_sim (Err why) takes refuses contents text script job first last output pri
 tapes_sim (Err why) takes refuses contents text script job first last output printed held taped events (inr stopped) =
     (events, inr (job, (held, stopped)))
 
--- the same through sockets
-pub tapes_sockets : {T O : Type 0} (r : Result ℕ Fault) (takes refuses : TakesOn T) (contents : O → Option (List ℕ)) (text script : List ℕ) (job : Job)
-    (before between after : Standing) (first last : T) (output printed : O) → before ≡ unasked → IsHeldBy text script job
-    → IsJobOf text script job → clash_of_both job.settings ≡ None → has_ports before job.settings between
-    → IfOk r (IsLoop may_pass job.settings job.events.items between after (contents output) (contents printed))
-    → OnOk r (IsTapedLoop may_pass takes job.settings job.events.items between after first last)
-    → IfErr r (StopsTapedLoop may_pass takes refuses contents job.settings job.events.items between after first last output printed)
-    → TapesSockets takes refuses contents text script r first last output printed
-tapes_sockets (Ok status) takes refuses contents text script job before between after first last output printed new texts held apart opened looped taped stopped = (
-  has_loop text script before after (contents output) (contents printed) status new (record {
-    job = job;
-    is = held;
-    apart = apart;
-    open_passage = between;
-    opened = opened;
-    run = looped;
-  }),
-  (after, record { job = job; is = held; open_passage = between; opened = opened; taped = taped }),
+-- the same through a passage that has its ports
+pub tapes_passed : {P T O : Type 0} (r : Result ℕ Fault) (opens : Opens P) (passes : Passes P) (takes refuses : TakesOn T) (contents : O → Option (List ℕ))
+    (text script : List ℕ) (job : Job) (before between after : P) (first last : T) (output printed : O) → IsHeldBy text script job
+    → IsJobOf text script job → clash_of_both job.settings ≡ None → opens before job.settings between
+    → IfOk r (IsLoop passes job.settings job.events.items between after (contents output) (contents printed))
+    → OnOk r (IsTapedLoop passes takes job.settings job.events.items between after first last)
+    → IfErr r (StopsTapedLoop passes takes refuses contents job.settings job.events.items between after first last output printed)
+    → TapesPassed opens passes before after takes refuses contents text script r first last output printed
+tapes_passed (Ok status) opens passes takes refuses contents text script job before between after first last output printed texts held apart opened looped taped stopped = (
+  record { job = job; is = held; apart = apart; open_passage = between; opened = opened; run = looped },
+  record { job = job; is = held; open_passage = between; opened = opened; taped = taped },
 )
-tapes_sockets (Err why) takes refuses contents text script job before between after first last output printed new texts held apart opened looped taped stopped = (
-  after,
-  record {
-    texts = texts.0;
-    open_passage = between;
-    opened = subst (λ (j : Job). has_ports unasked j.settings between) (sym texts.1) opened;
-    stopped = subst (λ (j : Job). StopsTapedLoop may_pass takes refuses contents j.settings j.events.items between after first last output printed why)
-        (sym texts.1) stopped;
-  },
-)
+tapes_passed (Err why) opens passes takes refuses contents text script job before between after first last output printed texts held apart opened looped taped stopped = record {
+  texts = texts.0;
+  open_passage = between;
+  opened = subst (λ (j : Job). opens before j.settings between) (sym texts.1) opened;
+  stopped = subst (λ (j : Job). StopsTapedLoop passes takes refuses contents j.settings j.events.items between after first last output printed why)
+      (sym texts.1) stopped;
+}
 
 module _ {H T : Type 0} (takes : TakesOn T) (begins : Begins H T) (closes : Closes H T) where
   pub captured_of : {E : Type 0} (r : Result ℕ E) (path text script : List ℕ) (job : Job) (first last : T) (printed : Written) (status : ℕ) (host host2 : H)
@@ -90,21 +79,20 @@ module _ {H T : Type 0} (takes : TakesOn T) (begins : Begins H T) (closes : Clos
     ended = ended;
   }
 
-  pub loop_captured_of : {E : Type 0} (r : Result ℕ E) (path text script : List ℕ) (job : Job) (first last : T) (before between after : Standing) (status : ℕ) (host host2 : H)
-      → before ≡ unasked → IsJobOf text script job → has_ports before job.settings between → begins host path (Ok first) host2
-      → OnOk r (IsTapedLoop may_pass takes job.settings job.events.items between after first last)
-      → r ≡ Ok status → closes host2 last (Ok tt) → IsLoopCaptured takes begins closes path text script host host2
-  loop_captured_of {E = E} r path text script job first last before between after status host host2 new held opened begun taped is ended = record {
+  pub loop_captured_of : {P E : Type 0} (r : Result ℕ E) (opens : Opens P) (passes : Passes P) (path text script : List ℕ) (job : Job) (first last : T)
+      (before between after : P) (status : ℕ) (host host2 : H) → IsJobOf text script job → opens before job.settings between → begins host path (Ok first) host2
+      → OnOk r (IsTapedLoop passes takes job.settings job.events.items between after first last)
+      → r ≡ Ok status → closes host2 last (Ok tt) → IsLoopCaptured takes begins closes opens passes before after path text script host host2
+  loop_captured_of {E = E} r opens passes path text script job first last before between after status host host2 held opened begun taped is ended = record {
     first = first;
     last = last;
     begun = begun;
-    standing = after;
     run = record {
       job = job;
       is = held;
       open_passage = between;
-      opened = subst (λ (from : Standing). has_ports from job.settings between) new opened;
-      taped = subst (λ (x : Result ℕ E). OnOk x (IsTapedLoop may_pass takes job.settings job.events.items between after first last)) is taped;
+      opened = opened;
+      taped = subst (λ (x : Result ℕ E). OnOk x (IsTapedLoop passes takes job.settings job.events.items between after first last)) is taped;
     };
     ended = ended;
   }

@@ -16,16 +16,18 @@ use Rattle.outlets.specs.Printed.{IsBegun}
 use Rattle.outlets.specs.Telling.{IsTold, IsToldOf, Telling}
 use Rattle.simulation.specs.Status.{RunsScript}
 use Rattle.simulation.specs.Stops.{FailsBy}
+use Rattle.loopback_run.specs.Loops.{LoopsScript}
 use Rattle.loopback_run.specs.Standings.{Standing, unasked}
-use Rattle.loopback_run.specs.Stops.{FailsBy as FailsLoopBy}
+use Rattle.loopback_run.specs.Stops.{FailsBy as FailsLoopBy, Opens, Refuses}
+use Rattle.loopback_run.specs.Turns.{Passes}
 use Rattle.box_words.specs.Deeds.{Does, HasListed, HasReported, HasSaid, HasSynced, HasTaken, HasUnlisted, HasUnmade, HasUnreported}
 use Rattle.box_words.specs.Deeds.{HasUnsaid, HasUnsynced, HasUntaken, made, read}
 use Rattle.box_words.specs.Faults.{fault_text as box_text}
 use Rattle.box_words.specs.Said.{said_off, said_side, said_stop}
 use Rattle.box_words.specs.declared.refusals.BoxFault.{BoxFault}
 use Rattle.commands.specs.Asked.{filter_of, form_of}
-use Rattle.commands.specs.Captures.{IsCaptured, IsLoopCaptured, IsUnlooped, LeavesCapture, TapesSim, TapesSockets, Taping}
-use Rattle.commands.specs.Ends.{Loops, has_ports, may_pass, may_refuse, version_line}
+use Rattle.commands.specs.Captures.{IsCaptured, IsLoopCaptured, IsUnlooped, LeavesCapture, TapesPassed, TapesSim, Taping}
+use Rattle.commands.specs.Ends.{has_ports, may_pass, may_refuse, version_line}
 use Rattle.commands.specs.Hosts.{Begins, Closes, HasWorked, Scene, Scope, Work, Works, compared, looked, plan_of, scope_of, served, text_at, written}
 use Rattle.commands.specs.Meters.{Hearing, IsToldBehind}
 use Rattle.commands.specs.Reading.{AreNotHad, AreRead, IsNotHad}
@@ -137,9 +139,10 @@ Failing O = List ℕ → List ℕ → O → O → Fault → Type 0
 abbrev pub FailsSim : {O : Type 0} → (O → Option (List ℕ)) → Failing O
 FailsSim prints text script output printed why = FailsBy text script (prints output) (prints printed) why
 
-abbrev pub FailsLoop : {O : Type 0} → (O → Option (List ℕ)) → Failing O
-FailsLoop prints text script output printed why =
-    (last : Standing) × FailsLoopBy has_ports may_refuse may_pass prints text script unasked last output printed why
+-- and a run through a passage, by what that was and is then
+abbrev pub FailsLoop : {P O : Type 0} → Opens P → Refuses P → Passes P → P → P → (O → Option (List ℕ)) → Failing O
+FailsLoop opens denies passes first last prints text script output printed why =
+    FailsLoopBy opens denies passes prints text script first last output printed why
 
 -- the faults of the texts, and of the ports, which come before a capture is begun
 abbrev pub Reasons : Type 1
@@ -157,15 +160,15 @@ module _ {S H T O E : Type 0} (does : Does S) (takes : TakesOn T) (begins : Begi
     pub captured : MatchOption files.capture (IsUncaptured before after)
         (λ path. IsCaptured takes begins closes (string_bytes path) text script (written prints before.output after.output) status before.host after.host)
 
-  -- and through sockets: of that nothing is told but its output
-  pub record HasLoopOf (files : RunWords) (status : ℕ) (before after : Scene S H O E) : Type 0 where
+  -- and through a passage, by what that was and is then: of that nothing is told but its output
+  pub record HasLoopOf {P : Type 0} (opens : Opens P) (passes : Passes P) (first last : P) (files : RunWords) (status : ℕ) (before after : Scene S H O E) : Type 0 where
     pub text : List ℕ
     pub script : List ℕ
     pub are_read : AreRead does (string_bytes files.settings) (string_bytes files.script) text script before.site after.site
-    pub run : Loops text script (prints before.output) (prints after.output) status
+    pub run : LoopsScript opens passes text script first last (prints before.output) (prints after.output) status
     pub quiet : IsUntold before after
     pub captured : MatchOption files.capture (IsUncaptured before after)
-        (λ path. IsLoopCaptured takes begins closes (string_bytes path) text script before.host after.host)
+        (λ path. IsLoopCaptured takes begins closes opens passes first last (string_bytes path) text script before.host after.host)
 
 module _ {S H T O E : Type 0} (does : Does S) (takes refuses : TakesOn T) (begins : Begins H T) (closes : Closes H T)
     (prints : O → Option (List ℕ)) where
@@ -186,12 +189,13 @@ module _ {S H T O E : Type 0} (does : Does S) (takes refuses : TakesOn T) (begin
     pub told : IsToldBehind tells (overhears text script)
         (λ why. IsEnded (FailsSim prints) TellsRun (TapesSim takes refuses prints) files text script why before after) before.errors after.errors
 
-  -- the same through sockets, where nothing is heard, and this is the fault
-  pub record IsEndedLoop (files : RunWords) (why : Fault) (before after : Scene S H O E) : Type 0 where
+  -- the same through a passage, by what that was and is then: nothing is heard, and this is the fault
+  pub record IsEndedLoop {P : Type 0} (opens : Opens P) (denies : Refuses P) (passes : Passes P) (first last : P) (files : RunWords) (why : Fault) (before after : Scene S H O E) : Type 0 where
     pub text : List ℕ
     pub script : List ℕ
     pub are_read : AreRead does (string_bytes files.settings) (string_bytes files.script) text script before.site after.site
-    pub ended : IsEnded (FailsLoop prints) IsUnlooped (TapesSockets takes refuses prints) files text script why before after
+    pub ended : IsEnded (FailsLoop opens denies passes first last prints) (IsUnlooped denies first last)
+        (TapesPassed opens passes first last takes refuses prints) files text script why before after
 
   -- or one of the files wasn't had, and nothing else was done
   abbrev pub IsUnbegunRun : RunWords → Fault → Scene S H O E → Scene S H O E → Type 0
@@ -204,8 +208,17 @@ module _ {S H T O E : Type 0} (does : Does S) (takes refuses : TakesOn T) (begin
       IsToldOf tells fault_text (λ why. IsUnbegunRun files why before after) before.errors after.errors
       ⊎ IsEndedSim tells overhears files before after
 
-  abbrev pub EndsLoop : RunWords → Fault → Scene S H O E → Scene S H O E → Type 0
-  EndsLoop files why before after = IsEndedLoop files why before after ⊎ IsUnbegunRun files why before after
+  -- the same through a passage, which is asked for nothing where one of the files wasn't had
+  abbrev pub EndsLoop : {P : Type 0} → Opens P → Refuses P → Passes P → P → P → RunWords → Fault → Scene S H O E → Scene S H O E → Type 0
+  EndsLoop opens denies passes first last files why before after = IsEndedLoop opens denies passes first last files why before after
+      ⊎ ((last ≡ first) × IsUnbegunRun files why before after)
+
+  -- what is done for `loop` through a passage, by what that was and is then
+  abbrev pub Repeats : {P : Type 0} → Telling E → Opens P → Refuses P → Passes P → P → P → RunWords → ℕ → Scene S H O E → Scene S H O E → Type 0
+  Repeats tells opens denies passes first last files status before after =
+      ((status ≡ 0) ⊎ (status ≡ 3) → HasLoopOf does takes begins closes prints opens passes first last files status before after)
+      × (status ≡ 1 → IsToldOf tells fault_text (λ why. EndsLoop opens denies passes first last files why before after)
+      before.errors after.errors)
 
 -- ---- each task
 
@@ -246,9 +259,7 @@ module _ {S H T O E : Type 0} (does : Does S) (works : Works Work H) (takes refu
   Acts (task.Sim files) status before after =
       ((status ≡ 0) ⊎ (status ≡ 3) → HasRunOf does takes begins closes prints hears files status before after)
       × (status ≡ 1 → EndsSim does takes refuses begins closes prints tells overhears files before after)
-  Acts (task.Loop files) status before after =
-      ((status ≡ 0) ⊎ (status ≡ 3) → HasLoopOf does takes begins closes prints files status before after)
-      × (status ≡ 1 → IsToldOf tells fault_text (λ why. EndsLoop does takes refuses begins closes prints files why before after)
-      before.errors after.errors)
+  Acts (task.Loop files) status before after = (last : Standing)
+      × Repeats does takes refuses begins closes prints tells has_ports may_refuse may_pass unasked last files status before after
   Acts task.Version status before after = (after.site ≡ before.site) × IsUncaptured before after × (status ≡ 0 → IsUntold before after)
       × (status ≡ 1 → IsTold tells before.errors (fault_text NotWritten) after.errors × IsBegun (prints before.output) (prints after.output) version_line)

@@ -15,12 +15,11 @@ use Rattle.faults.specs.declared.faults.Fault.TheVariants as fault
 use Rattle.faults.specs.declared.files.Refusal.TheVariants.{Exists, NotWritten}
 use Rattle.frame_sim.specs.Tapes.{TakesOn}
 use Rattle.simulation.specs.Tapes.{StopsTapedScript, TapesScript}
-use Rattle.loopback_run.specs.Loops.{TellsLoop}
-use Rattle.loopback_run.specs.Standings.{Standing, unasked}
-use Rattle.loopback_run.specs.Stops.{HoldJob, Refuses}
+use Rattle.loopback_run.specs.Loops.{LoopsScript, TellsLoop}
+use Rattle.loopback_run.specs.Stops.{HoldJob, Opens, Refuses}
+use Rattle.loopback_run.specs.Turns.{Passes}
 use Rattle.loopback_run.specs.declared.ports.PortFault.TheVariants as ports
 use Rattle.loopback_run.specs.Tapes.{IsTapedUntil, TapesScript as TapesLoop}
-use Rattle.commands.specs.Ends.{Loops, has_ports, may_pass, may_refuse}
 use Rattle.commands.specs.Hosts.{Begins, Closes, Written}
 
 -- just this is told of the capture in the file at a path, which can't be begun or written for this cause; or there is no memory to tell it
@@ -60,12 +59,11 @@ abbrev pub IsUnopened : {P : Type 0} → Refuses P → List ℕ → List ℕ →
 IsUnopened refuses text script before after why =
     ((after ≡ before) × TellsRun text script why) ⊎ IsWithoutPorts refuses text script before after why
 
--- Why a run of these texts has no sockets: a fault that is told of such a run; and the texts hold no job, or its ports aren't had through
--- sockets that weren't asked for before, which stand somehow then
-pub record IsUnlooped (text script : List ℕ) (why : Fault) : Type 0 where
+-- Why a run of these texts has no ports, by what the passage was and is then: a fault that is told of such a run; and the texts hold no
+-- job, or just the passage that was asked for their ports refused them so
+pub record IsUnlooped {P : Type 0} (refuses : Refuses P) (before after : P) (text script : List ℕ) (why : Fault) : Type 0 where
   pub told : TellsLoop text script why
-  pub last : Standing
-  pub unopened : IsUnopened may_refuse text script unasked last why
+  pub unopened : IsUnopened refuses text script before after why
 
 -- a run of events ends early: what takes it down or its output is refused, or memory
 abbrev pub IsOfEvents : Fault → Type 0
@@ -82,12 +80,13 @@ TapesSim takes refuses prints text script (Ok status) first last output printed 
 TapesSim takes refuses prints text script (Err why) first last output printed =
     IsOfEvents why × StopsTapedScript takes refuses prints text script first last output printed why
 
--- the same through sockets, which are had
-abbrev pub TapesSockets : {T O : Type 0} → TakesOn T → TakesOn T → (O → Option (List ℕ)) → Taping T O
-TapesSockets takes refuses prints text script (Ok status) first last output printed = Loops text script (prints output) (prints printed) status
-    × ((after : Standing) × TapesLoop has_ports may_pass takes text script unasked after first last)
-TapesSockets takes refuses prints text script (Err why) first last output printed =
-    (after : Standing) × IsTapedUntil has_ports may_pass takes refuses prints text script unasked after first last output printed why
+-- the same through a passage that has its ports
+abbrev pub TapesPassed : {P T O : Type 0} → Opens P → Passes P → P → P → TakesOn T → TakesOn T → (O → Option (List ℕ)) → Taping T O
+TapesPassed opens passes before after takes refuses prints text script (Ok status) first last output printed =
+    LoopsScript opens passes text script before after (prints output) (prints printed) status
+    × TapesLoop opens passes takes text script before after first last
+TapesPassed opens passes before after takes refuses prints text script (Err why) first last output printed =
+    IsTapedUntil opens passes takes refuses prints text script before after first last output printed why
 
 module _ {H T : Type 0} (begins : Begins H T) (closes : Closes H T) where
   -- just the capture in the file at a path was to be begun, and couldn't be, which this fault tells
@@ -129,11 +128,10 @@ module _ {H T : Type 0} (takes : TakesOn T) (begins : Begins H T) (closes : Clos
     pub run : TapesScript takes text script first last printed.before printed.after status
     pub ended : closes after last (Ok tt)
 
-  -- and a run through sockets
-  pub record IsLoopCaptured (path text script : List ℕ) (before after : H) : Type 0 where
+  -- and a run through a passage, by what that was and is then
+  pub record IsLoopCaptured {P : Type 0} (opens : Opens P) (passes : Passes P) (p p2 : P) (path text script : List ℕ) (before after : H) : Type 0 where
     pub first : T
     pub last : T
     pub begun : begins before path (Ok first) after
-    pub standing : Standing
-    pub run : TapesLoop has_ports may_pass takes text script unasked standing first last
+    pub run : TapesLoop opens passes takes text script p p2 first last
     pub ended : closes after last (Ok tt)

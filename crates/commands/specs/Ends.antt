@@ -33,17 +33,14 @@ may_refuse before settings fault after = after ≡ refused fault
 
 -- and what is sent may come, or be lost
 abbrev pub may_pass : Passes Standing
-may_pass before parcel fate after = MayBe before fate × (after ≡ before)
+may_pass before parcel fate after = MayBe before parcel fate × (after ≡ before)
 
--- the status of such a run of these texts in which what each event hands in is first sent through these, and just its text was printed
-abbrev pub Loops : List ℕ → List ℕ → Option (List ℕ) → Option (List ℕ) → ℕ → Type 0
-Loops text script before after status = (last : Standing) × LoopsScript has_ports may_pass text script unasked last before after status
-
--- such a run of some two texts
+-- the status of such a run of some two texts in which what each event hands in is first sent through these, and just its text was printed
 pub record HasLoop (before after : Option (List ℕ)) (status : ℕ) : Type 0 where
   pub text : List ℕ
   pub script : List ℕ
-  pub run : Loops text script before after status
+  pub last : Standing
+  pub run : LoopsScript has_ports may_pass text script unasked last before after status
 
 -- the line that tells the version
 abbrev pub version_line : List ℕ

@@ -1,5 +1,5 @@
 -- What comes of works on this machine.
-use Rattle.std.specs.Prelude.{◌≡◌, ℕ, Bool, false, List, [], ◌∷◌, ◌++◌}
+use Rattle.std.specs.Prelude.{◌≡◌, ◌⊎◌, ℕ, Bool, false, List, [], ◌∷◌, ◌++◌}
 use Rattle.outlets.specs.Telling.{IsToldOf, Telling}
 use Rattle.checks.specs.Comparing.{HasCompared}
 use Rattle.checks.specs.Reports.{HasChecked}
@@ -7,6 +7,9 @@ use Rattle.checks.specs.Sights.{Finds, Takes}
 use Rattle.checks.specs.declared.requests.Request.{Request}
 use Rattle.checks.specs.declared.requests.Source.{Source}
 use Rattle.box_words.specs.Faults.{fault_text}
+use Rattle.box_words.specs.declared.refusals.BoxFault.{BoxFault}
+use Rattle.gate.specs.Asked.{path_in}
+use Rattle.gate.specs.Orders.{IsBehind}
 use Rattle.gate.specs.Served.{HasServed}
 use Rattle.gate.specs.Starts.{Refuses}
 use Rattle.gate.specs.declared.running.Start.{Start}
@@ -17,11 +20,16 @@ use Rattle.commands.specs.Hosts.{Work, Works, Written, compared, looked, plan_in
 abbrev pub lists : Telling (List (List ℕ))
 lists before line result after = after ≡ before ++ line ∷ []
 
+-- nothing is printed before a start is refused; or the refusal is one that comes behind the number of a boot
+abbrev pub IsSilentOrBehind : Start → Written → BoxFault → Type 0
+IsSilentOrBehind start printed why = (printed.after ≡ printed.before)
+    ⊎ ((boot : ℕ) × IsBehind (λ output. output) (path_in start.capture) boot why printed.before printed.after)
+
 -- What comes of a start that this machine runs: at 0 a gateway was served so, and nothing is told; at 1 just one fault's line is, for which
--- that start may be refused.
+-- that start may be refused, and so much is printed before it.
 abbrev pub ServesHere : Start → Written → List (List ℕ) → ℕ → Type 0
 ServesHere start printed lines status = (status ≡ 0 → (lines ≡ []) × HasServed start printed.before printed.after)
-    × (status ≡ 1 → IsToldOf lists fault_text (Refuses start) [] lines)
+    × (status ≡ 1 → IsToldOf lists fault_text (λ why. Refuses start why × IsSilentOrBehind start printed why) [] lines)
 
 -- Of a text `checks` says just what it finds of it, and tells just that the output or memory was refused, with the status that it says; in
 -- what two differ so too, and of each that holds no settings why. Who runs gateways is handed just one start, which has the plan.

@@ -20,6 +20,7 @@ use command_line::{GateWords, Task, WayWords, command};
 use frame_sim::Tape;
 use gate::{Start, WayTexts, init};
 use journal::Format;
+use loopback_run::Loopback;
 use outlets::Tells;
 use rounds::{Clockwork, Stopwatch};
 use simulation::Capture;
@@ -153,7 +154,10 @@ fn done<R: Net + Clock + AllocGlobal, S: Site, H: Host, C: Clockwork + Drop, O: 
             up,
         } => side(alloc, site, settings.as_str(), *id, *told, *up, errors),
         Task::Sim(files) => sim(alloc, site, host, clock, files, is_watched, output, errors),
-        Task::Loop(files) => repeat(rt, site, host, files, output, errors),
+        Task::Loop(files) => {
+            let mut passage = Loopback::new(rt);
+            repeat(alloc, site, host, &mut passage, files, output, errors)
+        }
         Task::Version => tell_version(alloc, output, errors),
     }
 }

@@ -6,15 +6,14 @@ ghost use Rattle.faults.specs.Jobs.{IsJobOf, TellsRun};
 ghost use Rattle.faults.specs.Texts.{fault_text};
 ghost use Rattle.frame_sim.specs.World.{founding};
 ghost use Rattle.outlets.specs.Telling.{IsToldOf};
-ghost use Rattle.loopback_run.specs.Loops.{IsLoop, TellsLoop};
+ghost use Rattle.loopback_run.specs.Loops.{IsLoop, LoopsScript, TellsLoop};
 ghost use Rattle.loopback_run.specs.Tapes.{IsTapedLoop, StopsTapedLoop};
 ghost use Rattle.settings_file.specs.Clashes.{clash_of_both};
 ghost use Rattle.simulation.specs.Status.{RunsScript};
 ghost use Rattle.simulation.specs.Tapes.{IsTapedRun, StopsTaped};
 ghost use Rattle.simulation.specs.Watched.{IsToldAll, IsToldPart, OverhearsScript, WatchesScript};
-ghost use Rattle.commands.specs.Acts.{EndsLoop, EndsSim, FailsLoop, FailsSim, HasLoopOf, HasRunOf};
-ghost use Rattle.commands.specs.Captures.{IsCaptured, IsHeldBy, IsLoopCaptured, IsOfEvents, IsOfPorts, IsUnlooped, IsUnopened, LeavesCapture, TapesSim, TapesSockets};
-ghost use Rattle.commands.specs.Ends.{Loops};
+ghost use Rattle.commands.specs.Acts.{EndsSim, FailsSim, HasRunOf, Repeats};
+ghost use Rattle.commands.specs.Captures.{IsCaptured, IsHeldBy, IsLoopCaptured, IsOfEvents, IsOfPorts, IsUnlooped, IsUnopened, LeavesCapture, TapesPassed, TapesSim};
 ghost use Rattle.commands.specs.Hosts.{scene, written};
 ghost use Rattle.commands.specs.Meters.{HasHeard, HasHeardScript, HasOverheard, HasOverheardScript, Hears, IsToldBehind, Overhears, Watches, telling};
 ghost use Rattle.commands.specs.Reading.{AreNotHad, AreRead};
@@ -26,7 +25,7 @@ use box_words::Site;
 use command_line::RunWords;
 use faults::{Fault, Job, job_of};
 use frame_sim::Tape;
-use loopback_run::{Channel, Loopback, PortFault, run_loop};
+use loopback_run::{Channel, PortFault, run_loop};
 use outlets::Tells;
 use rounds::Clockwork;
 use settings::Settings;
@@ -34,8 +33,6 @@ use settings_file::{SettingFault, port_clash_of_both};
 use simulation::{Unwatched, simulate, simulate_watched};
 use std::alloc::Global;
 use std::io::Write;
-use std::net::Net;
-use std::rt::Clock;
 
 /// Runs the script of one file with the settings of another, and says how far it is by a clock where somebody watches.
 pub(crate) fn sim<S: Site, H: Host, C: Clockwork + Drop, O: Write, E: Tells>(
@@ -261,63 +258,42 @@ fn taped_metered<C: Clockwork, T: Tape, O: Write, E: Tells>(
     simulation::play(alloc, settings, events, meter, tape, output)
 }
 
-/// Runs the script of one file with the settings of another, over the own loopback ports of both gateways.
-pub(crate) fn repeat<R: Net + Clock + AllocGlobal, S: Site, H: Host, O: Write, E: Tells>(
-    rt: &R,
+/// Runs the script of one file with the settings of another, through a passage.
+pub(crate) fn repeat<S: Site, H: Host, P: Channel, O: Write, E: Tells>(
+    alloc: Global,
     site: &mut S,
     host: &mut H,
+    passage: &mut P,
     files: &RunWords,
     output: &mut O,
     errors: &mut E,
 ) -> u8
     ensures status { (result ≡ 0) ⊎ ((result ≡ 1) ⊎ (result ≡ 3)) }
-    ensures named { (result ≡ 0) ⊎ (result ≡ 3) → HasLoopOf S.does H.Record.takes H.begins H.ends
-        O.contents files.now result (scene site.old host.old output.old errors.old)
-        (scene site.new host.new output.new errors.new) }
-    ensures failed { result ≡ 1 → IsToldOf E.tells fault_text
-        (λ why. EndsLoop S.does H.Record.takes H.Record.refuses H.begins H.ends O.contents
-        files.now why
+    ensures repeats { Repeats S.does H.Record.takes H.Record.refuses H.begins H.ends O.contents
+        E.tells P.opens P.refuses P.passes passage.old passage.new files.now result
         (scene site.old host.old output.old errors.old)
-        (scene site.new host.new output.new errors.new)) errors.old errors.new }
+        (scene site.new host.new output.new errors.new) }
 {
     match texts(site, files) {
         Ok((settings, script)) => {
             let (settings, script) = (settings.as_str(), script.as_str());
             match &files.capture {
-                Some(path) => {
-                    repeat_captured(rt, host, settings, script, path.as_str(), output, errors)
+                Some(file) => {
+                    let path = file.as_str();
+                    repeat_captured(alloc, host, passage, settings, script, path, output, errors)
                 }
-                None => repeated(rt, settings, script, output, errors),
+                None => run_loop(alloc, settings, script, passage, output, errors),
             }
         }
-        Err(fault) => fault.tell(rt.alloc(), errors),
+        Err(fault) => fault.tell(alloc, errors),
     }
 }
 
-/// Runs a script over sockets.
-fn repeated<R: Net + Clock + AllocGlobal, O: Write, E: Tells>(
-    rt: &R,
-    settings: &str,
-    script: &str,
-    output: &mut O,
-    errors: &mut E,
-) -> u8
-    ensures status { (result ≡ 0) ⊎ ((result ≡ 1) ⊎ (result ≡ 3)) }
-    ensures run { (result ≡ 0) ⊎ (result ≡ 3) → Loops settings.now script.now
-        (O.contents output.old) (O.contents output.new) result }
-    ensures quiet { (result ≡ 0) ⊎ (result ≡ 3) → errors.new ≡ errors.old }
-    ensures failed { result ≡ 1 → IsToldOf E.tells fault_text
-        (FailsLoop O.contents settings.now script.now output.old output.new)
-        errors.old errors.new }
-{
-    let mut passage = Loopback::new(rt);
-    run_loop(rt.alloc(), settings, script, &mut passage, output, errors)
-}
-
-/// Runs a script over sockets, with its capture in a file, which is begun once both texts are read and the sockets are had.
-fn repeat_captured<R: Net + Clock + AllocGlobal, H: Host, O: Write, E: Tells>(
-    rt: &R,
+/// Runs a script through a passage, with its capture in a file, which is begun once both texts are read and the ports are had.
+fn repeat_captured<H: Host, P: Channel, O: Write, E: Tells>(
+    alloc: Global,
     host: &mut H,
+    passage: &mut P,
     settings: &str,
     script: &str,
     path: &str,
@@ -325,28 +301,30 @@ fn repeat_captured<R: Net + Clock + AllocGlobal, H: Host, O: Write, E: Tells>(
     errors: &mut E,
 ) -> u8
     ensures status { (result ≡ 0) ⊎ ((result ≡ 1) ⊎ (result ≡ 3)) }
-    ensures run { (result ≡ 0) ⊎ (result ≡ 3) → Loops settings.now script.now
-        (O.contents output.old) (O.contents output.new) result }
+    ensures run { (result ≡ 0) ⊎ (result ≡ 3) → LoopsScript P.opens P.passes settings.now
+        script.now passage.old passage.new (O.contents output.old) (O.contents output.new) result }
     ensures quiet { (result ≡ 0) ⊎ (result ≡ 3) → errors.new ≡ errors.old }
     ensures captured { (result ≡ 0) ⊎ (result ≡ 3) → IsLoopCaptured H.Record.takes
-        H.begins H.ends path.now settings.now script.now host.old host.new }
+        H.begins H.ends P.opens P.passes passage.old passage.new path.now settings.now script.now
+        host.old host.new }
     ensures failed { result ≡ 1 → IsToldOf E.tells fault_text
-        (λ why. LeavesCapture H.begins H.ends path.now (IsUnlooped settings.now script.now)
-        (λ run first last. TapesSockets H.Record.takes H.Record.refuses O.contents settings.now
-        script.now run first last output.old output.new) why
-        host.old host.new output.old output.new) errors.old errors.new }
+        (λ why. LeavesCapture H.begins H.ends path.now
+        (IsUnlooped P.refuses passage.old passage.new settings.now script.now)
+        (λ run first last. TapesPassed P.opens P.passes passage.old passage.new H.Record.takes
+        H.Record.refuses O.contents settings.now script.now run first last
+        output.old output.new) why host.old host.new output.old output.new)
+        errors.old errors.new }
 {
-    let mut passage = Loopback::new(rt);
-    match opened(rt.alloc(), settings, script, &mut passage) {
+    match opened(alloc, settings, script, passage) {
         Ok(job) => match host.begin(path, &job) {
             Ok(mut tape) => {
-                let run = looped(rt.alloc(), &job, &mut passage, &mut tape, output);
+                let run = looped(alloc, &job, passage, &mut tape, output);
                 let written = host.end(tape);
-                ended(rt.alloc(), run, written, path, errors)
+                ended(alloc, run, written, path, errors)
             }
-            Err(error) => unmade(rt.alloc(), &error, path, errors),
+            Err(error) => unmade(alloc, &error, path, errors),
         },
-        Err(fault) => fault.tell(rt.alloc(), errors),
+        Err(fault) => fault.tell(alloc, errors),
     }
 }
 

@@ -2,6 +2,7 @@ use Rattle.std.proofs.Common.{refl}
 use Rattle.commands.proofs.Statuses.{is_0}
 use Rattle.std.specs.Prelude.{string_bytes}
 use Rattle.commands.proofs.Looking.{looked}
+use Rattle.commands.proofs.Passing.{has_loop, repeats_from}
 use Rattle.commands.proofs.commands.done.Goals as goal
 
 pub returns-in-Init-clause-done : goal.returns-in-Init-clause-done
@@ -47,8 +48,7 @@ returns-in-Sim-clause-done g c h =
 
 pub returns-in-Loop-clause-done : goal.returns-in-Loop-clause-done
 returns-in-Loop-clause-done g c h =
-    let ran = c.repeat.ensures.named h in
-    rw c.in-Loop.is (record { text = ran.text; script = ran.script; run = ran.run })
+    rw c.in-Loop.is (has_loop _ _ _ _ _ _ _ c.new-passage.ensures (c.repeat.ensures.repeats.0 h).run)
 
 pub returns-in-Version-clause-done : goal.returns-in-Version-clause-done
 returns-in-Version-clause-done g c h =
@@ -129,7 +129,8 @@ pub returns-in-Sim-clause-acts : goal.returns-in-Sim-clause-acts
 returns-in-Sim-clause-acts g c = rw c.in-Sim.is (c.sim.ensures.named, c.sim.ensures.failed)
 
 pub returns-in-Loop-clause-acts : goal.returns-in-Loop-clause-acts
-returns-in-Loop-clause-acts g c = rw c.in-Loop.is (c.repeat.ensures.named, c.repeat.ensures.failed)
+returns-in-Loop-clause-acts g c = rw c.in-Loop.is (repeats_from g.S.Site.does g.H.Record.Tape.takes g.H.Record.Tape.refuses g.H.Host.begins g.H.Host.ends g.O.Write.contents
+    g.E.Tells.tells _ _ _ _ _ _ c.new-passage.ensures c.repeat.ensures.repeats)
 
 pub returns-in-Version-clause-acts : goal.returns-in-Version-clause-acts
 returns-in-Version-clause-acts g c = rw c.in-Version.is (refl, refl, c.tell_version.ensures.quiet, λ one. (c.tell_version.ensures.told one, c.tell_version.ensures.begun one))
@@ -165,4 +166,4 @@ pub returns-in-Sim-clause-quiet : goal.returns-in-Sim-clause-quiet
 returns-in-Sim-clause-quiet g c unwatched h = (c.sim.ensures.named h).told.1 unwatched
 
 pub returns-in-Loop-clause-quiet : goal.returns-in-Loop-clause-quiet
-returns-in-Loop-clause-quiet g c unwatched h = (c.repeat.ensures.named h).quiet
+returns-in-Loop-clause-quiet g c unwatched h = (c.repeat.ensures.repeats.0 h).quiet

@@ -1,18 +1,18 @@
 use Rattle.std.proofs.Common.{inl, inr, refl}
-use Rattle.commands.proofs.Passing.{has_loop_of, unlooped}
-use Rattle.commands.proofs.Recording.{closed_of, ended_of, loop_captured_of, tapes_sockets}
+use Rattle.commands.proofs.Passing.{loops_of}
+use Rattle.commands.proofs.Recording.{closed_of, ended_of, loop_captured_of, tapes_passed}
 use Rattle.faults.specs.Texts.{fault_text}
 use Rattle.commands.proofs.Telling.{told_as}
 use Rattle.commands.proofs.runs.repeat_captured.Goals as goal
 
 pub returns-in-Ok-begin-clause-run : goal.returns-in-Ok-begin-clause-run
 returns-in-Ok-begin-clause-run g c h =
-    has_loop_of _ _ _ _ _ _ _ _ _ _ c.new-passage.ensures c.in-Ok.ensures.job c.in-Ok.ensures.apart c.in-Ok.ensures.opened c.looped-run.ensures.run
+    loops_of _ g.P.Channel.opens g.P.Channel.passes _ _ _ _ _ _ _ _ _ c.in-Ok.ensures.job c.in-Ok.ensures.apart c.in-Ok.ensures.opened c.looped-run.ensures.run
     (c.ended.ensures.run h)
 
 pub returns-in-Ok-begin-clause-captured : goal.returns-in-Ok-begin-clause-captured
 returns-in-Ok-begin-clause-captured g c h =
-    loop_captured_of _ _ _ _ _ _ _ _ _ _ _ _ _ _ _ _ c.new-passage.ensures c.in-Ok.ensures.job c.in-Ok.ensures.opened c.in-Ok-begin.ensures.begun
+    loop_captured_of _ _ _ _ g.P.Channel.opens g.P.Channel.passes _ _ _ _ _ _ _ _ _ _ _ _ c.in-Ok.ensures.job c.in-Ok.ensures.opened c.in-Ok-begin.ensures.begun
     c.looped-run.ensures.taped (c.ended.ensures.run h) (ended_of _ _ c.end-written.ensures.ended c.ended.ensures.written h)
 
 pub returns-in-Ok-begin-clause-failed : goal.returns-in-Ok-begin-clause-failed
@@ -22,15 +22,26 @@ returns-in-Ok-begin-clause-failed g c one =
       last = c.looped-run.new.tape;
       begun = c.in-Ok-begin.ensures.begun;
       run = c.looped-run.result;
-      taped = tapes_sockets c.looped-run.result g.H.Record.Tape.takes g.H.Record.Tape.refuses g.O.Write.contents c.args.settings.now c.args.script.now c.in-Ok.job
-          _ _ _ c.in-Ok-begin.tape c.looped-run.new.tape c.args.output.now c.looped-run.new.output c.new-passage.ensures c.in-Ok.ensures.held
-          c.in-Ok.ensures.job c.in-Ok.ensures.apart c.in-Ok.ensures.opened c.looped-run.ensures.run c.looped-run.ensures.taped c.looped-run.ensures.broken;
+      taped = tapes_passed c.looped-run.result g.P.Channel.opens g.P.Channel.passes g.H.Record.Tape.takes g.H.Record.Tape.refuses g.O.Write.contents
+          c.args.settings.now c.args.script.now c.in-Ok.job _ _ _ c.in-Ok-begin.tape c.looped-run.new.tape c.args.output.now c.looped-run.new.output
+          c.in-Ok.ensures.held c.in-Ok.ensures.job c.in-Ok.ensures.apart c.in-Ok.ensures.opened c.looped-run.ensures.run c.looped-run.ensures.taped
+          c.looped-run.ensures.broken;
       written = c.end-written.result;
       closed = closed_of g.H.Host.begins g.H.Host.ends c.end-written.result _ c.looped-run.new.tape c.end-written.ensures.ended c.end-written.ensures.unended;
       told = is;
     }))
 
 pub returns-clause-failed : goal.returns-clause-failed
-returns-clause-failed g c one =
-    let early = unlooped c.args.settings.now c.args.script.now _ _ c.in-Err.fault c.new-passage.ensures c.in-Err.ensures.told c.in-Err.ensures.unopened in
-    (c.in-Err.fault, (inl (refl {a = c.args.output.now}, inl (refl {a = c.args.host.now}, (early, c.in-Err.ensures.read))), c.tell.ensures.told))
+returns-clause-failed g c one = (
+  c.in-Err.fault,
+  (
+    inl (
+      refl {a = c.args.output.now},
+      inl (
+        refl {a = c.args.host.now},
+        (record { told = c.in-Err.ensures.told; unopened = c.in-Err.ensures.unopened }, c.in-Err.ensures.read),
+      ),
+    ),
+    c.tell.ensures.told,
+  ),
+)
