@@ -1,3 +1,7 @@
 mod Rooms
 mod Coming
 mod Turns
+mod Speaking
+mod Openings
+mod Telling
+mod Dialled

@@ -9,7 +9,8 @@ use Rattle.control.specs.declared.words.Word.{Word}
 
 -- somebody whose word was handed on waits for its answer; somebody may have called, or said something; how many called so far, with those
 -- whom it failed to hear; how many callers are waited for, how many were refused, and how many went unanswered; the token under which waits
--- report it and its callers, once it is registered; which word was handed on last
+-- report it and its callers, once it is registered; which word was handed on last; with how many bytes of room those who are waited for were
+-- asked last
 pub record Attending : Type 0 where
   pub awaits : Bool
   pub ready : Bool
@@ -19,10 +20,21 @@ pub record Attending : Type 0 where
   pub unanswered : ℕ
   pub token : Option Token
   pub word : Option Word
+  pub asked : ℕ
 
 -- at first nobody has called that is known of, and somebody may have; it isn't registered
 abbrev pub nobody_yet : Attending
-nobody_yet = record { awaits = false; ready = true; called = 0; callers = 0; refused = 0; unanswered = 0; token = None; word = None }
+nobody_yet = record {
+  awaits = false;
+  ready = true;
+  called = 0;
+  callers = 0;
+  refused = 0;
+  unanswered = 0;
+  token = None;
+  word = None;
+  asked = 0;
+}
 
 -- waits report it under this token, and those who call from then on; all else stays
 abbrev pub registered : Token → Attending → Attending
@@ -67,7 +79,7 @@ abbrev pub too_many : ℕ → ℕ
 too_many callers = if nat_le 8 callers then 1 else 0
 
 -- Nobody calls, and all stays. Or somebody does, and may make one too many, who is refused: then he is waited for too, or let go, where he
--- couldn't be registered or there was no memory for him. Or it failed to hear who calls, so that somebody may, and all stays.
+-- couldn't be registered. Or it failed to hear who calls, so that somebody may, and all stays.
 abbrev pub AreJoined : Bool → ℕ → ℕ → ℕ → ℕ → Type 0
 AreJoined false callers callers2 refused refused2 = (callers2 ≡ callers) × (refused2 ≡ refused)
 AreJoined true callers callers2 refused refused2 =

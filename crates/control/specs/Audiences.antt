@@ -1,11 +1,15 @@
 -- Who is heard at a control socket, caller by caller.
-use Rattle.std.specs.Prelude.{ℕ, true, ◌≡◌, List, length, vec_len, vec_capacity, Option, Some, None, is_some}
+use Rattle.std.specs.Prelude.{ℕ, true, ◌≡◌, ◌≤◌, List, length, vec_len, vec_capacity, Option, Some, None, is_some}
 use Rattle.control.specs.Asking.{AreLeft, IsSpeaker}
 use Rattle.control.specs.Attending.{Attending}
 use Rattle.control.specs.Calling.{Calls, LetsIn, Reports}
 use Rattle.control.specs.Reads.{Reads}
 use Rattle.mio.specs.declared.token.Token.{Token}
 use Rattle.control.specs.declared.audience.Audience.{Audience}
+
+-- at most eight are waited for, and there is room for eight
+abbrev pub HasRoom : {L S : Type 0} → Audience L S → Type 0
+HasRoom a = (vec_len a.callers ≤ 8) × (8 ≤ vec_capacity a.callers)
 
 -- what a box shows of them
 abbrev pub attending_of : {L S : Type 0} → Audience L S → Attending
@@ -18,6 +22,7 @@ attending_of a = record {
   unanswered = a.unanswered;
   token = a.token;
   word = a.word;
+  asked = a.asked;
 }
 
 -- waits report the listener under this token, as it is then, and those who call from then on; all else stays
@@ -47,4 +52,4 @@ Looks reads calls reports token before (Some count) after room =
     IsHeard reads before (Some count) after room × (after.listener ≡ before.listener)
 Looks {S = S} reads calls reports token before None after room =
     (left : List S) × (AreLeft reads (length room) before.callers.items left
-    × (LetsIn calls reports token before.listener left (vec_capacity before.callers) after.ready after.listener after.callers.items × (after.speaker ≡ before.speaker)))
+    × (LetsIn calls reports token before.listener left after.ready after.listener after.callers.items × (after.speaker ≡ before.speaker)))

@@ -1,5 +1,5 @@
 -- Who calls at a listener, and is let in.
-use Rattle.std.specs.Prelude.{ℕ, Bool, true, false, ◌≡◌, ◌≢◌, ◌≤◌, ◌⊎◌, List, [], ◌∷◌, ◌++◌, length, Result, Ok, Err}
+use Rattle.std.specs.Prelude.{Bool, true, false, ◌≡◌, ◌≢◌, ◌⊎◌, List, [], ◌∷◌, ◌++◌, Result, Ok, Err}
 use Rattle.std.specs.IoError.{error_kind}
 use Rattle.std.specs.declared.io.Error.{Error}
 use Rattle.std.specs.declared.io.ErrorKind.TheVariants.{WouldBlock}
@@ -14,20 +14,19 @@ Calls L S = L → Result S Error → L → Type 0
 abbrev pub Reports : Type 0 → Type 1
 Reports S = S → Token → Result (Unit {0}) Error → S → Type 0
 
--- Once he is registered he is waited for, behind the others; or he is let go, where there is no room for more of them and no memory. One
--- who can't be registered is let go.
-abbrev pub IsKept : {S : Type 0} → Result (Unit {0}) Error → ℕ → List S → S → List S → Type 0
-IsKept (Ok done) capacity callers caller callers2 = (callers2 ≡ callers ++ caller ∷ []) ⊎ ((callers2 ≡ callers) × (capacity ≤ length callers))
-IsKept (Err error) capacity callers caller callers2 = callers2 ≡ callers
+-- once he is registered he is waited for, behind the others; one who can't be registered is let go
+abbrev pub IsKept : {S : Type 0} → Result (Unit {0}) Error → List S → S → List S → Type 0
+IsKept (Ok done) callers caller callers2 = callers2 ≡ callers ++ caller ∷ []
+IsKept (Err error) callers caller callers2 = callers2 ≡ callers
 
 -- Somebody calls, and is registered, once, under this token. Where eight are waited for, the one that was waited for longest makes room for him.
-pub record HasCalled {L S : Type 0} (calls : Calls L S) (reports : Reports S) (token : Token) (before : L) (callers : List S) (capacity : ℕ) (after : L) (callers2 : List S) : Type 0 where
+pub record HasCalled {L S : Type 0} (calls : Calls L S) (reports : Reports S) (token : Token) (before : L) (callers : List S) (after : L) (callers2 : List S) : Type 0 where
   pub caller : S
   pub called : calls before (Ok caller) after
   pub answer : Result (Unit {0}) Error
   pub registered : S
   pub asked : reports caller token answer registered
-  pub kept : IsKept answer capacity (with_room callers) registered callers2
+  pub kept : IsKept answer (with_room callers) registered callers2
 
 -- by whether somebody may call still, behind a call that failed so: just not where it would block
 abbrev pub MayCall : Bool → Error → Type 0
@@ -38,9 +37,8 @@ MayCall false error = error_kind error ≡ WouldBlock
 abbrev pub CallFails : {L S : Type 0} → Calls L S → L → List S → Bool → L → List S → Type 0
 CallFails calls before callers more after callers2 = ((error : Error) × (calls before (Err error) after × MayCall more error)) × (callers2 ≡ callers)
 
--- By whether there may be more who call. Somebody calls, beside callers for whom there is so much room; or it fails to hear who does. There
--- aren't any more just where that would block.
-abbrev pub LetsIn : {L S : Type 0} → Calls L S → Reports S → Token → L → List S → ℕ → Bool → L → List S → Type 0
-LetsIn calls reports token before callers capacity true after callers2 =
-    HasCalled calls reports token before callers capacity after callers2 ⊎ CallFails calls before callers true after callers2
-LetsIn calls reports token before callers capacity false after callers2 = CallFails calls before callers false after callers2
+-- by whether there may be more who call: somebody calls, or it fails to hear who does; there aren't any more just where that would block
+abbrev pub LetsIn : {L S : Type 0} → Calls L S → Reports S → Token → L → List S → Bool → L → List S → Type 0
+LetsIn calls reports token before callers true after callers2 =
+    HasCalled calls reports token before callers after callers2 ⊎ CallFails calls before callers true after callers2
+LetsIn calls reports token before callers false after callers2 = CallFails calls before callers false after callers2

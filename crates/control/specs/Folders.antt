@@ -14,17 +14,30 @@ abbrev pub closing : {T E : Type 0} → Result T E → List ℕ → ℕ → Deed
 closing (Ok done) folder mode = closed folder mode
 closing (Err fault) folder mode = not_closed folder mode
 
+-- What a deed is to folders, and what they are then.
+abbrev pub Does : Type 0 → Type 1
+Does F = F → Deed → F → Type 0
+
+-- This was done in the folders of this machine: the system was asked for it, and answered so. It says nothing of such a call, so this is no
+-- more than a name for it: who makes the call has it, and nobody else.
+unfoldable pub WasDone : Deed → Type 0
+WasDone deed = Unit {0}
+
+-- so this machine does, of whose folders nothing is known
+abbrev pub by_machine : {F : Type 0} → Does F
+by_machine before deed after = WasDone deed
+
 -- It is made for its owner alone (mode 700 in base 8), and closed to all others where it was there before; then what was left of an
 -- earlier socket is removed.
-pub record IsReady {S : Type 0} (does : S → Deed → S → Type 0) (path : Paths) (before after : S) : Type 0 where
-  pub made_so : S
-  pub closed_so : S
+pub record IsReady {F : Type 0} (does : Does F) (path : Paths) (before after : F) : Type 0 where
+  pub made_so : F
+  pub closed_so : F
   pub is_made : does before (made path.folder 448) made_so
   pub is_closed : does made_so (closed path.folder 448) closed_so
   pub is_clear : does closed_so (removed path.socket) after
 
 -- It is made for its owner alone, and then it is refused to close it to all others. Nothing else is done.
-pub record IsRefused {S : Type 0} (does : S → Deed → S → Type 0) (path : Paths) (before after : S) : Type 0 where
-  pub made_so : S
+pub record IsRefused {F : Type 0} (does : Does F) (path : Paths) (before after : F) : Type 0 where
+  pub made_so : F
   pub is_made : does before (made path.folder 448) made_so
   pub is_open : does made_so (not_closed path.folder 448) after

@@ -8,7 +8,10 @@ pub mod Saying
 pub mod Asking
 pub mod Dialling
 pub mod Attending
+pub mod Telling
 pub mod Calling
 pub mod Newcomers
 pub mod Audiences
 pub mod Folders
+pub mod Opening
+pub mod Speaking

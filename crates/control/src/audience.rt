@@ -2,7 +2,7 @@
 ghost use Rattle.std.specs.Prelude.{◌≡◌, ◌≤◌, ◌⊎◌, ◌||◌, false, true, length, take, vec_len, vec_capacity, is_some, IfSome, IsNone, OnErr, OnOk};
 ghost use Rattle.control.specs.Attending.{AreCounted, HasLooked, IsAnsweredIf, SaysWord, is_ready};
 ghost use Rattle.control.specs.Attending.{nobody_yet, speakers, with_more};
-ghost use Rattle.control.specs.Audiences.{IsHeard, Looks, answered, attending_of, registered, woken};
+ghost use Rattle.control.specs.Audiences.{HasRoom, IsHeard, Looks, answered, attending_of, registered, woken};
 
 use crate::awaiting::Awaits;
 use crate::callers::{answered, speaker_among};
@@ -11,7 +11,6 @@ use crate::newcomers::Newcomers;
 use crate::speakers::Speaks;
 use crate::{Word, word_of};
 use mio::{Registry, Token};
-use std::alloc::Global;
 use std::io;
 
 /// Who is heard at a control socket.
@@ -33,16 +32,21 @@ pub(crate) struct Audience<L, S> {
     token: Option<Token>,
     /// Which word was handed on last, for clauses alone.
     word: Option<Word>,
+    /// With how many bytes of room they were asked last, for clauses alone.
+    asked: usize,
 }
 
 impl<L, S> Audience<L, S> {
-    /// Nobody yet.
-    pub(crate) fn nobody(listener: L, alloc: Global) -> Audience<L, S>
-        ensures { attending_of result ≡ nobody_yet }
+    /// Nobody yet: there is this room for callers.
+    pub(crate) fn nobody(listener: L, callers: Vec<S>) -> Audience<L, S>
+        requires none { vec_len callers ≡ 0 }
+        ensures nobody { attending_of result ≡ nobody_yet }
+        ensures listener { result.listener ≡ listener }
+        ensures callers { result.callers ≡ callers }
     {
         Audience {
             listener,
-            callers: Vec::new(alloc),
+            callers,
             speaker: None,
             ready: true,
             called: Newcomers::none(),
@@ -50,6 +54,7 @@ impl<L, S> Audience<L, S> {
             unanswered: 0,
             token: None,
             word: None,
+            asked: 0,
         }
     }
 
@@ -89,6 +94,7 @@ impl<L: Reported, S> Audience<L, S> {
         ensures reported { L.reports self.old.listener token result self.new.listener }
         ensures ok { OnOk result (self.new ≡ registered token self.new.listener self.old) }
         ensures err { OnErr result (attending_of self.new ≡ attending_of self.old) }
+        ensures callers { self.new.callers ≡ self.old.callers }
     {
         match self.listener.report(registry, token) {
             Ok(()) => {
@@ -104,6 +110,7 @@ impl<L: Listens<S>, S: Speaks + Awaits + Reported + Drop> Audience<L, S> {
     /// A word that somebody says, if one is there: how many bytes of the room it has. Where nobody says one, who calls
     /// next is let in.
     pub(crate) fn take(&mut self, registry: &Registry, room: &mut [u8]) -> Option<usize>
+        requires room { HasRoom self.old }
         ensures within { IfSome result (λ count. count ≤ length room.new) }
         ensures words { IfSome result
             (λ count. SaysWord (take count room.new) (attending_of self.new)) }
@@ -114,9 +121,11 @@ impl<L: Listens<S>, S: Speaks + Awaits + Reported + Drop> Audience<L, S> {
             self.old result self.new room.new) }
         ensures looked { is_ready (attending_of self.old) ≡ true
             → HasLooked result (attending_of self.old) (attending_of self.new) }
+        ensures asked { is_ready (attending_of self.old) ≡ true
+            → self.new.asked ≡ length room.new }
         ensures refused { self.old.refused ≤ self.new.refused }
         ensures unanswered { self.new.unanswered ≡ self.old.unanswered }
-        ensures most { vec_len self.old.callers ≤ 8 → vec_len self.new.callers ≤ 8 }
+        ensures room { HasRoom self.new }
     {
         let Some(token) = self.token else {
             return None;
@@ -155,8 +164,10 @@ impl<L: Listens<S>, S: Speaks + Awaits + Reported + Drop> Audience<L, S> {
         ensures token { self.new.token ≡ self.old.token }
         ensures called { self.new.called ≡ self.old.called }
         ensures unanswered { self.new.unanswered ≡ self.old.unanswered }
+        ensures asked { self.new.asked ≡ length room.new }
         ensures capacity { vec_capacity self.new.callers ≡ vec_capacity self.old.callers }
     {
+        self.asked = room.len();
         match speaker_among(&mut self.callers, &mut self.refused, room) {
             Some((speaker, count)) => {
                 self.speaker = Some(speaker);

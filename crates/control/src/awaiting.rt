@@ -1,16 +1,15 @@
 //! Who awaits an answer.
-ghost use Rattle.control.specs.Attending.{IsWritten};
+ghost use Rattle.control.specs.Telling.{TellsByWrite};
 
 use outlets::Takes;
 use std::io;
 
 /// Who awaits an answer. He is told it by one write, and is let go then: no later one can reach him.
 pub(crate) trait Awaits: Sized {
-    ghost use Rattle.std.specs.Prelude.{ℕ, List, Result};
-    ghost use Rattle.std.specs.declared.io.Error.{Error};
+    ghost use Rattle.control.specs.Attending.{Telling};
 
     /// What may be answered where he is told these bytes.
-    ghost tells: { Self → List ℕ → Result ℕ Error → Type 0 };
+    ghost tells: { Telling Self };
 
     /// Tells him these bytes, as many as he takes, and lets him go.
     fn tell(self, bytes: &[u8]) -> io::Result<usize>
@@ -19,8 +18,9 @@ pub(crate) trait Awaits: Sized {
 
 /// Who takes bytes is told them by one write.
 impl<S: Takes + Drop> Awaits for S {
-    ghost tells = { IsWritten S.held S.answers };
+    ghost tells = { TellsByWrite S.held S.answers };
 
+    #[tactic(auto, unfolding(crate::specs::Telling::WasTold))]
     fn tell(mut self, bytes: &[u8]) -> io::Result<usize> {
         self.take(bytes)
     }

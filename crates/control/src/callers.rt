@@ -13,7 +13,7 @@ use std::io::{self, ErrorKind};
 
 /// How many callers are waited for at once. Who calls when all are waited for takes the place of the one that was
 /// waited for longest.
-const CALLERS: usize = 8;
+pub(crate) const CALLERS: usize = 8;
 
 /// What a caller has said.
 #[derive(Clone, Copy)]
@@ -84,6 +84,7 @@ fn word_among<S: Speaks + Drop>(callers: &mut Vec<S>, refused: &mut u64, room: &
 pub(crate) fn make_room<S: Drop>(callers: &mut Vec<S>, refused: &mut u64)
     ensures callers { callers.new.items ≡ with_room callers.old.items }
     ensures fewer { vec_len callers.new ≡ vec_len callers.old - too_many (vec_len callers.old) }
+    ensures few { vec_len callers.old ≤ 8 → vec_len callers.new < 8 }
     ensures counted { refused.new ≡ with_more refused.old (too_many (vec_len callers.old)) }
     ensures more { refused.old ≤ refused.new }
     ensures capacity { vec_capacity callers.new ≡ vec_capacity callers.old }

@@ -2,9 +2,12 @@
 ghost use Rattle.std.specs.Prelude.{◌≡◌, ◌≤◌, ◌||◌, ◌⊎◌, true, false, length, take, is_some, IfOk, IfSome, IsNone, OnErr, OnOk};
 ghost use Rattle.control.specs.Attending.{HasLooked, SaysWord, answered, is_ready, nobody_yet};
 ghost use Rattle.control.specs.Attending.{registered, with_more, woken};
+ghost use Rattle.control.specs.Opening.{WasOpened};
+ghost use Rattle.control.specs.Telling.{IsTold};
 
 use crate::audience::Audience;
-use crate::folders::{Machine, ready};
+use crate::folders::Machine;
+use crate::opening::opened;
 use crate::{ControlPath, NoSocket};
 use mio::net::{UnixListener, UnixStream};
 use mio::{Registry, Token};
@@ -20,21 +23,20 @@ pub struct Control {
 }
 
 impl Model for Control {
-    ghost use Rattle.std.specs.Prelude.{◌≤◌};
     ghost use Rattle.control.specs.Attending.{Attending};
 
     ghost Value = { Attending };
 
-    ghost use Rattle.control.specs.Audiences.{attending_of};
+    ghost use Rattle.control.specs.Audiences.{HasRoom, attending_of};
 
     ghost view = { λ c. attending_of c.audience };
 
-    ghost invariant = { λ c. (attending_of c.audience).callers ≤ 8 };
+    ghost invariant = { λ c. HasRoom c.audience };
 }
 
 impl Control {
-    /// Makes the folder, where it isn't there, and the socket. One that was left there is removed: the caller holds
-    /// the lock of the boot file beside it, so no other box listens at it.
+    /// Makes the folder, where it isn't there, and the socket, with room for as many callers as are waited for. One that
+    /// was left there is removed: the caller holds the lock of the boot file beside it, so no other box listens at it.
     ///
     /// # Errors
     ///
@@ -43,12 +45,11 @@ impl Control {
         rt: &R,
         path: &ControlPath,
     ) -> Result<Control, NoSocket>
-        ensures { IfOk result (λ c. c ≡ nobody_yet) }
+        ensures nobody { IfOk result (λ c. c ≡ nobody_yet) }
+        ensures opened { OnOk result (WasOpened path.now) }
     {
-        ready(&mut Machine(rt), path)?;
-        let listener = UnixListener::bind(rt, path.socket())?;
         Ok(Control {
-            audience: Audience::nobody(listener, rt.alloc()),
+            audience: opened(&mut Machine(rt), path, rt.alloc())?,
         })
     }
 
@@ -90,8 +91,9 @@ impl Control {
     }
 
     /// A word that somebody says, if one is there: how many bytes of the room it has. Who said it awaits its answer, and
-    /// nobody else is heard before that. Before None everybody was looked at who is waited for, unless an answer is
-    /// awaited, and one who calls was let in: no more of them a call, so that a flood of callers holds up nothing else.
+    /// nobody else is heard before that. Who is asked is asked with all of the room. Before None everybody was looked at
+    /// who is waited for, unless an answer is awaited, and one who calls was let in: no more of them a call, so that a
+    /// flood of callers holds up nothing else.
     /// While somebody was let in, or it failed to hear who calls, `is_ready` says that there may be more.
     pub fn take(&mut self, registry: &Registry, room: &mut [u8]) -> Option<usize>
         ensures within { IfSome result (λ count. count ≤ length room.new) }
@@ -102,6 +104,7 @@ impl Control {
         ensures unanswered { self.new.unanswered ≡ self.old.unanswered }
         ensures deaf { is_ready self.old ≡ false → IsNone result × (self.new ≡ self.old) }
         ensures looked { is_ready self.old ≡ true → HasLooked result self.old self.new }
+        ensures asked { is_ready self.old ≡ true → self.new.asked ≡ length room.new }
         ensures most { self.new.callers ≤ 8 }
     {
         self.audience.take(registry, room)
@@ -115,6 +118,8 @@ impl Control {
         ensures counted { (self.new.unanswered ≡ self.old.unanswered)
             ⊎ (self.new.unanswered ≡ with_more self.old.unanswered 1) }
         ensures nobody { self.old.awaits ≡ false → self.new.unanswered ≡ self.old.unanswered }
+        ensures told { self.old.awaits ≡ true
+            → IsTold bytes.now self.old.unanswered self.new.unanswered }
         ensures rest { self.new ≡ answered self.old self.new.unanswered }
     {
         self.audience.answer(bytes);

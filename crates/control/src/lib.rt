@@ -11,6 +11,7 @@ mod hearing;
 mod lines;
 mod listeners;
 mod newcomers;
+mod opening;
 mod paths;
 mod saying;
 mod speakers;

@@ -1,8 +1,9 @@
 //! A line from a caller to a box.
 ghost use Rattle.std.specs.Duration.{as_nanos};
-ghost use Rattle.std.specs.Prelude.{◌<◌, ◌≤◌, IfOk, OnOk, length};
-ghost use Rattle.control.specs.Dialling.{Limit, hears_within, says_within};
+ghost use Rattle.std.specs.Prelude.{◌<◌, ◌≤◌, IfOk, is_ok, length};
+ghost use Rattle.control.specs.Dialling.{hears_within, says_within};
 ghost use Rattle.control.specs.Lines.{Passed, StreamDoes, hearing, saying};
+ghost use Rattle.control.specs.Speaking.{WasDialled, WasLimited};
 
 use crate::speakers::{Speaks, next_of};
 use outlets::{Takes, put_in_turns};
@@ -31,23 +32,24 @@ pub(crate) trait Line {
 
 /// Who makes lines: to the socket at a path.
 pub(crate) trait Dials<L> {
-    ghost use Rattle.std.specs.Prelude.{ℕ, List};
+    ghost use Rattle.control.specs.Dialling.{Dialling};
 
-    /// Which line is made to the socket at a path, and what he is then.
-    ghost dials: { Self → List ℕ → L → Self → Type 0 };
+    /// What answers who asks for a line to the socket at a path, and what he is then.
+    ghost dials: { Dialling Self L };
 
     /// A line to the socket at a path.
     fn dial(&mut self, socket: &str) -> io::Result<L>
-        ensures { IfOk result (λ line. dials self.old socket.now line self.new) };
+        ensures { dials self.old socket.now result self.new };
 }
 
-/// The system.
+/// The system: of a line nothing is known but that it was asked for, to that socket.
 #[derive(Drop)]
 pub(crate) struct SystemDials<'a, R>(pub(crate) &'a R);
 
 impl<R: Net> Dials<UnixStream> for SystemDials<'_, R> {
-    ghost dials = { λ _ _ _ _. Unit {0} };
+    ghost dials = { λ _ socket answer _. WasDialled socket answer };
 
+    #[tactic(auto, unfolding(crate::specs::Speaking::WasDialled))]
     fn dial(&mut self, socket: &str) -> io::Result<UnixStream> {
         UnixStream::connect(self.0, socket)
     }
@@ -55,18 +57,18 @@ impl<R: Net> Dials<UnixStream> for SystemDials<'_, R> {
 
 /// A line that limits how long its calls wait.
 pub(crate) trait Limits: Sized {
-    ghost use Rattle.control.specs.Dialling.{Limit};
+    ghost use Rattle.control.specs.Dialling.{Limiting};
 
-    /// What a limit is to a line, and what the line is then.
-    ghost limits: { Self → Limit → Self → Type 0 };
+    /// Whether a line takes a limit, and what it is then.
+    ghost limits: { Limiting Self };
 
     /// Has each call that hears wait so long at most.
     fn limit_hearing(&mut self, limit: Duration) -> io::Result<()>
-        ensures { OnOk result (limits self.old (hears_within (as_nanos limit)) self.new) };
+        ensures { limits self.old (hears_within (as_nanos limit)) (is_ok result) self.new };
 
     /// Has each call that says a word wait so long at most.
     fn limit_saying(&mut self, limit: Duration) -> io::Result<()>
-        ensures { OnOk result (limits self.old (says_within (as_nanos limit)) self.new) };
+        ensures { limits self.old (says_within (as_nanos limit)) (is_ok result) self.new };
 }
 
 /// A stream is a line, as far as is known what was written to it, what is to come, and what its writes and reads may
@@ -83,14 +85,16 @@ impl<S: Speaks + Takes> Line for S {
     }
 }
 
-/// The system's, of which nothing is known.
+/// The system's, of which nothing is known but which limit it was to take, and whether it did.
 impl Limits for UnixStream {
-    ghost limits = { λ _ _ _. Unit {0} };
+    ghost limits = { WasLimited };
 
+    #[tactic(auto, unfolding(crate::specs::Speaking::WasLimited))]
     fn limit_hearing(&mut self, limit: Duration) -> io::Result<()> {
         self.set_read_timeout(Some(limit))
     }
 
+    #[tactic(auto, unfolding(crate::specs::Speaking::WasLimited))]
     fn limit_saying(&mut self, limit: Duration) -> io::Result<()> {
         self.set_write_timeout(Some(limit))
     }

@@ -1,5 +1,5 @@
 //! Who calls, and is let in.
-ghost use Rattle.std.specs.Prelude.{◌≡◌, ◌+◌, ◌≤◌, ◌⊎◌, suc, vec_len, vec_capacity};
+ghost use Rattle.std.specs.Prelude.{◌≡◌, ◌+◌, ◌<◌, ◌≤◌, ◌⊎◌, suc, vec_len, vec_capacity};
 ghost use Rattle.control.specs.Attending.{AreJoined, one_if};
 ghost use Rattle.control.specs.Calling.{IsKept, LetsIn};
 
@@ -59,8 +59,8 @@ impl Listens<UnixStream> for UnixListener {
 /// Lets in who calls next, registered under a token, and says whether there may be more: just not where the call would
 /// block. A wait reports the listener once for all who call, so behind any other failure, as where a process has as many
 /// descriptors as it may, those who call would wait until yet another one does. Who called is counted, and so is a call
-/// that failed otherwise. Where too many are waited for, who was waited for longest is refused. Who calls is let go where
-/// he can't be registered, or there is no memory for him.
+/// that failed otherwise. Where too many are waited for, who was waited for longest is refused, so there is always room
+/// for who calls. He is let go where he can't be registered.
 pub(crate) fn let_in<S: Reported + Drop, L: Listens<S>>(
     listener: &mut L,
     registry: &Registry,
@@ -69,12 +69,15 @@ pub(crate) fn let_in<S: Reported + Drop, L: Listens<S>>(
     refused: &mut u64,
     called: &mut Newcomers,
 ) -> bool
+    requires most { vec_len callers.old ≤ 8 }
+    requires room { 8 ≤ vec_capacity callers.old }
     ensures let_in { LetsIn L.calls S.reports token listener.old callers.old.items
-        (vec_capacity callers.old) result listener.new callers.new.items }
+        result listener.new callers.new.items }
     ensures joined { AreJoined result (vec_len callers.old) (vec_len callers.new)
         refused.old refused.new }
     ensures called { called.new ≡ called.old + one_if result }
-    ensures most { vec_len callers.old ≤ 8 → vec_len callers.new ≤ 8 }
+    ensures most { vec_len callers.new ≤ 8 }
+    ensures room { 8 ≤ vec_capacity callers.new }
     ensures more { refused.old ≤ refused.new }
 {
     match listener.call() {
@@ -93,17 +96,17 @@ pub(crate) fn let_in<S: Reported + Drop, L: Listens<S>>(
     }
 }
 
-/// A caller who is registered is waited for, behind the others. He is let go where there is no memory for that, and where
-/// he isn't registered.
+/// A caller who is registered is waited for, behind the others. He is let go where he isn't registered.
 fn keep<S: Drop>(callers: &mut Vec<S>, caller: S, registered: io::Result<()>)
-    ensures kept { IsKept registered (vec_capacity callers.old) callers.old.items caller
-        callers.new.items }
+    requires room { vec_len callers.old < vec_capacity callers.old }
+    ensures kept { IsKept registered callers.old.items caller callers.new.items }
     ensures joined { (vec_len callers.new ≡ suc (vec_len callers.old))
         ⊎ (vec_len callers.new ≡ vec_len callers.old) }
+    ensures capacity { vec_capacity callers.old ≤ vec_capacity callers.new }
 {
     match registered {
         Ok(()) => {
-            let _no_memory = callers.push(caller);
+            let _has_room = callers.push(caller);
         }
         Err(_) => {}
     }

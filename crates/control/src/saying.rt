@@ -1,12 +1,14 @@
 //! The end at which a word is said.
 ghost use Rattle.std.specs.Duration.{as_nanos};
-ghost use Rattle.std.specs.Prelude.{◌≡◌, ◌<◌, ◌≤◌, ◌⊎◌, [], false, length, take, true, IfOk, OnErr, OnOk};
+ghost use Rattle.std.specs.Prelude.{◌≡◌, ◌<◌, ◌≤◌, ◌⊎◌, [], false, is_ok, length, take, true, IfOk, OnErr, OnOk};
 ghost use Rattle.control.specs.Answers.{answer_of};
-ghost use Rattle.control.specs.Dialling.{IsDialled, patience};
+ghost use Rattle.control.specs.Dialling.{IsDialled, IsUndialled, patience};
 ghost use Rattle.control.specs.Saying.{Comes, IsAnswered, IsCut, IsLost, Tells, is_heard};
+ghost use Rattle.control.specs.Speaking.{IsAnsweredBy, IsTaken, IsUnanswered, IsUntaken, WasAsked, WasSaid, answer_had};
 
 use crate::lines::{Dials, Limits, Line, SystemDials};
 use crate::{Answer, ControlPath};
+use std::alloc::AllocError;
 use std::io;
 use std::net::Net;
 use std::os::unix::net::UnixStream;
@@ -17,6 +19,16 @@ use thiserror::Error;
 #[derive(Clone, Copy, Debug, PartialEq, Eq, Error)]
 #[error("socket 1 NoSocket")]
 pub struct NoSocket;
+
+impl From<AllocError> for NoSocket {
+    ghost use Rattle.std.specs.Prelude.{⊤};
+
+    ghost from_gives = { λ _ _. ⊤ };
+
+    fn from(_: AllocError) -> NoSocket {
+        NoSocket
+    }
+}
 
 impl From<io::Error> for NoSocket {
     ghost use Rattle.std.specs.Prelude.{⊤};
@@ -34,8 +46,20 @@ impl From<io::Error> for NoSocket {
 ///
 /// `NoSocket` where no box listens there, the caller may not speak to it, or it doesn't answer in time that the word is
 /// taken. Whether it took the word isn't known then.
-pub fn say<R: Net>(rt: &R, path: &ControlPath, word: &[u8]) -> Result<(), NoSocket> {
-    say_at::<UnixStream>(&mut connected(&mut SystemDials(rt), path)?, word)
+pub fn say<R: Net>(rt: &R, path: &ControlPath, word: &[u8]) -> Result<(), NoSocket>
+    ensures taken { OnOk result (IsTaken path.now word.now) }
+    ensures untaken { OnErr result (IsUntaken path.now word.now) }
+{
+    let mut line = connected(&mut SystemDials(rt), path)?;
+    said_on(&mut line, word)
+}
+
+/// Says a word on a line of the system's, and waits until it is taken.
+#[tactic(auto, unfolding(crate::specs::Speaking::WasSaid))]
+fn said_on(line: &mut UnixStream, word: &[u8]) -> Result<(), NoSocket>
+    ensures { WasSaid line.old word.now (is_ok result) line.new }
+{
+    say_at(line, word)
 }
 
 /// Says a word, once, and waits until it is taken.
@@ -78,8 +102,21 @@ pub fn ask<R: Net>(
 ) -> Result<usize, NoSocket>
     ensures within { IfOk result (λ count. count ≤ length room.new) }
     ensures some { IfOk result (λ count. 0 < count) }
+    ensures answered { IfOk result (λ count. IsAnsweredBy path.now word.now (take count room.new)) }
+    ensures unanswered { OnErr result (IsUnanswered path.now word.now) }
 {
-    ask_at::<UnixStream>(&mut connected(&mut SystemDials(rt), path)?, word, room)
+    let mut line = connected(&mut SystemDials(rt), path)?;
+    asked_on(&mut line, word, room)
+}
+
+/// Says a word on a line of the system's, and waits for its answer.
+#[tactic(auto, unfolding(crate::specs::Speaking::WasAsked))]
+fn asked_on(line: &mut UnixStream, word: &[u8], room: &mut [u8]) -> Result<usize, NoSocket>
+    ensures within { IfOk result (λ count. count ≤ length room.new) }
+    ensures some { IfOk result (λ count. 0 < count) }
+    ensures asked { WasAsked line.old word.now (answer_had result room.new) line.new }
+{
+    ask_at(line, word, room)
 }
 
 /// Says a word, once, and waits for its answer.
@@ -111,7 +148,10 @@ fn exchange<L: Line>(line: &mut L, word: &[u8], room: &mut [u8]) -> io::Result<u
 
 /// A line to the box whose control socket lies there; at each end 2 seconds are waited at most.
 fn connected<D: Dials<L>, L: Limits + Drop>(dials: &mut D, path: &ControlPath) -> io::Result<L>
-    ensures { IfOk result (λ line. IsDialled D.dials L.limits path.now dials.old dials.new line) }
+    ensures made { IfOk result
+        (λ line. IsDialled D.dials L.limits path.now dials.old dials.new line) }
+    ensures unmade { OnErr result
+        (IsUndialled D.dials L.limits path.now dials.old dials.new) }
 {
     let mut line = dials.dial(path.socket())?;
     line.limit_hearing(patience())?;
