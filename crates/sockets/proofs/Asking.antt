@@ -1,5 +1,5 @@
 -- That a conduit is asked, one call after another.
-use Rattle.std.proofs.Common.{◌≡◌, ◌⊎◌, ◌≤◌, ◌+◌, ◌∙◌, ℕ, Bool, true, false, List, Option, Some, None, Result, Ok, Err, inl, inr, refl, ap, sym, subst, add-one}
+use Rattle.std.proofs.Common.{◌≡◌, ◌⊎◌, ◌<◌, ◌+◌, ◌∙◌, ℕ, Bool, true, false, List, Option, Some, None, Result, Ok, Err, inl, inr, refl, ap, sym, subst, add-one}
 use Rattle.sockets.specs.Asking.{Asks, AsksOn, AsksStrangers, EndsAsking, IsSpent, IsSpentBy, Kind, Receives, kind_heard, kind_of, kind_told, nothing, state_of, strangers}
 use Rattle.sockets.specs.Bringing.{ready_after}
 use Rattle.sockets.specs.Hearing.{Attached, failing_after}
@@ -23,16 +23,16 @@ asked_more {C} receives a b c turns far failing before asks =
     (state_of b, (before, again receives a b (state_of b) (state_of c) strangers far failing asks))
 
 -- and then this was the outcome
-pub asked_last : {C : Type 0} (receives : Receives C) (a b c : Attached C) (turns : ℕ) (kind : Kind) → b.far ≡ a.far → b.failing ≡ a.failing
-    → AsksStrangers (Asks receives a.far a.failing) turns (state_of a) (state_of b)
+pub asked_last : {C : Type 0} (receives : Receives C) (a b c : Attached C) (turns : ℕ) (kind : Kind) → turns < 64 → b.far ≡ a.far
+    → b.failing ≡ a.failing → AsksStrangers (Asks receives a.far a.failing) turns (state_of a) (state_of b)
     → Asks receives b.far b.failing (state_of b) (state_of c) kind → AsksOn receives a c kind
-asked_last receives a b c turns kind far failing before asks =
-    (turns, (state_of b, (before, inr (again receives a b (state_of b) (state_of c) kind far failing asks))))
+asked_last receives a b c turns kind fewer far failing before asks =
+    (turns, (state_of b, (before, inr (fewer, again receives a b (state_of b) (state_of c) kind far failing asks))))
 
 -- or it was enough
-pub asked_enough : {C : Type 0} (receives : Receives C) (a b : Attached C) (turns : ℕ) → 64 ≤ turns
+pub asked_enough : {C : Type 0} (receives : Receives C) (a b : Attached C) (turns : ℕ) → turns ≡ 64
     → AsksStrangers (Asks receives a.far a.failing) turns (state_of a) (state_of b) → AsksOn receives a b nothing
-asked_enough receives a b turns many before = (turns, (state_of b, (before, inl (many, (refl, refl)))))
+asked_enough receives a b turns all before = (turns, (state_of b, (before, inl (all, (refl, refl)))))
 
 -- ---- there is nothing any more
 
@@ -55,7 +55,7 @@ spent_if {C} receives far failing s s2 false is asks = ap (λ (x : C × Bool). x
 spent_so : {C : Type 0} (receives : Receives C) (a a2 : Attached C) (far : FarEnd) (failing : Bool) (turns : ℕ) (between : C × Bool)
     → AsksStrangers (Asks receives far failing) turns (state_of a) between
     → EndsAsking (Asks receives far failing) turns between (state_of a2) nothing
-    → (a2.ready ≡ false) ⊎ ((s : C × Bool) × ((n : ℕ) × ((64 ≤ n) × AsksStrangers (Asks receives far failing) n s (state_of a2))))
+    → (a2.ready ≡ false) ⊎ ((s : C × Bool) × ((n : ℕ) × ((n ≡ 64) × AsksStrangers (Asks receives far failing) n s (state_of a2))))
 spent_so {C} receives a a2 far failing turns between before ends = elim ends [
   | inl enough ↦ inr (
     state_of a,
@@ -67,7 +67,7 @@ spent_so {C} receives a a2 far failing turns between before ends = elim ends [
       ),
     ),
   )
-  | inr asks ↦ inl (spent_if receives far failing between (state_of a2) between.1 refl asks)
+  | inr one ↦ inl (spent_if receives far failing between (state_of a2) between.1 refl one.1)
 ]
 
 spent : {C : Type 0} (receives : Receives C) (a a2 : Attached C) → AsksOn receives a a2 nothing → a2.far ≡ a.far → a2.failing ≡ a.failing

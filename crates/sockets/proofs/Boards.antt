@@ -2,7 +2,9 @@
 use Rattle.std.proofs.Common.{◌≡◌, ℕ, Bool, true, false, List, [], ◌∷◌, take, Option, Some, None, Result, Ok, Err, refl, ap, subst}
 use Rattle.sockets.specs.declared.channels.Channel.{Channel}
 use Rattle.sockets.specs.declared.places.Place.{Place}
-use Rattle.sockets.specs.declared.places.Place.TheVariants.{Operator}
+use Rattle.nat_types.specs.declared.gateways.Side as gateways
+use Rattle.nat_types.specs.declared.gateways.Side.TheVariants.{Inside, Outside}
+use Rattle.sockets.specs.declared.places.Place.TheVariants.{Link, Side, Operator}
 use Rattle.sockets.specs.declared.sockets.Board.{Board}
 use Rattle.sockets.specs.declared.wire.WireFault.{WireFault}
 use Rattle.sockets.specs.Hearing.{Attached, Hears, told}
@@ -20,6 +22,24 @@ still a a2 same =
 nothing_anywhere : (b : Bool) → where_it_is b [] ≡ []
 nothing_anywhere true = refl
 nothing_anywhere false = refl
+
+-- one place has heard this, and the others are as they were
+pub link_hears : (b b2 : Board) (told : List (List ℕ)) → Hears came b.link b2.link told → b2.inside ≡ b.inside → b2.outside ≡ b.outside
+    → HearsAt b b2 Link told
+link_hears b b2 told hears inside outside =
+    record { link = hears; inside = still b.inside b2.inside inside; outside = still b.outside b2.outside outside }
+
+pub inside_hears : (b b2 : Board) (place : Place) (side : gateways.Side) (told : List (List ℕ)) → place ≡ Side side → side ≡ Inside
+    → Hears came b.inside b2.inside told → b2.link ≡ b.link → b2.outside ≡ b.outside
+    → HearsAt b b2 place told
+inside_hears b b2 place side told is at hears link outside =
+    rw (is, at) (record { link = still b.link b2.link link; inside = hears; outside = still b.outside b2.outside outside })
+
+pub outside_hears : (b b2 : Board) (place : Place) (side : gateways.Side) (told : List (List ℕ)) → place ≡ Side side → side ≡ Outside
+    → Hears came b.outside b2.outside told → b2.link ≡ b.link → b2.inside ≡ b.inside
+    → HearsAt b b2 place told
+outside_hears b b2 place side told is at hears link inside =
+    rw (is, at) (record { link = still b.link b2.link link; inside = still b.inside b2.inside inside; outside = hears })
 
 -- as before, nothing is told of any place
 pub none_heard : (b b2 : Board) → IsAsBefore b b2 → HearsAt b b2 Operator []

@@ -21,7 +21,7 @@ busy : (c : Attending) → c.ready ≡ true → c.awaits ≡ true → is_ready c
 busy c ready awaits = rw (ready, awaits) refl
 
 looked_if : (count : ℕ) (a c c2 : Attending) (is : Bool) → is_ready c ≡ is → Looks (Some count) c c2 → IsLookedAt a c2
-looked_if count a c c2 true is h = inl (busy c2 (h.ready is).more (h.ready is).awaits)
+looked_if count a c c2 true is h = inl (busy c2 (h.ready is).0.more (h.ready is).0.awaits)
 looked_if count a c c2 false is h = let none = (h.not_ready is).0 in absurd (cc)
 
 looked_at : (place : Place) (count : ℕ) (a c c2 : Attending) → IsLookedAt a c → LooksAt {E = WireFault} place (Ok (Some count)) c c2 → IsLookedAt a c2

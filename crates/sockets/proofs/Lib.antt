@@ -9,3 +9,5 @@ mod Looking
 mod Polling
 mod Waking
 mod InTurn
+mod Receiving
+mod Opening

@@ -18,7 +18,7 @@ let_in c c2 true is h = let called : c2.called ≡ c.called + 1 = h.called ∙ r
 let_in c c2 false is h = inl (not_ready c2 is)
 
 looked_if : (c c2 : Attending) (is : Bool) → is_ready c ≡ is → Looks None c c2 → IsLookedAt c c2
-looked_if c c2 true is h = let_in c c2 c2.ready refl (h.ready is)
+looked_if c c2 true is h = let_in c c2 c2.ready refl (h.ready is).0
 looked_if c c2 false is h = inl (ap is_ready (h.not_ready is).1 ∙ is)
 
 -- nothing was there
@@ -30,8 +30,8 @@ let_in_rises c c2 true is h = let called : c2.called ≡ c.called + 1 = h.called
 let_in_rises c c2 false is h = let called : c2.called ≡ c.called + 0 = h.called ∙ rw is refl in omega (arith, called)
 
 rises_if : (found : Option ℕ) (c c2 : Attending) (is : Bool) → is_ready c ≡ is → Looks found c c2 → c.called ≤ c2.called
-rises_if (Some count) c c2 true is h = let called = (h.ready is).called in omega (arith, called)
-rises_if None c c2 true is h = let_in_rises c c2 c2.ready refl (h.ready is)
+rises_if (Some count) c c2 true is h = let called = (h.ready is).0.called in omega (arith, called)
+rises_if None c c2 true is h = let_in_rises c c2 c2.ready refl (h.ready is).0
 rises_if found c c2 false is h = let called = ap (λ (x : Attending). x.called) (h.not_ready is).1 in omega (arith, called)
 
 -- whatever was there, no fewer have called

@@ -23,10 +23,10 @@ pub record HandsOver {C : Type 0} (sends : Sends C) (c c2 : C) (result : Result 
   pub fits : length bytes ≤ 4096 → sends c bytes result c2
   pub too_long : 4096 < length bytes → (result ≡ Err TooLong) × (c2 ≡ c)
 
--- A socket of the system's was asked to send these bytes, and answered so. It is no more than a name for the call: who makes it has this, and
--- nobody else.
-unfoldable pub WasSent : {S : Type 0} → S → List ℕ → Result (Unit {0}) SendFault → Type 0
-WasSent socket bytes result = Unit {0}
+-- A socket of the system's was asked to send these bytes, answered so, and is this from then on. It is no more than a name for the call: who
+-- makes it has this, and nobody else. What a socket is then nobody else can say, so one more call leads elsewhere.
+unfoldable pub WasSent : {S : Type 0} → S → List ℕ → Result (Unit {0}) SendFault → S → Type 0
+WasSent before bytes result after = Unit {0}
 
 -- ---- to receive
 
@@ -35,12 +35,12 @@ abbrev pub Receives : Type 0 → Type 1
 Receives C = C → Result (Option Arrived) WireFault → List ℕ → C → Type 0
 
 -- the same of what is received
-unfoldable pub WasReceived : {S : Type 0} → S → Result (Option Arrived) WireFault → List ℕ → Type 0
-WasReceived socket result room = Unit {0}
+unfoldable pub WasReceived : {S : Type 0} → S → Result (Option Arrived) WireFault → List ℕ → S → Type 0
+WasReceived before result room after = Unit {0}
 
--- waits report a socket of the system's under the token of this number
-unfoldable pub WasRegistered : {S : Type 0} → ℕ → S → Type 0
-WasRegistered number socket = Unit {0}
+-- the same where waits are to report a socket under the token of this number
+unfoldable pub WasRegistered : {S : Type 0} → S → ℕ → S → Type 0
+WasRegistered before number after = Unit {0}
 
 -- an answer is of these kinds: something of the far end's, or of somebody else's, nothing, or a failure
 pub data Kind : Type 0 where
@@ -91,9 +91,9 @@ abbrev pub AsksStrangers : {S : Type 0} → (S → S → Kind → Type 0) → �
 AsksStrangers asks zero s s2 = s2 ≡ s
 AsksStrangers {S} asks (suc turns) s s2 = (between : S) × (AsksStrangers asks turns s between × asks between s2 strangers)
 
--- so often, and it was enough; or then once more, with this outcome
+-- 64 times, and it was enough; or less often, and then once more, with this outcome
 abbrev pub EndsAsking : {S : Type 0} → (S → S → Kind → Type 0) → ℕ → S → S → Kind → Type 0
-EndsAsking asks turns s s2 kind = ((64 ≤ turns) × ((kind ≡ nothing) × (s2 ≡ s))) ⊎ asks s s2 kind
+EndsAsking asks turns s s2 kind = ((turns ≡ 64) × ((kind ≡ nothing) × (s2 ≡ s))) ⊎ ((turns < 64) × asks s s2 kind)
 
 -- it is asked on behind what is somebody else's, until there is something of the far end's, or nothing, or a failure; 64 are enough
 abbrev pub AsksOn : {C : Type 0} → Receives C → Attached C → Attached C → Kind → Type 0
@@ -104,7 +104,7 @@ AsksOn {C} receives a a2 kind =
 -- there is nothing any more, or 64 came that were somebody else's
 abbrev pub IsSpent : {C : Type 0} → Receives C → Attached C → Type 0
 IsSpent {C} receives a =
-    (a.ready ≡ false) ⊎ ((s : C × Bool) × ((turns : ℕ) × ((64 ≤ turns) × AsksStrangers (Asks receives a.far a.failing) turns s (state_of a))))
+    (a.ready ≡ false) ⊎ ((s : C × Bool) × ((turns : ℕ) × ((turns ≡ 64) × AsksStrangers (Asks receives a.far a.failing) turns s (state_of a))))
 
 -- by what was taken
 abbrev pub IsSpentBy : {C E : Type 0} → Receives C → Result (Option ℕ) E → Attached C → Type 0

@@ -1,5 +1,6 @@
 -- What is told of each place of a box: what its own attachment has heard.
-use Rattle.std.specs.Prelude.{ℕ, Bool, true, false, ◌≡◌, List, [], ◌∷◌, ◌++◌, take, Option, Some, None, Result, Ok, Err}
+use Rattle.std.specs.Prelude.{ℕ, Bool, true, false, ◌≡◌, List, [], ◌∷◌, ◌++◌, take, Option, Some, None, Result, Ok, Err, is_err}
+use Rattle.control.specs.Attending.{Attending, registered}
 use Rattle.mio.specs.Events.{capacity}
 use Rattle.mio.specs.declared.token.Token.{Token}
 use Rattle.nat_types.specs.declared.gateways.Side.TheVariants.{Inside, Outside}
@@ -14,7 +15,9 @@ use Rattle.sockets.specs.declared.sockets.Places.{Places}
 use Rattle.sockets.specs.FarEnds.{Arrival, far_end_of, head_of}
 use Rattle.sockets.specs.Hearing.{Attached, Hears}
 use Rattle.sockets.specs.Traffic.{handed_on}
-use Rattle.sockets.specs.Asking.{HandsOver, Receives, Sends, WasReceived, WasRegistered, WasSent}
+use Rattle.sockets.specs.Asking.{HandsOver, Receives, Sends, WasReceived, WasSent}
+use Rattle.sockets.specs.Losses.{none_lost}
+use Rattle.sockets.specs.Opening.{IsAttached}
 use Rattle.sockets.specs.declared.losses.SendFault.{SendFault}
 
 abbrev pub is_link : Place → Bool
@@ -63,12 +66,17 @@ pub record IsAsBefore (b b2 : Board) : Type 0 where
   pub inside : b2.inside ≡ b.inside
   pub outside : b2.outside ≡ b.outside
 
--- what answers is the system, where a channel is asked to send or for what came next
+-- the system isn't asked to wait, and the same place is asked first
+pub record Rests (b b2 : Board) : Type 0 where
+  pub poll : b2.poll ≡ b.poll
+  pub first : b2.first ≡ b.first
+
+-- what answers is the system, where a channel's socket is asked to send or for what came next, once
 abbrev pub was_sent : Sends Channel
-was_sent c bytes result c2 = WasSent c.socket bytes result
+was_sent c bytes result c2 = WasSent c.socket bytes result c2.socket
 
 abbrev pub was_received : Receives Channel
-was_received c result room c2 = WasReceived c.socket result room
+was_received c result room c2 = WasReceived c.socket result room c2.socket
 
 -- bytes are handed on to the far end, behind what stands before them: the system was asked to send just these; or not, where the answer is an Err
 pub record HandsOn (a a2 : Attached Channel) (result : Result (Unit {0}) SendFault) (bytes : List ℕ) : Type 0 where
@@ -77,35 +85,47 @@ pub record HandsOn (a a2 : Attached Channel) (result : Result (Unit {0}) SendFau
   pub came : came a2.conduit ≡ came a.conduit
   pub same_far : a2.far ≡ a.far
   pub strangers : a2.strangers ≡ a.strangers
+  pub ready : a2.ready ≡ a.ready
 
 abbrev pub HandsOnWhere : Bool → Attached Channel → Attached Channel → Result (Unit {0}) SendFault → List ℕ → Type 0
 HandsOnWhere true a a2 result bytes = HandsOn a a2 result bytes
 HandsOnWhere false a a2 result bytes = a2 ≡ a
 
--- bytes go to a place by its own attachment, and nothing by another
+-- to the operator nothing is sent: the answer is an Err
+abbrev pub FailsAtOperator : Place → Result (Unit {0}) SendFault → Type 0
+FailsAtOperator Operator result = is_err result ≡ true
+FailsAtOperator other result = Unit {0}
+
+-- bytes go to a place by its own attachment, and nothing by another; none go to the operator
 pub record SendsAt (b b2 : Board) (place : Place) (result : Result (Unit {0}) SendFault) (bytes : List ℕ) : Type 0 where
   pub link : HandsOnWhere (is_link place) b.link b2.link result bytes
   pub inside : HandsOnWhere (is_inside place) b.inside b2.inside result bytes
   pub outside : HandsOnWhere (is_outside place) b.outside b2.outside result bytes
+  pub operator : FailsAtOperator place result
 
--- just opened by its way: nothing has come, and waits report it under the token of this number
+-- just opened by its way, with its ports where that is the loopback address: nothing has come, failed or was lost, it may have something, and
+-- waits report it under the token of this number
 pub record IsNew (number : ℕ) (way : Way) (ports : ℕ × ℕ) (a : Attached Channel) : Type 0 where
   pub far : a.far ≡ far_end_of way ports
   pub came : came a.conduit ≡ []
   pub strangers : a.strangers ≡ 0
-  pub registered : WasRegistered number a.conduit.socket
+  pub failing : a.failing ≡ false
+  pub losses : a.losses ≡ none_lost
+  pub ready : a.ready ≡ true
+  pub opened : IsAttached number way ports a.conduit.socket
 
 -- the control socket's token, and that of its callers: it is none of the three places'
 abbrev pub control_token : Token
 control_token = record { 0 = 3 }
 
--- each place has its own way, and its own ports where that is the loopback address; waits report the control socket under its token, and have
--- room for eight events
-pub record Opens (ways : Ways) (ports : Ports) (b : Board) : Type 0 where
+-- each place has its own way, and its own ports where that is the loopback address; the control socket is as it was handed in, but that waits
+-- report it under its token; the link is asked first; they have room for eight events
+pub record Opens (ways : Ways) (ports : Ports) (handed_in : Attending) (b : Board) : Type 0 where
   pub link : IsNew 0 ways.link ports.link b.link
   pub inside : IsNew 1 ways.inside ports.inside b.inside
   pub outside : IsNew 2 ways.outside ports.outside b.outside
-  pub control : b.control.token ≡ Some control_token
+  pub control : b.control ≡ registered control_token handed_in
+  pub first : b.first ≡ Link
   pub room : capacity b.events ≡ 8
 
 -- the same of the places before they are a box's

@@ -20,3 +20,4 @@ pub mod Opening
 pub mod Looking
 pub mod Polling
 pub mod Waking
+pub mod Receiving

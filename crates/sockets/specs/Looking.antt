@@ -1,6 +1,7 @@
 -- When a box looks at its control socket, and whom it answers there.
 use Rattle.std.specs.Prelude.{ℕ, zero, suc, Bool, true, false, ◌≡◌, ◌<◌, ◌⊎◌, ◌||◌, List, [], ◌∷◌, take, Option, Some, None, IsNone, Result, Ok, Err, nat_le, if◌then◌else◌}
-use Rattle.control.specs.Attending.{Attending, HasHeard, HasLetIn, HasLooked, SaysWord, answered, is_ready, woken}
+use Rattle.control.specs.Attending.{Attending, HasHeard, HasLooked, SaysWord, answered, is_ready, woken}
+use Rattle.control.specs.Telling.{IsTold}
 use Rattle.mio.specs.Event.{event_token}
 use Rattle.mio.specs.declared.event.event.Event.{Event}
 use Rattle.mio.specs.declared.token.Token.{Token}
@@ -8,9 +9,13 @@ use Rattle.sockets.specs.Boards.{after}
 use Rattle.sockets.specs.declared.places.Place.{Place}
 use Rattle.sockets.specs.declared.places.Place.TheVariants.{Link, Side, Operator}
 
+-- it is looked at, and gives this; who is waited for there is asked with room for the longest datagram
+abbrev pub IsLookedThrough : {T : Type 0} → Option T → Attending → Attending → Type 0
+IsLookedThrough found c c2 = HasLooked found c c2 × (c2.asked ≡ 4096)
+
 -- where it may have something it is looked at, and gives this; else it gives nothing, and stays as it is
 pub record Looks (found : Option ℕ) (c c2 : Attending) : Type 0 where
-  pub ready : is_ready c ≡ true → HasLooked found c c2
+  pub ready : is_ready c ≡ true → IsLookedThrough found c c2
   pub not_ready : is_ready c ≡ false → IsNone found × (c2 ≡ c)
 
 -- by the place that is asked: the operator's is the control socket, which never fails, and is as it was where another is asked
@@ -27,7 +32,9 @@ IsMaybeWoken c c2 = (c2 ≡ c) ⊎ (c2 ≡ woken c)
 -- so often a wait reported it, or it was looked at where it was ready, and nobody said a word
 abbrev pub IsInVain : ℕ → Attending → Attending → Type 0
 IsInVain zero c c2 = c2 ≡ c
-IsInVain (suc turns) c c2 = (between : Attending) × (IsInVain turns c between × ((c2 ≡ woken between) ⊎ ((is_ready between ≡ true) × HasLetIn between c2)))
+IsInVain (suc turns) c c2 =
+    (between : Attending) × (IsInVain turns c between
+    × ((c2 ≡ woken between) ⊎ ((is_ready between ≡ true) × IsLookedThrough {T = ℕ} None between c2)))
 
 -- nobody was heard, answered or let go who had said a word
 abbrev pub PassesInVain : Attending → Attending → Type 0
@@ -35,7 +42,7 @@ PassesInVain c c2 = (turns : ℕ) × IsInVain turns c c2
 
 -- so too, and then somebody said a word, once: he awaits his answer
 abbrev pub HearsWord : Attending → Attending → Type 0
-HearsWord c c2 = (between : Attending) × (PassesInVain c between × ((is_ready between ≡ true) × HasHeard between c2))
+HearsWord c c2 = (between : Attending) × (PassesInVain c between × ((is_ready between ≡ true) × (HasHeard between c2 × (c2.asked ≡ 4096))))
 
 -- by the place that something came from: a word was said just where it is the operator's
 abbrev pub HearsWordAt : Place → Attending → Attending → Type 0
@@ -75,9 +82,10 @@ abbrev pub woken_by_all : List Event → Attending → Attending
 woken_by_all [] c = c
 woken_by_all (event ∷ rest) c = woken_by_all rest (woken_by (event_token event) c)
 
--- who awaits an answer is let go, and all else stays but the count of those who went unanswered
-abbrev pub IsAnswered : Attending → Attending → Type 0
-IsAnswered c c2 = c2 ≡ answered c c2.unanswered
+-- who awaits an answer is told these bytes, once, and let go, and all else stays but the count of those who went unanswered
+pub record IsAnswered (bytes : List ℕ) (c c2 : Attending) : Type 0 where
+  pub rest : c2 ≡ answered c c2.unanswered
+  pub told : c.awaits ≡ true → IsTold bytes c.unanswered c2.unanswered
 
 -- ---- the places in turn
 

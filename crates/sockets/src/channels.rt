@@ -4,7 +4,7 @@ ghost use Rattle.std.specs.IoError.{error_kind, raw_os_error};
 ghost use Rattle.sockets.specs.Asking.{WasReceived, WasRegistered, WasSent};
 ghost use Rattle.sockets.specs.Kept.{nothing_yet};
 ghost use Rattle.sockets.specs.Losses.{fault_of};
-ghost use Rattle.sockets.specs.Opening.{IsJoined, IsOpened};
+ghost use Rattle.sockets.specs.Opening.{IsAttached, IsJoined, IsOpened};
 
 use crate::traffic::Traffic;
 use crate::{Arrived, Conduit, End, Ends, LONGEST, SendFault, Sender, Way, WireFault};
@@ -32,8 +32,11 @@ trait Binds<S> {
 struct SystemBinds<'a, R>(&'a R);
 
 impl<R: Net> Binds<UdpSocket> for SystemBinds<'_, R> {
-    ghost binds = { λ _ _ _ _. Unit {0} };
+    ghost use Rattle.sockets.specs.Opening.{by_system};
 
+    ghost binds = { by_system };
+
+    #[tactic(auto, unfolding(crate::specs::Opening::WasBound))]
     fn bind_at(&mut self, own: SocketAddr) -> io::Result<UdpSocket> {
         UdpSocket::bind(self.0, own)
     }
@@ -53,8 +56,11 @@ trait Connects: Sized {
 
 /// The system's, of which nothing is known.
 impl Connects for UdpSocket {
-    ghost connects = { λ _ _ _. Unit {0} };
+    ghost use Rattle.sockets.specs.Opening.{WasConnected};
 
+    ghost connects = { WasConnected };
+
+    #[tactic(auto, unfolding(crate::specs::Opening::WasConnected))]
     fn connect_to(&mut self, other: SocketAddr) -> io::Result<()> {
         self.connect(other)
     }
@@ -89,7 +95,7 @@ impl Channel {
         ports: (u16, u16),
     ) -> io::Result<Channel>
         ensures traffic { IfOk result (λ c. c.traffic ≡ nothing_yet) }
-        ensures registered { IfOk result (λ c. WasRegistered token.0 c.socket) }
+        ensures opened { IfOk result (λ c. IsAttached token.0 way ports c.socket) }
     {
         let mut socket = opened(&mut SystemBinds(net), way, ports)?;
         told_to_register(&mut socket, registry, token)?;
@@ -131,7 +137,7 @@ fn told_to_register(
     registry: &Registry,
     token: Token,
 ) -> io::Result<()>
-    ensures { OnOk result (WasRegistered token.0 socket.new) }
+    ensures { OnOk result (WasRegistered socket.old token.0 socket.new) }
 {
     socket.register(registry, token)
 }
@@ -139,7 +145,7 @@ fn told_to_register(
 /// Asks the system to send a datagram.
 #[tactic(auto, unfolding(crate::specs::Asking::WasSent))]
 fn told_to_send(socket: &mut Socket<UdpSocket>, bytes: &[u8]) -> Result<(), SendFault>
-    ensures { WasSent socket.old bytes.now result }
+    ensures { WasSent socket.old bytes.now result socket.new }
 {
     socket.send(bytes).map_err(|e| fault_of(&e))
 }
@@ -151,7 +157,7 @@ fn told_to_receive(
     room: &mut [u8; LONGEST],
 ) -> Result<Option<Arrived>, WireFault>
     ensures within { IfOk result (λ found. IfSome found (λ arrived. arrived.count ≤ 4096)) }
-    ensures asked { WasReceived socket.old result room.new }
+    ensures asked { WasReceived socket.old result room.new socket.new }
 {
     settled(socket.receive(room))
 }

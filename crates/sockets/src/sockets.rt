@@ -2,12 +2,13 @@
 ghost use Rattle.control.specs.Attending.{is_ready};
 ghost use Rattle.mio.specs.Events.{capacity, items};
 ghost use Rattle.std.specs.Duration.{as_nanos};
-ghost use Rattle.std.specs.Prelude.{◌≡◌, ◌≤◌, [], IfErr, IfOk, IfSome, Ok, OnErr, OnOk, is_err, option_map, take, true};
-ghost use Rattle.sockets.specs.Boards.{HearsAt, IsNew, Opens, OpensPlaces, SendsAt, Tells, after};
-ghost use Rattle.sockets.specs.Doing.{DoesAt};
+ghost use Rattle.std.specs.Prelude.{◌≡◌, ◌≤◌, [], IfErr, IfOk, IfSome, Ok, OnErr, is_err, option_map, take, true};
+ghost use Rattle.sockets.specs.Boards.{HearsAt, IsNew, Opens, OpensPlaces, Rests, SendsAt, Tells, after};
+ghost use Rattle.sockets.specs.Doing.{AnswersAt, DoesAt};
 ghost use Rattle.sockets.specs.Hearing.{told};
 ghost use Rattle.sockets.specs.Looking.{IsMaybeWoken, LooksAt, LooksFor, SaysAt, SaysFor, woken_by, woken_by_all};
-ghost use Rattle.sockets.specs.Polling.{HasWaited, WaitsFor, WasPolled, most_of};
+ghost use Rattle.sockets.specs.Polling.{WasPolled};
+ghost use Rattle.sockets.specs.Receiving.{AsksFor, CatchesUp, Waits, WaitsAt, WaitsFor, WaitsForAny};
 ghost use Rattle.sockets.specs.Waking.{AreMaybeWoken, AreWoken, SpentFor, TakesAt, is_any_ready, woken_at, woken_at_all};
 ghost use Rattle.sockets.specs.Showing.{HasFailed, IsOfLast, IsOfWait, TurnsFor, attached_at, failing_at, losses_at, strangers_at};
 
@@ -79,7 +80,7 @@ impl Board {
         ports: Ports,
         control: Control,
     ) -> Result<Board, SocketFault>
-        ensures { IfOk result (Opens ways.now ports) }
+        ensures { IfOk result (Opens ways.now ports control) }
     {
         let (mut control, poll) = beside(control, Poll::new(net))?;
         let registered = control.register(poll.registry(), CONTROL);
@@ -123,6 +124,7 @@ impl Board {
     fn send(&mut self, to: Place, bytes: &[u8]) -> Result<(), SendFault>
         ensures sends { SendsAt self.old self.new to result bytes.now }
         ensures control { self.new.control ≡ self.old.control }
+        ensures rests { Rests self.old self.new }
     {
         match to {
             Place::Link => self.link.send(bytes),
@@ -139,7 +141,7 @@ impl Board {
         ensures looks { LooksAt place result self.old.control self.new.control }
         ensures says { IfOk result
             (λ found. IfSome found (λ count. SaysAt place (take count room.new) self.new.control)) }
-        ensures first { self.new.first ≡ self.old.first }
+        ensures rests { Rests self.old self.new }
         ensures takes { TakesAt self.old self.new place result }
         ensures failing { IfErr result (λ fault. failing_at self.new place ≡ true) }
     {
@@ -161,6 +163,8 @@ impl Board {
         ensures says { SaysFor result room.new self.new.control }
         ensures failed { IfErr result (λ fault. IsOfLast self.new) }
         ensures spent { SpentFor result self.new }
+        ensures asks { AsksFor result self.old self.new }
+        ensures poll { self.new.poll ≡ self.old.poll }
     {
         for _ in 0..4_u8 {
             let place = self.first;
@@ -180,10 +184,8 @@ impl Board {
         ensures control { IsMaybeWoken self.old.control self.new.control }
         ensures first { self.new.first ≡ self.old.first }
         ensures failed { IfErr result (λ fault. IsOfWait self.new) }
-        ensures polled { WasPolled limit (is_err result) (items self.new.events) }
+        ensures waits { Waits (as_nanos limit) (is_err result) self.old self.new }
         ensures room { capacity self.new.events ≡ capacity self.old.events }
-        ensures reported { self.new.control
-            ≡ woken_by_all (items self.new.events) self.old.control }
     {
         match polled(&mut self.poll, &mut self.events, limit) {
             Ok(()) => {
@@ -202,12 +204,13 @@ impl Board {
 
     /// Hears the system, where there is time to wait and a place may have something already.
     fn catch_up(&mut self, limit: Duration) -> Result<(), WireFault>
+        ensures catches { CatchesUp (as_nanos limit) (is_err result) self.old self.new }
         ensures places { AreMaybeWoken self.old self.new }
         ensures control { IsMaybeWoken self.old.control self.new.control }
         ensures first { self.new.first ≡ self.old.first }
         ensures failed { IfErr result (λ fault. IsOfWait self.new) }
     {
-        if limit > Duration::ZERO && self.is_any_ready() {
+        if !limit.is_zero() && self.is_any_ready() {
             self.wait(Duration::ZERO)
         } else {
             Ok(())
@@ -216,8 +219,7 @@ impl Board {
 
     /// Waits, but not where a place may still have something.
     fn wait_for_any(&mut self, limit: Duration) -> Result<(), WireFault>
-        ensures waited { OnOk result (HasWaited (most_of (as_nanos limit)
-            (is_any_ready self.old))) }
+        ensures waits { WaitsForAny (as_nanos limit) (is_err result) self.old self.new }
         ensures places { AreMaybeWoken self.old self.new }
         ensures control { IsMaybeWoken self.old.control self.new.control }
         ensures first { self.new.first ≡ self.old.first }
@@ -256,7 +258,7 @@ impl Board {
         ensures called { self.old.control.called ≤ self.new.control.called }
         ensures turns { TurnsFor result self.old self.new }
         ensures says { SaysFor result room.new self.new.control }
-        ensures waited { WaitsFor result (as_nanos limit) }
+        ensures waits { WaitsFor (as_nanos limit) result self.old self.new }
         ensures failed { IfErr result (λ fault. HasFailed self.new) }
         ensures spent { SpentFor result self.new }
     {
@@ -278,7 +280,7 @@ impl Board {
 /// Asks the system to wait for at most so long, and has what it reports instead of what it did before.
 #[tactic(auto, unfolding(crate::specs::Polling::WasPolled))]
 fn polled(poll: &mut Poll, events: &mut Events<Global>, limit: Duration) -> Result<(), WireFault>
-    ensures polled { WasPolled limit (is_err result) (items events.new) }
+    ensures polled { WasPolled poll.old limit (is_err result) (items events.new) poll.new }
     ensures failed { OnErr result (items events.new ≡ []) }
     ensures room { capacity events.new ≡ capacity events.old }
 {
@@ -410,7 +412,7 @@ impl Sockets {
         ports: Ports,
         control: Control,
     ) -> Result<Sockets, SocketFault>
-        ensures { IfOk result (λ sockets. Opens ways.now ports sockets.board) }
+        ensures { IfOk result (λ sockets. Opens ways.now ports control sockets.board) }
     {
         Ok(Sockets {
             board: Board::open(net, alloc, ways, ports, control)?,
@@ -435,6 +437,10 @@ impl Sockets {
 
 impl Wire for Sockets {
     ghost does = { DoesAt };
+
+    ghost waits = { WaitsAt };
+
+    ghost answers = { AnswersAt };
 
     ghost failing = { λ s place is. is ≡ failing_at s.board place };
 

@@ -1,7 +1,7 @@
 //! What a box sends datagrams to and receives them from.
-ghost use Rattle.std.specs.Prelude.{◌≡◌, ◌≤◌, ◌-◌, ◌==◌, Bool, IfOk, IfSome};
+ghost use Rattle.std.specs.Prelude.{◌≡◌, ◌≤◌, ◌-◌, ◌==◌, Bool, IfOk, IfSome, List, is_err, ℕ};
 ghost use Rattle.std.specs.declared.time.Duration.{Duration};
-ghost use Rattle.sockets.specs.Failing.{FailsAt};
+ghost use Rattle.sockets.specs.Failing.{AnswersBelow, FailsAt, WaitsBelow};
 ghost use Rattle.sockets.specs.Letters.{Call, answer_of, answered, asked, sent};
 ghost use Rattle.sockets.specs.declared.losses.Losses.{Losses};
 ghost use Rattle.sockets.specs.declared.places.Place.{Place};
@@ -26,6 +26,9 @@ pub trait Wire {
     /// How long it waits at most for the next datagram, and what the wire is then.
     ghost waits: { Self → Duration → Self → Type 0 } = { λ _ _ _. Unit {0} };
 
+    /// What it answers who has it send a datagram, as whether that failed, and what the wire is then.
+    ghost answers: { Self → Place → List ℕ → Bool → Self → Type 0 } = { λ _ _ _ _ _. Unit {0} };
+
     /// What it says of whether a place fails.
     ghost failing: { Self → Place → Bool → Type 0 } = { λ _ _ _. Unit {0} };
 
@@ -34,7 +37,8 @@ pub trait Wire {
 
     /// Sends a datagram. After an Err it is lost, and so is what would go to the operator.
     fn send(&mut self, to: Place, bytes: &[u8]) -> Result<(), WireFault>
-        ensures does { does self.old (sent to bytes.now) self.new };
+        ensures does { does self.old (sent to bytes.now) self.new }
+        ensures answers { answers self.old to bytes.now (is_err result) self.new };
 
     /// Answers who said the last word, and lets him go; where he isn't there any more, or has no room for the whole
     /// answer, without it. It never waits. Before that no other word comes.
@@ -99,6 +103,10 @@ impl<'a, W: Wire> Failing<'a, W> {
 
 impl<W: Wire> Wire for Failing<'_, W> {
     ghost does = { FailsAt W.does };
+
+    ghost waits = { WaitsBelow W.waits };
+
+    ghost answers = { AnswersBelow W.answers };
 
     ghost failing = { λ f place is. W.failing f.wire.now place is };
 

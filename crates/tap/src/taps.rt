@@ -1,5 +1,5 @@
 //! A wire whose packets are captured.
-ghost use Rattle.std.specs.Prelude.{◌≡◌, ◌<◌, ◌≤◌, IfOk, IfSome, length};
+ghost use Rattle.std.specs.Prelude.{◌≡◌, ◌<◌, ◌≤◌, IfOk, IfSome, is_err, length};
 ghost use Rattle.sockets.specs.Letters.{answer_of, answered, asked, sent};
 ghost use Rattle.captures.specs.declared.interfaces.Direction.TheVariants.{Outbound};
 ghost use Rattle.std.specs.Io.KnownBytes.{Keeps};
@@ -97,12 +97,15 @@ impl<W: Wire, M: Moments, O: Outlet> Wire for Tapped<W, M, O> {
 
     ghost waits = { λ t limit t2. W.waits t.wire limit t2.wire };
 
+    ghost answers = { λ t to bytes is_failed t2. W.answers t.wire to bytes is_failed t2.wire };
+
     ghost failing = { λ t place is. W.failing t.wire place is };
 
     ghost lost = { λ t place losses. W.lost t.wire place losses };
 
     fn send(&mut self, to: Place, bytes: &[u8]) -> Result<(), WireFault>
         ensures does { W.does self.old.wire (sent to bytes.now) self.new.wire }
+        ensures answers { W.answers self.old.wire to bytes.now (is_err result) self.new.wire }
         ensures taken { TakesSent O.contents self.old self.new to result bytes.now }
     {
         let sent = self.wire.send(to, bytes);

@@ -1,4 +1,4 @@
-use Rattle.std.proofs.Common.{arith, ◌∙◌, ◌≤◌}
+use Rattle.std.proofs.Common.{arith, ◌∙◌, ◌<◌, ◌≡◌}
 use Rattle.sockets.proofs.Asking.{asked_enough, asked_last, asked_more}
 use Rattle.sockets.proofs.Hearing.{hears_on}
 use Rattle.sockets.proofs.attachments.Attachment.look.Goals as goal
@@ -27,20 +27,23 @@ loop-preserved g c = record {
 
 pub returns-in-Heard-clause-asked : goal.returns-in-Heard-clause-asked
 returns-in-Heard-clause-asked g c =
-    asked_last g.C.Conduit.receives c.args.self.now c.loop.self c.next.new.self c.loop.counter _ c.loop.invariant.hears.same_far c.loop.invariant.failing
-    c.loop.invariant.asked c.in-Heard.ensures.asked
+    let fewer : c.loop.counter < 64 = omega arith in
+    asked_last g.C.Conduit.receives c.args.self.now c.loop.self c.next.new.self c.loop.counter _ fewer c.loop.invariant.hears.same_far
+    c.loop.invariant.failing c.loop.invariant.asked c.in-Heard.ensures.asked
 
 pub returns-in-Nothing-clause-asked : goal.returns-in-Nothing-clause-asked
 returns-in-Nothing-clause-asked g c =
-    asked_last g.C.Conduit.receives c.args.self.now c.loop.self c.next.new.self c.loop.counter _ c.loop.invariant.hears.same_far c.loop.invariant.failing
-    c.loop.invariant.asked c.in-Nothing.ensures.asked
+    let fewer : c.loop.counter < 64 = omega arith in
+    asked_last g.C.Conduit.receives c.args.self.now c.loop.self c.next.new.self c.loop.counter _ fewer c.loop.invariant.hears.same_far
+    c.loop.invariant.failing c.loop.invariant.asked c.in-Nothing.ensures.asked
 
 pub returns-in-Failed-clause-asked : goal.returns-in-Failed-clause-asked
 returns-in-Failed-clause-asked g c =
-    asked_last g.C.Conduit.receives c.args.self.now c.loop.self c.next.new.self c.loop.counter _ c.loop.invariant.hears.same_far c.loop.invariant.failing
-    c.loop.invariant.asked c.in-Failed.ensures.asked
+    let fewer : c.loop.counter < 64 = omega arith in
+    asked_last g.C.Conduit.receives c.args.self.now c.loop.self c.next.new.self c.loop.counter _ fewer c.loop.invariant.hears.same_far
+    c.loop.invariant.failing c.loop.invariant.asked c.in-Failed.ensures.asked
 
 pub returns-clause-asked : goal.returns-clause-asked
 returns-clause-asked g c =
-    let many : 64 ≤ c.loop.counter = omega arith in
-    asked_enough g.C.Conduit.receives c.args.self.now c.loop.self c.loop.counter many c.loop.invariant.asked
+    let all : c.loop.counter ≡ 64 = omega arith in
+    asked_enough g.C.Conduit.receives c.args.self.now c.loop.self c.loop.counter all c.loop.invariant.asked

@@ -1,4 +1,5 @@
 use Rattle.std.proofs.Common.{arith, ◌∙◌, ◌≤◌, ◌≡◌, ℕ, ap, refl, take}
+use Rattle.sockets.proofs.Receiving.{asks_all, asks_last, asks_on, asks_some}
 use Rattle.sockets.proofs.Boards.{heard_failed, heard_some, heard_still, none_heard}
 use Rattle.sockets.proofs.Looking.{all_asked, looked_on, none_asked, rises, rises_at_err, turned_on, vain_failed, vain_on, vain_yet, word_on}
 use Rattle.sockets.specs.Looking.{SaysAt, turned}
@@ -12,6 +13,8 @@ pub loop-init : goal.loop-init
 loop-init c = record {
   heard = none_heard _ _ (record { link = refl; inside = refl; outside = refl });
   first = refl;
+  poll = refl;
+  asked = refl;
   looked = none_asked c.args.self.now.first c.args.self.now.control c.args.self.now.control;
   vain = vain_yet c.args.self.now.control;
   called = omega arith;
@@ -34,7 +37,7 @@ returns-in-Ok-Some-clause-looks c =
 
 pub returns-in-Ok-Some-clause-turns : goal.returns-in-Ok-Some-clause-turns
 returns-in-Ok-Some-clause-turns c = record {
-  last = c.take.ensures.first ∙ c.after-self.ensures;
+  last = c.take.ensures.rests.first ∙ c.after-self.ensures;
   turns = c.loop.counter;
   asked = c.loop.invariant.first;
   looked = λ among. looked_still c.loop.self.first c.in-Ok-Some.field-0 _ c.args.self.now.control c.loop.self.control
@@ -63,7 +66,13 @@ loop-preserved c =
     record {
       heard = heard_still _ c.loop.self _ _ _ _ _ c.loop.invariant.heard (record { link = refl; inside = refl; outside = refl })
           c.in-Ok-None.ensures.hears c.in-Ok-None.field-0-is;
-      first = turned_on c.loop.counter c.args.self.now.first c.loop.self.first c.take.new.self.first c.loop.invariant.first (c.take.ensures.first ∙ c.after-self.ensures);
+      first = turned_on c.loop.counter c.args.self.now.first c.loop.self.first c.take.new.self.first c.loop.invariant.first
+          (c.take.ensures.rests.first ∙ c.after-self.ensures);
+      poll = c.take.ensures.rests.poll ∙ c.loop.invariant.poll;
+      asked = asks_on c.loop.counter c.args.self.now c.loop.self c.take.new.self c.loop.self.first c.in-Ok-None.field-0 c.loop.invariant.first
+          c.loop.invariant.asked
+          (record { link = c.in-Ok-None.ensures.takes.link; inside = c.in-Ok-None.ensures.takes.inside; outside = c.in-Ok-None.ensures.takes.outside })
+          c.in-Ok-None.field-0-is;
       looked = looked_on c.loop.counter c.args.self.now.first c.loop.self.first c.in-Ok-None.field-0 c.args.self.now.control c.loop.self.control
           c.take.new.self.control c.loop.invariant.first c.loop.invariant.looked c.loop.invariant.called c.in-Ok-None.ensures.looks c.in-Ok-None.field-0-is;
       vain = vain_on _ c.in-Ok-None.field-0 _ c.loop.self.control _ c.loop.invariant.vain c.in-Ok-None.ensures.looks c.in-Ok-None.field-0-is;
@@ -97,4 +106,23 @@ returns-clause-spent c =
 
 pub returns-in-Err-clause-failed : goal.returns-in-Err-clause-failed
 returns-in-Err-clause-failed c =
-    (c.loop.self.first, (c.take.ensures.first ∙ c.after-self.ensures, (c.in-Err.ensures.failing, failed_at c.loop.self.first _ _ _ c.in-Err.ensures.takes)))
+    (c.loop.self.first, (c.take.ensures.rests.first ∙ c.after-self.ensures, (c.in-Err.ensures.failing, failed_at c.loop.self.first _ _ _ c.in-Err.ensures.takes)))
+
+pub returns-in-Ok-Some-clause-asks : goal.returns-in-Ok-Some-clause-asks
+returns-in-Ok-Some-clause-asks c =
+    asks_some c.loop.counter c.args.self.now c.loop.self c.take.new.self c.loop.self.first c.in-Ok-Some.field-0 _ c.loop.invariant.first
+    c.loop.invariant.asked
+    (record { link = c.in-Ok-Some.ensures.takes.link; inside = c.in-Ok-Some.ensures.takes.inside; outside = c.in-Ok-Some.ensures.takes.outside })
+    c.in-Ok-Some.field-0-is
+
+pub returns-in-Err-clause-asks : goal.returns-in-Err-clause-asks
+returns-in-Err-clause-asks c = (
+  c.loop.self.first,
+  asks_last c.loop.counter c.args.self.now c.loop.self c.take.new.self c.loop.self.first _ c.loop.invariant.first c.loop.invariant.asked
+      (record { link = c.in-Err.ensures.takes.link; inside = c.in-Err.ensures.takes.inside; outside = c.in-Err.ensures.takes.outside }),
+)
+
+pub returns-clause-asks : goal.returns-clause-asks
+returns-clause-asks c =
+    let all : c.loop.counter ≡ 4 = omega arith in
+    asks_all c.loop.counter c.args.self.now c.loop.self all c.loop.invariant.asked

@@ -1,10 +1,11 @@
-use Rattle.std.proofs.Common.{Err, Ok, Some, inr, subst, sym, ◌∙◌}
+use Rattle.std.proofs.Common.{Err, Ok, Some, false, inl, inr, subst, sym, true, ◌∙◌}
 use Rattle.std.specs.Duration.{as_nanos}
 use Rattle.sockets.proofs.Boards.{waited_in_vain, waited_once, waited_twice}
 use Rattle.sockets.proofs.Waking.{none_woken}
 use Rattle.sockets.proofs.Looking.{answered_once, answered_so, answered_some, as_many_or_more, called_before, called_on, vain_twice}
 use Rattle.sockets.proofs.InTurn.{first_again, turn_some, turns_later}
-use Rattle.sockets.proofs.Polling.{if_err, says_some, waits_so}
+use Rattle.sockets.proofs.Polling.{if_err, says_some}
+use Rattle.sockets.proofs.Receiving.{at_once, at_once_failed, behind_wait, caught, has_waited, waits_for}
 use Rattle.sockets.specs.Boards.{Tells}
 use Rattle.sockets.specs.declared.wire.WireFault.{WireFault}
 use Rattle.sockets.proofs.sockets.Board.receive.Goals as goal
@@ -51,9 +52,38 @@ returns-clause-turns c =
 pub returns-in-Ok-Some-clause-says : goal.returns-in-Ok-Some-clause-says
 returns-in-Ok-Some-clause-says c = says_some _ _ c.next.new.room c.next.new.self.control c.in-Ok-Some.ensures.says c.in-Ok-Some.field-0-is
 
-pub returns-clause-waited : goal.returns-clause-waited
-returns-clause-waited c =
-    waits_so c.next-2.result c.wait_for_any.result (as_nanos c.args.limit) _ c.wait_for_any.ensures.waited (sym c.is_err-2.ensures.value ∙ c.if-is_err-2.false)
+pub returns-then-is_err-clause-waits : goal.returns-then-is_err-clause-waits
+returns-then-is_err-clause-waits c =
+    inl (inl (caught c.catch_up.result true (as_nanos c.args.limit) c.args.self.now c.catch_up.new.self c.catch_up.ensures.catches
+    (sym c.is_err.ensures.value ∙ c.if-is_err.true)))
+
+pub returns-in-Ok-Some-clause-waits : goal.returns-in-Ok-Some-clause-waits
+returns-in-Ok-Some-clause-waits c =
+    at_once (as_nanos c.args.limit) c.args.self.now c.catch_up.new.self c.next.new.self c.in-Ok-Some.field-0 _
+    (caught c.catch_up.result false _ _ _ c.catch_up.ensures.catches (sym c.is_err.ensures.value ∙ c.if-is_err.false))
+    c.next.ensures.poll c.in-Ok-Some.ensures.asks c.in-Ok-Some.ensures.looks c.in-Ok-Some.field-0-is
+
+pub returns-in-Err-clause-waits : goal.returns-in-Err-clause-waits
+returns-in-Err-clause-waits c =
+    at_once_failed (as_nanos c.args.limit) c.args.self.now c.catch_up.new.self c.next.new.self c.in-Err.fault
+    (caught c.catch_up.result false _ _ _ c.catch_up.ensures.catches (sym c.is_err.ensures.value ∙ c.if-is_err.false))
+    c.next.ensures.poll c.in-Err.ensures.asks c.in-Err.ensures.looks
+
+pub returns-then-is_err-2-clause-waits : goal.returns-then-is_err-2-clause-waits
+returns-then-is_err-2-clause-waits c =
+    inl (inr (has_waited (as_nanos c.args.limit) true c.args.self.now c.catch_up.new.self c.next.new.self c.wait_for_any.new.self c.in-Ok-None.field-0
+    (caught c.catch_up.result false _ _ _ c.catch_up.ensures.catches (sym c.is_err.ensures.value ∙ c.if-is_err.false))
+    c.next.ensures.poll c.in-Ok-None.ensures.asks c.in-Ok-None.ensures.looks c.in-Ok-None.field-0-is
+    (waits_for c.wait_for_any.result true _ _ _ c.wait_for_any.ensures.waits (sym c.is_err-2.ensures.value ∙ c.if-is_err-2.true))))
+
+pub returns-clause-waits : goal.returns-clause-waits
+returns-clause-waits c =
+    behind_wait (as_nanos c.args.limit) c.args.self.now c.wait_for_any.new.self c.next-2.new.self c.next-2.result
+    (has_waited (as_nanos c.args.limit) false c.args.self.now c.catch_up.new.self c.next.new.self c.wait_for_any.new.self c.in-Ok-None.field-0
+    (caught c.catch_up.result false _ _ _ c.catch_up.ensures.catches (sym c.is_err.ensures.value ∙ c.if-is_err.false))
+    c.next.ensures.poll c.in-Ok-None.ensures.asks c.in-Ok-None.ensures.looks c.in-Ok-None.field-0-is
+    (waits_for c.wait_for_any.result false _ _ _ c.wait_for_any.ensures.waits (sym c.is_err-2.ensures.value ∙ c.if-is_err-2.false)))
+    c.next-2.ensures.poll c.next-2.ensures.asks c.next-2.ensures.looks
 
 pub returns-then-is_err-clause-failed : goal.returns-then-is_err-clause-failed
 returns-then-is_err-clause-failed c = inr (if_err c.catch_up.result _ c.catch_up.ensures.failed (sym c.is_err.ensures.value ∙ c.if-is_err.true))
