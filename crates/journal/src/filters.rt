@@ -1,7 +1,7 @@
 //! Which records pass.
-ghost use Rattle.std.specs.Prelude.{◌≡◌, ◌≢◌, IfOk, IfErr, IsErr, None, Some, Ok, Err};
+ghost use Rattle.std.specs.Prelude.{◌≡◌, ◌≢◌, IfOk, IfErr, IsErr, None, Some, Ok, Err, option_map, string_bytes};
 ghost use Rattle.log.specs.Filter.{filter_rules, invalid_spec, or_errors};
-ghost use Rattle.journal.specs.Filters.{IsOfVariable, IsRefused, rules_of, text_of};
+ghost use Rattle.journal.specs.Filters.{IsOfVariable, IsRefused, WasAsked, WasSaid, rules_of, text_of};
 ghost use Rattle.journal.specs.declared.filters.FilterFault.TheVariants as faults;
 
 use log::LevelFilter;
@@ -62,13 +62,26 @@ pub fn filter_of<'a>(
 pub fn environment<R: Env + Alloc<A = Global>>(
     rt: &R,
 ) -> Result<Option<String>, FilterFault<'static>>
+    ensures said { IfOk result (λ text. WasSaid (option_map string_bytes text)) }
     ensures named { IfErr result IsOfVariable }
 {
-    of_variable(env::var(rt, VARIABLE))
+    of_variable(asked(rt))
 }
 
-/// What a variable holds, if it is there.
+/// What the environment has for the variable.
+#[tactic(auto, unfolding(crate::specs::Filters::WasAsked))]
+fn asked<R: Env + Alloc<A = Global>>(rt: &R) -> Result<String, VarError>
+    ensures text { IfOk result (λ text. WasAsked (Ok (string_bytes text))) }
+    ensures none { IfErr result (λ why. WasAsked (Err why)) }
+{
+    env::var(rt, VARIABLE)
+}
+
+/// What the variable holds, if it is there.
 fn of_variable(found: Result<String, VarError>) -> Result<Option<String>, FilterFault<'static>>
+    requires text { IfOk found (λ text. WasAsked (Ok (string_bytes text))) }
+    requires none { IfErr found (λ why. WasAsked (Err why)) }
+    ensures said { IfOk result (λ text. WasSaid (option_map string_bytes text)) }
     ensures text { IfOk found (λ text. result ≡ Ok (Some text)) }
     ensures none { found ≡ Err VarError.NotPresent → result ≡ Ok None }
     ensures memory { found ≡ Err VarError.OutOfMemory → result ≡ Err faults.NoMemory }
@@ -79,6 +92,6 @@ fn of_variable(found: Result<String, VarError>) -> Result<Option<String>, Filter
         Ok(text) => Ok(Some(text)),
         Err(VarError::NotPresent) => Ok(None),
         Err(VarError::OutOfMemory) => Err(FilterFault::NoMemory),
-        Err(_) => Err(FilterFault::NoFilter(VARIABLE)),
+        Err(VarError::NotUnicode) => Err(FilterFault::NoFilter(VARIABLE)),
     }
 }
