@@ -1,3 +1,5 @@
+mod Ending
 mod Hearing
+mod Lacking
 mod Taking
 mod Walks

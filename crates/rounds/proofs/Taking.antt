@@ -1,13 +1,12 @@
 -- What is taken, one part after another.
-use Rattle.std.proofs.Common.{◌≡◌, ◌∙◌, ◌+◌, ◌<◌, ◌⊎◌, ◌++◌, ℕ, Bool, true, false, not, List, [], ◌∷◌, take, Option, Some, None, Result, Ok, Err, IfOk, is_err, length, refl, sym, ap, subst, inl, inr, add-one, arith, length-append}
+use Rattle.std.proofs.Common.{◌≡◌, ◌∙◌, ◌+◌, ◌<◌, ◌++◌, ℕ, zero, suc, Bool, true, false, not, List, [], ◌∷◌, take, Option, Some, None, Ok, length, refl, sym, ap, subst, inl, inr, add-one, length-append}
 use Rattle.std.proofs.lemmas.List.{append-nil, append_assoc, take_at}
 use Rattle.std.proofs.lemmas.List.Folds.{list_any-append}
 use Rattle.sockets.specs.Letters.{Call, Polled, answer_of, asked, came, failed, is_nothing, nothing}
 use Rattle.sockets.specs.declared.places.Place.{Place}
 use Rattle.sockets.specs.declared.wire.WireFault.{WireFault}
-use Rattle.rounds.specs.Rounds.{AreMade, AreRounds, AreRoundsAsked, Box, Calls, IsRound, Reads, TakesAll, TakesLetter}
+use Rattle.rounds.specs.Rounds.{AreMade, Box, Calls, HasLimit, TakesAll, TakesLetter, Waits}
 use Rattle.rounds.specs.Polls.{Asks, HasAsked, HasPolled}
-use Rattle.rounds.specs.declared.desk.Identity.{Identity}
 
 -- ---- what is sent
 
@@ -46,50 +45,70 @@ laid head bytes front rest middle tail is same two =
     rw (is, same, take_at head rest 2 two, ← append_assoc head bytes tail)
     (take_at (head ++ bytes) tail (2 + length bytes) (length-append head bytes ∙ ap (λ (k : ℕ). k + length bytes) two))
 
--- an Err says nothing of a count
-pub of_err : {E : Type 0} (r : Result ℕ E) (left : ℕ) → is_err r ≡ true → IfOk r (λ (x : ℕ). x ≡ left)
-of_err (Ok x) left is = absurd (cc)
-of_err (Err e) left is = tt
-
 -- ---- what an answer brings
 
 -- a letter came, so many bytes of a receiver's room, and was taken
-pub one_came : {W : Type 0} (does : Calls W) (track : Bool) (b b2 : Box W) (w : W) (place : Place) (count : ℕ) (room : List ℕ) (found : Option (Place × ℕ))
-    → found ≡ Some (place, count) → does b.wire (asked (answer_of {E = WireFault} (Ok found) room)) w
+pub one_came : {W : Type 0} (does : Calls W) (waits : Waits W) (track : Bool) (limit : ℕ) (b b2 : Box W) (w : W) (place : Place) (count : ℕ) (room : List ℕ)
+    (found : Option (Place × ℕ)) → found ≡ Some (place, count) → does b.wire (asked (answer_of {E = WireFault} (Ok found) room)) w → HasLimit waits limit b.wire w
     → TakesLetter does track (record b { wire = w }) (record { place = place; bytes = take count room }) b2
-    → Asks does track b true b2
-one_came does track b b2 w place count room found is call taken = record {
+    → Asks does waits track limit b true b2
+one_came does waits track limit b b2 w place count room found is call limited taken = record {
   answer = came (record { place = place; bytes = take count room });
   is_more = refl;
-  taken = (w, (subst (λ (o : Option (Place × ℕ)). does b.wire (asked (answer_of {E = WireFault} (Ok o) room)) w) is call, (b2, (taken, refl))));
+  taken = (w, ((subst (λ (o : Option (Place × ℕ)). does b.wire (asked (answer_of {E = WireFault} (Ok o) room)) w) is call, limited), (b2, (taken, refl))));
 }
 
 -- nothing was there
-pub none_came : {W : Type 0} (does : Calls W) (track : Bool) (b b2 : Box W) (room : List ℕ) (found : Option (Place × ℕ)) → found ≡ None
-    → does b.wire (asked (answer_of {E = WireFault} (Ok found) room)) b2.wire → b2 ≡ record b { wire = b2.wire } → Asks does track b false b2
-none_came does track b b2 room found is call same = record {
+pub none_came : {W : Type 0} (does : Calls W) (waits : Waits W) (track : Bool) (limit : ℕ) (b b2 : Box W) (room : List ℕ) (found : Option (Place × ℕ)) → found ≡ None
+    → does b.wire (asked (answer_of {E = WireFault} (Ok found) room)) b2.wire → HasLimit waits limit b.wire b2.wire → b2 ≡ record b { wire = b2.wire }
+    → Asks does waits track limit b false b2
+none_came does waits track limit b b2 room found is call limited same = record {
   answer = nothing;
   is_more = refl;
-  taken = (b2.wire, (subst (λ (o : Option (Place × ℕ)). does b.wire (asked (answer_of {E = WireFault} (Ok o) room)) b2.wire) is call, (b2, (same, refl))));
+  taken = (b2.wire, ((subst (λ (o : Option (Place × ℕ)). does b.wire (asked (answer_of {E = WireFault} (Ok o) room)) b2.wire) is call, limited), (b2, (same, refl))));
 }
 
 -- to receive failed
-pub one_failed : {W : Type 0} (does : Calls W) (track : Bool) (b b2 : Box W) → does b.wire (asked failed) b2.wire → b2 ≡ record b { wire = b2.wire }
-    → Asks does track b true b2
-one_failed does track b b2 call same = record { answer = failed; is_more = refl; taken = (b2.wire, (call, (b2, (same, refl)))) }
+pub one_failed : {W : Type 0} (does : Calls W) (waits : Waits W) (track : Bool) (limit : ℕ) (b b2 : Box W) → does b.wire (asked failed) b2.wire
+    → HasLimit waits limit b.wire b2.wire → b2 ≡ record b { wire = b2.wire } → Asks does waits track limit b true b2
+one_failed does waits track limit b b2 call limited same = record { answer = failed; is_more = refl; taken = (b2.wire, ((call, limited), (b2, (same, refl)))) }
 
 -- ---- one answer after another
 
-joined : {W : Type 0} (does : Calls W) (track : Bool) (a b c : Box W) (xs ys : List Polled) → TakesAll does track a xs b → TakesAll does track b ys c → TakesAll does track a (xs ++ ys) c
-joined does track a b c [] ys one two = subst (λ (x : _). TakesAll does track x ys c) one two
-joined does track a b c (x ∷ xs) ys one two =
-    (one.0, (one.1.0, (one.1.1.0, (one.1.1.1.0, joined does track one.1.1.0 b c xs ys one.1.1.1.1 two))))
+-- how long may be waited for the next answer: where one came already, not at all
+abbrev limit_behind : List Polled → ℕ → ℕ
+limit_behind [] limit = limit
+limit_behind (x ∷ xs) limit = 0
+
+then_none : (xs : List Polled) → limit_behind xs 0 ≡ 0
+then_none [] = refl
+then_none (x ∷ xs) = refl
+
+joined : {W : Type 0} (does : Calls W) (waits : Waits W) (track : Bool) (limit : ℕ) (a b c : Box W) (xs ys : List Polled) → TakesAll does waits track limit a xs b
+    → TakesAll does waits track (limit_behind xs limit) b ys c → TakesAll does waits track limit a (xs ++ ys) c
+joined does waits track limit a b c [] ys one two = subst (λ (x : _). TakesAll does waits track limit x ys c) one two
+joined does waits track limit a b c (x ∷ xs) ys one two =
+    let rest = subst (λ (n : ℕ). TakesAll does waits track n b ys c) (sym (then_none xs)) two in
+    (one.0, (one.1.0, (one.1.1.0, (one.1.1.1.0, joined does waits track 0 one.1.1.0 b c xs ys one.1.1.1.1 rest))))
 
 -- ---- a poll
 
+-- how long may be waited, where the wire was asked so often
+abbrev pub limit_at : ℕ → ℕ → ℕ
+limit_at zero limit = limit
+limit_at (suc n) limit = 0
+
+as_behind : (xs : List Polled) (n limit : ℕ) → length xs ≡ n → limit_at n limit ≡ limit_behind xs limit
+as_behind [] n limit is = ap (λ (k : ℕ). limit_at k limit) (sym is)
+as_behind (x ∷ xs) n limit is = ap (λ (k : ℕ). limit_at k limit) (sym is)
+
+-- not the first time any more
+pub none_then : (n limit : ℕ) → limit_at (n + 1) limit ≡ 0
+none_then n limit = ap (λ (k : ℕ). limit_at k limit) (add-one n)
+
 -- the wire wasn't asked yet
-pub none_asked : {W : Type 0} (does : Calls W) (track : Bool) (b b2 : Box W) → b2 ≡ b → HasAsked does track 0 b b2
-none_asked does track b b2 same = record { answers = []; count = refl; not_yet = refl; taken = same }
+pub none_asked : {W : Type 0} (does : Calls W) (waits : Waits W) (track : Bool) (limit : ℕ) (b b2 : Box W) → b2 ≡ b → HasAsked does waits track limit 0 b b2
+none_asked does waits track limit b b2 same = record { answers = []; count = refl; not_yet = refl; taken = same }
 
 not_true : (x y : Bool) → x ≡ true → x ≡ not y → y ≡ false
 not_true x true is e = absurd (cc)
@@ -99,14 +118,23 @@ not_false : (x y : Bool) → x ≡ false → x ≡ not y → y ≡ true
 not_false x true is e = refl
 not_false x false is e = absurd (cc)
 
+-- what one more answer brought, behind those before
+taken_on : {W : Type 0} (does : Calls W) (waits : Waits W) (track : Bool) (limit n now : ℕ) (a b c : Box W) (more : Bool) → now ≡ limit_at n limit
+    → (had : HasAsked does waits track limit n a b) (one : Asks does waits track now b more c) → TakesAll does waits track limit a (had.answers ++ one.answer ∷ []) c
+taken_on does waits track limit n now a b c more is had one =
+    let behind = is ∙ as_behind had.answers n limit had.count in
+    joined does waits track limit a b c had.answers (one.answer ∷ []) had.taken
+    (subst (λ (k : ℕ). TakesAll does waits track k b (one.answer ∷ []) c) behind one.taken)
+
 -- it was asked once more, and there may be more
-pub asked_on : {W : Type 0} (does : Calls W) (track : Bool) (n : ℕ) (a b c : Box W) (more : Bool) → HasAsked does track n a b → Asks does track b more c → more ≡ true → HasAsked does track (n + 1) a c
-asked_on does track n a b c more had one is = record {
+pub asked_on : {W : Type 0} (does : Calls W) (waits : Waits W) (track : Bool) (limit n now : ℕ) (a b c : Box W) (more : Bool) → now ≡ limit_at n limit
+    → HasAsked does waits track limit n a b → Asks does waits track now b more c → more ≡ true → HasAsked does waits track limit (n + 1) a c
+asked_on does waits track limit n now a b c more limited had one is = record {
   answers = had.answers ++ one.answer ∷ [];
   count = length-append had.answers (one.answer ∷ []) ∙ ap (λ (k : ℕ). k + 1) had.count;
   not_yet = let last = not_true more (is_nothing one.answer) is one.is_more in
       list_any-append is_nothing had.answers (one.answer ∷ []) ∙ cc;
-  taken = joined does track a b c had.answers (one.answer ∷ []) had.taken one.taken;
+  taken = taken_on does waits track limit n now a b c more limited had one;
 }
 
 is_end : (answer : Polled) → is_nothing answer ≡ true → answer ≡ nothing
@@ -115,8 +143,9 @@ is_end nothing is = refl
 is_end failed is = absurd (cc)
 
 -- it was asked once more, and nothing was there
-pub polled_out : {W : Type 0} (does : Calls W) (track : Bool) (n most : ℕ) (a b c : Box W) (more : Bool) → HasAsked does track n a b → Asks does track b more c → more ≡ false → n < most → HasPolled does track most a c
-polled_out does track n most a b c more had one is below =
+pub polled_out : {W : Type 0} (does : Calls W) (waits : Waits W) (track : Bool) (limit n now most : ℕ) (a b c : Box W) (more : Bool) → now ≡ limit_at n limit
+    → HasAsked does waits track limit n a b → Asks does waits track now b more c → more ≡ false → n < most → HasPolled does waits track limit most a c
+polled_out does waits track limit n now most a b c more limited had one is below =
     let last = is_end one.answer (not_false more (is_nothing one.answer) is one.is_more) in
     record {
       answers = had.answers ++ one.answer ∷ [];
@@ -125,37 +154,14 @@ polled_out does track n most a b c more had one is below =
         not_yet = had.not_yet;
         ends = inl (ap (λ (x : Polled). had.answers ++ x ∷ []) last, subst (λ (k : ℕ). k < most) (sym had.count) below);
       };
-      taken = joined does track a b c had.answers (one.answer ∷ []) had.taken one.taken;
+      taken = taken_on does waits track limit n now a b c more limited had one;
     }
 
 -- it was asked as often as it may be
-pub polled_most : {W : Type 0} (does : Calls W) (track : Bool) (n most : ℕ) (a b : Box W) → HasAsked does track n a b → n ≡ most → HasPolled does track most a b
-polled_most does track n most a b had is = record {
+pub polled_most : {W : Type 0} (does : Calls W) (waits : Waits W) (track : Bool) (limit n most : ℕ) (a b : Box W) → HasAsked does waits track limit n a b → n ≡ most
+    → HasPolled does waits track limit most a b
+polled_most does waits track limit n most a b had is = record {
   answers = had.answers;
   poll = record { before = had.answers; not_yet = had.not_yet; ends = inr (refl, had.count ∙ is) };
   taken = had.taken;
 }
-
--- ---- rounds
-
--- one round more
-pub one_round_more : {W C : Type 0} (does : Calls W) (track : Bool) (who : Identity) (reads : Reads C) (n : ℕ) (a b c : Box W) (x y z : C)
-    → AreRounds does track who reads n a x b y → IsRound does track who reads b y c z → AreRounds does track who reads (n + 1) a x c z
-one_round_more does track who reads n a b c x y z before last = rw add-one (b, (y, (before, last)))
-
--- the box is to end, as was told at its control socket or otherwise
-pub all_told : {W C : Type 0} (does : Calls W) (track : Bool) (who : Identity) (reads : Reads C) (n most : ℕ) (otherwise goes_on : Type 0) (a b : Box W) (x y : C)
-    → AreRounds does track who reads n a x b y → (0 < n → goes_on) → n < most → (b.ending ≡ true) ⊎ otherwise
-    → AreRoundsAsked does track who reads most otherwise goes_on a x b y
-all_told does track who reads n most otherwise goes_on a b x y had each below why =
-    (record { count = n; within = omega (arith, below); rounds = had; over = by why }, each)
-  where
-    by : (b.ending ≡ true) ⊎ otherwise → (b.ending ≡ true) ⊎ (otherwise ⊎ (n ≡ most))
-    by (inl said) = inl said
-    by (inr told) = inr (inl told)
-
--- it has had the most
-pub all_had : {W C : Type 0} (does : Calls W) (track : Bool) (who : Identity) (reads : Reads C) (n most : ℕ) (otherwise goes_on : Type 0) (a b : Box W) (x y : C)
-    → AreRounds does track who reads n a x b y → (0 < n → goes_on) → n ≡ most → AreRoundsAsked does track who reads most otherwise goes_on a x b y
-all_had does track who reads n most otherwise goes_on a b x y had each is =
-    (record { count = n; within = omega (arith, is); rounds = had; over = inr (inr is) }, each)

@@ -2,8 +2,11 @@
 use Rattle.std.specs.Prelude.{◌≡◌, ℕ, List, length, nat_lt, take, Option, Some}
 use Rattle.nat_types.specs.declared.pairs.Key.{Key}
 use Rattle.nat_types.specs.declared.gateways.Side.TheVariants.{Inside, Outside}
+use Rattle.addresses.specs.declared.transport.Protocol.TheVariants.{Icmp, Tcp, Udp}
 use Rattle.control.specs.Answers.{answer_of, page, report}
 use Rattle.gateway.specs.Entries.{behind}
+use Rattle.interfaces.specs.Cables.{is_in}
+use Rattle.interfaces.specs.Stations.{Interface}
 use Rattle.journal.specs.declared.origins.Origin.{Origin}
 use Rattle.journal.specs.declared.origins.Origin.TheVariants as origin
 use Rattle.reports.specs.Counts.{counted}
@@ -14,17 +17,21 @@ use Rattle.reports.specs.declared.counters.Count.TheVariants.{SendFailed, TooLon
 use Rattle.reports.specs.declared.gateways.GatewayReport.{GatewayReport}
 use Rattle.reports.specs.declared.pages.TheConstants.{MOST_ENTRIES}
 use Rattle.reports.specs.declared.reports.Report.{Report}
+use Rattle.reports.specs.declared.sides.SideReport.{SideReport}
+use Rattle.reports.specs.declared.sides.Sides.{Sides}
 use Rattle.sockets.specs.declared.losses.Losses.{Losses}
 use Rattle.sockets.specs.declared.places.Place.{Place}
 use Rattle.sockets.specs.declared.places.Place.TheVariants as place
 use Rattle.spec_binding.specs.Books.{is_synced}
 use Rattle.spec_step.specs.Shown.{Shown}
-use Rattle.rounds.specs.Gateways.{CountsEntries, owned_by, peer_seen}
+use Rattle.waiting.specs.Packets.{hop_count, pair_count}
+use Rattle.rounds.specs.Gateways.{CountsEntries, free_among, owned_by, peer_seen}
 use Rattle.rounds.specs.declared.desk.Identity.{Identity}
 use Rattle.rounds.specs.declared.judging.Question.{Question}
 use Rattle.rounds.specs.declared.judging.Question.TheVariants.{Status, Pairs}
 
--- a report says how a gateway stands: its moment, its table's state, the other gateway, how many entries and owned ports it has
+-- a report says how a gateway stands: its moment, its table's state, the other gateway, how many entries and owned ports it has, on how many of
+-- these no entry of each protocol stands, and how many packets wait for a pair, or for their next hop's address
 pub record SaysOf (g : Shown) (r : GatewayReport) : Type 0 where
   pub moment : r.moment ≡ g.moment
   pub synced : r.synced ≡ is_synced g.ledger.book.stage
@@ -32,13 +39,29 @@ pub record SaysOf (g : Shown) (r : GatewayReport) : Type 0 where
   pub peer : r.peer ≡ peer_seen g
   pub pairs : CountsEntries g.ledger.book.entries r.pairs
   pub owned : r.ports.owned ≡ length (owned_by g)
+  pub free_icmp : r.ports.free_icmp ≡ free_among (owned_by g) Icmp g.ledger.book.entries
+  pub free_tcp : r.ports.free_tcp ≡ free_among (owned_by g) Tcp g.ledger.book.entries
+  pub free_udp : r.ports.free_udp ≡ free_among (owned_by g) Udp g.ledger.book.entries
+  pub waiting_pair : r.waiting.pair ≡ pair_count g.kept
+  pub waiting_hop : r.waiting.next_hop ≡ hop_count g.kept
 
--- a report is that of a box: it says whose it is, by the gateway's number, its boot and the digest of its settings, and how the gateway stands
+-- a side is said to be as a gateway shows it: the state of its router, and whether its cable is in
+pub record ShowsSide (station : Interface) (side : SideReport) : Type 0 where
+  pub role : side.role ≡ station.router.state
+  pub up : side.up ≡ is_in station.cable
+
+pub record ShowsSides (g : Shown) (sides : Sides) : Type 0 where
+  pub inside : ShowsSide g.inside sides.inside
+  pub outside : ShowsSide g.outside sides.outside
+
+-- a report is that of a box: it says whose it is, by the gateway's number, its boot and the digest of its settings, how the gateway stands, and its
+-- sides
 pub record IsReportOf (who : Identity) (g : Shown) (r : Report) : Type 0 where
   pub id : r.id ≡ who.id
   pub boot : r.boot ≡ who.boot
   pub digest : r.digest ≡ who.digest
   pub stands : SaysOf g r.gateway
+  pub sides : ShowsSides g r.sides
 
 -- the page behind a key: the first 128 entries there, and whether others follow
 abbrev pub page_at : Shown → Option Key → Page

@@ -3,8 +3,12 @@ pub mod Judging
 pub mod Letters
 pub mod Rounds
 pub mod LeftOut
+pub mod Memory
 pub mod Polls
 pub mod Outages
 pub mod Answers
 pub mod Gateways
 pub mod Told
+pub mod Clocks
+pub mod Inputs
+pub mod Records

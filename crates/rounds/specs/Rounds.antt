@@ -1,8 +1,10 @@
 -- The rounds of a box, by what its gateway shows, what its wire was called, how many events were left out, whether its control
 -- socket said that it is to end, and the question that it still owes an answer.
-use Rattle.std.specs.Prelude.{◌≡◌, ◌<◌, ◌≤◌, ◌⊎◌, ◌+◌, ◌++◌, ◌||◌, ℕ, zero, suc, Bool, false, true, List, [], ◌∷◌, length, map, Option, Some, None, Result, IfOk}
+use Rattle.std.specs.Prelude.{◌≡◌, ◌<◌, ◌≤◌, ◌⊎◌, ◌+◌, ◌++◌, ◌||◌, ℕ, Bool, false, true, List, [], ◌∷◌, length, map, Option, Some, None, Result, IfOk}
 use Rattle.std.specs.Borrow.{Bor}
+use Rattle.std.specs.Duration.{as_nanos}
 use Rattle.std.specs.List.{list_any}
+use Rattle.std.specs.declared.time.Duration.{Duration}
 use Rattle.control.specs.Answers.{Content, answer_of, heard, refused}
 use Rattle.sockets.specs.Letters.{Call, Polled, ReceivedDatagram, answered, asked, came, failed, is_nothing, nothing, sent}
 use Rattle.sockets.specs.declared.places.Place.{Place}
@@ -12,8 +14,11 @@ use Rattle.spec_step.specs.declared.events.Event.{Event}
 use Rattle.spec_step.specs.declared.events.Event.TheVariants.{Stop, Tick}
 use Rattle.spec_step.specs.Shown.{Shown, scene}
 use Rattle.spec_step.specs.Steps.{IsStepOn}
+use Rattle.supervision.specs.Hearing.{Hears}
 use Rattle.rounds.specs.Answers.{IsAnswerTo}
 use Rattle.rounds.specs.Letters.{event_of, is_end, reply_at}
+use Rattle.rounds.specs.Memory.{MayLack, WasLeftOut}
+use Rattle.rounds.specs.Told.{HearsRounds, HearsRun}
 use Rattle.rounds.specs.Views.{seen}
 use Rattle.rounds.specs.declared.desk.Identity.{Identity}
 use Rattle.rounds.specs.declared.judging.Question.{Question}
@@ -36,6 +41,18 @@ box g wire left_out ending owed = record { shown = g; wire = wire; left_out = le
 abbrev pub Calls : Type 0 → Type 1
 Calls W = W → Call → W → Type 0
 
+-- how long a wire that is asked waits at most, and what it is then
+abbrev pub Waits : Type 0 → Type 1
+Waits W = W → Duration → W → Type 0
+
+-- it is asked to wait for at most so many nanoseconds
+abbrev pub HasLimit : {W : Type 0} → Waits W → ℕ → W → W → Type 0
+HasLimit waits nanoseconds w w2 = (limit : Duration) × ((as_nanos limit ≡ nanoseconds) × waits w limit w2)
+
+-- it is asked for the next datagram, to wait for at most so long, and answers so
+abbrev pub IsAsked : {W : Type 0} → Calls W → Waits W → ℕ → W → Polled → W → Type 0
+IsAsked does waits nanoseconds w answer w2 = does w (asked answer) w2 × HasLimit waits nanoseconds w w2
+
 -- these calls were made, one after the other, and no others
 abbrev pub AreMade : {W : Type 0} → Calls W → List Call → W → W → Type 0
 AreMade does [] w w2 = w2 ≡ w
@@ -51,13 +68,14 @@ datagram_sent bytes = sent place.Link bytes
 abbrev pub all_sent : Output → List Call
 all_sent out = map frame_sent out.frames ++ map datagram_sent out.datagrams
 
--- an event is taken by a step, and just what was told with it is sent; or memory was refused, nothing has changed, and one event
--- more was left out
+-- an event is taken by a step, and just what was told with it is sent; or the gateway refused it for want of memory, nothing has
+-- changed, and one event more was left out
 abbrev pub TakesBy : {W : Type 0} → Calls W → Bool → Box W → Event → Box W → Type 0
 TakesBy does true b event b2 =
     (out : Output) × (IsStepOn (scene b.shown none_told) event (scene b2.shown out)
     × (AreMade does (all_sent out) b.wire b2.wire × (b2.left_out ≡ b.left_out)))
-TakesBy does false b event b2 = (b2.shown ≡ b.shown) × ((b2.wire ≡ b.wire) × (b2.left_out ≡ b.left_out + 1))
+TakesBy does false b event b2 =
+    (b2.shown ≡ b.shown) × ((b2.wire ≡ b.wire) × ((b2.left_out ≡ b.left_out + 1) × WasLeftOut b.shown event))
 
 abbrev pub Takes : {W : Type 0} → Calls W → Bool → Box W → Event → Box W → Type 0
 Takes does is_done b event b2 = TakesBy does is_done b event b2 × ((b2.ending ≡ b.ending) × (b2.owed ≡ b.owed))
@@ -83,11 +101,12 @@ Replies does (Some (Refused refusal)) is_done b b2 = Says does (refused refusal)
 Replies does (Some Heard) true b b2 = Says does heard b b2
 Replies does (Some Heard) false b b2 = IsAnswered does [] b b2
 
--- what is owed is answered, by who the box says it is, and of the gateway as it stands; or with nothing, where memory is refused for it
+-- what is owed is answered, by who the box says it is, and of the gateway as it stands; or with nothing, only where memory was refused for it
 abbrev pub AnswersOwed : {W : Type 0} → Calls W → Identity → Option Question → Box W → Box W → Type 0
 AnswersOwed does who None b b2 = b2 ≡ b
 AnswersOwed does who (Some question) b b2 =
-    (bytes : List ℕ) × (((bytes ≡ []) ⊎ IsAnswerTo who b.shown question bytes) × IsAnswered does bytes (record b { owed = None }) b2)
+    (bytes : List ℕ) × ((((bytes ≡ []) × MayLack b.shown question) ⊎ IsAnswerTo who b.shown question bytes)
+    × IsAnswered does bytes (record b { owed = None }) b2)
 
 -- the event that a letter is to a gateway that stands so, or that it is none; carriers are tracked or not
 pub record Brings (track : Bool) (view : View) (letter : ReceivedDatagram) (event : Option Event) : Type 0 where
@@ -115,12 +134,13 @@ TakesAnswer does track b (came letter) b2 = TakesLetter does track b letter b2
 TakesAnswer does track b nothing b2 = b2 ≡ b
 TakesAnswer does track b failed b2 = b2 ≡ b
 
--- the wire is asked, answers so, and what that brings is taken; one time after the other
-abbrev pub TakesAll : {W : Type 0} → Calls W → Bool → Box W → List Polled → Box W → Type 0
-TakesAll does track b [] b2 = b2 ≡ b
-TakesAll {W = W} does track b (answer ∷ rest) b2 =
-    (w : W) × (does b.wire (asked answer) w × ((middle : Box W)
-    × (TakesAnswer does track (record b { wire = w }) answer middle × TakesAll does track middle rest b2)))
+-- the wire is asked, answers so, and what that brings is taken; one time after the other. The first time it may wait for so many
+-- nanoseconds, and then not at all
+abbrev pub TakesAll : {W : Type 0} → Calls W → Waits W → Bool → ℕ → Box W → List Polled → Box W → Type 0
+TakesAll does waits track limit b [] b2 = b2 ≡ b
+TakesAll {W = W} does waits track limit b (answer ∷ rest) b2 =
+    (w : W) × (IsAsked does waits limit b.wire answer w × ((middle : Box W)
+    × (TakesAnswer does track (record b { wire = w }) answer middle × TakesAll does waits track 0 middle rest b2)))
 
 -- the answers of a wire that is asked until nothing is there, but at most so often
 pub record IsPoll (most : ℕ) (answers : List Polled) : Type 0 where
@@ -132,26 +152,29 @@ pub record IsPoll (most : ℕ) (answers : List Polled) : Type 0 where
 abbrev pub Reads : Type 0 → Type 1
 Reads C = C → ℕ → C → Type 0
 
--- a round, of a box that says it is this one and isn't to end yet: a poll of its wire; then one tick, with the moment that the clock reads; and then the
--- answer that is owed
-pub record IsRound {W C : Type 0} (does : Calls W) (track : Bool) (who : Identity) (reads : Reads C) (b : Box W) (c : C) (b2 : Box W) (c2 : C) : Type 0 where
-  pub goes_on : b.ending ≡ false
-  pub answers : List Polled
-  pub poll : IsPoll 256 answers
-  pub between : Box W
-  pub letters : TakesAll does track b answers between
-  pub moment : ℕ
-  pub read : reads c moment c2
-  pub is_done : Bool
-  pub ticked : Box W
-  pub tick : Takes does is_done between (Tick moment) ticked
-  pub answered : AnswersOwed does who ticked.owed ticked b2
+-- a round, of a box that says it is this one and isn't to end yet: a poll of its wire, which waits for at most 10 ms; then one tick, with the
+-- moment that the clock reads; and then the answer that is owed
+pub record IsRound {W C : Type 0} (does : Calls W) (waits : Waits W) (track : Bool) (who : Identity) (reads : Reads C)
+    (b : Box W) (c : C) (b2 : Box W) (c2 : C) : Type 0
+  where
+    pub goes_on : b.ending ≡ false
+    pub answers : List Polled
+    pub poll : IsPoll 256 answers
+    pub between : Box W
+    pub letters : TakesAll does waits track 10_000_000 b answers between
+    pub moment : ℕ
+    pub read : reads c moment c2
+    pub is_done : Bool
+    pub ticked : Box W
+    pub tick : Takes does is_done between (Tick moment) ticked
+    pub answered : AnswersOwed does who ticked.owed ticked b2
 
--- so many rounds
-abbrev pub AreRounds : {W C : Type 0} → Calls W → Bool → Identity → Reads C → ℕ → Box W → C → Box W → C → Type 0
-AreRounds does track who reads zero b c b2 c2 = (b2 ≡ b) × (c2 ≡ c)
-AreRounds {W = W} {C = C} does track who reads (suc n) b c b2 c2 =
-    (middle : Box W) × ((then : C) × (AreRounds does track who reads n b c middle then × IsRound does track who reads middle then b2 c2))
+-- rounds, at whose ends the gateway shows these moments, the last one first
+abbrev pub AreRounds : {W C : Type 0} → Calls W → Waits W → Bool → Identity → Reads C → List ℕ → Box W → C → Box W → C → Type 0
+AreRounds does waits track who reads [] b c b2 c2 = (b2 ≡ b) × (c2 ≡ c)
+AreRounds {W = W} {C = C} does waits track who reads (moment ∷ earlier) b c b2 c2 =
+    (middle : Box W) × ((then : C) × (AreRounds does waits track who reads earlier b c middle then
+    × (IsRound does waits track who reads middle then b2 c2 × (b2.shown.moment ≡ moment))))
 
 -- how many rounds there are at most: so many, or what is as good as no end
 abbrev pub most_rounds : Option ℕ → ℕ
@@ -159,36 +182,40 @@ most_rounds (Some count) = count
 most_rounds None = 18446744073709551615
 
 -- rounds, until the control socket says that the box is to end, or it is told so otherwise, or has had the most
-pub record AreAllRounds {W C : Type 0} (does : Calls W) (track : Bool) (who : Identity) (reads : Reads C) (most : ℕ) (otherwise : Type 0)
-    (b : Box W) (c : C) (b2 : Box W) (c2 : C) : Type 0
+pub record AreAllRounds {W C : Type 0} (does : Calls W) (waits : Waits W) (track : Bool) (who : Identity) (reads : Reads C) (most : ℕ)
+    (otherwise : Type 0) (b : Box W) (c : C) (b2 : Box W) (c2 : C) : Type 0
   where
-    pub count : ℕ
-    pub within : count ≤ most
-    pub rounds : AreRounds does track who reads count b c b2 c2
-    pub over : (b2.ending ≡ true) ⊎ (otherwise ⊎ (count ≡ most))
+    pub moments : List ℕ
+    pub within : length moments ≤ most
+    pub rounds : AreRounds does waits track who reads moments b c b2 c2
+    pub over : (b2.ending ≡ true) ⊎ (otherwise ⊎ (length moments ≡ most))
 
--- the same, of a box that asked before each round whether it was told otherwise, and wasn't
-abbrev pub AreRoundsAsked : {W C : Type 0} → Calls W → Bool → Identity → Reads C → ℕ → Type 0 → Type 0 → Box W → C → Box W → C → Type 0
-AreRoundsAsked does track who reads most otherwise goes_on b c b2 c2 =
-    (all : AreAllRounds does track who reads most otherwise b c b2 c2) × (0 < all.count → goes_on)
+-- the same, of a box that asked before each round whether it was told otherwise, and wasn't; who sees to it hears of them
+pub record AreRoundsHeard {W C S : Type 0} (does : Calls W) (waits : Waits W) (track : Bool) (who : Identity) (reads : Reads C) (hears : Hears S)
+    (most : ℕ) (otherwise goes_on : Type 0) (b : Box W) (c : C) (s : S) (b2 : Box W) (c2 : C) (s2 : S) : Type 0
+  where
+    pub all : AreAllRounds does waits track who reads most otherwise b c b2 c2
+    pub asked : 0 < length all.moments → goes_on
+    pub told : HearsRounds hears all.moments s s2
 
 -- all rounds, and then one Stop and nothing more
-pub record IsRun {W C : Type 0} (does : Calls W) (track : Bool) (who : Identity) (reads : Reads C) (most : ℕ) (otherwise : Type 0)
-    (b : Box W) (c : C) (b2 : Box W) (c2 : C) : Type 0
+pub record IsRun {W C : Type 0} (does : Calls W) (waits : Waits W) (track : Bool) (who : Identity) (reads : Reads C) (most : ℕ)
+    (otherwise : Type 0) (b : Box W) (c : C) (b2 : Box W) (c2 : C) : Type 0
   where
     pub last : Box W
-    pub all : AreAllRounds does track who reads most otherwise b c last c2
+    pub all : AreAllRounds does waits track who reads most otherwise b c last c2
     pub is_done : Bool
     pub stop : Takes does is_done last Stop b2
 
 -- a whole run, whatever is answered: a gateway shows this at its end, and its wire is this; it had a round only where nothing
--- told it otherwise; and Ok answers how many events were left out
-pub record RunsTo {W C E : Type 0} (does : Calls W) (track : Bool) (who : Identity) (reads : Reads C) (most : ℕ) (otherwise goes_on : Type 0)
-    (b : Box W) (c : C) (g : Shown) (wire : W) (c2 : C) (result : Result ℕ E) : Type 0
+-- told it otherwise; who sees to it hears of it; and Ok answers how many events were left out
+pub record RunsTo {W C S E : Type 0} (does : Calls W) (waits : Waits W) (track : Bool) (who : Identity) (reads : Reads C) (hears : Hears S)
+    (most : ℕ) (otherwise goes_on : Type 0) (b : Box W) (c : C) (s : S) (g : Shown) (wire : W) (c2 : C) (s2 : S) (result : Result ℕ E) : Type 0
   where
     pub last : Box W
-    pub run : IsRun does track who reads most otherwise b c last c2
-    pub asked : 0 < run.all.count → goes_on
+    pub run : IsRun does waits track who reads most otherwise b c last c2
+    pub asked : 0 < length run.all.moments → goes_on
+    pub told : HearsRun hears run.all.moments s s2
     pub shown : last.shown ≡ g
     pub wire_is : last.wire ≡ wire
     pub answered : IfOk result (λ left. left ≡ last.left_out)

@@ -1,7 +1,8 @@
 //! The clock of a box.
-ghost use Rattle.std.specs.Prelude.{◌≡◌, ℕ, ◌-◌, ◌/◌, ◌≤◌, IfSome, IsNone};
-ghost use Rattle.std.specs.Time.{instant_nanos};
+ghost use Rattle.std.specs.Prelude.{◌≡◌, ℕ, ◌≤◌, IfSome, IsNone};
+ghost use Rattle.rounds.specs.Clocks.{HasPassed, HasRead, WasNow, centiseconds as span_of};
 
+use std::marker::Model;
 use std::rt::Clock;
 use std::time::Instant;
 
@@ -24,37 +25,56 @@ pub struct Stopwatch<'a, R> {
     last: u64,
 }
 
+impl<'a, R> Model for Stopwatch<'a, R> {
+    ghost use Rattle.rounds.specs.Clocks.{Watch};
+
+    ghost Value = { Watch };
+
+    ghost view = { λ s. record { start = s.start; read = s.last } };
+}
+
+/// Asks the system for the moment of its monotonic clock, and gives its answer.
+#[tactic(auto, unfolding(crate::specs::Clocks::WasNow))]
+fn now<R: Clock>(rt: &R) -> Option<Instant>
+    ensures { WasNow result }
+{
+    Instant::now(rt).ok()
+}
+
 /// The centiseconds from one reading of the clock to a later one, where 64 bits hold them.
 fn centiseconds(start: Instant, now: Instant) -> Option<u64>
-    ensures passed { IfSome result (λ passed. passed ≡ (instant_nanos now - instant_nanos start)
-        / 1_000_000 / 10) }
-    ensures none { IsNone result → 18_446_744_073_709_551_616
-        ≤ (instant_nanos now - instant_nanos start) / 1_000_000 / 10 }
+    ensures passed { IfSome result (λ passed. passed ≡ span_of start now) }
+    ensures none { IsNone result → 18_446_744_073_709_551_616 ≤ span_of start now }
 {
     u64::try_from(now.duration_since(start).as_millis() / 10).ok()
 }
 
+/// The centiseconds from the start to a later reading, where both could be had.
+fn passed(start: Option<Instant>, now: Option<Instant>) -> Option<u64>
+    ensures { HasPassed start now result }
+{
+    centiseconds(start?, now?)
+}
+
 impl<'a, R: Clock> Stopwatch<'a, R> {
     /// Begins at 0.
-    pub fn start(rt: &'a R) -> Stopwatch<'a, R> {
+    pub fn start(rt: &'a R) -> Stopwatch<'a, R>
+        ensures start { WasNow result.start }
+        ensures read { result.read ≡ 0 }
+    {
         Stopwatch {
             rt,
-            start: Instant::now(rt).ok(),
+            start: now(rt),
             last: 0,
         }
-    }
-
-    /// The centiseconds since the start, where the clock can be read.
-    fn passed(&self) -> Option<u64> {
-        centiseconds(self.start?, Instant::now(self.rt).ok()?)
     }
 }
 
 impl<R: Clock> Clockwork for Stopwatch<'_, R> {
-    ghost reads = { λ _ _ _. Unit {0} };
+    ghost reads = { HasRead };
 
     fn moment(&mut self) -> u64 {
-        self.last = self.passed().unwrap_or(self.last);
+        self.last = passed(self.start, now(self.rt)).unwrap_or(self.last);
         self.last
     }
 }

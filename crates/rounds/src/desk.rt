@@ -1,7 +1,7 @@
 //! What a box has on its desk while it runs.
-ghost use Rattle.std.specs.Prelude.{◌≡◌, ◌<◌, ◌≤◌, ◌/◌, ◌||◌, false, None, max, nat_lt};
+ghost use Rattle.std.specs.Prelude.{◌≡◌, ◌||◌, false, None};
 ghost use Rattle.rounds.specs.Letters.{is_end};
-ghost use Rattle.supervision.specs.declared.notices.Notice.TheVariants.{Alive};
+ghost use Rattle.rounds.specs.Views.{seen};
 
 use crate::judging::Question;
 use crate::left::LeftOut;
@@ -16,7 +16,6 @@ use nat_types::{GatewayId, NoMemory};
 use reports::{Count, Counters, Sides};
 use sockets::Place;
 use std::alloc::Global;
-use supervision::Supervisor;
 
 /// Who a box is, to those who ask how it stands.
 #[derive(Clone, Copy, Debug, PartialEq, Eq)]
@@ -41,8 +40,6 @@ pub(crate) struct Desk {
     pub(crate) counters: Counters,
     pub(crate) sides: Sides,
     pub(crate) question: Option<Question>,
-    /// The last second in which the supervisor was told that the box goes on.
-    pub(crate) second: u64,
     pub(crate) left: LeftOut,
     pub(crate) ending: bool,
 }
@@ -50,6 +47,7 @@ pub(crate) struct Desk {
 impl Desk {
     /// Nothing was told, counted, asked or left out yet.
     pub(crate) fn new(alloc: Global, gateway: &Gateway) -> Desk
+        ensures view { result.view ≡ seen gateway.now }
         ensures left { result.left ≡ 0 }
         ensures ending { result.ending ≡ false }
         ensures question { result.question ≡ None }
@@ -63,7 +61,6 @@ impl Desk {
             counters: Counters::new(),
             sides: sides_of(gateway),
             question: None,
-            second: 0,
             left: LeftOut::none(),
             ending: false,
         }
@@ -89,34 +86,6 @@ impl Desk {
             self.counters.count(origin_of(event), Count::Lost(cause));
         }
     }
-
-    /// Tells the supervisor once a second that the box goes on.
-    pub(crate) fn tell_alive<S: Supervisor>(&mut self, gateway: &Gateway, supervisor: &mut S)
-        ensures left { self.new.left ≡ self.old.left }
-        ensures ending { self.new.ending ≡ self.old.ending }
-        ensures question { self.new.question ≡ self.old.question }
-        ensures second { self.new.second ≡ max self.old.second (gateway.now.moment / 100) }
-        ensures told { self.old.second < gateway.now.moment / 100
-            → S.hears supervisor.old Alive supervisor.new }
-        ensures quiet { gateway.now.moment / 100 ≤ self.old.second
-            → supervisor.new ≡ supervisor.old }
-    {
-        if begins(&mut self.second, gateway.moment() / 100) {
-            supervisor.alive();
-        }
-    }
-}
-
-/// Whether a second is later than the last one, which it is then.
-fn begins(last: &mut u64, second: u64) -> bool
-    ensures begins { result ≡ nat_lt last.old second }
-    ensures last { last.new ≡ max last.old second }
-{
-    let is_later = *last < second;
-    if is_later {
-        *last = second;
-    }
-    is_later
 }
 
 /// Where what comes at a place belongs.

@@ -1,7 +1,9 @@
 //! Pages of a gateway's entries.
-ghost use Rattle.std.specs.Prelude.{◌≡◌, ◌≤◌, IfOk, length, nat_lt, take, vec_len, vec_capacity};
+ghost use Rattle.std.specs.Prelude.{◌≡◌, ◌≤◌, IfOk, OnErr, length, nat_lt, take, vec_len, vec_capacity};
 ghost use Rattle.gateway.specs.Entries.{behind};
 ghost use Rattle.reports.specs.declared.pages.TheConstants.{MOST_ENTRIES};
+ghost use Rattle.rounds.specs.Memory.{WasRefused};
+ghost use Rattle.rounds.specs.declared.judging.Question.TheVariants.{Pairs};
 
 use bindings::Entry;
 use gateway::Gateway;
@@ -48,9 +50,20 @@ pub fn page_behind(alloc: Global, gateway: &Gateway, last: Option<Key>) -> Resul
         ≡ take MOST_ENTRIES (behind last gateway.now.ledger.book.entries)) }
     ensures more { IfOk result (λ p. p.more
         ≡ nat_lt MOST_ENTRIES (length (behind last gateway.now.ledger.book.entries))) }
+    ensures refused { OnErr result (WasRefused (Pairs last)) }
 {
-    let entries = Vec::with_capacity(alloc, MOST_ENTRIES)?;
+    let entries = room_for(alloc, last)?;
     Ok(fill_page(entries, gateway, last))
+}
+
+/// An empty list with room for the page behind a key.
+#[tactic(auto, unfolding(crate::specs::Memory::WasRefused))]
+fn room_for(alloc: Global, _last: Option<Key>) -> Result<Vec<Entry>, NoMemory>
+    ensures empty { IfOk result (λ v. vec_len v ≡ 0) }
+    ensures room { IfOk result (λ v. vec_capacity v ≡ MOST_ENTRIES) }
+    ensures refused { OnErr result (WasRefused (Pairs _last)) }
+{
+    Ok(Vec::with_capacity(alloc, MOST_ENTRIES)?)
 }
 
 /// The page behind a key, in an empty list with room for 128 entries.

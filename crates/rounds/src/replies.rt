@@ -1,9 +1,11 @@
 //! What who says a word to a box is answered.
-ghost use Rattle.std.specs.Prelude.{◌≡◌, ◌≤◌, ◌++◌, length, take, IfOk};
+ghost use Rattle.std.specs.Prelude.{◌≡◌, ◌≤◌, ◌++◌, length, take, IfOk, OnErr};
 ghost use Rattle.sockets.specs.Letters.{answered};
 ghost use Rattle.spec_step.specs.Shown.{Shown};
-ghost use Rattle.rounds.specs.Answers.{CountsLosses, IsAnswerTo, SaysOf, with_losses};
+ghost use Rattle.rounds.specs.Answers.{CountsLosses, IsAnswerTo, SaysOf, ShowsSides, with_losses};
+ghost use Rattle.rounds.specs.Memory.{MayLack};
 ghost use Rattle.rounds.specs.Rounds.{AnswersOwed, Replies, box};
+ghost use Rattle.rounds.specs.declared.judging.Question.TheVariants.{Status};
 
 use crate::desk::{Desk, Identity};
 use crate::judging::{Question, Reply};
@@ -51,6 +53,7 @@ pub(crate) fn answer_question<W: Wire, L: Journal>(
     desk: &mut Desk,
     log: &L,
 )
+    requires sides { ShowsSides gateway.now desk.old.sides }
     ensures { AnswersOwed W.does identity desk.old.question
         (box gateway.now wire.old desk.old.left desk.old.ending desk.old.question)
         (box gateway.now wire.new desk.new.left desk.new.ending desk.new.question) }
@@ -79,9 +82,11 @@ fn answer_to<W: Wire, L: Journal>(
     desk: &Desk,
     log: &L,
 ) -> Result<usize, NoMemory>
+    requires sides { ShowsSides gateway.now desk.now.sides }
     ensures within { IfOk result (λ count. count ≤ 4096) }
     ensures answers { IfOk result (λ count.
         IsAnswerTo identity gateway.now question (take count room.new)) }
+    ensures refused { OnErr result (MayLack gateway.now question) }
 {
     match question {
         Question::Status => {
@@ -110,6 +115,7 @@ fn report_of<W: Wire, L: Journal>(
     ensures gateway { IfOk result (λ r. SaysOf gateway.now r.gateway) }
     ensures counters { IfOk result (λ r.
         CountsLosses W.lost wire.now desk.now.counters r.counters) }
+    ensures refused { OnErr result (MayLack gateway.now Status) }
 {
     Ok(Report {
         id: identity.id,

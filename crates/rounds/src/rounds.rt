@@ -1,10 +1,17 @@
 //! The rounds of a box.
-ghost use Rattle.std.specs.Prelude.{◌≡◌, ◌<◌, ◌⊎◌, Bool, true, false, None, Option, OnOk, codes};
-ghost use Rattle.std.specs.Io.KnownBytes.{Appends};
-ghost use Rattle.rounds.specs.Rounds.{AreMade, AreRoundsAsked, IsRound, IsRun, RunsTo, Takes};
+ghost use Rattle.std.specs.Duration.{as_nanos};
+ghost use Rattle.std.specs.Prelude.{◌≡◌, ◌<◌, ◌⊎◌, Bool, None, OnErr, OnOk, Option, codes, false, length, true};
+ghost use Rattle.outlets.specs.Printed.{Prints};
+ghost use Rattle.spec_step.specs.Shown.{scene};
+ghost use Rattle.spec_step.specs.Steps.{IsStepOn};
+ghost use Rattle.spec_step.specs.declared.events.Event.TheVariants.{Stop};
+ghost use Rattle.supervision.specs.declared.notices.Notice.TheVariants.{Ending};
+ghost use Rattle.rounds.specs.Memory.{WasLeftOut};
+ghost use Rattle.rounds.specs.Records.{TellsChanges, stops};
+ghost use Rattle.rounds.specs.Rounds.{AreMade, AreRoundsHeard, IsRound, IsRun, RunsTo, Takes};
 ghost use Rattle.rounds.specs.Rounds.{TakesAny, TakesLetter, all_sent, box, most_rounds};
 ghost use Rattle.rounds.specs.Polls.{Asks, HasPolled};
-ghost use Rattle.rounds.specs.Told.{HearsRounds, HearsRun};
+ghost use Rattle.rounds.specs.Told.{HasHeard, HearsRound, HearsRun};
 ghost use Rattle.rounds.specs.Views.{seen};
 ghost use Rattle.rounds.specs.declared.judging.Question.{Question};
 
@@ -15,8 +22,10 @@ use crate::logs::tell_step;
 use crate::replies::{answer_question, reply};
 use crate::views::view_of;
 use crate::{Clockwork, Told, look_again};
-use gateway::{Event, Gateway, Out};
+use gateway::{Event, Gateway, Out, Outcome};
 use journal::{Journal, Origin, tell_end, tell_turn};
+use nat_types::NoMemory;
+use outlets::put;
 use reports::{Count, Counters};
 use sockets::{LONGEST, Place, Wire};
 use std::alloc::Global;
@@ -36,8 +45,8 @@ pub const WAIT: u64 = 10;
 /// what the gateway tells is sent at once, what it tells when it is stopped too. To `log` goes a record of each event
 /// that is dropped, as `journal` sums them up, and of each change that an operator watches for. What carriers tell of
 /// the sides counts where they are tracked. Who says a word is answered: that it is taken, or why it isn't, at once; how the
-/// box stands, which has this identity, at the round's end. The supervisor is told once a second that the box goes on, and
-/// then that it ends.
+/// box stands, which has this identity, at the round's end. The supervisor is told that the box goes on behind each round in
+/// which a second of the gateway's clock began, and before the gateway is stopped that it ends.
 ///
 /// A send that fails is a lost datagram; where to receive fails, nothing was received. An event for
 /// which memory is refused changes nothing: a frame or a datagram is lost then, what a tick was
@@ -60,17 +69,17 @@ pub fn serve<W: Wire, C: Clockwork, T: Told, S: Supervisor, O: Write, L: Journal
     output: &mut O,
     log: &L,
 ) -> io::Result<LeftOut>
-    ensures rounds { RunsTo W.does track identity C.reads (most_rounds rounds)
+    ensures rounds { RunsTo W.does W.waits track identity C.reads S.hears (most_rounds rounds)
         (T.tells until.now) (T.goes_on until.now)
-        (box gateway.old wire.old 0 false None) clock.old gateway.new wire.new clock.new result }
-    ensures told { HearsRun S.hears supervisor.old supervisor.new }
-    ensures ended { OnOk result
-        (Appends (O.contents output.old) (O.contents output.new) (codes "end\n")) }
+        (box gateway.old wire.old 0 false None) clock.old supervisor.old
+        gateway.new wire.new clock.new supervisor.new result }
+    ensures ended { Prints (O.contents output.old) result (O.contents output.new)
+        (codes "end\n") }
 {
     let left = run(
         alloc, gateway, wire, clock, until, rounds, track, identity, supervisor, log,
     );
-    output.write_all(b"end\n")?;
+    put(output, b"end\n")?;
     output.flush()?;
     Ok(left)
 }
@@ -88,12 +97,11 @@ pub fn run_rounds<W: Wire, C: Clockwork, T: Told, S: Supervisor, L: Journal>(
     supervisor: &mut S,
     log: &L,
 ) -> LeftOut
-    ensures rounds { (ending : Bool) × (owed : Option Question) ×
-        AreRoundsAsked W.does track identity C.reads (most_rounds rounds)
+    ensures { (ending : Bool) × (owed : Option Question) ×
+        AreRoundsHeard W.does W.waits track identity C.reads S.hears (most_rounds rounds)
         (T.tells until.now) (T.goes_on until.now)
-        (box gateway.old wire.old 0 false None) clock.old
-        (box gateway.new wire.new result ending owed) clock.new }
-    ensures told { HearsRounds S.hears supervisor.old supervisor.new }
+        (box gateway.old wire.old 0 false None) clock.old supervisor.old
+        (box gateway.new wire.new result ending owed) clock.new supervisor.new }
 {
     let mut desk = Desk::new(alloc, gateway);
     all_rounds(
@@ -116,22 +124,38 @@ fn run<W: Wire, C: Clockwork, T: Told, S: Supervisor, L: Journal>(
     supervisor: &mut S,
     log: &L,
 ) -> LeftOut
-    ensures rounds { (ending : Bool) × (owed : Option Question) ×
-        ((run : IsRun W.does track identity C.reads (most_rounds rounds)
+    ensures { (ending : Bool) × (owed : Option Question) ×
+        ((run : IsRun W.does W.waits track identity C.reads (most_rounds rounds)
         (T.tells until.now)
         (box gateway.old wire.old 0 false None) clock.old
         (box gateway.new wire.new result ending owed) clock.new)
-        × (0 < run.all.count → T.goes_on until.now)) }
-    ensures told { HearsRun S.hears supervisor.old supervisor.new }
+        × ((0 < length run.all.moments → T.goes_on until.now)
+        × HearsRun S.hears run.all.moments supervisor.old supervisor.new)) }
 {
     let mut desk = Desk::new(alloc, gateway);
     all_rounds(
         gateway, wire, clock, until, rounds, track, identity, supervisor, &mut desk, log,
     );
     supervisor.ending();
-    hand_in(gateway, Event::Stop, wire, &mut desk, log);
+    stop(gateway, wire, supervisor, &mut desk, log);
     tell_end(log, &desk.tally, gateway.moment());
     desk.left
+}
+
+/// Stops the gateway, once its supervisor was told that the box ends. It says whether that is done.
+fn stop<W: Wire, S: Supervisor, L: Journal>(
+    gateway: &mut Gateway,
+    wire: &mut W,
+    _supervisor: &S,
+    desk: &mut Desk,
+    log: &L,
+) -> bool
+    requires told { HasHeard S.hears Ending _supervisor.now }
+    ensures taken { Takes W.does result
+        (box gateway.old wire.old desk.old.left desk.old.ending desk.old.question) Stop
+        (box gateway.new wire.new desk.new.left desk.new.ending desk.new.question) }
+{
+    hand_in(gateway, Event::Stop, wire, desk, log)
 }
 
 /// Runs rounds until the box is to end, or has had so many.
@@ -147,21 +171,35 @@ fn all_rounds<W: Wire, C: Clockwork, T: Told, S: Supervisor, L: Journal>(
     desk: &mut Desk,
     log: &L,
 )
-    ensures rounds { AreRoundsAsked W.does track identity C.reads (most_rounds rounds)
+    ensures { AreRoundsHeard W.does W.waits track identity C.reads S.hears (most_rounds rounds)
         (T.tells until.now) (T.goes_on until.now)
-        (box gateway.old wire.old desk.old.left desk.old.ending desk.old.question) clock.old
-        (box gateway.new wire.new desk.new.left desk.new.ending desk.new.question) clock.new }
-    ensures told { HearsRounds S.hears supervisor.old supervisor.new }
+        (box gateway.old wire.old desk.old.left desk.old.ending desk.old.question)
+        clock.old supervisor.old
+        (box gateway.new wire.new desk.new.left desk.new.ending desk.new.question)
+        clock.new supervisor.new }
 {
     let mut room = [0; LONGEST];
+    let mut last = 0;
     let most = most_of(rounds);
     for _ in 0..most {
         if is_over(desk, until) {
             return;
         }
         round(gateway, wire, clock, track, identity, &mut room, desk, log);
-        desk.tell_alive(gateway, supervisor);
+        last = tell_alive(last, gateway, supervisor);
     }
+}
+
+/// Tells the supervisor that the box goes on, where a second has begun since a moment. It gives the gateway's moment.
+fn tell_alive<S: Supervisor>(before: u64, gateway: &Gateway, supervisor: &mut S) -> u64
+    ensures moment { result ≡ gateway.now.moment }
+    ensures heard { HearsRound S.hears before gateway.now.moment supervisor.old supervisor.new }
+{
+    let moment = gateway.moment();
+    if before / 100 < moment / 100 {
+        supervisor.alive();
+    }
+    moment
 }
 
 /// How many rounds there are at most.
@@ -196,7 +234,7 @@ fn round<W: Wire, C: Clockwork, L: Journal>(
     log: &L,
 )
     requires { desk.old.ending ≡ false }
-    ensures { IsRound W.does track identity C.reads
+    ensures { IsRound W.does W.waits track identity C.reads
         (box gateway.old wire.old desk.old.left desk.old.ending desk.old.question) clock.old
         (box gateway.new wire.new desk.new.left desk.new.ending desk.new.question) clock.new }
 {
@@ -218,7 +256,7 @@ fn take_what_comes<W: Wire, L: Journal>(
     desk: &mut Desk,
     log: &L,
 )
-    ensures { HasPolled W.does track 256
+    ensures { HasPolled W.does W.waits track 10_000_000 256
         (box gateway.old wire.old desk.old.left desk.old.ending desk.old.question)
         (box gateway.new wire.new desk.new.left desk.new.ending desk.new.question) }
 {
@@ -241,7 +279,7 @@ fn take_next<W: Wire, L: Journal>(
     desk: &mut Desk,
     log: &L,
 ) -> bool
-    ensures { Asks W.does track
+    ensures { Asks W.does W.waits track (as_nanos limit)
         (box gateway.old wire.old desk.old.left desk.old.ending desk.old.question)
         result (box gateway.new wire.new desk.new.left desk.new.ending desk.new.question) }
 {
@@ -309,9 +347,11 @@ fn hand_in<W: Wire, L: Journal>(
         (box gateway.old wire.old desk.old.left desk.old.ending desk.old.question) event.entry
         (box gateway.new wire.new desk.new.left desk.new.ending desk.new.question) }
     ensures view { desk.new.view ≡ seen gateway.new }
+    ensures told { TellsChanges L.enables log.now (stops event.entry result)
+        desk.old.view desk.new.view }
 {
     desk.out.clear();
-    let outcome = gateway.step(event, &mut desk.out);
+    let outcome = stepped(gateway, event, &mut desk.out);
     if let Err(refusal) = outcome {
         desk.left.count(refusal);
     }
@@ -321,6 +361,18 @@ fn hand_in<W: Wire, L: Journal>(
     desk.count_outcome(&event, outcome);
     desk.view = view;
     outcome.is_ok()
+}
+
+/// Hands an event to the gateway.
+#[tactic(auto, unfolding(crate::specs::Memory::WasLeftOut))]
+fn stepped(gateway: &mut Gateway, event: Event<'_>, out: &mut Out) -> Result<Outcome, NoMemory>
+    ensures step { OnOk result (IsStepOn (scene gateway.old out.old) event.entry
+        (scene gateway.new out.new)) }
+    ensures err { OnErr result (gateway.new ≡ gateway.old) }
+    ensures untold { OnErr result (out.new ≡ out.old) }
+    ensures refused { OnErr result (WasLeftOut gateway.old event.entry) }
+{
+    gateway.step(event, out)
 }
 
 /// Sends what was told: the frames by the wires of their sides, the datagrams by the link. What was sent is counted.

@@ -1,11 +1,13 @@
 //! A gateway's report.
-ghost use Rattle.std.specs.Prelude.{◌≡◌, false, IfOk, IsOk, is_none, length};
+ghost use Rattle.std.specs.Prelude.{◌≡◌, false, IfOk, IsOk, OnErr, is_none, length};
 ghost use Rattle.addresses.specs.declared.transport.Protocol.TheVariants.{Icmp, Tcp, Udp};
 ghost use Rattle.bindings.specs.Ports.{is_free_in};
 ghost use Rattle.link.specs.Hearing.{peer_serves};
 ghost use Rattle.spec_binding.specs.Books.{is_synced};
 ghost use Rattle.waiting.specs.Packets.{hop_count, pair_count};
 ghost use Rattle.rounds.specs.Gateways.{CountsEntries, ago as ago_in, free_among, owned_by, peer_seen};
+ghost use Rattle.rounds.specs.Memory.{WasRefused};
+ghost use Rattle.rounds.specs.declared.judging.Question.TheVariants.{Status};
 
 use crate::pages::key_of;
 use addresses::{Port, Protocol};
@@ -117,9 +119,20 @@ pub fn gateway_report(gateway: &Gateway) -> Result<GatewayReport, NoMemory>
     ensures waiting_hop { IfOk result (λ r. r.waiting.next_hop ≡ hop_count gateway.now.kept) }
     // Where it owns none, no memory is taken.
     ensures unsynced { is_synced gateway.now.ledger.book.stage ≡ false → IsOk result }
+    ensures refused { OnErr result (WasRefused Status) }
 {
-    let owned = gateway.owned()?;
+    let owned = owned_ports(gateway)?;
     Ok(report_with(gateway, owned.as_slice()))
+}
+
+/// A list of the ports that a gateway owns.
+#[tactic(auto, unfolding(crate::specs::Memory::WasRefused))]
+fn owned_ports(gateway: &Gateway) -> Result<Vec<Port>, NoMemory>
+    ensures ports { IfOk result (λ v. v.items ≡ owned_by gateway.now) }
+    ensures unsynced { is_synced gateway.now.ledger.book.stage ≡ false → IsOk result }
+    ensures refused { OnErr result (WasRefused Status) }
+{
+    gateway.owned()
 }
 
 /// A gateway's state, by the ports that it owns.

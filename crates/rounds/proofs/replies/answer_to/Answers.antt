@@ -19,6 +19,6 @@ report_answers who g question r head bytes laid asked says is spelled begun =
 pub returns-in_ok-report-in-Status-clause-answers : goal.returns-in_ok-report-in-Status-clause-answers
 returns-in_ok-report-in-Status-clause-answers g c =
     let is = c.in_ok-report-in-Status.ensures in
-    let says : IsReportOf c.args.identity c.args.gateway.now c.in_ok-report-in-Status.report = record { id = is.id; boot = is.boot; digest = is.digest; stands = is.gateway } in
+    let says : IsReportOf c.args.identity c.args.gateway.now c.in_ok-report-in-Status.report = record { id = is.id; boot = is.boot; digest = is.digest; stands = is.gateway; sides = rw is.sides c.requires.sides } in
     report_answers c.args.identity c.args.gateway.now c.args.question c.in_ok-report-in-Status.report c.begun_report.result c.as_slice.result.now _ c.in-Status.is
     says c.lay.ensures.laid (c.as_slice.ensures.value ∙ c.bytes.ensures.spelled) c.begun_report.ensures

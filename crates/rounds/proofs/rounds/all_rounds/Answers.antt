@@ -1,20 +1,19 @@
 use Rattle.std.proofs.Common.{arith, rules}
-use Rattle.rounds.proofs.Hearing.{alive_once_more}
-use Rattle.rounds.proofs.Taking.{all_had, all_told, one_round_more}
+use Rattle.rounds.proofs.Hearing.{all_had, all_told, none_had, one_more}
 use Rattle.rounds.proofs.rounds.all_rounds.Goals as goal
 
-pub returns-then-is_over-clause-rounds : goal.returns-then-is_over-clause-rounds
-returns-then-is_over-clause-rounds g c =
-    all_told _ _ _ _ _ _ _ _ _ _ _ _ c.loop.invariant.rounds c.loop.invariant.asked (omega arith) (c.is_over.ensures.ends (search rules))
+pub loop-init : goal.loop-init
+loop-init g c = record { had = none_had _ _ _ _ _ _ _ _ _; asked = λ some. absurd (omega (arith, some)) }
+
+pub returns-then-is_over : goal.returns-then-is_over
+returns-then-is_over g c =
+    all_told _ _ _ _ _ _ _ _ _ _ _ _ _ _ _ _ _ c.loop.invariant.had c.loop.invariant.asked (omega arith) (c.is_over.ensures.ends (search rules))
 
 pub loop-preserved : goal.loop-preserved
 loop-preserved g c = record {
-  rounds =
-      rw (c.tell_alive.ensures.left, c.tell_alive.ensures.ending, c.tell_alive.ensures.question)
-      (one_round_more _ _ _ _ _ _ _ _ _ _ _ c.loop.invariant.rounds c.round.ensures);
-  told = alive_once_more g.S.Supervisor.hears _ _ _ _ _ c.loop.invariant.told c.tell_alive.ensures.told c.tell_alive.ensures.quiet;
+  had = rw c.tell_alive-last.ensures.moment (one_more _ _ _ _ _ _ _ _ _ _ _ _ _ _ _ _ _ c.loop.invariant.had c.round.ensures c.tell_alive-last.ensures.heard);
   asked = λ _. c.is_over.ensures.asked (search rules);
 }
 
-pub returns-clause-rounds : goal.returns-clause-rounds
-returns-clause-rounds g c = all_had _ _ _ _ _ _ _ _ _ _ _ _ c.loop.invariant.rounds c.loop.invariant.asked (omega arith)
+pub returns : goal.returns
+returns g c = all_had _ _ _ _ _ _ _ _ _ _ _ _ _ _ _ _ _ c.loop.invariant.had c.loop.invariant.asked (omega arith)

@@ -4,11 +4,13 @@ use Rattle.rounds.proofs.rounds.take_next.Goals as goal
 
 pub returns-in-Ok-Some : goal.returns-in-Ok-Some
 returns-in-Ok-Some g c =
-    one_came _ _ _ _ _ c.in-Ok-Some.place c.in-Ok-Some.count c.receive.new.room c.in-Ok-Some.field-0 c.in-Ok-Some.field-0-is
-    c.in-Ok-Some.ensures.does c.take_letter.ensures.taken
+    one_came _ _ _ _ _ _ _ c.in-Ok-Some.place c.in-Ok-Some.count c.receive.new.room c.in-Ok-Some.field-0 c.in-Ok-Some.field-0-is
+    c.in-Ok-Some.ensures.does (_, (refl, c.in-Ok-Some.ensures.waits)) c.take_letter.ensures.taken
 
 pub returns-in-Ok-None : goal.returns-in-Ok-None
-returns-in-Ok-None g c = none_came _ _ _ _ c.receive.new.room c.in-Ok-None.field-0 c.in-Ok-None.field-0-is c.in-Ok-None.ensures.does refl
+returns-in-Ok-None g c =
+    none_came _ _ _ _ _ _ c.receive.new.room c.in-Ok-None.field-0 c.in-Ok-None.field-0-is c.in-Ok-None.ensures.does
+    (_, (refl, c.in-Ok-None.ensures.waits)) refl
 
 pub returns-in-Err : goal.returns-in-Err
-returns-in-Err g c = one_failed _ _ _ _ c.in-Err.ensures.does refl
+returns-in-Err g c = one_failed _ _ _ _ _ _ c.in-Err.ensures.does (_, (refl, c.in-Err.ensures.waits)) refl

@@ -1,15 +1,19 @@
-use Rattle.std.proofs.Common.{refl, arith, rules}
-use Rattle.rounds.proofs.Taking.{asked_on, none_asked, polled_most, polled_out}
+use Rattle.std.proofs.Common.{refl, sym, arith, rules}
+use Rattle.rounds.proofs.Taking.{asked_on, none_asked, none_then, polled_most, polled_out}
 use Rattle.rounds.proofs.rounds.take_what_comes.Goals as goal
 
 pub loop-init : goal.loop-init
-loop-init g c = none_asked _ _ _ _ refl
+loop-init g c = record { limited = c.from_millis-limit.ensures; had = none_asked _ _ _ _ _ _ refl }
 
 pub returns-then-not-take_next : goal.returns-then-not-take_next
-returns-then-not-take_next g c = polled_out _ _ _ _ _ _ _ _ c.loop.invariant c.take_next.ensures (search rules) (omega arith)
+returns-then-not-take_next g c =
+    polled_out _ _ _ _ _ _ _ _ _ _ _ c.loop.invariant.limited c.loop.invariant.had c.take_next.ensures (search rules) (omega arith)
 
 pub loop-preserved : goal.loop-preserved
-loop-preserved g c = asked_on _ _ _ _ _ _ _ c.loop.invariant c.take_next.ensures (search rules)
+loop-preserved g c = record {
+  limited = sym (none_then c.loop.counter 10_000_000);
+  had = asked_on _ _ _ _ _ _ _ _ _ _ c.loop.invariant.limited c.loop.invariant.had c.take_next.ensures (search rules);
+}
 
 pub returns : goal.returns
-returns g c = polled_most _ _ _ _ _ _ c.loop.invariant (omega arith)
+returns g c = polled_most _ _ _ _ _ _ _ _ c.loop.invariant.had (omega arith)

@@ -1,8 +1,14 @@
+use Rattle.std.proofs.Common.{◌≡◌}
+use Rattle.std.specs.Duration.{as_nanos}
 use Rattle.rounds.specs.Rounds.{box}
 use Rattle.rounds.specs.Polls.{HasAsked}
+use Rattle.rounds.proofs.Taking.{limit_at}
 use Rattle.rounds.proofs.rounds.take_what_comes.Given as goal
 
 abbrev pub invariant-loop : goal.invariant-loop
-invariant-loop g l =
-    HasAsked g.W.Wire.does l.track l.counter (box l.fn.gateway l.fn.wire l.fn.desk.left l.fn.desk.ending l.fn.desk.question)
-    (box l.gateway l.wire l.desk.left l.desk.ending l.desk.question)
+invariant-loop g l = record {
+  limited : as_nanos l.limit ≡ limit_at l.counter 10_000_000;
+  had :
+      HasAsked g.W.Wire.does g.W.Wire.waits l.track 10_000_000 l.counter (box l.fn.gateway l.fn.wire l.fn.desk.left l.fn.desk.ending l.fn.desk.question)
+      (box l.gateway l.wire l.desk.left l.desk.ending l.desk.question);
+}

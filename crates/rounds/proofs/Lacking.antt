@@ -1,0 +1,22 @@
+-- Where there is no answer to a question.
+use Rattle.std.proofs.Common.{◌≡◌, Bool, true, false, Option, refl, subst, sym}
+use Rattle.nat_types.specs.declared.pairs.Key.{Key}
+use Rattle.spec_binding.specs.Books.{is_synced}
+use Rattle.spec_step.specs.Shown.{Shown}
+use Rattle.rounds.specs.Memory.{MayLack, WasRefused}
+use Rattle.rounds.specs.declared.judging.Question.{Question}
+use Rattle.rounds.specs.declared.judging.Question.TheVariants.{Status, Pairs}
+
+true_else : (b : Bool) → (b ≡ false → ⊥) → b ≡ true
+true_else true not = refl
+true_else false not = absurd (not refl)
+
+-- a report of a gateway whose table isn't loaded there always is
+pub lacks_report : (g : Shown) → (is_synced g.ledger.book.stage ≡ false → ⊥) → WasRefused Status → MayLack g Status
+lacks_report g not refused = record { takes = true_else (is_synced g.ledger.book.stage) not; refused = refused }
+
+pub lacks_status : (g : Shown) (question : Question) → question ≡ Status → MayLack g Status → MayLack g question
+lacks_status g question is lacks = subst (λ (q : Question). MayLack g q) (sym is) lacks
+
+pub lacks_page : (g : Shown) (question : Question) (last : Option Key) → question ≡ Pairs last → WasRefused (Pairs last) → MayLack g question
+lacks_page g question last is refused = subst (λ (q : Question). MayLack g q) (sym is) (record { takes = refl; refused = refused })
