@@ -11,6 +11,8 @@ use Rattle.loopback_run.specs.declared.loopback.Port.{Port}
 use Rattle.loopback_run.specs.declared.loopback.Ports.{Ports}
 use Rattle.loopback_run.specs.declared.loopback.Both.{Both}
 use Rattle.loopback_run.specs.declared.passage.Passed.{Passed}
+use Rattle.loopback_run.specs.Parcels.{Message}
+use Rattle.loopback_run.specs.Standings.{Carries, bound}
 use Rattle.loopback_run.specs.Held.{AreOf, AreOfBoth, Asks, AsksOne, AsksOneOf}
 
 -- a port that is what it was has the number that it had
@@ -46,3 +48,9 @@ kept_by_both asks settings One place bytes fate old new h are = record {
   zero = subst (λ (ports : Ports _). AreOf settings.zero ports) (sym h.1) are.zero;
   one = kept asks settings.one place bytes fate old.one new.one h.0 are.one;
 }
+
+-- what a passage that holds these ports makes of a parcel
+pub carried_by : {S : Type 0} (asks : Asks S) (settings settings2 : Settings) (parcel : Message) (fate : Passed) (both both2 : Both S)
+    → settings2 ≡ settings → AreOfBoth settings both → AsksOneOf asks parcel.id parcel.place parcel.bytes fate both both2
+    → Carries asks (bound settings both) parcel fate (bound settings2 both2)
+carried_by asks settings settings2 parcel fate both both2 same are asked = (are, (both2, (ap (λ (s : Settings). bound s both2) same, asked)))

@@ -4,3 +4,4 @@ mod Telling
 mod Stopping
 mod Taping
 mod Holding
+mod Looking

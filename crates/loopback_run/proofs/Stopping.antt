@@ -1,5 +1,5 @@
 -- How far a run came, and what its fault leaves.
-use Rattle.std.proofs.Common.{◌≡◌, ◌∙◌, ◌++◌, ◌⊎◌, ◌≢◌, inl, inr, ℕ, Bool, List, [], Option, Result, Ok, Err, IfErr, OnErr, refl, sym, subst, append-nil}
+use Rattle.std.proofs.Common.{◌≡◌, ◌∙◌, ◌⊎◌, ◌≢◌, inl, inr, ℕ, Bool, List, [], Option, Result, Ok, Err, IfErr, OnErr, refl, sym, subst, append-nil}
 use Rattle.std.specs.Io.KnownBytes.{Appends, Keeps}
 use Rattle.std.proofs.KnownBytes.{Appends-kept, Appends-trans}
 use Rattle.settings.specs.declared.whole.Settings.{Settings}

@@ -18,7 +18,7 @@ use Rattle.loopback_run.specs.Runs.{HasTurned}
 use Rattle.loopback_run.specs.Tapes.{BreaksOff, TapedBroken, TapesTurn}
 use Rattle.loopback_run.proofs.Taping.{taped-push, turns_of}
 use Rattle.loopback_run.specs.Texts.{counts_then, counts_through, turn_lines, turns_lines}
-use Rattle.loopback_run.specs.Turns.{AreTurns, HasSent, IsTurn, Passes, TakesTurn, Turn, handed, is_lost, is_refusal, left, lost, received, step_of, steps_in, without}
+use Rattle.loopback_run.specs.Turns.{AreTurns, HasSent, Passes, TakesTurn, Turn, handed, is_lost, is_refusal, left, lost, received, step_of, steps_in, without}
 
 -- ---- one turn
 

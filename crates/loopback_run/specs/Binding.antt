@@ -1,7 +1,11 @@
 -- The ports that a passage through sockets has bound.
 use Rattle.std.specs.Prelude.{◌≡◌, ◌⊎◌, ℕ, List, [], ◌∷◌, Result, Ok, Err}
+use Rattle.std.specs.declared.io.Error.{Error}
+use Rattle.std.specs.declared.net.socket_addr.SocketAddr.{SocketAddr}
+use Rattle.mio.specs.declared.net.udp.UdpSocket.{UdpSocket}
 use Rattle.settings.specs.declared.gateway_settings.GatewaySettings.{GatewaySettings}
 use Rattle.settings.specs.declared.whole.Settings.{Settings}
+use Rattle.sockets.specs.Ends.{IsSocketOf, on_loopback}
 use Rattle.loopback_run.specs.declared.carriers.Unbound.{Unbound}
 use Rattle.loopback_run.specs.declared.carriers.Unbound.TheVariants as unbound
 use Rattle.loopback_run.specs.declared.loopback.Port.{Port}
@@ -51,3 +55,27 @@ BindsBoth {B = B} binds settings b (Ok both) b2 =
     (next : B) × (BindsPorts binds settings.zero b (Ok both.zero) next × BindsPorts binds settings.one next (Ok both.one) b2)
 BindsBoth {B = B} {S = S} binds settings b (Err why) b2 = BindsPorts binds settings.zero b (Err why) b2
     ⊎ ((ports : Ports S) × ((next : B) × (BindsPorts binds settings.zero b (Ok ports) next × BindsPorts binds settings.one next (Err why) b2)))
+
+-- ---- by the system
+
+-- Who binds ports asked the system for a socket at this address, and it answered so. It is no more than a name for the call, by what he was
+-- before and is then: who makes the call has it, and nobody else.
+unfoldable pub WasBound : {B : Type 0} → B → SocketAddr → Result UdpSocket Error → B → Type 0
+WasBound before address answer after = Unit {0}
+
+-- the same where the system was asked to report what comes to a socket: this is the port
+unfoldable pub WasWatched : {S : Type 0} → UdpSocket → Result S Error → Type 0
+WasWatched socket answer = Unit {0}
+
+-- a port at an address isn't had: the system was asked for it once, and refused the socket, or to report of it
+abbrev pub IsUnboundAt : {B : Type 0} → Type 0 → SocketAddr → B → B → Type 0
+IsUnboundAt S address before after = ((error : Error) × WasBound before address (Err error) after)
+    ⊎ ((socket : UdpSocket) × (WasBound before address (Ok socket) after × ((error : Error) × WasWatched {S = S} socket (Err error))))
+
+-- so the system answers who asks for the port of a number: it is that of the loopback address; or there is no memory, and it isn't asked
+abbrev pub HasBound : {B S : Type 0} → B → ℕ → Result S Unbound → B → Type 0
+HasBound before number (Ok port) after = (address : SocketAddr) × (IsSocketOf (on_loopback number) address
+    × ((socket : UdpSocket) × (WasBound before address (Ok socket) after × WasWatched socket (Ok port))))
+HasBound {S = S} before number (Err unbound.NoSocket) after =
+    (address : SocketAddr) × (IsSocketOf (on_loopback number) address × IsUnboundAt S address before after)
+HasBound before number (Err unbound.NoMemory) after = after ≡ before

@@ -7,7 +7,6 @@ use Rattle.settings.specs.declared.gateway_settings.GatewaySettings.{GatewaySett
 use Rattle.settings.specs.declared.whole.Settings.{Settings}
 use Rattle.sockets.specs.declared.places.Place.{Place}
 use Rattle.sockets.specs.declared.places.Place.TheVariants.{Link, Side, Operator}
-use Rattle.loopback_run.specs.Standings.{WasCarried}
 use Rattle.loopback_run.specs.declared.loopback.Port.{Port}
 use Rattle.loopback_run.specs.declared.loopback.Ports.{Ports}
 use Rattle.loopback_run.specs.declared.loopback.Both.{Both}
@@ -28,10 +27,6 @@ pub record AreOfBoth {S : Type 0} (settings : Settings) (both : Both S) : Type 0
 -- what may become of bytes that a carrier is asked, once, to send to the port of a number, and what it is then
 abbrev pub Asks : Type 0 → Type 1
 Asks S = S → ℕ → List ℕ → Passed → S → Type 0
-
--- by the system, of which nothing else is known
-abbrev pub by_system : {S : Type 0} → Asks S
-by_system before number bytes fate after = WasCarried number bytes fate
 
 -- a port was asked once to send these bytes, which go to its own number
 abbrev pub AsksPort : {S : Type 0} → Asks S → List ℕ → Passed → Port S → Port S → Type 0

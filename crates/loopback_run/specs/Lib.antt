@@ -5,7 +5,8 @@ pub mod Loops
 pub mod Stops
 pub mod Tapes
 pub mod Parcels
-pub mod Standings
+pub mod Carrying
 pub mod Held
 pub mod Binding
+pub mod Standings
 pub mod Holds

@@ -29,11 +29,12 @@ pub record IsLoop {P : Type 0} (passes : Passes P) (settings : Settings) (events
   pub taken : AreTurns passes (founding settings) before events turns run.world after
   pub text : Appends output printed (loop_lines events turns run.world)
 
--- such a run of a script's events, with the settings that a text holds, none of whose ports stands twice, and for which the passage
--- had them
+-- such a run of the events of a script in which no line is bad, with the settings that a text holds, none of whose ports stands twice, and
+-- for which the passage had them
 pub record LoopsScript {P : Type 0} (opens : P → Settings → P → Type 0) (passes : Passes P) (text script : List ℕ) (before after : P) (output printed : Option (List ℕ)) (status : ℕ) : Type 0 where
   pub job : Job
   pub is : IsJobOf text script job
+  pub good : first_bad_line script ≡ None
   pub apart : clash_of_both job.settings ≡ None
   pub open_passage : P
   pub opened : opens before job.settings open_passage

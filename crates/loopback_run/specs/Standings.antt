@@ -1,46 +1,48 @@
--- How a passage through sockets stands, and what it makes of a parcel.
-use Rattle.std.specs.Prelude.{◌≡◌, ℕ, List, Option, Some, None}
-use Rattle.nat_types.specs.declared.gateways.GatewayId.{GatewayId}
-use Rattle.nat_types.specs.declared.gateways.GatewayId.TheVariants.{Zero, One}
-use Rattle.nat_types.specs.declared.gateways.Side.TheVariants.{Inside, Outside}
-use Rattle.settings.specs.declared.gateway_settings.GatewaySettings.{GatewaySettings}
+-- How a passage through sockets stands, and what becomes of it.
+use Rattle.std.specs.Prelude.{◌≡◌, Ok, Err}
 use Rattle.settings.specs.declared.whole.Settings.{Settings}
-use Rattle.sockets.specs.declared.places.Place.{Place}
-use Rattle.sockets.specs.declared.places.Place.TheVariants.{Link, Side, Operator}
+use Rattle.loopback_run.specs.Binding.{Binds, BindsBoth}
+use Rattle.loopback_run.specs.Held.{AreOfBoth, Asks, AsksOneOf}
 use Rattle.loopback_run.specs.Parcels.{Message}
+use Rattle.loopback_run.specs.declared.loopback.Both.{Both}
 use Rattle.loopback_run.specs.declared.ports.PortFault.{PortFault}
 use Rattle.loopback_run.specs.declared.passage.Passed.{Passed}
 use Rattle.loopback_run.specs.declared.passage.Passed.TheVariants.{Lost}
 
--- its ports weren't asked for; or when they were last, it got those of these settings, or was refused them for this
-pub data Standing : Type 0 where
-  unasked : Standing
-  bound : Settings → Standing
-  refused : PortFault → Standing
+-- its ports weren't asked for; or when they were last, it got those of these settings, which are these, or was refused them for this
+pub data Standing (S : Type 0) : Type 0 where
+  unasked : Standing S
+  bound : Settings → Both S → Standing S
+  refused : PortFault → Standing S
 
--- The system was asked, once, to send these bytes from the loopback port of this number to itself, and they came or were lost. It is no more
--- than a name for the call: who makes it has this, and nobody else.
-unfoldable pub WasCarried : ℕ → List ℕ → Passed → Type 0
-WasCarried number bytes fate = Unit {0}
+-- who binds its ports, and how it stands
+pub record Passage (B S : Type 0) : Type 0 where
+  pub system : B
+  pub standing : Standing S
 
--- the number of a gateway's port for a place; the operator's has none
-abbrev pub port_at : GatewaySettings → Place → Option ℕ
-port_at own Link = Some own.link
-port_at own (Side Inside) = Some own.inside_port
-port_at own (Side Outside) = Some own.outside_port
-port_at own Operator = None
+-- it was never asked for ports
+abbrev pub IsUnasked : {B S : Type 0} → Passage B S → Type 0
+IsUnasked p = p.standing ≡ unasked
 
-abbrev pub own_of : Settings → GatewayId → GatewaySettings
-own_of settings Zero = settings.zero
-own_of settings One = settings.one
+-- the ports of these settings were asked for, each once, and these are had
+abbrev pub HasPorts : {B S : Type 0} → Binds B S → Passage B S → Settings → Passage B S → Type 0
+HasPorts {S = S} binds before settings after =
+    (both : Both S) × ((after.standing ≡ bound settings both) × BindsBoth binds settings before.system (Ok both) after.system)
 
--- they go by that port; or are lost, where there is none
-abbrev pub IsCarried : Option ℕ → List ℕ → Passed → Type 0
-IsCarried (Some number) bytes fate = WasCarried number bytes fate
-IsCarried None bytes fate = fate ≡ Lost
+-- the first of them that isn't had is refused, or memory, and just that is told
+abbrev pub LacksPorts : {B S : Type 0} → Binds B S → Passage B S → Settings → PortFault → Passage B S → Type 0
+LacksPorts binds before settings why after =
+    (after.standing ≡ refused why) × BindsBoth binds settings before.system (Err why) after.system
 
--- what may become of a parcel: it goes by just the port of its gateway and place; without ports it is lost
-abbrev pub MayBe : Standing → Message → Passed → Type 0
-MayBe unasked parcel fate = fate ≡ Lost
-MayBe (bound settings) parcel fate = IsCarried (port_at (own_of settings parcel.id) parcel.place) parcel.bytes fate
-MayBe (refused fault) parcel fate = fate ≡ Lost
+-- What becomes of a parcel: just the port of its gateway and place, which has the number of those settings, is asked once to send it, and
+-- each other port is what it was; without ports it is lost.
+abbrev pub Carries : {S : Type 0} → Asks S → Standing S → Message → Passed → Standing S → Type 0
+Carries asks unasked parcel fate after = (fate ≡ Lost) × (after ≡ unasked)
+Carries {S = S} asks (bound settings both) parcel fate after = AreOfBoth settings both
+    × ((both2 : Both S) × ((after ≡ bound settings both2) × AsksOneOf asks parcel.id parcel.place parcel.bytes fate both both2))
+Carries asks (refused why) parcel fate after = (fate ≡ Lost) × (after ≡ refused why)
+
+-- and no port is bound meanwhile
+abbrev pub HasPassed : {B S : Type 0} → Asks S → Passage B S → Message → Passed → Passage B S → Type 0
+HasPassed asks before parcel fate after =
+    (after.system ≡ before.system) × Carries asks before.standing parcel fate after.standing

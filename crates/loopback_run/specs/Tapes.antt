@@ -9,6 +9,7 @@ use Rattle.faults.specs.declared.jobs.Job.{Job}
 use Rattle.faults.specs.Jobs.{IsJobOf}
 use Rattle.outlets.specs.Printed.{IsBegun}
 use Rattle.printing.specs.Lines.{Counts, no_counts}
+use Rattle.scripts.specs.Script.{first_bad_line}
 use Rattle.frame_sim.specs.declared.events.Step.{Step}
 use Rattle.frame_sim.specs.Texts.{world_lines}
 use Rattle.frame_sim.specs.World.{World, founding}
@@ -49,10 +50,11 @@ abbrev pub IsTapedLoop : {P T : Type 0} → Passes P → TakesOn T → Settings 
 IsTapedLoop passes takes settings es p p2 t t2 =
     (turns : List Turn) × ((w2 : World) × AreTaped passes takes (founding settings) p t es turns w2 p2 t2)
 
--- such a run of a script's events, with the settings that a text holds, for which the passage had its ports
+-- such a run of the events of a script in which no line is bad, with the settings that a text holds, for which the passage had its ports
 pub record TapesScript {P T : Type 0} (opens : Opens P) (passes : Passes P) (takes : TakesOn T) (text script : List ℕ) (before after : P) (t t2 : T) : Type 0 where
   pub job : Job
   pub is : IsJobOf text script job
+  pub good : first_bad_line script ≡ None
   pub open_passage : P
   pub opened : opens before job.settings open_passage
   pub taped : IsTapedLoop passes takes job.settings job.events.items open_passage after t t2

@@ -1,5 +1,5 @@
 -- An event whose bytes are first sent through a passage.
-use Rattle.std.specs.Prelude.{◌≡◌, ℕ, if◌then◌else◌, Bool, true, false, List, [], ◌∷◌, Option, Some, None, is_err, option_map}
+use Rattle.std.specs.Prelude.{◌≡◌, Bool, true, false, List, [], ◌∷◌, Option, Some, None, is_err, option_map}
 use Rattle.std.specs.List.{filter_map}
 use Rattle.sockets.specs.declared.places.Place.TheVariants.{Link, Side}
 use Rattle.output.specs.Output.{none_told}
@@ -11,7 +11,6 @@ use Rattle.frame_sim.specs.Events.{datagram_for}
 use Rattle.frame_sim.specs.Runs.{Answers}
 use Rattle.faults.specs.declared.faults.Fault.{Fault}
 use Rattle.faults.specs.declared.faults.Fault.TheVariants as faults
-use Rattle.frame_sim.specs.Status.{has_refusal}
 use Rattle.loopback_run.specs.declared.ports.PortFault.{PortFault}
 use Rattle.loopback_run.specs.declared.ports.PortFault.TheVariants as ports
 use Rattle.loopback_run.specs.declared.passage.Passed.{Passed}

@@ -2,12 +2,14 @@
 #![tactic(auto)]
 
 mod carriers;
+mod carrying;
 mod loopback;
+mod machine;
 mod passage;
 mod ports;
 mod turns;
 
-pub use carriers::LIMIT;
+pub use carrying::LIMIT;
 pub use loopback::Loopback;
 pub use passage::{Channel, Passed};
 pub use ports::PortFault;

@@ -1,9 +1,11 @@
 //! A passage through UDP sockets on the loopback address.
-ghost use Rattle.std.specs.Prelude.{◌≡◌, IfOk};
+ghost use Rattle.std.specs.Prelude.{◌≡◌, IfErr, IfOk, OnOk};
 ghost use Rattle.loopback_run.specs.Held.{AreOf, AreOfBoth, AsksOne, AsksOneOf, AsksPort};
 ghost use Rattle.loopback_run.specs.Binding.{BindsBoth, BindsPort, BindsPorts};
+ghost use Rattle.loopback_run.specs.Parcels.{parcel_of};
 
-use crate::carriers::{Binds, Carries, SystemBinds, SystemCarries, Unbound};
+use crate::carriers::{Binds, Carries, Unbound};
+use crate::machine::{SystemBinds, SystemPort};
 use crate::{Channel, Passed, PortFault};
 use nat_types::{GatewayId, Side};
 use settings::{GatewaySettings, Settings};
@@ -126,6 +128,7 @@ impl<S: Carries> BoundPorts<S> {
     fn pass<R: Clock>(&mut self, clock: &R, id: GatewayId, place: Place, bytes: &[u8]) -> Passed
         ensures asked { AsksOneOf S.asks id place bytes.now result self.old.both self.new.both }
         ensures settings { self.new.settings.value ≡ self.old.settings.value }
+        ensures numbered { AreOfBoth self.old.settings.value self.old.both }
     {
         self.both.pass(clock, id, place, bytes)
     }
@@ -133,55 +136,33 @@ impl<S: Carries> BoundPorts<S> {
 
 /// What was answered when ports were asked for last.
 #[derive(Drop)]
-enum Hold {
+enum Hold<S> {
     Unasked,
     /// They are had.
-    Bound(BoundPorts<SystemCarries>),
+    Bound(BoundPorts<S>),
     Refused(PortFault),
 }
 
-/// The own UDP ports of both gateways on the loopback address. Where they aren't had, all is lost.
+/// Who binds ports, and which are held.
 #[derive(Drop)]
-pub struct Loopback<'a, R> {
-    rt: &'a R,
-    hold: Hold,
+struct Holding<B, S> {
+    system: B,
+    hold: Hold<S>,
 }
 
-impl<'a, R> Model for Loopback<'a, R> {
-    ghost use Rattle.loopback_run.specs.Standings.{Standing};
-    ghost use Rattle.loopback_run.specs.Holds.{standing_of};
+impl<B: Binds<S>, S: Carries + Drop> Holding<B, S> {
+    ghost use Rattle.loopback_run.specs.Holds.{passage_of};
+    ghost use Rattle.loopback_run.specs.Standings.{HasPassed, HasPorts, LacksPorts};
 
-    ghost Value = { Standing };
-
-    ghost view = { λ l. standing_of l.hold };
-}
-
-impl<'a, R: Net + Clock + AllocGlobal> Loopback<'a, R> {
-    ghost use Rattle.loopback_run.specs.Standings.{unasked};
-
-    /// Was never asked for its ports.
-    pub fn new(rt: &'a R) -> Loopback<'a, R>
-        ensures { result ≡ unasked }
+    /// Asks for the ports of settings, each once. After an Err it has none, also where it had some before.
+    fn open(&mut self, settings: &Settings) -> Result<(), PortFault>
+        ensures opens { OnOk result
+            (HasPorts B.binds (passage_of self.old) settings.now (passage_of self.new)) }
+        ensures refuses { IfErr result
+            (λ fault. LacksPorts B.binds (passage_of self.old) settings.now fault
+            (passage_of self.new)) }
     {
-        Loopback {
-            rt,
-            hold: Hold::Unasked,
-        }
-    }
-}
-
-impl<R: Net + Clock + AllocGlobal> Channel for Loopback<'_, R> {
-    ghost use Rattle.loopback_run.specs.Standings.{bound, refused, MayBe};
-
-    ghost opens = { λ _ settings after. after ≡ bound settings };
-
-    ghost refuses = { λ _ _ fault after. after ≡ refused fault };
-
-    ghost passes = { λ before parcel fate after. MayBe before parcel fate × (after ≡ before) };
-
-    /// After an Err it has no ports, also where it had some before.
-    fn open(&mut self, settings: &Settings) -> Result<(), PortFault> {
-        match Both::bind(&mut SystemBinds(self.rt), settings) {
+        match Both::bind(&mut self.system, settings) {
             Ok(both) => {
                 let settings = Snapshot::of(settings);
                 self.hold = Hold::Bound(BoundPorts { both, settings });
@@ -194,11 +175,71 @@ impl<R: Net + Clock + AllocGlobal> Channel for Loopback<'_, R> {
         }
     }
 
-    /// A send, a receive or a clock that fails loses the bytes, and so does the operator's place.
-    fn pass(&mut self, id: GatewayId, place: Place, bytes: &[u8]) -> Passed {
+    /// Sends bytes through the port of a gateway's place, once, and through no other; without ports they are lost.
+    fn pass<R: Clock>(&mut self, clock: &R, id: GatewayId, place: Place, bytes: &[u8]) -> Passed
+        ensures { HasPassed S.asks (passage_of self.old) (parcel_of id place bytes.now) result
+            (passage_of self.new) }
+    {
         match &mut self.hold {
-            Hold::Bound(ports) => ports.pass(self.rt, id, place, bytes),
+            Hold::Bound(ports) => ports.pass(clock, id, place, bytes),
             Hold::Unasked | Hold::Refused(_) => Passed::Lost,
         }
+    }
+}
+
+/// The own UDP ports of both gateways on the loopback address. Where they aren't had, all is lost.
+#[derive(Drop)]
+pub struct Loopback<'a, R> {
+    clock: &'a R,
+    ports: Holding<SystemBinds<'a, R>, SystemPort>,
+}
+
+impl<'a, R> Model for Loopback<'a, R> {
+    ghost use Rattle.loopback_run.specs.Standings.{Passage};
+    ghost use Rattle.loopback_run.specs.declared.machine.SystemBinds.{SystemBinds as System};
+    ghost use Rattle.loopback_run.specs.declared.machine.SystemPort.{SystemPort as Port};
+    ghost use Rattle.loopback_run.specs.Holds.{passage_of};
+
+    ghost Value = { Passage (System R) Port };
+
+    ghost view = { λ l. passage_of l.ports };
+}
+
+impl<'a, R: Net + Clock + AllocGlobal> Loopback<'a, R> {
+    ghost use Rattle.loopback_run.specs.Standings.{IsUnasked};
+
+    /// Was never asked for its ports.
+    pub fn new(rt: &'a R) -> Loopback<'a, R>
+        ensures { IsUnasked result }
+    {
+        Loopback {
+            clock: rt,
+            ports: Holding {
+                system: SystemBinds(rt),
+                hold: Hold::Unasked,
+            },
+        }
+    }
+}
+
+impl<R: Net + Clock + AllocGlobal> Channel for Loopback<'_, R> {
+    ghost use Rattle.loopback_run.specs.Binding.{HasBound};
+    ghost use Rattle.loopback_run.specs.Carrying.{HasCarried};
+    ghost use Rattle.loopback_run.specs.Standings.{HasPassed, HasPorts, LacksPorts};
+
+    ghost opens = { HasPorts HasBound };
+
+    ghost refuses = { LacksPorts HasBound };
+
+    ghost passes = { HasPassed HasCarried };
+
+    /// After an Err it has no ports, also where it had some before.
+    fn open(&mut self, settings: &Settings) -> Result<(), PortFault> {
+        self.ports.open(settings)
+    }
+
+    /// A send, a receive or a clock that fails loses the bytes, and so does the operator's place.
+    fn pass(&mut self, id: GatewayId, place: Place, bytes: &[u8]) -> Passed {
+        self.ports.pass(self.clock, id, place, bytes)
     }
 }

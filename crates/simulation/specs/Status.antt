@@ -1,14 +1,17 @@
 -- The exit status of a script's run, and the text that it prints.
-use Rattle.std.specs.Prelude.{ℕ, List, Option}
+use Rattle.std.specs.Prelude.{◌≡◌, ℕ, List, Option, None}
 use Rattle.std.specs.Io.KnownBytes.{Appends}
 use Rattle.faults.specs.declared.jobs.Job.{Job}
 use Rattle.faults.specs.Jobs.{IsJobOf}
 use Rattle.frame_sim.specs.Status.{IsRun}
+use Rattle.scripts.specs.Script.{first_bad_line}
 use Rattle.simulation.specs.Texts.{run_lines}
 
--- the status of a run of a script's events on a new world of the settings that a text holds, whose text was printed
+-- the status of a run of the events of a script in which no line is bad, on a new world of the settings that a text holds, whose text was
+-- printed
 pub record RunsScript (text script : List ℕ) (before after : Option (List ℕ)) (status : ℕ) : Type 0 where
   pub job : Job
   pub is : IsJobOf text script job
+  pub good : first_bad_line script ≡ None
   pub run : IsRun job.settings job.events.items status
   pub printed : Appends before after (run_lines job.events.items run.steps run.world)

@@ -1,5 +1,5 @@
 -- A run that a tape takes down.
-use Rattle.std.specs.Prelude.{◌≡◌, ◌≢◌, ◌⊎◌, ℕ, List, Option}
+use Rattle.std.specs.Prelude.{◌≡◌, ◌≢◌, ◌⊎◌, ℕ, List, Option, None}
 use Rattle.std.specs.Io.KnownBytes.{Appends}
 use Rattle.nat_types.specs.declared.events.WorldEvent.{WorldEvent}
 use Rattle.settings.specs.declared.whole.Settings.{Settings}
@@ -13,6 +13,7 @@ use Rattle.frame_sim.specs.World.{World, founding}
 use Rattle.frame_sim.specs.Status.{IsRun, TakesSteps}
 use Rattle.frame_sim.specs.Tapes.{AreTaken, RefusesOne, TakesOn}
 use Rattle.outlets.specs.Printed.{IsBegun}
+use Rattle.scripts.specs.Script.{first_bad_line}
 use Rattle.simulation.specs.Texts.{run_lines}
 
 -- the steps that these events take, in order, from one world to another, a tape that took them down, and their text
@@ -27,10 +28,11 @@ pub record IsTapedRun {T : Type 0} (takes : TakesOn T) (settings : Settings) (ev
   pub taken : AreTaken takes run.world before events run.steps after
   pub text : Appends output printed (run_lines events run.steps run.world)
 
--- such a run of a script's events, with the settings that a text holds
+-- such a run of the events of a script in which no line is bad, with the settings that a text holds
 pub record TapesScript {T : Type 0} (takes : TakesOn T) (text script : List ℕ) (before after : T) (output printed : Option (List ℕ)) (status : ℕ) : Type 0 where
   pub job : Job
   pub is : IsJobOf text script job
+  pub good : first_bad_line script ≡ None
   pub run : IsTapedRun takes job.settings job.events.items before after output printed status
 
 -- ---- a run that a fault ends

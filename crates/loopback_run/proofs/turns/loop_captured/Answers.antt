@@ -25,6 +25,7 @@ pub returns-in-Ok-clause-run : goal.returns-in-Ok-clause-run
 returns-in-Ok-clause-run g c = in_ok c.play.result (λ n h. record {
   job = c.in_ok-job.job;
   is = c.in_ok-job.ensures.job;
+  good = c.in_ok-job.ensures.good;
   apart = sym c.in_default.ensures;
   open_passage = c.open.new.self;
   opened = c.in-Ok.ensures.opens;
@@ -58,6 +59,7 @@ pub returns-in-Ok-clause-taped : goal.returns-in-Ok-clause-taped
 returns-in-Ok-clause-taped g c = when_done c.play.result (λ h. record {
   job = c.in_ok-job.job;
   is = c.in_ok-job.ensures.job;
+  good = c.in_ok-job.ensures.good;
   open_passage = c.open.new.self;
   opened = c.in-Ok.ensures.opens;
   taped = subst (λ (es : List WorldEvent). IsTapedLoop g.P.Channel.passes g.T.Tape.takes c.in_ok-job.job.settings es c.open.new.self c.play.new.passage c.args.tape.now c.play.new.tape) c.as_slice.ensures.value h;

@@ -1,4 +1,4 @@
-use Rattle.std.proofs.Common.{◌+◌, ◌++◌, ◌∙◌, ◌∷◌, [], ap, inl, inr, refl, sym, take}
+use Rattle.std.proofs.Common.{◌++◌, ◌∙◌, ◌∷◌, [], ap, inl, inr, refl, sym, take}
 use Rattle.std.proofs.lemmas.List.{take_more}
 use Rattle.nat_types.specs.declared.events.WorldEvent.{WorldEvent}
 use Rattle.loopback_run.proofs.Turning.{all_turned, none_turned, one_broken, one_turned, split_at}

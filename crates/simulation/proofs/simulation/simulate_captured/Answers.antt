@@ -13,6 +13,7 @@ pub returns-clause-run : goal.returns-clause-run
 returns-clause-run g c = in_ok c.play.result (λ n h. record {
   job = c.in_ok-job.job;
   is = c.in_ok-job.ensures.job;
+  good = c.in_ok-job.ensures.good;
   run = subst (λ (es : List WorldEvent). IsTapedRun g.T.Tape.takes c.in_ok-job.job.settings es c.args.tape.now c.play.new.tape (g.O.Write.contents c.args.output.now) (g.O.Write.contents c.play.new.output) n) c.as_slice.ensures.value h;
 }) c.play.ensures.run
 

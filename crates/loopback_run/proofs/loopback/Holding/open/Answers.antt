@@ -1,0 +1,8 @@
+use Rattle.std.proofs.Common.{ap}
+use Rattle.settings.specs.declared.whole.Settings.{Settings}
+use Rattle.loopback_run.specs.Standings.{bound}
+use Rattle.loopback_run.proofs.loopback.Holding.open.Goals as goal
+
+pub returns-in-Ok-clause-opens : goal.returns-in-Ok-clause-opens
+returns-in-Ok-clause-opens g c =
+    (c.in-Ok.both, (ap (λ (s : Settings). bound s c.in-Ok.both) c.of-settings.ensures, c.in-Ok.ensures.bound))
