@@ -20,11 +20,6 @@ own_end (way.Udp ends) ports = Some ends.own
 own_end (way.Vxlan ends network) ports = Some ends.own
 own_end (way.Descriptor number) ports = None
 
--- it is the own end of one of a box's places
-abbrev pub IsNeeded : Ways → Ports → End → Type 0
-IsNeeded ways ports end = (own_end ways.link ports.link ≡ Some end)
-    ⊎ ((own_end ways.inside ports.inside ≡ Some end) ⊎ (own_end ways.outside ports.outside ≡ Some end))
-
 -- those of a box, in the order in which they are asked for
 abbrev pub own_ends : Ways → Ports → List (Option End)
 own_ends ways ports = own_end ways.link ports.link ∷ own_end ways.inside ports.inside ∷ own_end ways.outside ports.outside ∷ []
@@ -42,23 +37,27 @@ IsFirstRefused {B} answers (end ∷ ends) before found after =
     (IsAsked answers end before found after × IsSome found)
     ⊎ ((between : B) × (IsAsked answers end before None between × IsFirstRefused answers ends between found after))
 
--- The system answered so when it was asked for a socket at this end: it refuses it, or not. It says nothing of such a call, so this is no more
--- than a name for it: who makes the call has it, and nobody else, since only `SystemBinder` looks what stands here.
-unfoldable pub WasAsked : End → Bool → Type 0
-WasAsked end is_refused = Unit {0}
-
--- so the system may answer
-abbrev pub by_system : {B : Type 0} → B → End → Bool → B → Type 0
-by_system before end is_refused after = WasAsked end is_refused
-
--- of a box's own ends it is the first that the system refuses; or it refuses none
-abbrev pub IsFirstOf : Ways → Ports → Option End → Type 0
-IsFirstOf ways ports found = IsFirstRefused (by_system {B = Unit {0}}) (own_ends ways ports) tt found tt
-
 -- the socket's address, of version 4, is that of the end, and so is its port
 abbrev pub IsAt : End → SocketAddr → Type 0
 IsAt end (socket.V4 at) = IsIpv4OfBits (v4_ip at) end.address.0 × (v4_port at ≡ end.port)
 IsAt end (socket.V6 at) = ⊥
+
+-- The system answered so when it was asked for a socket at this address: it refuses it, or not. It says nothing of such a call, so this is no
+-- more than a name for it: who makes the call has it, and nobody else.
+unfoldable pub WasAsked : SocketAddr → Bool → Type 0
+WasAsked address is_refused = Unit {0}
+
+-- so it answered when it was asked at the address and the port of this end
+abbrev pub WasAskedAt : End → Bool → Type 0
+WasAskedAt end is_refused = (address : SocketAddr) × (IsAt end address × WasAsked address is_refused)
+
+-- so the system may answer
+abbrev pub by_system : {B : Type 0} → B → End → Bool → B → Type 0
+by_system before end is_refused after = WasAskedAt end is_refused
+
+-- of a box's own ends it is the first that the system refuses; or it refuses none
+abbrev pub IsFirstOf : Ways → Ports → Option End → Type 0
+IsFirstOf ways ports found = IsFirstRefused (by_system {B = Unit {0}}) (own_ends ways ports) tt found tt
 
 -- an end, as `192.0.2.1:7001`
 abbrev pub end_text : End → List ℕ

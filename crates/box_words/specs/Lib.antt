@@ -2,3 +2,4 @@ pub mod Faults
 pub mod Said
 pub mod Deeds
 pub mod Ends
+pub mod Machines

@@ -1,6 +1,6 @@
 //! The end of its own that a box can't have.
-ghost use Rattle.std.specs.Prelude.{◌≡◌, ◌∷◌, ◌⊎◌, [], IfSome, Some};
-ghost use Rattle.box_words.specs.Ends.{IsAsked, IsAt, IsFirstRefused, IsNeeded, WasAsked, own_end, own_ends, refused_text};
+ghost use Rattle.std.specs.Prelude.{◌≡◌, ◌∷◌, [], Some};
+ghost use Rattle.box_words.specs.Ends.{IsAsked, IsAt, IsFirstRefused, WasAsked, WasAskedAt, own_end, own_ends, refused_text};
 
 use sockets::{End, Ends, Ports, Way, Ways};
 use std::fmt;
@@ -24,18 +24,24 @@ pub trait Binder {
 pub struct SystemBinder<'a, R>(pub &'a R);
 
 impl<R: Net> Binder for SystemBinder<'_, R> {
-    ghost answers = { λ _ end refused _. WasAsked end refused };
+    ghost answers = { λ _ end refused _. WasAskedAt end refused };
 
-    #[tactic(auto, unfolding(crate::specs::Ends::WasAsked))]
     fn is_refused(&mut self, end: End) -> bool {
-        UdpSocket::bind(self.0, address_of(end)).is_err()
+        is_refused_at(self.0, address_of(end))
     }
+}
+
+/// Whether the system refuses a socket at this address.
+#[tactic(auto, unfolding(crate::specs::Ends::WasAsked))]
+fn is_refused_at<R: Net>(net: &R, address: SocketAddr) -> bool
+    ensures { WasAsked address result }
+{
+    UdpSocket::bind(net, address).is_err()
 }
 
 /// The first of a box's own ends that is refused, of those that its ways need: the link's, the inside's, the outside's. It
 /// is looked for once a box's sockets were refused; where each can be had by itself, there is none.
 pub fn refused_end<B: Binder>(binder: &mut B, ways: &Ways, ports: Ports) -> Refused
-    ensures needed { IfSome result.0 (IsNeeded ways.now ports) }
     ensures first { IsFirstRefused B.answers (own_ends ways.now ports) binder.old result.0
         binder.new }
 {
@@ -53,9 +59,7 @@ fn first_refused<B: Binder>(
     inside: Option<End>,
     outside: Option<End>,
 ) -> Option<End>
-    ensures needed { IfSome result
-        (λ end. (link ≡ Some end) ⊎ ((inside ≡ Some end) ⊎ (outside ≡ Some end))) }
-    ensures first { IsFirstRefused B.answers (link ∷ inside ∷ outside ∷ []) binder.old result
+    ensures { IsFirstRefused B.answers (link ∷ inside ∷ outside ∷ []) binder.old result
         binder.new }
 {
     if let Some(end) = refused_one(binder, link) {
@@ -69,8 +73,7 @@ fn first_refused<B: Binder>(
 
 /// An end that is refused, where there is one.
 fn refused_one<B: Binder>(binder: &mut B, end: Option<End>) -> Option<End>
-    ensures same { IfSome result (λ e. end ≡ Some e) }
-    ensures asked { IsAsked B.answers end binder.old result binder.new }
+    ensures { IsAsked B.answers end binder.old result binder.new }
 {
     let end = end?;
     if binder.is_refused(end) {

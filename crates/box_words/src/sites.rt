@@ -4,6 +4,7 @@ ghost use Rattle.control.specs.Answers.{answer_of};
 ghost use Rattle.control.specs.Words.{word_of};
 ghost use Rattle.faults.specs.Faults.{IsUnread, status_of};
 ghost use Rattle.box_words.specs.Deeds.{Deed, asked, made, read, said, unmade, unread, unsaid};
+ghost use Rattle.box_words.specs.Machines.{MachineDoes};
 
 use boot_file::{Blocks, FileFault};
 use control::{ControlPath, NoSocket};
@@ -47,7 +48,8 @@ pub trait Site {
             (does self.old (unsaid path.now (word_of word.now)) self.new) };
 }
 
-/// This machine: of what is done there nothing is known.
+/// This machine: of its files nothing is known but that it was asked for them, and what it answered; boxes are spoken to at
+/// their control sockets.
 #[derive(Drop)]
 pub struct Machine<'a, R> {
     rt: &'a R,
@@ -63,12 +65,14 @@ impl<R: Files + Net + AllocGlobal> Site for Machine<'_, R>
 where
     R::File: Blocks,
 {
-    ghost does = { λ _ _ _. Unit {0} };
+    ghost does = { λ _ deed _. MachineDoes deed };
 
+    #[tactic(auto, unfolding(crate::specs::Machines::WasDone))]
     fn text(&mut self, path: &str) -> Result<String, Fault> {
         text_of(self.rt, path)
     }
 
+    #[tactic(auto, unfolding(crate::specs::Machines::WasDone))]
     fn make(&mut self, path: &str) -> Result<(), FileFault> {
         boot_file::create(self.rt, path)?;
         Ok(())
