@@ -1,6 +1,9 @@
 -- The boot of a gateway that begins.
-use Rattle.std.proofs.Common.{IsErrOf, ◌≡◌, ◌⊎◌, inl, inr, ◌<◌, ◌≤◌, ℕ, Bool, true, false, Result, Ok, Err, IfOk, refl, sym, ap, ◌∙◌, subst, arith, if◌then◌else◌}
+use Rattle.std.proofs.Common.{IsErrOf, ◌≡◌, ◌⊎◌, inl, inr, ◌<◌, ◌≤◌, ℕ, Bool, true, false, Result, Ok, Err, IfOk, refl, sym, ap, ◌∙◌, subst, arith, if◌then◌else◌, ◌++◌, List, [], Option, codes, decimal, append_assoc, append-nil}
 use Rattle.std.proofs.lemmas.Bool.{cases_lt}
+use Rattle.std.proofs.KnownBytes.{Appends-kept}
+use Rattle.std.specs.Io.KnownBytes.{Appends, Keeps}
+use Rattle.outlets.specs.Printed.{IsBegun, Prints}
 use Rattle.nat_types.specs.declared.gateways.GatewayId.{GatewayId}
 use Rattle.settings.specs.declared.whole.Settings.{Settings}
 use Rattle.slots.specs.declared.hashers.Hashers.{Hashers}
@@ -12,7 +15,7 @@ use Rattle.boot_store.specs.declared.faults.BootFault.{BootFault}
 use Rattle.boot_store.specs.declared.faults.BootFault.TheVariants as boot
 use Rattle.box_words.specs.Faults.{of_boot}
 use Rattle.box_words.specs.declared.refusals.BoxFault.{BoxFault}
-use Rattle.gate.specs.Boots.{HasBoot, IsStart, TellsNumber}
+use Rattle.gate.specs.Boots.{HasBoot, IsStart, TellsNumber, boot_line}
 
 of_begun : (settings : Settings) (id : GatewayId) (hashers : Hashers) (boot : ℕ) → HasBoot boot (hashing hashers (begun settings id boot))
 unfolding HasBoot begun
@@ -66,3 +69,27 @@ tells_number found now now2 before after reason why told later failed decided = 
     by : (before < after) ⊎ (after ≤ before) → TellsNumber found before after now now2 why
     by (inl less) = inl (told ∙ ap of_boot (same (failed less)), less)
     by (inr most) = inr (reason, (told, decided (omega (arith, later, most))))
+
+-- ---- the line of a boot
+
+three : (a b c : List ℕ) → a ++ b ++ c ≡ a ++ (b ++ (c ++ []))
+three a b c = simp (append_assoc, append-nil)
+
+-- it is written by three texts
+pub boot_split : (boot : ℕ) (digits : List ℕ) → digits ≡ decimal boot → boot_line boot ≡ codes "boot " ++ (digits ++ (codes "\n" ++ []))
+boot_split boot digits is = rw is (three (codes "boot ") (decimal boot) (codes "\n"))
+
+pub begun_as : (a b : Option (List ℕ)) (text same : List ℕ) → text ≡ same → IsBegun a b same → IsBegun a b text
+begun_as a b text same is h = subst (λ (l : List ℕ). IsBegun a b l) (sym is) h
+
+pub appends_as : (a b : Option (List ℕ)) (text same : List ℕ) → text ≡ same → Appends a b same → Appends a b text
+appends_as a b text same is h = subst (λ (l : List ℕ). Appends a b l) (sym is) h
+
+-- all of a text is a beginning of it too
+whole_begun : (a b : Option (List ℕ)) (text : List ℕ) → Appends a b text → IsBegun a b text
+whole_begun a b text h = record { rest = []; part = record { written = text; split = sym (append-nil text); appended = h } }
+
+-- nothing more is written of a whole text, whether that is refused or not
+pub ended : {T E : Type 0} (r : Result T E) (a b c : Option (List ℕ)) (text : List ℕ) → Appends a b text → Keeps b c → Prints a r c text
+ended (Ok x) a b c text h kept = Appends-kept a b c text h kept
+ended (Err e) a b c text h kept = whole_begun a c text (Appends-kept a b c text h kept)

@@ -239,7 +239,7 @@ of_control start settings ways (fault.NoReport reason) can is = absurd is.1
 of_control start settings ways fault.NotSynced can is = absurd is.1
 
 of_place : (start : Start) (settings : Settings) (ways : Ways) (why : BoxFault) → IsHeard start settings ways → LacksPlace settings start.id ways why → Refuses start why
-of_place start settings ways (fault.Run reason) can is = subst (RefusesRun start) (sym is) tt
+of_place start settings ways (fault.Run reason) can is = subst (RefusesRun start) (sym is.0) tt
 of_place start settings ways (fault.NoWay side) can is = absurd is
 of_place start settings ways fault.NoWayOfLink can is = absurd is
 of_place start settings ways (fault.NoDescriptor reason) can is = absurd is

@@ -1,4 +1,6 @@
 mod Beginning
 mod Failing
+mod Heard
 mod Refusing
 mod Serving
+mod Sparing

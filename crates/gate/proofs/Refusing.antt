@@ -1,5 +1,5 @@
 -- What is known of a fault at which a start ends.
-use Rattle.std.proofs.Common.{◌≡◌, ◌⊎◌, ⊎_elim, inl, inr, subst, sym, refl, ℕ, Bool, List, [], ◌∷◌, Option, Some, None, Result, Ok, Err, IfErr}
+use Rattle.std.proofs.Common.{◌≡◌, ◌⊎◌, ⊎_elim, inl, inr, subst, sym, refl, ℕ, Bool, List, [], ◌∷◌, Option, Some, None, Result, Ok, Err, IfErr, codes}
 use Rattle.std.specs.Io.KnownBytes.{Appends}
 use Rattle.boot_store.specs.Crash.{Decides}
 use Rattle.boot_store.specs.Moment.{Moment}
@@ -114,15 +114,15 @@ ends_unrun A capture (Err why) is =
     ⊎_elim (λ unbegun. run_behind why (unbegun_of_run capture why unbegun.1)) (start_behind why) is
 
 -- output that isn't written is a fault of a gateway that isn't started
-pub unwritten_unstarted : {T : Type 0} (r : Result T BoxFault) → WasGiven boot_number → IfErr r LacksOutput
-    → IfErr r IsUnstarted
-unwritten_unstarted (Ok x) given is = tt
-unwritten_unstarted (Err why) given is = subst IsUnstarted (sym is.0) (inl (refl, (given, is.1)))
+pub unwritten_unstarted : {T : Type 0} (r : Result T BoxFault) (text : List ℕ) (before after : Option (List ℕ)) → WasGiven boot_number
+    → IfErr r (LacksOutput text before after) → IfErr r IsUnstarted
+unwritten_unstarted (Ok x) text before after given is = tt
+unwritten_unstarted (Err why) text before after given is = subst IsUnstarted (sym is.is) (inl (refl, (given, is.denied)))
 
--- where output alone is refused, only that is
-pub output_lacks : {T : Type 0} (r : Result T BoxFault) (P : BoxFault → Type 0) → IfErr r LacksOutput → IfErr r (λ why. LacksOutput why ⊎ P why)
-output_lacks (Ok x) P is = tt
-output_lacks (Err why) P is = inl is
+-- where only this is so, it is, with what was had before
+pub only_this : {T : Type 0} (r : Result T BoxFault) (P Q : BoxFault → Type 0) (A : Type 0) → A → IfErr r P → IfErr r (λ why. (P why × A) ⊎ Q why)
+only_this (Ok x) P Q A had is = tt
+only_this (Err why) P Q A had is = inl (is, had)
 
 -- a gateway that isn't started isn't run
 pub unstarted_unrun : {T : Type 0} (capture : Option (List ℕ)) (r : Result T BoxFault) → IfErr r IsUnstarted → IfErr r (IsUnrun capture)
@@ -142,44 +142,45 @@ pub behind_it : {T : Type 0} (r : Result T BoxFault) (P Q : BoxFault → Type 0)
 behind_it (Ok x) P Q A had is = tt
 behind_it (Err why) P Q A had is = inr (had, is)
 
--- output that is refused comes behind the number
+-- output that is refused at the end comes behind the number
 pub in_order : {T O : Type 0} (result : Result T BoxFault) (contents : O → Option (List ℕ)) (capture : Option (List ℕ)) (honest : Type 0) (found : Bool) (before after : Moment)
-    (boot : ℕ) (output output2 : O) → IfErr result LacksOutput → (honest → Decides found before after (Ok boot))
-    → IfErr result (λ why. IsInOrder contents capture honest found before after why output output2)
-in_order (Ok x) contents capture honest found before after boot output output2 is taken = tt
-in_order (Err why) contents capture honest found before after boot output output2 is taken = inr (boot, (taken, inl is))
-
--- and so does a capture that isn't begun, where just the line was printed
-pub ends_in_order : {T O G M : Type 0} (result : Result T BoxFault) (contents : O → Option (List ℕ)) (path : List ℕ) (capture : Option (List ℕ)) (honest : Type 0) (found : Bool)
-    (before after : Moment) (boot : ℕ) (output between output2 : O) (g g2 : G) (m m2 : M) → capture ≡ Some path
-    → IfErr result (λ why. LacksOutput why ⊎ (IsUnbegun (Some path) why × ((output2 ≡ between) × ((m2 ≡ m) × (g2 ≡ g)))))
+    (boot : ℕ) (output between output2 : O) → IfErr result (LacksOutput (codes "end\n") (contents between) (contents output2))
     → (honest → Decides found before after (Ok boot)) → Appends (contents output) (contents between) (boot_line boot)
     → IfErr result (λ why. IsInOrder contents capture honest found before after why output output2)
-ends_in_order (Ok x) contents path capture honest found before after boot output between output2 g g2 m m2 same is taken printed = tt
-ends_in_order (Err why) contents path capture honest found before after boot output between output2 g g2 m m2 same (inl lacks) taken printed =
-    inr (boot, (taken, inl lacks))
-ends_in_order (Err why) contents path capture honest found before after boot output between output2 g g2 m m2 same (inr unbegun) taken printed =
+in_order (Ok x) contents capture honest found before after boot output between output2 is taken printed = tt
+in_order (Err why) contents capture honest found before after boot output between output2 is taken printed =
+    inr (boot, (taken, inl (inr (contents between, (printed, is)))))
+
+-- and so does a capture that isn't begun, where just the line was printed
+pub ends_in_order : {T O : Type 0} (result : Result T BoxFault) (contents : O → Option (List ℕ)) (path : List ℕ) (capture : Option (List ℕ)) (honest : Type 0) (found : Bool)
+    (before after : Moment) (boot : ℕ) (output between output2 : O) (A B C : Type 0) → capture ≡ Some path
+    → IfErr result (λ why. (LacksOutput (codes "end\n") (contents between) (contents output2) why × A) ⊎ ((IsUnbegun (Some path) why × B) × ((output2 ≡ between) × C)))
+    → (honest → Decides found before after (Ok boot)) → Appends (contents output) (contents between) (boot_line boot)
+    → IfErr result (λ why. IsInOrder contents capture honest found before after why output output2)
+ends_in_order (Ok x) contents path capture honest found before after boot output between output2 A B C same is taken printed = tt
+ends_in_order (Err why) contents path capture honest found before after boot output between output2 A B C same (inl lacks) taken printed =
+    inr (boot, (taken, inl (inr (contents between, (printed, lacks.0)))))
+ends_in_order (Err why) contents path capture honest found before after boot output between output2 A B C same (inr unbegun) taken printed =
     inr (
       boot,
       (
         taken,
         inr (
-          subst (λ p. IsUnbegun p why) (sym same) unbegun.0,
+          subst (λ p. IsUnbegun p why) (sym same) unbegun.0.0,
           subst (λ o. Appends (contents output) (contents o) (boot_line boot)) (sym unbegun.1.0) printed,
         ),
       ),
     )
 
 -- and both are of a gateway that isn't run
-pub unrun_so : {T O G M : Type 0} (result : Result T BoxFault) (path : List ℕ) (capture : Option (List ℕ)) (between output2 : O) (g g2 : G) (m m2 : M) → capture ≡ Some path
+pub unrun_so : {T : Type 0} (result : Result T BoxFault) (A B C : Type 0) (text : List ℕ) (between after : Option (List ℕ)) (path : List ℕ) (capture : Option (List ℕ)) → capture ≡ Some path
     → WasGiven boot_number
-    → IfErr result (λ why. LacksOutput why ⊎ (IsUnbegun (Some path) why × ((output2 ≡ between) × ((m2 ≡ m) × (g2 ≡ g)))))
-    → IfErr result (IsUnrun capture)
-unrun_so (Ok x) path capture between output2 g g2 m m2 same given is = tt
-unrun_so (Err why) path capture between output2 g g2 m m2 same given (inl lacks) =
-    inr (subst IsUnstarted (sym lacks.0) (inl (refl, (given, lacks.1))))
-unrun_so (Err why) path capture between output2 g g2 m m2 same given (inr unbegun) =
-    inl (given, subst (λ p. IsUnbegun p why) (sym same) unbegun.0)
+    → IfErr result (λ why. (LacksOutput text between after why × A) ⊎ ((IsUnbegun (Some path) why × B) × C)) → IfErr result (IsUnrun capture)
+unrun_so (Ok x) A B C text between after path capture same given is = tt
+unrun_so (Err why) A B C text between after path capture same given (inl lacks) =
+    inr (subst IsUnstarted (sym lacks.0.is) (inl (refl, (given, lacks.0.denied))))
+unrun_so (Err why) A B C text between after path capture same given (inr unbegun) =
+    inl (given, subst (λ p. IsUnbegun p why) (sym same) unbegun.0.0)
 
 -- what comes behind a number without a capture does so with one
 pub with_capture : {O : Type 0} (contents : O → Option (List ℕ)) (capture : Option (List ℕ)) (honest : Type 0) (found : Bool) (before after : Moment) (why : BoxFault)

@@ -1,13 +1,15 @@
--- The rounds of a gateway, from its start on.
-use Rattle.std.proofs.Common.{◌≡◌, ◌⊎◌, ◌++◌, ◌∷◌, inl, inr, ap, ℕ, zero, suc, Bool, true, false, IsTrue, is_some, List, [], Option, Some, None, Result, Ok, Err, OnOk, codes, refl, subst, sym, true≢false}
+-- A start that is served.
+use Rattle.std.proofs.Common.{◌≡◌, ◌⊎◌, ◌<◌, ◌∷◌, inl, inr, ap, ℕ, Bool, true, false, IsTrue, is_some, length, List, [], Option, Some, None, Result, Ok, Err, OnOk, IfErr, codes, subst, sym, true≢false}
 use Rattle.std.specs.Borrow.{Bor}
 use Rattle.std.specs.Io.KnownBytes.{Appends}
-use Rattle.nat_types.specs.declared.gateways.GatewayId.{GatewayId}
 use Rattle.settings.specs.declared.whole.Settings.{Settings}
 use Rattle.spec_step.specs.Shown.{Shown}
 use Rattle.spec_step.specs.declared.events.Event.{Event}
-use Rattle.sockets.specs.Letters.{Call, Polled, ReceivedDatagram, answered, asked, came, failed, nothing}
-use Rattle.rounds.specs.Rounds.{AnswersOwed, AreMade, AreRounds, Box, Calls, IsAnswered, IsRound, IsRun, Reads, Replies, Takes, TakesAll, TakesAnswer, TakesAny, TakesBy, TakesLetter, all_sent, box, most_rounds}
+use Rattle.sockets.specs.Letters.{Call, Polled, ReceivedDatagram, came, failed, nothing}
+use Rattle.box_words.specs.declared.refusals.BoxFault.{BoxFault}
+use Rattle.rounds.specs.Clocks.{HasRead, Watch, WasNow}
+use Rattle.rounds.specs.Inputs.{InputEnds}
+use Rattle.rounds.specs.Rounds.{AnswersOwed, AreMade, AreRounds, Box, Calls, IsAnswered, IsRound, IsRun, Reads, Replies, Takes, TakesAll, TakesAnswer, TakesAny, TakesBy, TakesLetter, Waits, all_sent, box, most_rounds}
 use Rattle.rounds.specs.declared.desk.Identity.{Identity}
 use Rattle.rounds.specs.declared.judging.Question.{Question}
 use Rattle.rounds.specs.declared.judging.Reply.{Reply}
@@ -15,263 +17,258 @@ use Rattle.rounds.specs.declared.judging.Reply.TheVariants.{Heard, Later, Refuse
 use Rattle.sockets.specs.declared.ways.Ways.{Ways}
 use Rattle.gate.specs.Asked.{IsFilter, IsWatched, boot_file_of, path_in}
 use Rattle.gate.specs.Boots.{HasStarted, IsIdentity}
-use Rattle.gate.specs.Named.{IsCaptured, WasGiven, WasHad, begun_capture, number_of, tapped_wire}
-use Rattle.gate.specs.Served.{HadRounds, HasRun, HasServed, RunsOpened, any_reading, listed}
+use Rattle.gate.specs.Failing.{IsUnbegun, LacksOutput}
+use Rattle.gate.specs.Named.{IsCaptured, WasGiven, WasHad, WasLetGo, begun_capture, number_of, tapped_wire}
+use Rattle.gate.specs.Served.{HasRun, HasServed, RunsOpened}
 use Rattle.gate.specs.Starts.{CanOpen}
-use Rattle.gate.specs.Wires.{IsOfSockets, IsOwnWire, RunsOn}
+use Rattle.gate.specs.Wires.{IsOfSockets, IsOwnWire, IsSpared, MayGoOn, RanOn, RunsOn}
 use Rattle.gate.specs.declared.running.Start.{Start}
 
--- ---- a run by a wire and a clock is one by any clock, and by the calls of the wire, listed
+-- ---- a run on a wire whose calls are those of a wire below it is a run on that one
 
--- the box, with its wire's calls so far
-abbrev with : {W : Type 0} → Box W → List Call → Box (List Call)
-with b calls = box b.shown calls b.left_out b.ending b.owed
+-- what a call is to the wire below
+abbrev over : {T W : Type 0} → (T → W) → Calls W → Calls T
+over f does t call t2 = does (f t) call (f t2)
 
-made : {W : Type 0} (does : Calls W) (xs : List Call) (w w2 : W) → AreMade does xs w w2 → (calls : List Call) → (calls2 : List Call) × AreMade listed xs calls calls2
-made does [] w w2 h calls = (calls, refl)
-made does (x ∷ xs) w w2 h calls =
-    let rest = made does xs h.0 w2 h.1.1 (calls ++ x ∷ []) in
-    (rest.0, (calls ++ x ∷ [], (refl, rest.1)))
+-- and how long that waits
+abbrev waits_over : {T W : Type 0} → (T → W) → Waits W → Waits T
+waits_over f waits t limit t2 = waits (f t) limit (f t2)
 
-takes_by : {W : Type 0} (does : Calls W) (is_done : Bool) (b : Box W) (e : Event) (b2 : Box W) → TakesBy does is_done b e b2 → (calls : List Call)
-    → (calls2 : List Call) × TakesBy listed is_done (with b calls) e (with b2 calls2)
-takes_by does true b e b2 h calls =
-    let rest = made does (all_sent h.0) b.wire b2.wire h.1.1.0 calls in
-    (rest.0, (h.0, (h.1.0, (rest.1, h.1.1.1))))
-takes_by does false b e b2 h calls = (calls, (h.0, (refl, h.1.1)))
+-- the box on the wire below
+abbrev below : {T W : Type 0} → (T → W) → Box T → Box W
+below f b = box b.shown (f b.wire) b.left_out b.ending b.owed
 
-takes : {W : Type 0} (does : Calls W) (is_done : Bool) (b : Box W) (e : Event) (b2 : Box W) → Takes does is_done b e b2 → (calls : List Call)
-    → (calls2 : List Call) × Takes listed is_done (with b calls) e (with b2 calls2)
-takes does is_done b e b2 h calls =
-    let rest = takes_by does is_done b e b2 h.0 calls in
-    (rest.0, (rest.1, h.1))
+made : {T W : Type 0} (f : T → W) (does : Calls W) (xs : List Call) (t t2 : T) → AreMade (over f does) xs t t2 → AreMade does xs (f t) (f t2)
+made f does [] t t2 h = ap f h
+made f does (x ∷ xs) t t2 h = (f h.0, (h.1.0, made f does xs h.0 t2 h.1.1))
 
-takes_any : {W : Type 0} (does : Calls W) (is_done : Bool) (b : Box W) (e : Option Event) (b2 : Box W) → TakesAny does is_done b e b2 → (calls : List Call)
-    → (calls2 : List Call) × TakesAny listed is_done (with b calls) e (with b2 calls2)
-takes_any does is_done b (Some e) b2 h calls = takes does is_done b e b2 h calls
-takes_any does is_done b None b2 h calls = (calls, (h.0, ap (λ (x : Box _). with x calls) h.1))
+takes_by : {T W : Type 0} (f : T → W) (does : Calls W) (is_done : Bool) (b : Box T) (e : Event) (b2 : Box T) → TakesBy (over f does) is_done b e b2
+    → TakesBy does is_done (below f b) e (below f b2)
+takes_by f does true b e b2 h = (h.0, (h.1.0, (made f does (all_sent h.0) b.wire b2.wire h.1.1.0, h.1.1.1)))
+takes_by f does false b e b2 h = (h.0, (ap f h.1.0, h.1.1))
 
-is_answered : {W : Type 0} (does : Calls W) (bytes : List ℕ) (b b2 : Box W) → IsAnswered does bytes b b2 → (calls : List Call)
-    → (calls2 : List Call) × IsAnswered listed bytes (with b calls) (with b2 calls2)
-is_answered does bytes b b2 h calls =
-    (calls ++ answered bytes ∷ [], (refl, ap (λ (x : Box _). with x (calls ++ answered bytes ∷ [])) h.1))
+takes : {T W : Type 0} (f : T → W) (does : Calls W) (is_done : Bool) (b : Box T) (e : Event) (b2 : Box T) → Takes (over f does) is_done b e b2
+    → Takes does is_done (below f b) e (below f b2)
+takes f does is_done b e b2 h = (takes_by f does is_done b e b2 h.0, h.1)
 
-replies : {W : Type 0} (does : Calls W) (reply : Option Reply) (is_done : Bool) (b b2 : Box W) → Replies does reply is_done b b2 → (calls : List Call)
-    → (calls2 : List Call) × Replies listed reply is_done (with b calls) (with b2 calls2)
-replies does None is_done b b2 h calls = (calls, ap (λ (x : Box _). with x calls) h)
-replies does (Some (Later question)) is_done b b2 h calls = (calls, ap (λ (x : Box _). with x calls) h)
-replies does (Some (Refused refusal)) is_done b b2 h calls =
-    let rest = is_answered does h.0 b b2 h.1.1 calls in
-    (rest.0, (h.0, (h.1.0, rest.1)))
-replies does (Some Heard) true b b2 h calls =
-    let rest = is_answered does h.0 b b2 h.1.1 calls in
-    (rest.0, (h.0, (h.1.0, rest.1)))
-replies does (Some Heard) false b b2 h calls = is_answered does [] b b2 h calls
+takes_any : {T W : Type 0} (f : T → W) (does : Calls W) (is_done : Bool) (b : Box T) (e : Option Event) (b2 : Box T) → TakesAny (over f does) is_done b e b2
+    → TakesAny does is_done (below f b) e (below f b2)
+takes_any f does is_done b (Some e) b2 h = takes f does is_done b e b2 h
+takes_any f does is_done b None b2 h = (h.0, ap (below f) h.1)
 
-answers_owed : {W : Type 0} (does : Calls W) (who : Identity) (owed : Option Question) (b b2 : Box W) → AnswersOwed does who owed b b2 → (calls : List Call)
-    → (calls2 : List Call) × AnswersOwed listed who owed (with b calls) (with b2 calls2)
-answers_owed does who None b b2 h calls = (calls, ap (λ (x : Box _). with x calls) h)
-answers_owed does who (Some question) b b2 h calls =
-    let rest = is_answered does h.0 (record b { owed = None }) b2 h.1.1 calls in
-    (rest.0, (h.0, (h.1.0, rest.1)))
+is_answered : {T W : Type 0} (f : T → W) (does : Calls W) (bytes : List ℕ) (b b2 : Box T) → IsAnswered (over f does) bytes b b2
+    → IsAnswered does bytes (below f b) (below f b2)
+is_answered f does bytes b b2 h = (h.0, ap (below f) h.1)
 
-takes_letter : {W : Type 0} (does : Calls W) (track : Bool) (b : Box W) (letter : ReceivedDatagram) (b2 : Box W) → TakesLetter does track b letter b2 → (calls : List Call)
-    → (calls2 : List Call) × TakesLetter listed track (with b calls) letter (with b2 calls2)
-takes_letter does track b letter b2 h calls =
-    let first = takes_any does h.is_done _ h.event h.between h.taken calls in
-    let rest = replies does _ h.is_done h.between b2 h.replied first.0 in (
-      rest.0,
-      record {
-        event = h.event;
-        brings = h.brings;
-        is_done = h.is_done;
-        between = with h.between first.0;
-        taken = first.1;
-        replied = rest.1;
-      },
-    )
+replies : {T W : Type 0} (f : T → W) (does : Calls W) (reply : Option Reply) (is_done : Bool) (b b2 : Box T) → Replies (over f does) reply is_done b b2
+    → Replies does reply is_done (below f b) (below f b2)
+replies f does None is_done b b2 h = ap (below f) h
+replies f does (Some (Later question)) is_done b b2 h = ap (below f) h
+replies f does (Some (Refused refusal)) is_done b b2 h = (h.0, (h.1.0, is_answered f does h.0 b b2 h.1.1))
+replies f does (Some Heard) true b b2 h = (h.0, (h.1.0, is_answered f does h.0 b b2 h.1.1))
+replies f does (Some Heard) false b b2 h = is_answered f does [] b b2 h
 
-takes_answer : {W : Type 0} (does : Calls W) (track : Bool) (b : Box W) (answer : Polled) (b2 : Box W) → TakesAnswer does track b answer b2 → (calls : List Call)
-    → (calls2 : List Call) × TakesAnswer listed track (with b calls) answer (with b2 calls2)
-takes_answer does track b (came letter) b2 h calls = takes_letter does track b letter b2 h calls
-takes_answer does track b nothing b2 h calls = (calls, ap (λ (x : Box _). with x calls) h)
-takes_answer does track b failed b2 h calls = (calls, ap (λ (x : Box _). with x calls) h)
+answers_owed : {T W : Type 0} (f : T → W) (does : Calls W) (who : Identity) (owed : Option Question) (b b2 : Box T) → AnswersOwed (over f does) who owed b b2
+    → AnswersOwed does who owed (below f b) (below f b2)
+answers_owed f does who None b b2 h = ap (below f) h
+answers_owed f does who (Some question) b b2 h = (h.0, (h.1.0, is_answered f does h.0 (record b { owed = None }) b2 h.1.1))
 
-takes_all : {W : Type 0} (does : Calls W) (track : Bool) (b : Box W) (answers : List Polled) (b2 : Box W) → TakesAll does track b answers b2 → (calls : List Call)
-    → (calls2 : List Call) × TakesAll listed track (with b calls) answers (with b2 calls2)
-takes_all does track b [] b2 h calls = (calls, ap (λ (x : Box _). with x calls) h)
-takes_all does track b (answer ∷ rest) b2 h calls =
-    let one = takes_answer does track (record b { wire = h.0 }) answer h.1.1.0 h.1.1.1.0 (calls ++ asked answer ∷ []) in
-    let then = takes_all does track h.1.1.0 rest b2 h.1.1.1.1 one.0 in
-    (then.0, (calls ++ asked answer ∷ [], (refl, (with h.1.1.0 one.0, (one.1, then.1)))))
+takes_letter : {T W : Type 0} (f : T → W) (does : Calls W) (track : Bool) (b : Box T) (letter : ReceivedDatagram) (b2 : Box T) → TakesLetter (over f does) track b letter b2
+    → TakesLetter does track (below f b) letter (below f b2)
+takes_letter f does track b letter b2 h = record {
+  event = h.event;
+  brings = h.brings;
+  is_done = h.is_done;
+  between = below f h.between;
+  taken = takes_any f does h.is_done _ h.event h.between h.taken;
+  replied = replies f does _ h.is_done h.between b2 h.replied;
+}
 
-is_round : {W C : Type 0} (does : Calls W) (track : Bool) (who : Identity) (reads : Reads C) (b : Box W) (c : C) (b2 : Box W) (c2 : C) → IsRound does track who reads b c b2 c2 → (calls : List Call)
-    → (calls2 : List Call) × IsRound listed track who any_reading (with b calls) tt (with b2 calls2) tt
-is_round does track who reads b c b2 c2 r calls =
-    let letters = takes_all does track b r.answers r.between r.letters calls in
-    let tick = takes does r.is_done r.between _ r.ticked r.tick letters.0 in
-    let last = answers_owed does who r.ticked.owed r.ticked b2 r.answered tick.0 in (
-      last.0,
-      record {
-        goes_on = r.goes_on;
-        answers = r.answers;
-        poll = r.poll;
-        between = with r.between letters.0;
-        letters = letters.1;
-        moment = r.moment;
-        read = tt;
-        is_done = r.is_done;
-        ticked = with r.ticked tick.0;
-        tick = tick.1;
-        answered = last.1;
-      },
-    )
+takes_answer : {T W : Type 0} (f : T → W) (does : Calls W) (track : Bool) (b : Box T) (answer : Polled) (b2 : Box T) → TakesAnswer (over f does) track b answer b2
+    → TakesAnswer does track (below f b) answer (below f b2)
+takes_answer f does track b (came letter) b2 h = takes_letter f does track b letter b2 h
+takes_answer f does track b nothing b2 h = ap (below f) h
+takes_answer f does track b failed b2 h = ap (below f) h
 
-are_rounds : {W C : Type 0} (does : Calls W) (track : Bool) (who : Identity) (reads : Reads C) (n : ℕ) (b : Box W) (c : C) (b2 : Box W) (c2 : C)
-    → AreRounds does track who reads n b c b2 c2 → (calls : List Call)
-    → (calls2 : List Call) × AreRounds listed track who any_reading n (with b calls) tt (with b2 calls2) tt
-are_rounds does track who reads zero b c b2 c2 h calls = (calls, (ap (λ (x : Box _). with x calls) h.0, refl))
-are_rounds does track who reads (suc n) b c b2 c2 h calls =
-    let first = are_rounds does track who reads n b c h.0 h.1.0 h.1.1.0 calls in
-    let last = is_round does track who reads h.0 h.1.0 b2 c2 h.1.1.1 first.0 in
-    (last.0, (with h.0 first.0, (tt, (first.1, last.1))))
+takes_all : {T W : Type 0} (f : T → W) (does : Calls W) (waits : Waits W) (track : Bool) (limit : ℕ) (b : Box T) (answers : List Polled) (b2 : Box T)
+    → TakesAll (over f does) (waits_over f waits) track limit b answers b2 → TakesAll does waits track limit (below f b) answers (below f b2)
+takes_all f does waits track limit b [] b2 h = ap (below f) h
+takes_all f does waits track limit b (answer ∷ rest) b2 h = (
+  f h.0,
+  (
+    h.1.0,
+    (
+      below f h.1.1.0,
+      (takes_answer f does track (record b { wire = h.0 }) answer h.1.1.0 h.1.1.1.0, takes_all f does waits track 0 h.1.1.0 rest b2 h.1.1.1.1),
+    ),
+  ),
+)
 
--- a run by a clock, which something may have told to end, as one by any, which only what that comes of may have told
-pub had_rounds : {W C : Type 0} (does : Calls W) (track until_eof : Bool) (who : Identity) (reads : Reads C) (rounds : Option ℕ) (otherwise : Type 0) (g : Shown) (w : W) (c : C)
-    (g2 : Shown) (last : Box W) (c2 : C)
-    → (otherwise → IsTrue until_eof)
-    → IsRun does track who reads (most_rounds rounds) otherwise (box g w 0 false None) c last c2 → last.shown ≡ g2
-    → HadRounds who rounds track until_eof g g2
-had_rounds does track until_eof who reads rounds otherwise g w c g2 last c2 only h shows =
-    let all = are_rounds does track who reads h.all.count (box g w 0 false None) c h.last c2 h.all.rounds [] in
-    let stop = takes does h.is_done h.last _ last h.stop all.0 in (
-      stop.0,
-      record {
-        last = with last stop.0;
-        had = record {
-          last = with h.last all.0;
-          all = record { count = h.all.count; within = h.all.within; rounds = all.1; over = by h.all.over };
-          is_done = h.is_done;
-          stop = stop.1;
-        };
-        shows = shows;
-        calls_are = refl;
-      },
-    )
-  where
-    by : (h.last.ending ≡ true) ⊎ (otherwise ⊎ (h.all.count ≡ most_rounds rounds))
-        → (h.last.ending ≡ true) ⊎ (IsTrue until_eof ⊎ (h.all.count ≡ most_rounds rounds))
-    by (inl said) = inl said
-    by (inr (inl told)) = inr (inl (only told))
-    by (inr (inr had)) = inr (inr had)
-
--- ---- the same, on the wire itself
-
-any_round : {W C : Type 0} (does : Calls W) (track : Bool) (who : Identity) (reads : Reads C) (b : Box W) (c : C) (b2 : Box W) (c2 : C) → IsRound does track who reads b c b2 c2
-    → IsRound does track who any_reading b tt b2 tt
-any_round does track who reads b c b2 c2 r = record {
+is_round : {T W C : Type 0} (f : T → W) (does : Calls W) (waits : Waits W) (track : Bool) (who : Identity) (reads : Reads C) (b : Box T) (c : C) (b2 : Box T) (c2 : C)
+    → IsRound (over f does) (waits_over f waits) track who reads b c b2 c2 → IsRound does waits track who reads (below f b) c (below f b2) c2
+is_round f does waits track who reads b c b2 c2 r = record {
   goes_on = r.goes_on;
   answers = r.answers;
   poll = r.poll;
-  between = r.between;
-  letters = r.letters;
+  between = below f r.between;
+  letters = takes_all f does waits track _ b r.answers r.between r.letters;
   moment = r.moment;
-  read = tt;
+  read = r.read;
   is_done = r.is_done;
-  ticked = r.ticked;
-  tick = r.tick;
-  answered = r.answered;
+  ticked = below f r.ticked;
+  tick = takes f does r.is_done r.between _ r.ticked r.tick;
+  answered = answers_owed f does who r.ticked.owed r.ticked b2 r.answered;
 }
 
-any_rounds : {W C : Type 0} (does : Calls W) (track : Bool) (who : Identity) (reads : Reads C) (n : ℕ) (b : Box W) (c : C) (b2 : Box W) (c2 : C)
-    → AreRounds does track who reads n b c b2 c2 → AreRounds does track who any_reading n b tt b2 tt
-any_rounds does track who reads zero b c b2 c2 h = (h.0, refl)
-any_rounds does track who reads (suc n) b c b2 c2 h =
-    (h.0, (tt, (any_rounds does track who reads n b c h.0 h.1.0 h.1.1.0, any_round does track who reads h.0 h.1.0 b2 c2 h.1.1.1)))
+are_rounds : {T W C : Type 0} (f : T → W) (does : Calls W) (waits : Waits W) (track : Bool) (who : Identity) (reads : Reads C) (moments : List ℕ) (b : Box T) (c : C) (b2 : Box T) (c2 : C)
+    → AreRounds (over f does) (waits_over f waits) track who reads moments b c b2 c2 → AreRounds does waits track who reads moments (below f b) c (below f b2) c2
+are_rounds f does waits track who reads [] b c b2 c2 h = (ap (below f) h.0, h.1)
+are_rounds f does waits track who reads (moment ∷ earlier) b c b2 c2 h = (
+  below f h.0,
+  (
+    h.1.0,
+    (
+      are_rounds f does waits track who reads earlier b c h.0 h.1.0 h.1.1.0,
+      (is_round f does waits track who reads h.0 h.1.0 b2 c2 h.1.1.1.0, h.1.1.1.1),
+    ),
+  ),
+)
 
-pub runs_on : {W C : Type 0} (does : Calls W) (track until_eof : Bool) (who : Identity) (reads : Reads C) (rounds : Option ℕ) (otherwise : Type 0) (g : Shown) (w : W) (c : C)
-    (g2 : Shown) (w2 : W) (last : Box W) (c2 : C)
-    → (otherwise → IsTrue until_eof)
-    → IsRun does track who reads (most_rounds rounds) otherwise (box g w 0 false None) c last c2 → last.shown ≡ g2 → last.wire ≡ w2
-    → RunsOn does who rounds track until_eof g g2 w w2
-runs_on does track until_eof who reads rounds otherwise g w c g2 w2 last c2 only h shows wire_is = record {
-  last = last;
+runs_below : {T W : Type 0} (f : T → W) (does : Calls W) (waits : Waits W) (who : Identity) (rounds : Option ℕ) (track until_eof : Bool) (g g2 : Shown) (t t2 : T)
+    → RunsOn (over f does) (waits_over f waits) who rounds track until_eof g g2 t t2 → RunsOn does waits who rounds track until_eof g g2 (f t) (f t2)
+runs_below f does waits who rounds track until_eof g g2 t t2 r = record {
+  clock = r.clock;
+  start = r.start;
+  at_start = r.at_start;
+  clock2 = r.clock2;
+  last = below f r.last;
   had = record {
-    last = h.last;
-    all = record { count = h.all.count; within = h.all.within; rounds = any_rounds does track who reads h.all.count _ c h.last _ h.all.rounds; over = by h.all.over };
-    is_done = h.is_done;
-    stop = h.stop;
+    last = below f r.had.last;
+    all = record {
+      moments = r.had.all.moments;
+      within = r.had.all.within;
+      rounds = are_rounds f does waits track who HasRead r.had.all.moments _ r.clock r.had.last r.clock2 r.had.all.rounds;
+      over = r.had.all.over;
+    };
+    is_done = r.had.is_done;
+    stop = takes f does r.had.is_done r.had.last _ r.last r.had.stop;
   };
-  shows = shows;
-  wire_is = wire_is;
+  went_on = r.went_on;
+  shows = r.shows;
+  wire_is = ap f r.wire_is;
 }
+
+-- and that one is let go with it
+pub ran_below : {T W : Type 0} (f : T → W) (does : Calls W) (waits : Waits W) (who : Identity) (start : Start) (g g2 : Shown) (t t2 t3 : T) (wire : W)
+    → f t ≡ wire → f t3 ≡ f t2 → WasLetGo (f t3) → RunsOn (over f does) (waits_over f waits) who start.rounds start.track start.until_eof g g2 t t2
+    → RanOn does waits who start g g2 wire
+ran_below {W = W} f does waits who start g g2 t t2 t3 wire first same gone runs = (
+  f t2,
+  (
+    subst (λ (w : W). RunsOn does waits who start.rounds start.track start.until_eof g g2 w (f t2)) first
+        (runs_below f does waits who start.rounds start.track start.until_eof g g2 t t2 runs),
+    subst (λ (w : W). WasLetGo w) same gone,
+  ),
+)
+
+-- ---- a run which something may have told to end, as one which only what that comes of may have told, with what holds of its moments
+
+pub runs_on : {W : Type 0} (does : Calls W) (waits : Waits W) (track until_eof : Bool) (who : Identity) (rounds : Option ℕ) (otherwise : Type 0) (g : Shown) (w : W) (clock : Watch)
+    (g2 : Shown) (w2 : W) (last : Box W) (clock2 : Watch) → WasNow clock.start → clock.read ≡ 0 → (otherwise → IsTrue until_eof × InputEnds)
+    → (h : IsRun does waits track who HasRead (most_rounds rounds) otherwise (box g w 0 false None) clock last clock2) → (0 < length h.all.moments → MayGoOn until_eof)
+    → last.shown ≡ g2 → last.wire ≡ w2 → (Holds : List ℕ → Type 0) → Holds h.all.moments
+    → (run : RunsOn does waits who rounds track until_eof g g2 w w2) × Holds run.had.all.moments
+runs_on does waits track until_eof who rounds otherwise g w clock g2 w2 last clock2 start at_start only h went_on shows wire_is Holds told = (
+  record {
+    clock = clock;
+    start = start;
+    at_start = at_start;
+    clock2 = clock2;
+    last = last;
+    had = record {
+      last = h.last;
+      all = record { moments = h.all.moments; within = h.all.within; rounds = h.all.rounds; over = by h.all.over };
+      is_done = h.is_done;
+      stop = h.stop;
+    };
+    went_on = went_on;
+    shows = shows;
+    wire_is = wire_is;
+  },
+  told,
+)
   where
-    by : (h.last.ending ≡ true) ⊎ (otherwise ⊎ (h.all.count ≡ most_rounds rounds))
-        → (h.last.ending ≡ true) ⊎ (IsTrue until_eof ⊎ (h.all.count ≡ most_rounds rounds))
+    by : (h.last.ending ≡ true) ⊎ (otherwise ⊎ (length h.all.moments ≡ most_rounds rounds))
+        → (h.last.ending ≡ true) ⊎ ((IsTrue until_eof × InputEnds) ⊎ (length h.all.moments ≡ most_rounds rounds))
     by (inl said) = inl said
     by (inr (inl told)) = inr (inl (only told))
     by (inr (inr had)) = inr (inr had)
 
+-- ---- the wire
+
 -- a box without a capture is run on the wire of its sockets
-pub on_sockets : {W : Type 0} (capture : Option (Bor (List ℕ))) (settings : Settings) (id : GatewayId) (wire : W) → is_some capture ≡ false
-    → IsOfSockets settings id wire → IsOwnWire (path_in capture) settings id wire
-on_sockets (Some path) settings id wire none own = absurd (true≢false none)
-on_sockets None settings id wire none own = own
+pub on_sockets : {W : Type 0} (capture : Option (Bor (List ℕ))) (settings : Settings) (start : Start) (wire : W) → is_some capture ≡ false
+    → IsOfSockets settings start wire → IsOwnWire (path_in capture) settings start wire
+on_sockets (Some path) settings start wire none own = absurd (true≢false none)
+on_sockets None settings start wire none own = own
 
 -- one with a capture on a wire whose packets go there
-pub on_tapped : {W : Type 0} (capture : Option (List ℕ)) (path : List ℕ) (settings : Settings) (id : GatewayId) (wire : W) → capture ≡ Some path
-    → WasHad (tapped_wire path id) wire → IsOwnWire capture settings id wire
-on_tapped capture path settings id wire captured tapped = subst (λ p. IsOwnWire p settings id wire) (sym captured) tapped
+pub on_tapped : {W : Type 0} (capture : Option (List ℕ)) (path : List ℕ) (settings : Settings) (start : Start) (wire : W) → capture ≡ Some path
+    → WasHad (tapped_wire path start.id) wire → IsOwnWire capture settings start wire
+on_tapped capture path settings start wire captured tapped = subst (λ p. IsOwnWire p settings start wire) (sym captured) tapped
+
+-- where output is refused at the end, there was a run
+pub spared_behind : {T W : Type 0} (r : Result T BoxFault) (does : Calls W) (waits : Waits W) (settings : Settings) (start : Start) (wire : W) (who : Identity) (first last : Shown)
+    (between after : Option (List ℕ)) → IsIdentity settings start.id who first → RanOn does waits who start first last wire
+    → IfErr r (LacksOutput (codes "end\n") between after) → IfErr r (IsSpared does waits settings start wire)
+spared_behind (Ok x) does waits settings start wire who first last between after identity ran is = tt
+spared_behind (Err why) does waits settings start wire who first last between after identity ran is =
+    inr ((between, (after, is)), (who, (first, (last, (identity, ran)))))
+
+-- and else the wire was let go as it was
+pub spared_tapped : {T W : Type 0} (r : Result T BoxFault) (does : Calls W) (waits : Waits W) (settings : Settings) (start : Start) (wire : W) (who : Identity) (first last : Shown)
+    (between after : Option (List ℕ)) (path : List ℕ) (A : Type 0) → IsIdentity settings start.id who first
+    → IfErr r (λ why. (LacksOutput (codes "end\n") between after why × RanOn does waits who start first last wire) ⊎ ((IsUnbegun (Some path) why × WasLetGo wire) × A))
+    → IfErr r (IsSpared does waits settings start wire)
+spared_tapped (Ok x) does waits settings start wire who first last between after path A identity is = tt
+spared_tapped (Err why) does waits settings start wire who first last between after path A identity (inl lacks) =
+    inr ((between, (after, lacks.0)), (who, (first, (last, (identity, lacks.1)))))
+spared_tapped (Err why) does waits settings start wire who first last between after path A identity (inr unbegun) = inl unbegun.0.1
 
 -- ---- a start, rounds, and the end
 
 -- where no capture was asked for none is owed
-uncaptured : (capture : Option (Bor (List ℕ))) → is_some capture ≡ false → IsCaptured (path_in capture)
+pub uncaptured : (capture : Option (Bor (List ℕ))) → is_some capture ≡ false → IsCaptured (path_in capture)
 uncaptured (Some path) none = absurd (true≢false none)
 uncaptured None none = tt
 
-pub has_run : {T E : Type 0} (r : Result T E) (settings : Settings) (start : Start) (before between after : Option (List ℕ)) (first last : Shown) (who : Identity)
-    → HasStarted settings start.id start.found before between first → IsIdentity settings start.id who first
-    → HadRounds who start.rounds start.track start.until_eof first last → OnOk r (Appends between after (codes "end\n"))
-    → WasGiven (number_of (boot_file_of settings start.id)) → IsWatched start.notify → IsFilter start.log → is_some start.capture ≡ false
-    → OnOk r (HasRun settings start before after)
-has_run (Ok x) settings start before between after first last who started identity had ended numbered watched filter none = record {
-  first = first;
-  between = between;
-  started = started;
-  who = who;
-  identity = identity;
-  last = last;
-  rounds_had = had;
-  ended = ended;
-  numbered = numbered;
-  watched = watched;
-  filter = filter;
-  captured = uncaptured start.capture none;
-}
-has_run (Err e) settings start before between after first last who started identity had ended numbered watched filter none = tt
+-- one that was begun at the path is the one that was asked for
+pub captured_at : {T E : Type 0} (r : Result T E) (capture : Option (List ℕ)) (path : List ℕ) → capture ≡ Some path → OnOk r (WasGiven (begun_capture path))
+    → OnOk r (IsCaptured capture)
+captured_at (Ok x) capture path same begun = subst IsCaptured (sym same) begun
+captured_at (Err e) capture path same begun = tt
 
--- the same with a capture, where the rounds were had only with an Ok
-pub had_run : {T E : Type 0} (r : Result T E) (settings : Settings) (start : Start) (path : List ℕ) (before between after : Option (List ℕ)) (first last : Shown) (who : Identity)
-    → HasStarted settings start.id start.found before between first → IsIdentity settings start.id who first
-    → OnOk r (HadRounds who start.rounds start.track start.until_eof first last) → OnOk r (Appends between after (codes "end\n"))
-    → WasGiven (number_of (boot_file_of settings start.id)) → IsWatched start.notify → IsFilter start.log → path_in start.capture ≡ Some path → OnOk r (WasGiven (begun_capture path))
-    → OnOk r (HasRun settings start before after)
-had_run (Ok x) settings start path before between after first last who started identity had ended numbered watched filter captured begun = record {
+pub has_run : {T E W : Type 0} (r : Result T E) (does : Calls W) (waits : Waits W) (settings : Settings) (start : Start) (wire : W) (before between after : Option (List ℕ)) (first last : Shown)
+    (who : Identity) → HasStarted settings start.id start.found before between first → IsIdentity settings start.id who first → IsOfSockets settings start wire
+    → OnOk r (RanOn does waits who start first last wire) → OnOk r (Appends between after (codes "end\n"))
+    → WasGiven (number_of (boot_file_of settings start.id)) → IsWatched start.notify → IsFilter start.log → OnOk r (IsCaptured (path_in start.capture))
+    → OnOk r (HasRun does waits settings start wire before after)
+has_run (Ok x) does waits settings start wire before between after first last who started identity own ran ended numbered watched filter captured = record {
   first = first;
   between = between;
   started = started;
   who = who;
   identity = identity;
   last = last;
-  rounds_had = had;
+  own = own;
+  ran = ran;
   ended = ended;
   numbered = numbered;
   watched = watched;
   filter = filter;
-  captured = subst IsCaptured (sym captured) begun;
+  captured = captured;
 }
-had_run (Err e) settings start path before between after first last who started identity had ended numbered watched filter captured begun = tt
+has_run (Err e) does waits settings start wire before between after first last who started identity own ran ended numbered watched filter captured = tt
 
 -- what was had is so at an Ok
 pub always : {T E : Type 0} (r : Result T E) (A : Type 0) → A → OnOk r A
@@ -282,6 +279,11 @@ always (Err e) A a = tt
 pub also : {T E : Type 0} (r : Result T E) (A B : Type 0) → A → OnOk r B → OnOk r (A × B)
 also (Ok x) A B a b = (a, b)
 also (Err e) A B a b = tt
+
+-- and then there is such a one
+pub on_some : {T E X : Type 0} (r : Result T E) (P : X → Type 0) (x : X) → OnOk r (P x) → OnOk r ((x : X) × P x)
+on_some (Ok y) P x p = (x, p)
+on_some (Err e) P x p = tt
 
 -- with settings and ways by which its boot file can be opened
 pub has_served : {T E : Type 0} (r : Result T E) (start : Start) (settings : Settings) (ways : Ways) (before after : Option (List ℕ))

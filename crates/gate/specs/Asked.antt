@@ -1,7 +1,7 @@
 -- What a start's words ask for.
 use Rattle.std.specs.Prelude.{◌≡◌, ℕ, Bool, true, false, List, [], Option, Some, None, IfSome, option_map, string_bytes, unwrap_or}
 use Rattle.log.specs.Filter.{Rule, invalid_spec, or_errors}
-use Rattle.journal.specs.Filters.{rules_of}
+use Rattle.journal.specs.Filters.{WasSaid, rules_of}
 use Rattle.nat_types.specs.declared.gateways.GatewayId.{GatewayId}
 use Rattle.settings.specs.Parts.{gateway_of}
 use Rattle.settings.specs.declared.whole.Settings.{Settings}
@@ -15,7 +15,6 @@ use Rattle.sockets.specs.declared.ways.Ways.{Ways}
 use Rattle.supervision.specs.Descriptors.{NeverWaits}
 use Rattle.supervision.specs.Managers.{IsManagerText, manager_at}
 use Rattle.supervision.specs.declared.managers.Manager.{Manager}
-use Rattle.gate.specs.Named.{WasSaid}
 
 -- the service manager whose descriptor a text writes, which was told nothing yet, where there is a text
 abbrev pub IsManagerOf : Option (Bor (List ℕ)) → Option Manager → Type 0

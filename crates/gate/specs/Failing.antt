@@ -16,7 +16,9 @@ use Rattle.sockets.specs.declared.ways.Ways.{Ways}
 use Rattle.supervision.specs.Descriptors.{IsRefused}
 use Rattle.supervision.specs.Managers.{IsManagerText, IsNoManagerText}
 use Rattle.supervision.specs.declared.managers.Manager.{Manager}
+use Rattle.journal.specs.Filters.{IsNoText}
 use Rattle.journal.specs.declared.filters.TheConstants.{VARIABLE}
+use Rattle.outlets.specs.Printed.{IsBegun}
 use Rattle.faults.specs.Faults.{IsOfFile, IsUnread, Tells}
 use Rattle.faults.specs.declared.faults.Fault.{Fault}
 use Rattle.faults.specs.declared.faults.Fault.TheVariants as run
@@ -26,8 +28,8 @@ use Rattle.box_words.specs.Faults.{TellsBootFile, TellsSettings, TellsSocket, of
 use Rattle.box_words.specs.declared.refusals.BoxFault.{BoxFault}
 use Rattle.box_words.specs.declared.refusals.BoxFault.TheVariants as fault
 use Rattle.gate.specs.Asked.{IsSaid, IsFilter, boot_file_of, box_ports, on_loopback, path_in}
-use Rattle.gate.specs.Named.{IsOpened, WasDenied, WasGiven, WasRead, begun_capture, boot_number, capture_file, control_socket}
-use Rattle.gate.specs.Named.{environment, locked_file, output, own_sockets, settings_text}
+use Rattle.gate.specs.Named.{IsOpened, WasDenied, WasGiven, WasRead, WasRefused, begun_capture, boot_number, capture_file, control_socket}
+use Rattle.gate.specs.Named.{locked_file, output, own_sockets, settings_text}
 use Rattle.gate.specs.declared.running.Start.{Start}
 
 -- no settings are had at this path: the file gives no text; or it gave this one, which holds none
@@ -64,14 +66,15 @@ LacksControl boot_file why = WasDenied (control_socket (socket_of boot_file)) wh
 abbrev pub LacksPlace : Settings → GatewayId → Ways → BoxFault → Type 0
 LacksPlace settings id ways (fault.NoSocket end) =
     WasDenied (own_sockets ways (box_ports settings id)) (fault.NoSocket end) × IsFirstOf ways (box_ports settings id) end.0
-LacksPlace settings id ways (fault.Run why) = why ≡ run.NoMemory
+LacksPlace settings id ways (fault.Run why) =
+    (why ≡ run.NoMemory) × WasDenied (own_sockets ways (box_ports settings id)) (fault.Run run.NoMemory)
 LacksPlace settings id ways other = ⊥
 
 -- No filter of the records is had: this part is the first of the option's text that is no directive; or there is no option, and it is so of the
 -- environment's text, or names the variable, which holds no text.
 abbrev pub LacksFilter : Option (Bor (List ℕ)) → BoxFault → Type 0
 LacksFilter option (fault.NoFilter part) = MatchOption option
-    ((WasDenied environment (fault.NoFilter part) × (string_bytes part ≡ VARIABLE.now)) ⊎ IsSaid (λ text. invalid_spec text ≡ Some (string_bytes part)))
+    (((string_bytes part ≡ VARIABLE.now) × IsNoText) ⊎ IsSaid (λ text. invalid_spec text ≡ Some (string_bytes part)))
     (λ text. invalid_spec text.now ≡ Some (string_bytes part))
 LacksFilter option (fault.Run why) = why ≡ run.NoMemory
 LacksFilter option other = ⊥
@@ -99,9 +102,12 @@ abbrev pub IsUnbegun : Option (List ℕ) → BoxFault → Type 0
 IsUnbegun capture (fault.Run why) = IfSome capture (λ path. WasDenied (begun_capture path) (fault.Run why)) × IsOfCaptureAt capture why
 IsUnbegun capture other = ⊥
 
--- output is refused
-abbrev pub LacksOutput : BoxFault → Type 0
-LacksOutput why = (why ≡ fault.Run run.NotWritten) × WasDenied output (fault.Run run.NotWritten)
+-- output that was handed this text refuses it: just a beginning of it is printed, and nothing behind that
+pub record LacksOutput (text : List ℕ) (before after : Option (List ℕ)) (why : BoxFault) : Type 0 where
+  pub is : why ≡ fault.Run run.NotWritten
+  pub denied : WasDenied output (fault.Run run.NotWritten)
+  pub refused : WasRefused text before after
+  pub begun : IsBegun before after text
 
 -- the gateway isn't started, or its end isn't told: it is of the boot number, of memory, or, once there is a number, of output
 abbrev pub IsUnstarted : BoxFault → Type 0

@@ -4,6 +4,7 @@ pub mod Failing
 pub mod Named
 pub mod Orders
 pub mod Served
+pub mod Sparing
 pub mod Starts
 pub mod Told
 pub mod Wires

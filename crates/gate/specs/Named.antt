@@ -5,17 +5,15 @@ use Rattle.sockets.specs.declared.places.Ports.{Ports}
 use Rattle.sockets.specs.declared.ways.Ways.{Ways}
 use Rattle.box_words.specs.declared.refusals.BoxFault.{BoxFault}
 
--- what a start asks the system for: the text of a file of settings, that the descriptors of its ways never wait, a locked boot file, a control
--- socket, the sockets of the places, all that it needs, the environment's filter, the file of a capture, that a capture begins in it, a wire whose
--- packets go there, at the interfaces of a gateway, a boot number, that of the boot file at a path, output
+-- what a start asks the system for: the text of a file of settings, a locked boot file, a control socket, the sockets of the places, all that it
+-- needs, the file of a capture, that a capture begins in it, a wire whose packets go there, at the interfaces of a gateway, a boot number, that of
+-- the boot file at a path, output
 pub data Need : Type 0 where
   settings_text : List ℕ → Need
-  descriptors : Need
   locked_file : List ℕ → Need
   control_socket : List ℕ → Need
   own_sockets : Ways → Ports → Need
   all_sockets : Need
-  environment : Need
   capture_file : List ℕ → Need
   begun_capture : List ℕ → Need
   tapped_wire : List ℕ → GatewayId → Need
@@ -23,7 +21,7 @@ pub data Need : Type 0 where
   number_of : List ℕ → Need
   output : Need
 
--- The system gave it. The system says nothing of such a call, so this, and the next four, are no more than names: who asks has one of them,
+-- The system gave it. The system says nothing of such a call, so this, and the next five, are no more than names: who asks has one of them,
 -- and nobody else, since only those functions look what stands here that make the call.
 unfoldable pub WasGiven : Need → Type 0
 WasGiven need = Unit {0}
@@ -40,9 +38,13 @@ WasDenied need why = Unit {0}
 unfoldable pub WasRead : List ℕ → List ℕ → Type 0
 WasRead path text = Unit {0}
 
--- it has this text for a filter in the environment, or none
-unfoldable pub WasSaid : Option (List ℕ) → Type 0
-WasSaid text = Unit {0}
+-- output that had this, where that is known, was handed this text, refused it, and has this
+unfoldable pub WasRefused : List ℕ → Option (List ℕ) → Option (List ℕ) → Type 0
+WasRefused text before after = Unit {0}
+
+-- a wire was this when it was let go: nothing was asked of it behind that
+unfoldable pub WasLetGo : {W : Type 0} → W → Type 0
+WasLetGo wire = Unit {0}
 
 -- the file at a path was opened for a capture, where there is a path
 abbrev pub IsOpened : Option (List ℕ) → Type 0

@@ -1,5 +1,5 @@
 -- In which order a start takes its number, prints and is refused.
-use Rattle.std.specs.Prelude.{◌≡◌, ◌⊎◌, ℕ, Bool, List, Option, Ok}
+use Rattle.std.specs.Prelude.{◌≡◌, ◌⊎◌, ℕ, Bool, List, Option, Ok, codes}
 use Rattle.std.specs.Io.KnownBytes.{Appends}
 use Rattle.boot_store.specs.Crash.{Decides}
 use Rattle.boot_store.specs.Moment.{Moment}
@@ -15,11 +15,16 @@ IsNumbered found before after = (boot : ℕ) × Decides found before after (Ok b
 abbrev pub IsTaken : Type 0 → Bool → Moment → Moment → ℕ → Type 0
 IsTaken honest found before after boot = honest → Decides found before after (Ok boot)
 
--- Only this refuses a start behind the number of its boot: output is refused; or no capture is begun in the file at a path, and then just the
--- line of that boot was printed.
+-- output refuses the line of a boot; or it has that line, and refuses `end`
+abbrev pub IsCutShort : Option (List ℕ) → Option (List ℕ) → ℕ → BoxFault → Type 0
+IsCutShort before after boot why = LacksOutput (boot_line boot) before after why
+    ⊎ ((between : Option (List ℕ)) × (Appends before between (boot_line boot) × LacksOutput (codes "end\n") between after why))
+
+-- Only this refuses a start behind the number of its boot: output is refused, and has just a beginning of that boot's line and `end`; or no
+-- capture is begun in the file at a path, and then just the line was printed.
 abbrev pub IsBehind : {O : Type 0} → (O → Option (List ℕ)) → Option (List ℕ) → ℕ → BoxFault → O → O → Type 0
-IsBehind contents capture boot why output output2 =
-    LacksOutput why ⊎ (IsUnbegun capture why × Appends (contents output) (contents output2) (boot_line boot))
+IsBehind contents capture boot why output output2 = IsCutShort (contents output) (contents output2) boot why
+    ⊎ (IsUnbegun capture why × Appends (contents output) (contents output2) (boot_line boot))
 
 -- What is printed before a refusal: nothing; or a number was taken before, and the refusal is one that comes behind it.
 abbrev pub IsInOrder : {O : Type 0} → (O → Option (List ℕ)) → Option (List ℕ) → Type 0 → Bool → Moment → Moment → BoxFault → O → O → Type 0

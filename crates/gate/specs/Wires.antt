@@ -1,35 +1,73 @@
 -- The wire that a box is run on.
-use Rattle.std.specs.Prelude.{◌≡◌, ℕ, Bool, false, List, Option, Some, None, IsTrue}
-use Rattle.nat_types.specs.declared.gateways.GatewayId.{GatewayId}
+use Rattle.std.specs.Prelude.{◌≡◌, ◌⊎◌, ◌<◌, ℕ, Bool, false, List, length, Option, Some, None, IsTrue, codes}
 use Rattle.settings.specs.declared.whole.Settings.{Settings}
 use Rattle.spec_step.specs.Shown.{Shown}
-use Rattle.rounds.specs.Rounds.{Box, Calls, IsRun, box, most_rounds}
+use Rattle.control.specs.Attending.{Attending}
+use Rattle.control.specs.Paths.{socket_of}
+use Rattle.box_words.specs.declared.refusals.BoxFault.{BoxFault}
+use Rattle.rounds.specs.Clocks.{HasRead, Watch, WasNow}
+use Rattle.rounds.specs.Inputs.{InputEnds, InputGoesOn}
+use Rattle.rounds.specs.Rounds.{Box, Calls, IsRun, Waits, box, most_rounds}
 use Rattle.rounds.specs.declared.desk.Identity.{Identity}
+use Rattle.sockets.specs.Boards.{Opens}
+use Rattle.sockets.specs.declared.sockets.Board.{Board}
 use Rattle.sockets.specs.declared.ways.Ways.{Ways}
-use Rattle.gate.specs.Asked.{box_ports}
+use Rattle.gate.specs.Asked.{boot_file_of, box_ports}
 use Rattle.gate.specs.Boots.{IsIdentity}
-use Rattle.gate.specs.Named.{WasHad, own_sockets, tapped_wire}
-use Rattle.gate.specs.Served.{any_reading}
+use Rattle.gate.specs.Failing.{LacksOutput}
+use Rattle.gate.specs.Named.{WasHad, WasLetGo, control_socket, own_sockets, tapped_wire}
+use Rattle.gate.specs.Starts.{AreWays}
 use Rattle.gate.specs.declared.running.Start.{Start}
 
--- it is that of the sockets which were had for a box
-abbrev pub IsOfSockets : {W : Type 0} → Settings → GatewayId → W → Type 0
-IsOfSockets settings id wire = (ways : Ways) × WasHad (own_sockets ways (box_ports settings id)) wire
+-- the sockets have these ways, and the ports of a start's box, and the control socket that was opened beside its boot file
+abbrev pub AreOpened : Settings → Start → Ways → Board → Type 0
+AreOpened settings start ways board = (control : Attending)
+    × (WasHad (control_socket (socket_of (boot_file_of settings start.id))) control × Opens ways (box_ports settings start.id) control board)
 
--- it is that one; or, where there is to be a capture at a path, one whose packets go there, at the interfaces of this gateway
-abbrev pub IsOwnWire : {W : Type 0} → Option (List ℕ) → Settings → GatewayId → W → Type 0
-IsOwnWire None settings id wire = IsOfSockets settings id wire
-IsOwnWire (Some path) settings id wire = WasHad (tapped_wire path id) wire
+-- it is that of the sockets which were had for a start's box, by the ways that its texts write
+abbrev pub IsOfSockets : {W : Type 0} → Settings → Start → W → Type 0
+IsOfSockets settings start wire = (ways : Ways) × (AreWays start.ways ways × WasHad (own_sockets ways (box_ports settings start.id)) wire)
 
--- A run of a gateway on a wire, at whatever moments, takes both from the first to the second: all that was asked of the wire and handed to it
--- is of its rounds and of the one Stop behind them; who asks hears of this box. They end as `HasRounds` says.
-pub record RunsOn {W : Type 0} (does : Calls W) (who : Identity) (rounds : Option ℕ) (track until_eof : Bool) (g g2 : Shown) (wire wire2 : W) : Type 0 where
-  pub last : Box W
-  pub had : IsRun does track who any_reading (most_rounds rounds) (IsTrue until_eof) (box g wire 0 false None) tt last tt
-  pub shows : last.shown ≡ g2
-  pub wire_is : last.wire ≡ wire2
+-- it is that one; or, where there is to be a capture at a path, one whose packets go there, at the interfaces of the start's gateway
+abbrev pub IsOwnWire : {W : Type 0} → Option (List ℕ) → Settings → Start → W → Type 0
+IsOwnWire None settings start wire = IsOfSockets settings start wire
+IsOwnWire (Some path) settings start wire = WasHad (tapped_wire path start.id) wire
 
--- so ran the box of these settings and this start, of some gateway
-abbrev pub RanOn : {W : Type 0} → Calls W → Settings → Start → W → W → Type 0
-RanOn does settings start wire wire2 = (who : Identity) × ((first : Shown) × ((last : Shown)
-    × (IsIdentity settings start.id who first × RunsOn does who start.rounds start.track start.until_eof first last wire wire2)))
+-- the input doesn't count, or there may be more of it
+abbrev pub MayGoOn : Bool → Type 0
+MayGoOn until_eof = (until_eof ≡ false) ⊎ InputGoesOn
+
+-- A run of a gateway on a wire, by the system's clock, takes both from the first to the second: all that was asked of the wire, for how long, and
+-- handed to it is of its rounds and of the one Stop behind them; who asks hears of this box. They end once it was told to end, by its input only
+-- where that is watched and is at its end, or had so many; and there is a round only where it may go on. What carriers tell counted or not.
+pub record RunsOn {W : Type 0} (does : Calls W) (waits : Waits W) (who : Identity) (rounds : Option ℕ) (track until_eof : Bool)
+    (g g2 : Shown) (wire wire2 : W) : Type 0
+  where
+    pub clock : Watch
+    pub start : WasNow clock.start
+    pub at_start : clock.read ≡ 0
+    pub clock2 : Watch
+    pub last : Box W
+    pub had : IsRun does waits track who HasRead (most_rounds rounds) (IsTrue until_eof × InputEnds) (box g wire 0 false None) clock last clock2
+    pub went_on : 0 < length had.all.moments → MayGoOn until_eof
+    pub shows : last.shown ≡ g2
+    pub wire_is : last.wire ≡ wire2
+
+-- so ran the box of a start, as this one, from a gateway to a gateway, on a wire which was let go behind that
+abbrev pub RanOn : {W : Type 0} → Calls W → Waits W → Identity → Start → Shown → Shown → W → Type 0
+RanOn {W = W} does waits who start g g2 wire =
+    (wire2 : W) × (RunsOn does waits who start.rounds start.track start.until_eof g g2 wire wire2 × WasLetGo wire2)
+
+-- the same, of some gateway in the boot of these settings' box
+abbrev pub HasRunOn : {W : Type 0} → Calls W → Waits W → Settings → Start → W → Type 0
+HasRunOn does waits settings start wire = (who : Identity) × ((first : Shown) × ((last : Shown)
+    × (IsIdentity settings start.id who first × RanOn does waits who start first last wire)))
+
+-- output refused the line that tells of an end
+abbrev pub EndWasRefused : BoxFault → Type 0
+EndWasRefused why = (before : Option (List ℕ)) × ((after : Option (List ℕ)) × LacksOutput (codes "end\n") before after why)
+
+-- What became of a wire, where a start is refused: it was let go as it was. Only where output refused the line of its end there was a run before.
+abbrev pub IsSpared : {W : Type 0} → Calls W → Waits W → Settings → Start → W → BoxFault → Type 0
+IsSpared does waits settings start wire why =
+    WasLetGo wire ⊎ (EndWasRefused why × HasRunOn does waits settings start wire)

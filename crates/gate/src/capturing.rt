@@ -1,8 +1,11 @@
 //! The file of a capture.
-ghost use Rattle.std.specs.Prelude.{◌≡◌, IfErr, IfOk, IfSome, OnOk, Some, is_some, option_map};
+ghost use Rattle.std.specs.Prelude.{◌≡◌, IfErr, IfOk, IfSome, OnErr, OnOk, Some, is_some, option_map};
+ghost use Rattle.gate.specs.Asked.{IsFilter, path_in};
 ghost use Rattle.gate.specs.Failing.{IsUnbegun, LacksCapture};
-ghost use Rattle.gate.specs.Named.{IsOpened, WasGiven, WasHad, all_sockets, begun_capture, boot_number, capture_file, tapped_wire};
+ghost use Rattle.gate.specs.Named.{IsOpened, WasGiven, WasHad, WasLetGo, all_sockets, begun_capture, boot_number, capture_file, tapped_wire};
 
+use crate::running::Start;
+use crate::wires::let_go;
 use box_words::BoxFault;
 use faults::Fault;
 use log::{Log, warn};
@@ -21,36 +24,40 @@ pub(crate) struct CaptureAt<'a, F> {
     file: Vacant<F>,
 }
 
-/// The file at a path, opened for a capture, where there is a path. It has what it had.
+/// The file of a start's capture, opened, where there is to be one. It has what it had.
 pub(crate) fn capture_at<'a, R: Files + AllocGlobal>(
     rt: &R,
-    path: Option<&'a str>,
+    start: &Start<'a>,
 ) -> Result<Option<CaptureAt<'a, R::File>>, BoxFault>
     requires wired { WasGiven all_sockets }
-    ensures asked { IfOk result (λ capture. is_some capture ≡ is_some path.entry) }
+    requires valid { IsFilter start.now.log }
+    ensures asked { IfOk result (λ capture. is_some capture ≡ is_some start.now.capture) }
     ensures path { IfOk result (λ capture. option_map (λ c. c.path.now) capture
-        ≡ option_map (λ p. p.now) path.entry) }
-    ensures given { OnOk result (IsOpened (option_map (λ p. p.now) path.entry)) }
+        ≡ path_in start.now.capture) }
+    ensures given { OnOk result (IsOpened (path_in start.now.capture)) }
     ensures had { IfOk result (λ capture. IfSome capture
         (λ c. WasHad (capture_file c.path.now) c.file)) }
-    ensures err { IfErr result (LacksCapture (option_map (λ p. p.now) path.entry)) }
+    ensures err { IfErr result (LacksCapture (path_in start.now.capture)) }
 {
-    let Some(path) = path else {
+    let Some(path) = start.capture else {
         return Ok(None);
     };
-    match opened_at(rt, path) {
+    match opened_at(rt, start, path) {
         Ok(capture) => Ok(Some(capture)),
         Err(fault) => Err(fault),
     }
 }
 
-/// The file at a path, opened for a capture once the sockets were had: a start that is refused before makes none.
+/// The file at a path, opened for a capture once the sockets were had, and the start's filter is one: a start that is refused before makes
+/// none.
 #[tactic(auto, unfolding(crate::specs::Named::WasGiven, crate::specs::Named::WasHad, crate::specs::Named::WasDenied))]
 fn opened_at<'a, R: Files + AllocGlobal>(
     rt: &R,
+    start: &Start<'_>,
     path: &'a str,
 ) -> Result<CaptureAt<'a, R::File>, BoxFault>
     requires wired { WasGiven all_sockets }
+    requires valid { IsFilter start.now.log }
     ensures path { IfOk result (λ capture. capture.path.now ≡ path.now) }
     ensures given { OnOk result (WasGiven (capture_file path.now)) }
     ensures had { IfOk result (λ capture. WasHad (capture_file capture.path.now) capture.file) }
@@ -63,7 +70,7 @@ fn opened_at<'a, R: Files + AllocGlobal>(
 }
 
 impl<F: Read + Write + Seek + OpenFile + AsRawFd + Drop> CaptureAt<'_, F> {
-    /// A wire whose packets go to a capture that is begun in the file, which loses what it has.
+    /// A wire whose packets go to a capture that is begun in the file, which loses what it has; after an Err the wire was let go.
     #[tactic(auto, unfolding(crate::specs::Named::WasGiven, crate::specs::Named::WasHad, crate::specs::Named::WasDenied))]
     pub(crate) fn begin<W: Wire + Drop, M: Moments + Drop>(
         self,
@@ -78,11 +85,15 @@ impl<F: Read + Write + Seek + OpenFile + AsRawFd + Drop> CaptureAt<'_, F> {
         ensures had { IfOk result (WasHad (tapped_wire self.entry.path.now id)) }
         ensures tapped { IfOk result (λ tapped. (tapped.wire ≡ wire) × (tapped.id ≡ id)) }
         ensures err { IfErr result (IsUnbegun (Some self.entry.path.now)) }
+        ensures let_go { OnErr result (WasLetGo wire) }
     {
         let CaptureAt { path, file } = self;
         match tap::begin(alloc, file) {
             Ok(reel) => Ok(Tapped::new(wire, id, moments, reel)),
-            Err(error) => Err(BoxFault::Run(Fault::of_capture(alloc, path, &error))),
+            Err(error) => {
+                let_go(wire);
+                Err(BoxFault::Run(Fault::of_capture(alloc, path, &error)))
+            }
         }
     }
 }

@@ -6,7 +6,9 @@ mod opening;
 mod reading;
 mod records;
 mod running;
+mod starting;
 mod ways;
+mod wires;
 
 pub use running::{Start, gate, init};
 pub use ways::WayTexts;

@@ -49,7 +49,7 @@ pub(crate) fn sockets_of<R: Net + AllocGlobal>(
     ensures wired { OnOk result (WasGiven all_sockets) }
     ensures had { IfOk result (WasHad (own_sockets ways.now (box_ports settings.now id))) }
     ensures opened { IfOk result
-        (λ wire. Opens ways.now (box_ports settings.now id) wire.board) }
+        (λ wire. Opens ways.now (box_ports settings.now id) control wire.board) }
     ensures err { IfErr result (LacksPlace settings.now id ways.now) }
 {
     let ports = ports_of(settings, id);

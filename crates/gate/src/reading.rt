@@ -8,7 +8,7 @@ ghost use Rattle.box_words.specs.Faults.{TellsNoPath};
 ghost use Rattle.gate.specs.Asked.{IsNotified, boot_file_of, is_loopback, on_loopback};
 ghost use Rattle.box_words.specs.declared.refusals.BoxFault.TheVariants as faults;
 ghost use Rattle.gate.specs.Failing.{Clashes, LacksDescriptor, LacksManager, LacksSettings};
-ghost use Rattle.gate.specs.Named.{WasDenied, WasGiven, WasRead, descriptors, settings_text};
+ghost use Rattle.gate.specs.Named.{WasDenied, WasRead, settings_text};
 ghost use Rattle.gate.specs.Starts.{AreHeld};
 
 use box_words::BoxFault;
@@ -43,10 +43,8 @@ fn text_at<R: Files + AllocGlobal>(rt: &R, path: &str) -> Result<String, Fault>
 }
 
 /// Makes the descriptors of ways ones that never wait.
-#[tactic(auto, unfolding(crate::specs::Named::WasGiven))]
 pub(crate) fn inherited(ways: &Ways) -> Result<(), BoxFault>
     ensures ok { OnOk result (AreUnblocked ways.now None) }
-    ensures given { OnOk result (WasGiven descriptors) }
     ensures err { IfErr result (LacksDescriptor ways.now) }
 {
     ways.inherit()?;

@@ -1,11 +1,11 @@
 //! A box's records, on the standard error.
 ghost use Rattle.std.specs.Prelude.{◌≡◌, IfErr, IfOk, None, OnOk, Some, [], option_map, string_bytes, unwrap_or};
 ghost use Rattle.log.specs.Filter.{filtered_inner, filtered_rules, invalid_spec, or_errors};
-ghost use Rattle.journal.specs.Filters.{IsRefused, rules_of};
+ghost use Rattle.journal.specs.Filters.{IsRefused, WasSaid, rules_of};
 ghost use Rattle.journal.specs.Sinks.{format_of};
 ghost use Rattle.gate.specs.Asked.{IsChosenBy, IsFilter};
 ghost use Rattle.gate.specs.Failing.{LacksFilter};
-ghost use Rattle.gate.specs.Named.{WasGiven, WasSaid, all_sockets};
+ghost use Rattle.gate.specs.Named.{WasGiven, all_sockets};
 
 use box_words::BoxFault;
 use journal::{FilterFault, Format, StandardError, Unhindered, environment, filter_of};
@@ -68,7 +68,6 @@ fn as_environment_says<'a, R: Eprint + Env + AllocGlobal>(
 }
 
 /// The text that the environment has for a filter, if it has one.
-#[tactic(auto, unfolding(crate::specs::Named::WasDenied, crate::specs::Named::WasSaid))]
 fn said_by_environment<R: Env + AllocGlobal>(rt: &R) -> Result<Option<String>, BoxFault>
     ensures said { IfOk result (λ text. WasSaid (option_map string_bytes text)) }
     ensures err { IfErr result (LacksFilter None) }

@@ -1,49 +1,43 @@
 //! What is done at a box: its boot file and its rounds.
-ghost use Rattle.std.specs.Prelude.{◌≡◌, ◌⊎◌, ◌<◌, ◌↔◌, [], IfErr, IfOk, IfSome, IsTrue, None, Ok, OnOk, Some, codes, false, is_some, true};
+ghost use Rattle.std.specs.Prelude.{◌≡◌, ◌⊎◌, ◌<◌, IfErr, IfOk, IfSome, IsTrue, None, Ok, OnOk, Some, codes, false, is_some};
 ghost use Rattle.std.specs.Io.KnownBytes.{Appends};
 ghost use Rattle.nat_types.specs.declared.gateways.GatewayId.TheVariants.{Zero};
-ghost use Rattle.slots.specs.Hashers.{is_drawn};
 ghost use Rattle.control.specs.Paths.{IsBeside, socket_of};
-ghost use Rattle.journal.specs.Handed.{IsTold};
-ghost use Rattle.journal.specs.declared.entries.Entry.TheVariants.{Boot};
-ghost use Rattle.sockets.specs.Boards.{Opens};
-ghost use Rattle.boot_store.specs.Crash.{Decides, Keeps, Rises, Since};
-ghost use Rattle.settings_file.specs.Clashes.{clash_of_one};
-ghost use Rattle.gate.specs.Asked.{IsChosenBy, IsFilter, IsNotified, boot_file_of, box_ports, on_loopback, path_in};
+ghost use Rattle.sockets.specs.Doing.{DoesAt};
+ghost use Rattle.sockets.specs.Receiving.{WaitsAt};
+ghost use Rattle.gate.specs.Asked.{IsChosenBy, IsFilter, IsNotified, boot_file_of, box_ports, path_in};
 ghost use Rattle.box_words.specs.Deeds.{HasUnmade, made};
 ghost use Rattle.sockets.specs.Inheriting.{AreUnblocked};
-ghost use Rattle.gate.specs.Boots.{HasBoot, HasStarted, IsIdentity, IsStart, TellsNumber, boot_line};
+ghost use Rattle.gate.specs.Boots.{IsIdentity};
 ghost use Rattle.box_words.specs.Faults.{IsBeforeBoot, fault_text};
-ghost use Rattle.box_words.specs.declared.refusals.BoxFault.TheVariants as faults;
-ghost use Rattle.faults.specs.declared.faults.Fault.TheVariants as reasons;
 ghost use Rattle.outlets.specs.Telling.{IsToldOf};
 ghost use Rattle.gate.specs.Failing.{FailsHeard, FailsLocked, FailsLogged, FailsOpening, FailsWired, IsUnrun, IsUnstarted};
 ghost use Rattle.gate.specs.Failing.{IsUnbegun, LacksBootFile, LacksOutput};
-ghost use Rattle.gate.specs.Named.{IsNumberOf, WasGiven, WasHad, all_sockets, begun_capture, boot_number, capture_file, control_socket, descriptors, locked_file, own_sockets};
+ghost use Rattle.gate.specs.Named.{WasGiven, WasHad, WasLetGo, all_sockets, begun_capture, boot_number, capture_file, control_socket, locked_file, own_sockets};
 ghost use Rattle.gate.specs.Orders.{IsInOrder, IsInSomeOrder, IsNumbered, IsSilentOrTaken};
-ghost use Rattle.gate.specs.Served.{HadRounds, HasRun, HasServed, RunsLocked, RunsOpened, RunsWired};
-ghost use Rattle.gate.specs.Starts.{AreHeld, AreRead, Refuses};
-ghost use Rattle.gate.specs.Told.{HearsAll, HearsAny};
-ghost use Rattle.gate.specs.Wires.{IsOfSockets, IsOwnWire, RanOn, RunsOn};
+ghost use Rattle.gate.specs.Served.{HasRun, HasServed, RunsLocked, RunsOpened, RunsWired};
+ghost use Rattle.gate.specs.Sparing.{SparesHeard, SparesLocked, SparesOpening};
+ghost use Rattle.gate.specs.Starts.{AreHeld, AreRead, AreWays, CanOpen, Refuses};
+ghost use Rattle.gate.specs.Told.{HearsAll, HearsAny, IsUnheard};
+ghost use Rattle.gate.specs.Wires.{AreOpened, IsOfSockets, IsOwnWire, IsSpared, RanOn, RunsOn};
 
 use crate::capturing::{CaptureAt, capture_at, tell_left_out};
 use crate::opening::{control_at, sockets_of};
 use crate::reading::{inherited, manager_of, path_of, settings_at, without_clash};
 use crate::records::log_of;
+use crate::starting::started;
 use crate::ways::{WayTexts, ways_of};
+use crate::wires::{let_go, let_go_tapped};
 use boot_file::{Blocks, FileDisk, Lockable};
-use boot_store::{Disk, next_boot};
+use boot_store::Disk;
 use box_words::{BoxFault, Site};
-use checks::digest;
 use control::{Control, ControlPath};
-use gateway::{Gateway, Hashers};
-use journal::{Entry, Format, Journal, tell};
-use log::Log;
-use nat_types::{GatewayId, NoMemory};
+use gateway::Gateway;
+use journal::{Format, Journal, tell};
+use nat_types::GatewayId;
 use outlets::Tells;
 use rounds::{Identity, InputEnd, Stopwatch, serve};
 use settings::Settings;
-use slots::SystemDraws;
 use sockets::{Sockets, Ways, Wire};
 use std::alloc::Global;
 use std::fs::Files;
@@ -190,7 +184,6 @@ where
     requires found { IsTrue start.now.found → start.now.id ≡ Zero }
     requires read { AreRead start.now settings.now ways.now }
     requires inherited { AreUnblocked ways.now None }
-    requires asked { WasGiven descriptors }
     ensures ok { OnOk result (HasServed start.now
         (O.contents output.old) (O.contents output.new)) }
     ensures err { IfErr result (Refuses start.now) }
@@ -217,20 +210,20 @@ fn locked<R: Files + Net + Clock + RandomSource + Eprint + Env + Input + AllocGl
 where
     R::File: Blocks + Lockable + AsRawFd,
     requires found { IsTrue start.now.found → start.now.id ≡ Zero }
-    requires inherited { WasGiven descriptors }
-    requires no_clash { clash_of_one settings.now start.now.id (on_loopback ways.now) ≡ None }
+    requires can { CanOpen start.now settings.now ways.now }
     requires notified { IsNotified start.now.notify manager.old }
     requires beside { IsBeside (boot_file_of settings.now start.now.id) path.now }
     ensures ok { OnOk result (RunsOpened start.now settings.now ways.now
         (O.contents output.old) (O.contents output.new)) }
     ensures err { IfErr result (FailsOpening start.now settings.now ways.now) }
+    ensures spared { IfErr result (SparesOpening start.now settings.now ways.now) }
     ensures heard { HearsAny ⟦<Option<Manager> as Supervisor>⟧.hears manager.old manager.new }
+    ensures unheard { IfErr result (IsUnheard manager.old manager.new) }
     ensures order { IfErr result (λ why. IsInSomeOrder O.contents (path_in start.now.capture)
         ⟦<FileDisk<R::File> as Disk>⟧.honest ⟦<FileDisk<R::File> as Disk>⟧.now start.now.found
         why output.old output.new) }
 {
-    let boot_file = settings.gateway(start.id).boot_file.as_str();
-    match locked_at(rt, boot_file) {
+    match locked_of(rt, start, settings, ways) {
         Ok(mut file) => connected(rt, start, settings, ways, path, manager, &mut file, output),
         Err(fault) => Err(fault),
     }
@@ -243,21 +236,27 @@ struct LockedFile<'a, F> {
     disk: FileDisk<F>,
 }
 
-/// Opens and locks the boot file at a path, once descriptors were inherited: it could be taken for one of them.
+/// Opens and locks the boot file of a start's box, once all that the start says was looked at, and its descriptors were taken over: the file
+/// could be taken for one of them.
 #[tactic(auto, unfolding(crate::specs::Named::WasGiven, crate::specs::Named::WasHad, crate::specs::Named::WasDenied))]
-fn locked_at<'a, R: Files + AllocGlobal>(
+fn locked_of<'a, R: Files + AllocGlobal>(
     rt: &R,
-    path: &'a str,
+    start: &Start<'_>,
+    settings: &'a Settings,
+    ways: &Ways,
 ) -> Result<LockedFile<'a, R::File>, BoxFault>
 where
     R::File: Blocks + Lockable,
-    requires inherited { WasGiven descriptors }
-    ensures given { OnOk result (WasGiven (locked_file path.now)) }
-    ensures had { IfOk result (λ file. WasHad (locked_file path.now) file.disk) }
+    requires can { CanOpen start.now settings.now ways.now }
+    ensures given { OnOk result
+        (WasGiven (locked_file (boot_file_of settings.now start.now.id))) }
+    ensures had { IfOk result (λ file.
+        WasHad (locked_file (boot_file_of settings.now start.now.id)) file.disk) }
     ensures locked { IfOk result (λ file. ⟦<R::File as Lockable>⟧.locked file.disk.file) }
-    ensures path { IfOk result (λ file. file.path.now ≡ path.now) }
-    ensures err { IfErr result (LacksBootFile path.now) }
+    ensures path { IfOk result (λ file. file.path.now ≡ boot_file_of settings.now start.now.id) }
+    ensures err { IfErr result (LacksBootFile (boot_file_of settings.now start.now.id)) }
 {
+    let path = settings.gateway(start.id).boot_file.as_str();
     match boot_file::open(rt, path) {
         Ok(disk) => Ok(LockedFile { path, disk }),
         Err(fault) => Err(BoxFault::of_boot_file(rt.alloc(), path, fault)),
@@ -283,10 +282,12 @@ where
     requires own_file { file.old.path.now ≡ boot_file_of settings.now start.now.id }
     requires given { WasGiven (locked_file (boot_file_of settings.now start.now.id)) }
     requires had { WasHad (locked_file (boot_file_of settings.now start.now.id)) file.old.disk }
+    requires written { AreWays start.now.ways ways.now }
     requires beside { IsBeside (boot_file_of settings.now start.now.id) path.now }
     ensures ok { OnOk result (RunsLocked start.now settings.now ways.now
         (O.contents output.old) (O.contents output.new)) }
     ensures err { IfErr result (FailsLocked start.now settings.now ways.now) }
+    ensures spared { IfErr result (SparesLocked start.now settings.now ways.now) }
     ensures untouched { IfErr result (λ why. IsBeforeBoot why →
         (file.new.disk ≡ file.old.disk) × (manager.new ≡ manager.old)) }
     ensures decided { ⟦<FileDisk<R::File> as Disk>⟧.honest file.old.disk
@@ -294,6 +295,7 @@ where
         (⟦<FileDisk<R::File> as Disk>⟧.now file.old.disk)
         (⟦<FileDisk<R::File> as Disk>⟧.now file.new.disk)) }
     ensures heard { HearsAny ⟦<Option<Manager> as Supervisor>⟧.hears manager.old manager.new }
+    ensures unheard { IfErr result (IsUnheard manager.old manager.new) }
     ensures order { IfErr result (λ why. IsInOrder O.contents (path_in start.now.capture)
         (⟦<FileDisk<R::File> as Disk>⟧.honest file.old.disk) start.now.found
         (⟦<FileDisk<R::File> as Disk>⟧.now file.old.disk)
@@ -334,14 +336,17 @@ where
     requires had { WasHad (locked_file (boot_file_of settings.now start.now.id)) disk.old }
     requires heard { WasHad (control_socket (socket_of (boot_file_of settings.now start.now.id)))
         control }
+    requires written { AreWays start.now.ways ways.now }
     ensures ok { OnOk result (RunsWired start.now settings.now ways.now
         (O.contents output.old) (O.contents output.new)) }
     ensures err { IfErr result (FailsHeard start.now settings.now ways.now) }
+    ensures spared { IfErr result (SparesHeard start.now settings.now ways.now) }
     ensures untouched { IfErr result (λ why. IsBeforeBoot why →
         (disk.new ≡ disk.old) × (manager.new ≡ manager.old)) }
     ensures decided { D.honest disk.old
         → OnOk result (IsNumbered start.now.found (D.now disk.old) (D.now disk.new)) }
     ensures heard { HearsAny ⟦<Option<Manager> as Supervisor>⟧.hears manager.old manager.new }
+    ensures unheard { IfErr result (IsUnheard manager.old manager.new) }
     ensures order { IfErr result (λ why. IsInOrder O.contents (path_in start.now.capture)
         (D.honest disk.old) start.now.found (D.now disk.old) (D.now disk.new)
         why output.old output.new) }
@@ -366,17 +371,20 @@ where
     requires found { IsTrue start.now.found → start.now.id ≡ Zero }
     requires notified { IsNotified start.now.notify manager.old }
     requires had { WasHad (locked_file (boot_file_of settings.now start.now.id)) disk.old }
-    requires opened { Opens ways.now (box_ports settings.now start.now.id) wire.board }
+    requires opened { AreOpened settings.now start.now ways.now wire.board }
     requires wired { WasGiven all_sockets }
     requires wire { WasHad (own_sockets ways.now (box_ports settings.now start.now.id)) wire }
-    ensures ok { OnOk result (HasRun settings.now start.now
+    requires written { AreWays start.now.ways ways.now }
+    ensures ok { OnOk result (HasRun DoesAt WaitsAt settings.now start.now wire
         (O.contents output.old) (O.contents output.new)) }
     ensures err { IfErr result (FailsWired start.now) }
+    ensures spared { IfErr result (IsSpared DoesAt WaitsAt settings.now start.now wire) }
     ensures untouched { IfErr result (λ why. IsBeforeBoot why →
         (disk.new ≡ disk.old) × (manager.new ≡ manager.old)) }
     ensures decided { D.honest disk.old
         → OnOk result (IsNumbered start.now.found (D.now disk.old) (D.now disk.new)) }
     ensures heard { HearsAny ⟦<Option<Manager> as Supervisor>⟧.hears manager.old manager.new }
+    ensures unheard { IfErr result (IsUnheard manager.old manager.new) }
     ensures order { IfErr result (λ why. IsInOrder O.contents (path_in start.now.capture)
         (D.honest disk.old) start.now.found (D.now disk.old) (D.now disk.new)
         why output.old output.new) }
@@ -388,7 +396,7 @@ where
             ended
         }
         Err(fault) => {
-            drop(wire);
+            let_go(wire);
             Err(fault)
         }
     }
@@ -407,7 +415,7 @@ fn captured<
     settings: &Settings,
     manager: &mut Option<Manager>,
     disk: &mut D,
-    mut wire: W,
+    wire: W,
     output: &mut O,
     log: &L,
 ) -> Result<(), BoxFault>
@@ -417,27 +425,33 @@ where
     requires notified { IsNotified start.now.notify manager.old }
     requires valid { IsFilter start.now.log }
     requires had { WasHad (locked_file (boot_file_of settings.now start.now.id)) disk.old }
-    requires own { IsOfSockets settings.now start.now.id wire }
+    requires own { IsOfSockets settings.now start.now wire }
     requires wired { WasGiven all_sockets }
     requires chosen { IfSome (L.passes log.now) (IsChosenBy start.now.log) }
     requires format { L.writes log.now ≡ Some start.now.format }
-    ensures ok { OnOk result (HasRun settings.now start.now
+    ensures ok { OnOk result (HasRun W.does W.waits settings.now start.now wire
         (O.contents output.old) (O.contents output.new)) }
     ensures err { IfErr result (FailsLogged start.now) }
+    ensures spared { IfErr result (IsSpared W.does W.waits settings.now start.now wire) }
     ensures untouched { IfErr result (λ why. IsBeforeBoot why →
         (disk.new ≡ disk.old) × (manager.new ≡ manager.old)) }
     ensures decided { D.honest disk.old
         → OnOk result (IsNumbered start.now.found (D.now disk.old) (D.now disk.new)) }
     ensures heard { HearsAny ⟦<Option<Manager> as Supervisor>⟧.hears manager.old manager.new }
+    ensures unheard { IfErr result (IsUnheard manager.old manager.new) }
     ensures order { IfErr result (λ why. IsInOrder O.contents (path_in start.now.capture)
         (D.honest disk.old) start.now.found (D.now disk.old) (D.now disk.new)
         why output.old output.new) }
 {
-    match capture_at(rt, start.capture)? {
-        Some(capture) => tapped(
+    match capture_at(rt, start) {
+        Ok(Some(capture)) => tapped(
             rt, start, settings, manager, disk, capture, wire, output, log,
         ),
-        None => run(rt, start, settings, manager, disk, &mut wire, output, log),
+        Ok(None) => run(rt, start, settings, manager, disk, wire, output, log),
+        Err(fault) => {
+            let_go(wire);
+            Err(fault)
+        }
     }
 }
 
@@ -466,34 +480,43 @@ where
     requires notified { IsNotified start.now.notify manager.old }
     requires valid { IsFilter start.now.log }
     requires captured { path_in start.now.capture ≡ Some capture.path.now }
-    requires own { IsOfSockets settings.now start.now.id wire }
+    requires own { IsOfSockets settings.now start.now wire }
     requires had { WasHad (locked_file (boot_file_of settings.now start.now.id)) disk.old }
     requires file { WasHad (capture_file capture.path.now) capture.file }
-    ensures ok { OnOk result (HasRun settings.now start.now
+    ensures ok { OnOk result (HasRun W.does W.waits settings.now start.now wire
         (O.contents output.old) (O.contents output.new)) }
     ensures err { IfErr result (IsUnrun (path_in start.now.capture)) }
+    ensures spared { IfErr result (IsSpared W.does W.waits settings.now start.now wire) }
     ensures decided { D.honest disk.old
         → OnOk result (IsNumbered start.now.found (D.now disk.old) (D.now disk.new)) }
     ensures heard { HearsAny ⟦<Option<Manager> as Supervisor>⟧.hears manager.old manager.new }
+    ensures unheard { IfErr result (IsUnheard manager.old manager.new) }
     ensures order { IfErr result (λ why. IsInOrder O.contents (path_in start.now.capture)
         (D.honest disk.old) start.now.found (D.now disk.old) (D.now disk.new)
         why output.old output.new) }
 {
-    let (identity, mut gateway) = started(rt, disk, settings, start.id, start.found, output, log)?;
-    let ended = tapped_rounds(
-        rt,
-        &mut gateway,
-        wire,
-        capture,
-        start,
-        settings,
-        identity,
-        manager,
-        output,
-        log,
-    );
-    gateway.end();
-    ended
+    match started(rt, disk, settings, start.id, start.found, output, log) {
+        Ok((identity, mut gateway)) => {
+            let ended = tapped_rounds(
+                rt,
+                &mut gateway,
+                wire,
+                capture,
+                start,
+                settings,
+                identity,
+                manager,
+                output,
+                log,
+            );
+            gateway.end();
+            ended
+        }
+        Err(fault) => {
+            let_go(wire);
+            Err(fault)
+        }
+    }
 }
 
 /// Begins a capture in its file, and runs a gateway as `rounds_of` does. At the end a record says how many packets were left
@@ -515,17 +538,19 @@ where
     requires notified { IsNotified start.now.notify manager.old }
     requires numbered { WasGiven boot_number }
     requires captured { path_in start.now.capture ≡ Some capture.path.now }
-    requires own { IsOfSockets settings.now start.now.id wire }
     requires identity { IsIdentity settings.now start.now.id identity gateway.old }
     requires had { WasHad (capture_file capture.path.now) capture.file }
-    ensures rounds { OnOk result (HadRounds identity start.now.rounds start.now.track
-        start.now.until_eof gateway.old gateway.new) }
+    ensures ran { OnOk result (RanOn W.does W.waits identity start.now
+        gateway.old gateway.new wire) }
     ensures ended { OnOk result
         (Appends (O.contents output.old) (O.contents output.new) (codes "end\n")) }
     ensures begun { OnOk result (WasGiven (begun_capture capture.entry.path.now)) }
     ensures heard { HearsAny ⟦<Option<Manager> as Supervisor>⟧.hears manager.old manager.new }
-    ensures unrun { IfErr result (λ why. LacksOutput why
-        ⊎ (IsUnbegun (Some capture.entry.path.now) why × ((output.new ≡ output.old)
+    ensures unrun { IfErr result (λ why.
+        (LacksOutput (codes "end\n") (O.contents output.old) (O.contents output.new) why
+        × RanOn W.does W.waits identity start.now gateway.old gateway.new wire)
+        ⊎ ((IsUnbegun (Some capture.entry.path.now) why × WasLetGo wire)
+        × ((output.new ≡ output.old)
         × ((manager.new ≡ manager.old) × (gateway.new ≡ gateway.old))))) }
 {
     let moments = SinceFirst::new(rt);
@@ -535,17 +560,24 @@ where
     );
     wire.end();
     tell_left_out(log, wire.left_out());
+    let_go_tapped(wire);
     ended
 }
 
 /// Starts the gateway and runs its rounds, on a wire.
-fn run<R: Clock + RandomSource + Input + AllocGlobal, D: Disk, W: Wire, O: Write, L: Journal>(
+fn run<
+    R: Clock + RandomSource + Input + AllocGlobal,
+    D: Disk,
+    W: Wire + Drop,
+    O: Write,
+    L: Journal,
+>(
     rt: &R,
     start: &Start<'_>,
     settings: &Settings,
     manager: &mut Option<Manager>,
     disk: &mut D,
-    wire: &mut W,
+    mut wire: W,
     output: &mut O,
     log: &L,
 ) -> Result<(), BoxFault>
@@ -554,37 +586,46 @@ fn run<R: Clock + RandomSource + Input + AllocGlobal, D: Disk, W: Wire, O: Write
     requires valid { IsFilter start.now.log }
     requires uncaptured { is_some start.now.capture ≡ false }
     requires had { WasHad (locked_file (boot_file_of settings.now start.now.id)) disk.old }
-    requires own { IsOfSockets settings.now start.now.id wire.old }
-    ensures ok { OnOk result (HasRun settings.now start.now
+    requires own { IsOfSockets settings.now start.now wire }
+    ensures ok { OnOk result (HasRun W.does W.waits settings.now start.now wire
         (O.contents output.old) (O.contents output.new)) }
-    ensures ran { OnOk result (RanOn W.does settings.now start.now wire.old wire.new) }
     ensures err { IfErr result IsUnstarted }
+    ensures spared { IfErr result (IsSpared W.does W.waits settings.now start.now wire) }
     ensures decided { D.honest disk.old
         → OnOk result (IsNumbered start.now.found (D.now disk.old) (D.now disk.new)) }
     ensures heard { HearsAny ⟦<Option<Manager> as Supervisor>⟧.hears manager.old manager.new }
+    ensures unheard { IfErr result (IsUnheard manager.old manager.new) }
     ensures order { IfErr result (λ why. IsInOrder O.contents (path_in start.now.capture)
         (D.honest disk.old) start.now.found (D.now disk.old) (D.now disk.new)
         why output.old output.new) }
 {
-    let (identity, mut gateway) = started(rt, disk, settings, start.id, start.found, output, log)?;
-    let ended = rounds_of(
-        rt,
-        &mut gateway,
-        wire,
-        start,
-        settings,
-        identity,
-        manager,
-        output,
-        log,
-    );
-    gateway.end();
-    ended
+    match started(rt, disk, settings, start.id, start.found, output, log) {
+        Ok((identity, mut gateway)) => {
+            let ended = rounds_of(
+                rt,
+                &mut gateway,
+                &mut wire,
+                start,
+                settings,
+                identity,
+                manager,
+                output,
+                log,
+            );
+            gateway.end();
+            let_go(wire);
+            ended
+        }
+        Err(fault) => {
+            let_go(wire);
+            Err(fault)
+        }
+    }
 }
 
 /// Runs a gateway until it is told to end, or has had its rounds. Its manager hears first that it is up. After an Err it was
 /// run too, and `end` isn't written.
-#[tactic(auto, unfolding(crate::specs::Named::WasDenied))]
+#[tactic(auto, unfolding(crate::specs::Named::WasDenied, crate::specs::Named::WasRefused))]
 fn rounds_of<R: Clock + Input + AllocGlobal, W: Wire, O: Write, L: Journal>(
     rt: &R,
     gateway: &mut Gateway,
@@ -597,17 +638,16 @@ fn rounds_of<R: Clock + Input + AllocGlobal, W: Wire, O: Write, L: Journal>(
     log: &L,
 ) -> Result<(), BoxFault>
     requires notified { IsNotified start.now.notify manager.old }
-    requires own { IsOwnWire (path_in start.now.capture) settings.now start.now.id wire.old }
+    requires own { IsOwnWire (path_in start.now.capture) settings.now start.now wire.old }
     requires identity { IsIdentity settings.now start.now.id identity gateway.old }
-    ensures runs { RunsOn W.does identity start.now.rounds start.now.track
-        start.now.until_eof gateway.old gateway.new wire.old wire.new }
-    ensures rounds { HadRounds identity start.now.rounds start.now.track start.now.until_eof
-        gateway.old gateway.new }
+    ensures runs { (run : RunsOn W.does W.waits identity start.now.rounds start.now.track
+        start.now.until_eof gateway.old gateway.new wire.old wire.new)
+        × HearsAll ⟦<Option<Manager> as Supervisor>⟧.hears identity.boot run.had.all.moments
+        manager.old manager.new }
     ensures ended { OnOk result
         (Appends (O.contents output.old) (O.contents output.new) (codes "end\n")) }
-    ensures told { HearsAll ⟦<Option<Manager> as Supervisor>⟧.hears identity.boot
-        manager.old manager.new }
-    ensures err { IfErr result LacksOutput }
+    ensures err { IfErr result (LacksOutput (codes "end\n")
+        (O.contents output.old) (O.contents output.new)) }
 {
     manager.ready(identity.boot);
     let mut clock = Stopwatch::start(rt);
@@ -626,141 +666,4 @@ fn rounds_of<R: Clock + Input + AllocGlobal, W: Wire, O: Write, L: Journal>(
         log,
     )?;
     Ok(())
-}
-
-/// The hashers of a seed that is drawn now. Where the system refuses a seed, that is told as memory
-/// that it refuses.
-fn drawn<R: RandomSource>(rt: &R) -> Result<Hashers, BoxFault>
-    ensures drawn { IfOk result (λ hashers. is_drawn hashers ≡ true) }
-    ensures err { IfErr result (λ why. why ≡ faults.Run reasons.NoMemory) }
-{
-    let mut draws = SystemDraws(rt);
-    let drawn = Hashers::drawn(&mut draws);
-    let SystemDraws(_) = draws;
-    match drawn {
-        Ok(hashers) => Ok(hashers),
-        Err(_refused) => Err(BoxFault::from(NoMemory)),
-    }
-}
-
-/// A gateway in the next boot of its disk, whose number is printed before anything is sent, and is the first record. Its
-/// seed is drawn first, so that a start without one takes no number. The answer has who the box is.
-fn started<R: RandomSource + AllocGlobal, D: Disk, O: Write, L: Log>(
-    rt: &R,
-    disk: &mut D,
-    settings: &Settings,
-    id: GatewayId,
-    found: bool,
-    output: &mut O,
-    log: &L,
-) -> Result<(Identity, Gateway), BoxFault>
-    requires found { IsTrue found → id ≡ Zero }
-    ensures start { IfOk result (λ begun. HasStarted settings.now id found
-        (O.contents output.old) (O.contents output.new) begun.1) }
-    ensures identity { IfOk result (λ begun. IsIdentity settings.now id begun.0 begun.1) }
-    ensures decided { D.honest disk.old → IfOk result (λ begun. Decides found
-        (D.now disk.old) (D.now disk.new) (Ok begun.0.boot)) }
-    ensures record { IfOk result (λ begun. IsTold L.enables log.now 0 (Boot begun.0.boot)) }
-    ensures given { OnOk result (WasGiven boot_number) }
-    ensures own_number { OnOk result (IsNumberOf disk.old) }
-    ensures err { IfErr result IsUnstarted }
-    ensures printed { IfOk result (λ begun. Appends (O.contents output.old)
-        (O.contents output.new) (boot_line begun.0.boot)) }
-    ensures order { IfErr result (λ why. IsInOrder O.contents None (D.honest disk.old) found
-        (D.now disk.old) (D.now disk.new) why output.old output.new) }
-{
-    let digest = digest(rt.alloc(), settings)?;
-    let hashers = drawn(rt)?;
-    let (boot, gateway) = booted(rt.alloc(), disk, settings, id, found, hashers)?;
-    match announced(output, boot) {
-        Ok(()) => {
-            tell(log, 0, Entry::Boot(boot));
-            Ok((Identity { id, boot, digest }, gateway))
-        }
-        Err(fault) => {
-            gateway.end();
-            Err(fault)
-        }
-    }
-}
-
-/// Prints the number of a boot.
-#[tactic(auto, unfolding(crate::specs::Named::WasDenied))]
-fn announced<O: Write>(output: &mut O, boot: u64) -> Result<(), BoxFault>
-    ensures printed { OnOk result
-        (Appends (O.contents output.old) (O.contents output.new) (boot_line boot)) }
-    ensures err { IfErr result LacksOutput }
-{
-    writeln!(output, "boot {boot}")?;
-    output.flush()?;
-    Ok(())
-}
-
-/// The next boot number of a disk, and a gateway in just that boot. Once it is answered, the number
-/// is on the disk.
-fn booted<D: Disk>(
-    alloc: Global,
-    disk: &mut D,
-    settings: &Settings,
-    id: GatewayId,
-    found: bool,
-    hashers: Hashers,
-) -> Result<(u64, Gateway), BoxFault>
-    requires found { IsTrue found → id ≡ Zero }
-    ensures begins { IfOk result (λ start. IsStart settings.now id found hashers start.0 start.1) }
-    ensures own { IfOk result (λ start. HasBoot start.0 start.1) }
-    ensures above_zero { IfOk result (λ start. 0 < start.0) }
-    ensures given { OnOk result (WasGiven boot_number) }
-    ensures own_number { OnOk result (IsNumberOf disk.old) }
-    ensures err { IfErr result IsUnstarted }
-    ensures rises { D.honest disk.old
-        → IfOk result (λ start. Rises (D.now disk.old) (D.now disk.new) (Ok start.0)) }
-    ensures decided { D.honest disk.old
-        → IfOk result (λ start. Decides found (D.now disk.old) (D.now disk.new) (Ok start.0)) }
-    ensures any_moment { D.honest disk.old
-        → Since (D.past disk.old) (D.past disk.new) (Keeps (D.now disk.old) (D.now disk.new)) }
-    ensures honesty { D.honest disk.old ↔ D.honest disk.new }
-{
-    let boot = numbered(disk, found)?;
-    let gateway = begun(alloc, settings, id, boot, found, hashers)?;
-    Ok((boot, gateway))
-}
-
-/// The next boot number of a disk.
-#[tactic(auto, unfolding(crate::specs::Named::WasGiven))]
-fn numbered<D: Disk>(disk: &mut D, found: bool) -> Result<u64, BoxFault>
-    ensures given { OnOk result (WasGiven boot_number) }
-    ensures own_number { OnOk result (IsNumberOf disk.old) }
-    ensures above_zero { IfOk result (λ boot. 0 < boot) }
-    ensures err { IfErr result IsUnstarted }
-    ensures told { D.honest disk.old → IfErr result (TellsNumber found (D.failures disk.old)
-        (D.failures disk.new) (D.now disk.old) (D.now disk.new)) }
-    ensures rises { D.honest disk.old
-        → IfOk result (λ boot. Rises (D.now disk.old) (D.now disk.new) (Ok boot)) }
-    ensures decided { D.honest disk.old
-        → IfOk result (λ boot. Decides found (D.now disk.old) (D.now disk.new) (Ok boot)) }
-    ensures any_moment { D.honest disk.old
-        → Since (D.past disk.old) (D.past disk.new) (Keeps (D.now disk.old) (D.now disk.new)) }
-    ensures honesty { D.honest disk.old ↔ D.honest disk.new }
-{
-    match next_boot(disk, found) {
-        Ok(boot) => Ok(boot),
-        Err(fault) => Err(BoxFault::from(fault)),
-    }
-}
-
-/// A gateway that begins in this boot. What it shows stays closed to its caller here.
-fn begun(
-    alloc: Global,
-    settings: &Settings,
-    id: GatewayId,
-    boot: u64,
-    found: bool,
-    hashers: Hashers,
-) -> Result<Gateway, NoMemory>
-    requires boot { 0 < boot }
-    requires found { IsTrue found → id ≡ Zero }
-    ensures { IfOk result (IsStart settings.now id found hashers boot) }
-{
-    Gateway::new(alloc, settings, id, boot, found, hashers)
 }

@@ -9,5 +9,17 @@ returns-in-Ok-clause-err g c =
     behind_it c.captured-ended.result (LacksFilter c.args.start.now.log) (FailsLogged c.args.start.now) (IsFilter c.args.start.now.log)
     c.in-Ok.ensures.valid c.captured-ended.ensures.err
 
+pub returns-in-Ok-clause-ok : goal.returns-in-Ok-clause-ok
+returns-in-Ok-clause-ok g c = c.captured-ended.ensures.ok
+
+pub returns-in-Ok-clause-spared : goal.returns-in-Ok-clause-spared
+returns-in-Ok-clause-spared g c = c.captured-ended.ensures.spared
+
 pub returns-in-Err-clause-err : goal.returns-in-Err-clause-err
 returns-in-Err-clause-err g c = inl c.in-Err.ensures.err
+
+pub returns-in-Err-clause-spared : goal.returns-in-Err-clause-spared
+returns-in-Err-clause-spared g c = inl c.let_go.ensures
+
+pub returns-in-Ok-clause-unheard : goal.returns-in-Ok-clause-unheard
+returns-in-Ok-clause-unheard g c = c.captured-ended.ensures.unheard

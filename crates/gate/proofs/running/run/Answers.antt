@@ -1,32 +1,44 @@
-use Rattle.std.proofs.Common.{inr}
-use Rattle.gate.proofs.Failing.{handed_on}
+use Rattle.std.proofs.Common.{inl, inr}
+use Rattle.gate.proofs.Heard.{unheard_behind}
 use Rattle.gate.proofs.Refusing.{in_order, unwritten_unstarted, with_capture}
-use Rattle.gate.proofs.Serving.{always, has_run}
+use Rattle.gate.proofs.Serving.{always, has_run, on_sockets, spared_behind, uncaptured}
 use Rattle.gate.proofs.running.run.Goals as goal
 
-pub returns-clause-ok : goal.returns-clause-ok
-returns-clause-ok g c =
-    has_run c.rounds_of-ended.result c.args.settings.now c.args.start.now _ _ _ _ _ _ c.in_ok-identity.ensures.start c.in_ok-identity.ensures.identity
-    c.rounds_of-ended.ensures.rounds c.rounds_of-ended.ensures.ended (c.in_ok-identity.ensures.own_number _ c.requires.had)
-    (_, c.requires.notified) c.requires.valid c.requires.uncaptured
+pub returns-in-Ok-clause-ok : goal.returns-in-Ok-clause-ok
+returns-in-Ok-clause-ok g c =
+    has_run c.rounds_of-ended.result g.W.Wire.does g.W.Wire.waits c.args.settings.now c.args.start.now c.args.wire _ _ _ _ _ _
+    c.in-Ok.ensures.start c.in-Ok.ensures.identity c.requires.own
+    (always c.rounds_of-ended.result _ (_, (c.rounds_of-ended.ensures.runs.0, c.let_go.ensures))) c.rounds_of-ended.ensures.ended
+    (c.in-Ok.ensures.own_number _ c.requires.had) (_, c.requires.notified) c.requires.valid
+    (always c.rounds_of-ended.result _ (uncaptured c.args.start.now.capture c.requires.uncaptured))
 
-pub returns-clause-err : goal.returns-clause-err
-returns-clause-err g c = unwritten_unstarted c.rounds_of-ended.result c.in_ok-identity.ensures.given c.rounds_of-ended.ensures.err
+pub returns-in-Ok-clause-err : goal.returns-in-Ok-clause-err
+returns-in-Ok-clause-err g c = unwritten_unstarted c.rounds_of-ended.result _ _ _ c.in-Ok.ensures.given c.rounds_of-ended.ensures.err
 
-pub returns-clause-decided : goal.returns-clause-decided
-returns-clause-decided g c h = always c.rounds_of-ended.result _ (_, c.in_ok-identity.ensures.decided h)
+pub returns-in-Ok-clause-spared : goal.returns-in-Ok-clause-spared
+returns-in-Ok-clause-spared g c =
+    spared_behind c.rounds_of-ended.result g.W.Wire.does g.W.Wire.waits c.args.settings.now c.args.start.now c.args.wire _ _ _ _ _
+    c.in-Ok.ensures.identity (_, (c.rounds_of-ended.ensures.runs.0, c.let_go.ensures)) c.rounds_of-ended.ensures.err
 
-pub returns-clause-heard : goal.returns-clause-heard
-returns-clause-heard g c = inr (_, c.rounds_of-ended.ensures.told)
+pub returns-in-Ok-clause-decided : goal.returns-in-Ok-clause-decided
+returns-in-Ok-clause-decided g c h = always c.rounds_of-ended.result _ (_, c.in-Ok.ensures.decided h)
 
-pub returns-clause-order : goal.returns-clause-order
-returns-clause-order g c =
-    in_order c.rounds_of-ended.result g.O.Write.contents _ _ _ _ _ _ _ _ c.rounds_of-ended.ensures.err c.in_ok-identity.ensures.decided
+pub returns-in-Ok-clause-heard : goal.returns-in-Ok-clause-heard
+returns-in-Ok-clause-heard g c = inr (_, (_, c.rounds_of-ended.ensures.runs.1))
 
-pub returns-in_err-identity-clause-order : goal.returns-in_err-identity-clause-order
-returns-in_err-identity-clause-order g c =
-    handed_on c.from_residual.result _ _ c.from_residual.ensures.1
-    (with_capture g.O.Write.contents _ _ _ _ _ _ _ _ c.in_err-identity.ensures.order)
+pub returns-in-Ok-clause-order : goal.returns-in-Ok-clause-order
+returns-in-Ok-clause-order g c =
+    in_order c.rounds_of-ended.result g.O.Write.contents _ _ _ _ _ _ _ _ _ c.rounds_of-ended.ensures.err c.in-Ok.ensures.decided c.in-Ok.ensures.printed
 
-pub returns-clause-ran : goal.returns-clause-ran
-returns-clause-ran g c = always c.rounds_of-ended.result _ (_, (_, (_, (c.in_ok-identity.ensures.identity, c.rounds_of-ended.ensures.runs))))
+pub returns-in-Err-clause-spared : goal.returns-in-Err-clause-spared
+returns-in-Err-clause-spared g c = inl c.let_go-in-Err.ensures
+
+pub returns-in-Err-clause-order : goal.returns-in-Err-clause-order
+returns-in-Err-clause-order g c = with_capture g.O.Write.contents _ _ _ _ _ _ _ _ c.in-Err.ensures.order
+
+pub rounds_of-ended-requires-clause-own : goal.rounds_of-ended-requires-clause-own
+rounds_of-ended-requires-clause-own g c =
+    on_sockets c.args.start.now.capture c.args.settings.now c.args.start.now c.args.wire c.requires.uncaptured c.requires.own
+
+pub returns-in-Ok-clause-unheard : goal.returns-in-Ok-clause-unheard
+returns-in-Ok-clause-unheard g c = unheard_behind c.rounds_of-ended.result _ _ _ _ _ c.rounds_of-ended.ensures.err

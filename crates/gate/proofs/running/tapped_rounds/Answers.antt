@@ -1,18 +1,33 @@
 use Rattle.std.proofs.Common.{inr, refl}
 use Rattle.gate.proofs.Failing.{handed_on}
-use Rattle.gate.proofs.Refusing.{output_lacks}
-use Rattle.gate.proofs.Serving.{always}
+use Rattle.gate.proofs.Refusing.{only_this}
+use Rattle.gate.proofs.Serving.{always, on_tapped, ran_below}
 use Rattle.gate.proofs.running.tapped_rounds.Goals as goal
+
+pub returns-clause-ran : goal.returns-clause-ran
+returns-clause-ran g c =
+    always c.rounds_of-ended.result _
+    (ran_below (λ tapped. tapped.wire) g.W.Wire.does g.W.Wire.waits c.args.identity c.args.start.now _ _ _ _ c.end.new.self c.args.wire
+    c.in_ok-wire.ensures.tapped.0 c.end.ensures.wire c.let_go_tapped.ensures c.rounds_of-ended.ensures.runs.0)
 
 pub returns-clause-begun : goal.returns-clause-begun
 returns-clause-begun g c = always c.rounds_of-ended.result _ c.in_ok-wire.ensures.begun
 
 pub returns-clause-heard : goal.returns-clause-heard
-returns-clause-heard g c = inr (_, c.rounds_of-ended.ensures.told)
+returns-clause-heard g c = inr (_, (_, c.rounds_of-ended.ensures.runs.1))
 
 pub returns-clause-unrun : goal.returns-clause-unrun
-returns-clause-unrun g c = output_lacks c.rounds_of-ended.result _ c.rounds_of-ended.ensures.err
+returns-clause-unrun g c =
+    only_this c.rounds_of-ended.result _ _ _
+    (ran_below (λ tapped. tapped.wire) g.W.Wire.does g.W.Wire.waits c.args.identity c.args.start.now _ _ _ _ c.end.new.self c.args.wire
+    c.in_ok-wire.ensures.tapped.0 c.end.ensures.wire c.let_go_tapped.ensures c.rounds_of-ended.ensures.runs.0)
+    c.rounds_of-ended.ensures.err
 
 pub returns-in_err-wire-clause-unrun : goal.returns-in_err-wire-clause-unrun
 returns-in_err-wire-clause-unrun g c =
-    handed_on c.from_residual.result _ _ c.from_residual.ensures.1 (inr (c.in_err-wire.ensures.err, (refl, (refl, refl))))
+    handed_on c.from_residual.result _ _ c.from_residual.ensures.1
+    (inr ((c.in_err-wire.ensures.err, c.in_err-wire.ensures.let_go), (refl, (refl, refl))))
+
+pub rounds_of-ended-requires-clause-own : goal.rounds_of-ended-requires-clause-own
+rounds_of-ended-requires-clause-own g c =
+    on_tapped _ c.args.capture.path.now c.args.settings.now c.args.start.now _ c.requires.captured c.in_ok-wire.ensures.had

@@ -1,12 +1,15 @@
 use Rattle.std.proofs.Common.{inl}
 use Rattle.gate.specs.Failing.{FailsHeard, FailsWired, LacksPlace}
+use Rattle.gate.specs.Sparing.{SparesHeard}
 use Rattle.gate.proofs.Failing.{handed_on}
 use Rattle.gate.proofs.Refusing.{behind_it}
-use Rattle.gate.proofs.Serving.{also}
+use Rattle.gate.proofs.Serving.{also, on_some}
+use Rattle.gate.proofs.Sparing.{spared_if_had}
 use Rattle.gate.proofs.running.wired.Goals as goal
 
 pub returns-clause-ok : goal.returns-clause-ok
-returns-clause-ok g c = also c.logged.result _ _ c.in_ok-wire.ensures.given c.logged.ensures.ok
+returns-clause-ok g c =
+    also c.logged.result _ _ c.in_ok-wire.ensures.given (on_some c.logged.result _ c.in_ok-wire.wire c.logged.ensures.ok)
 
 pub returns-clause-err : goal.returns-clause-err
 returns-clause-err g c =
@@ -29,3 +32,15 @@ returns-clause-decided g c = c.logged.ensures.decided
 
 pub returns-clause-heard : goal.returns-clause-heard
 returns-clause-heard g c = c.logged.ensures.heard
+
+pub returns-clause-unheard : goal.returns-clause-unheard
+returns-clause-unheard g c = c.logged.ensures.unheard
+
+pub returns-clause-spared : goal.returns-clause-spared
+returns-clause-spared g c =
+    spared_if_had c.logged.result c.args.start.now c.args.settings.now c.args.ways.now c.in_ok-wire.wire c.in_ok-wire.ensures.had c.logged.ensures.spared
+
+pub returns-in_err-wire-clause-spared : goal.returns-in_err-wire-clause-spared
+returns-in_err-wire-clause-spared g c =
+    handed_on c.from_residual.result (SparesHeard c.args.start.now c.args.settings.now c.args.ways.now) _ c.from_residual.ensures.1
+    (inl c.in_err-wire.ensures.err)

@@ -4,7 +4,7 @@ use Rattle.box_words.specs.Faults.{of_boot}
 use Rattle.gate.specs.Failing.{IsUnstarted}
 use Rattle.gate.specs.Named.{WasDenied}
 use Rattle.gate.proofs.Beginning.{none_failed, tells_number}
-use Rattle.gate.proofs.running.numbered.Goals as goal
+use Rattle.gate.proofs.starting.numbered.Goals as goal
 
 unnumbered : (reason : BootFault) → IsUnstarted (of_boot reason)
 unfolding WasDenied

@@ -1,0 +1,178 @@
+//! A gateway begins in the next boot of its box.
+ghost use Rattle.std.specs.Prelude.{◌≡◌, ◌<◌, ◌↔◌, IfErr, IfOk, IsTrue, None, Ok, OnOk, true};
+ghost use Rattle.std.specs.Io.KnownBytes.{Appends};
+ghost use Rattle.nat_types.specs.declared.gateways.GatewayId.TheVariants.{Zero};
+ghost use Rattle.slots.specs.Hashers.{is_drawn};
+ghost use Rattle.journal.specs.Handed.{IsTold};
+ghost use Rattle.journal.specs.declared.entries.Entry.TheVariants.{Boot};
+ghost use Rattle.outlets.specs.Printed.{Prints};
+ghost use Rattle.boot_store.specs.Crash.{Decides, Keeps, Rises, Since};
+ghost use Rattle.gate.specs.Boots.{HasBoot, HasStarted, IsIdentity, IsStart, TellsNumber, boot_line};
+ghost use Rattle.box_words.specs.declared.refusals.BoxFault.TheVariants as faults;
+ghost use Rattle.faults.specs.declared.faults.Fault.TheVariants as reasons;
+ghost use Rattle.gate.specs.Failing.{IsUnstarted};
+ghost use Rattle.gate.specs.Failing.{LacksOutput};
+ghost use Rattle.gate.specs.Named.{IsNumberOf, WasGiven, boot_number};
+ghost use Rattle.gate.specs.Orders.{IsInOrder};
+
+use boot_store::{Disk, next_boot};
+use box_words::BoxFault;
+use checks::digest;
+use gateway::{Gateway, Hashers};
+use itoa::Buffer;
+use journal::{Entry, tell};
+use log::Log;
+use nat_types::{GatewayId, NoMemory};
+use outlets::put_all;
+use rounds::Identity;
+use settings::Settings;
+use slots::SystemDraws;
+use std::alloc::Global;
+use std::io::{self, Write};
+use std::random::RandomSource;
+
+/// The hashers of a seed that is drawn now. Where the system refuses a seed, that is told as memory
+/// that it refuses.
+fn drawn<R: RandomSource>(rt: &R) -> Result<Hashers, BoxFault>
+    ensures drawn { IfOk result (λ hashers. is_drawn hashers ≡ true) }
+    ensures err { IfErr result (λ why. why ≡ faults.Run reasons.NoMemory) }
+{
+    let mut draws = SystemDraws(rt);
+    let drawn = Hashers::drawn(&mut draws);
+    let SystemDraws(_) = draws;
+    match drawn {
+        Ok(hashers) => Ok(hashers),
+        Err(_refused) => Err(BoxFault::from(NoMemory)),
+    }
+}
+
+/// A gateway in the next boot of its disk, whose number is printed before anything is sent, and is the first record. Its
+/// seed is drawn first, so that a start without one takes no number. The answer has who the box is.
+pub(crate) fn started<R: RandomSource + AllocGlobal, D: Disk, O: Write, L: Log>(
+    rt: &R,
+    disk: &mut D,
+    settings: &Settings,
+    id: GatewayId,
+    found: bool,
+    output: &mut O,
+    log: &L,
+) -> Result<(Identity, Gateway), BoxFault>
+    requires found { IsTrue found → id ≡ Zero }
+    ensures start { IfOk result (λ begun. HasStarted settings.now id found
+        (O.contents output.old) (O.contents output.new) begun.1) }
+    ensures identity { IfOk result (λ begun. IsIdentity settings.now id begun.0 begun.1) }
+    ensures decided { D.honest disk.old → IfOk result (λ begun. Decides found
+        (D.now disk.old) (D.now disk.new) (Ok begun.0.boot)) }
+    ensures record { IfOk result (λ begun. IsTold L.enables log.now 0 (Boot begun.0.boot)) }
+    ensures given { OnOk result (WasGiven boot_number) }
+    ensures own_number { OnOk result (IsNumberOf disk.old) }
+    ensures err { IfErr result IsUnstarted }
+    ensures printed { IfOk result (λ begun. Appends (O.contents output.old)
+        (O.contents output.new) (boot_line begun.0.boot)) }
+    ensures order { IfErr result (λ why. IsInOrder O.contents None (D.honest disk.old) found
+        (D.now disk.old) (D.now disk.new) why output.old output.new) }
+{
+    let digest = digest(rt.alloc(), settings)?;
+    let hashers = drawn(rt)?;
+    let (boot, gateway) = booted(rt.alloc(), disk, settings, id, found, hashers)?;
+    match announced(output, boot) {
+        Ok(()) => {
+            tell(log, 0, Entry::Boot(boot));
+            Ok((Identity { id, boot, digest }, gateway))
+        }
+        Err(fault) => {
+            gateway.end();
+            Err(fault)
+        }
+    }
+}
+
+/// Prints the number of a boot.
+#[tactic(auto, unfolding(crate::specs::Named::WasDenied, crate::specs::Named::WasRefused))]
+fn announced<O: Write>(output: &mut O, boot: u64) -> Result<(), BoxFault>
+    ensures printed { OnOk result
+        (Appends (O.contents output.old) (O.contents output.new) (boot_line boot)) }
+    ensures err { IfErr result (LacksOutput (boot_line boot)
+        (O.contents output.old) (O.contents output.new)) }
+{
+    print_boot(output, boot)?;
+    Ok(())
+}
+
+/// Writes the line of a boot, to its end.
+fn print_boot<O: Write>(output: &mut O, boot: u64) -> io::Result<()>
+    ensures { Prints (O.contents output.old) result (O.contents output.new) (boot_line boot) }
+{
+    let mut digits = Buffer::new();
+    put_all(output, &["boot ", digits.format(boot), "\n"])?;
+    output.flush()
+}
+
+/// The next boot number of a disk, and a gateway in just that boot. Once it is answered, the number
+/// is on the disk.
+fn booted<D: Disk>(
+    alloc: Global,
+    disk: &mut D,
+    settings: &Settings,
+    id: GatewayId,
+    found: bool,
+    hashers: Hashers,
+) -> Result<(u64, Gateway), BoxFault>
+    requires found { IsTrue found → id ≡ Zero }
+    ensures begins { IfOk result (λ start. IsStart settings.now id found hashers start.0 start.1) }
+    ensures own { IfOk result (λ start. HasBoot start.0 start.1) }
+    ensures above_zero { IfOk result (λ start. 0 < start.0) }
+    ensures given { OnOk result (WasGiven boot_number) }
+    ensures own_number { OnOk result (IsNumberOf disk.old) }
+    ensures err { IfErr result IsUnstarted }
+    ensures rises { D.honest disk.old
+        → IfOk result (λ start. Rises (D.now disk.old) (D.now disk.new) (Ok start.0)) }
+    ensures decided { D.honest disk.old
+        → IfOk result (λ start. Decides found (D.now disk.old) (D.now disk.new) (Ok start.0)) }
+    ensures any_moment { D.honest disk.old
+        → Since (D.past disk.old) (D.past disk.new) (Keeps (D.now disk.old) (D.now disk.new)) }
+    ensures honesty { D.honest disk.old ↔ D.honest disk.new }
+{
+    let boot = numbered(disk, found)?;
+    let gateway = begun(alloc, settings, id, boot, found, hashers)?;
+    Ok((boot, gateway))
+}
+
+/// The next boot number of a disk.
+#[tactic(auto, unfolding(crate::specs::Named::WasGiven))]
+fn numbered<D: Disk>(disk: &mut D, found: bool) -> Result<u64, BoxFault>
+    ensures given { OnOk result (WasGiven boot_number) }
+    ensures own_number { OnOk result (IsNumberOf disk.old) }
+    ensures above_zero { IfOk result (λ boot. 0 < boot) }
+    ensures err { IfErr result IsUnstarted }
+    ensures told { D.honest disk.old → IfErr result (TellsNumber found (D.failures disk.old)
+        (D.failures disk.new) (D.now disk.old) (D.now disk.new)) }
+    ensures rises { D.honest disk.old
+        → IfOk result (λ boot. Rises (D.now disk.old) (D.now disk.new) (Ok boot)) }
+    ensures decided { D.honest disk.old
+        → IfOk result (λ boot. Decides found (D.now disk.old) (D.now disk.new) (Ok boot)) }
+    ensures any_moment { D.honest disk.old
+        → Since (D.past disk.old) (D.past disk.new) (Keeps (D.now disk.old) (D.now disk.new)) }
+    ensures honesty { D.honest disk.old ↔ D.honest disk.new }
+{
+    match next_boot(disk, found) {
+        Ok(boot) => Ok(boot),
+        Err(fault) => Err(BoxFault::from(fault)),
+    }
+}
+
+/// A gateway that begins in this boot. What it shows stays closed to its caller here.
+fn begun(
+    alloc: Global,
+    settings: &Settings,
+    id: GatewayId,
+    boot: u64,
+    found: bool,
+    hashers: Hashers,
+) -> Result<Gateway, NoMemory>
+    requires boot { 0 < boot }
+    requires found { IsTrue found → id ≡ Zero }
+    ensures { IfOk result (IsStart settings.now id found hashers boot) }
+{
+    Gateway::new(alloc, settings, id, boot, found, hashers)
+}

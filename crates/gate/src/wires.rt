@@ -1,0 +1,21 @@
+//! A wire is let go.
+ghost use Rattle.gate.specs.Named.{WasLetGo};
+
+use sockets::Wire;
+use tap::Tapped;
+
+/// Lets a wire go, as it is.
+#[tactic(auto, unfolding(crate::specs::Named::WasLetGo))]
+pub(crate) fn let_go<W: Wire + Drop>(wire: W)
+    ensures { WasLetGo wire }
+{
+    drop(wire);
+}
+
+/// Lets a wire go whose packets were captured.
+#[tactic(auto, unfolding(crate::specs::Named::WasLetGo))]
+pub(crate) fn let_go_tapped<W: Wire + Drop, M: Drop, O: Drop>(tapped: Tapped<W, M, O>)
+    ensures { WasLetGo tapped.wire }
+{
+    drop(tapped);
+}
