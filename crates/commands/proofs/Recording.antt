@@ -9,6 +9,7 @@ use Rattle.faults.specs.Jobs.{IsJobOf}
 use Rattle.faults.specs.declared.jobs.Job.{Job}
 use Rattle.frame_sim.specs.Tapes.{TakesOn}
 use Rattle.frame_sim.specs.World.{founding}
+use Rattle.scripts.specs.Script.{first_bad_line}
 use Rattle.simulation.specs.Tapes.{IsTapedRun, StopsTaped}
 use Rattle.loopback_run.specs.Loops.{IsLoop}
 use Rattle.loopback_run.specs.Stops.{Opens}
@@ -33,14 +34,14 @@ closed_of begins closes (Err error) host last ended unended = unended
 
 -- how a run of the job of two texts ended, and what took it down
 pub tapes_sim : {T O : Type 0} (r : Result ℕ Fault) (takes refuses : TakesOn T) (contents : O → Option (List ℕ)) (text script : List ℕ) (job : Job) (first last : T)
-    (output printed : O) → IsJobOf text script job
+    (output printed : O) → IsJobOf text script job → first_bad_line script ≡ None
     → IfOk r (IsTapedRun takes job.settings job.events.items first last (contents output) (contents printed)) → IfErr r IsOfEvents
     → IfErr r (StopsTaped takes refuses contents (founding job.settings) job.events.items first last output printed)
     → TapesSim takes refuses contents text script r first last output printed
-tapes_sim (Ok status) takes refuses contents text script job first last output printed held taped events stopped =
-    record { job = job; is = held; run = taped }
-tapes_sim (Err why) takes refuses contents text script job first last output printed held taped events (inl untaped) = (events, inl untaped)
-tapes_sim (Err why) takes refuses contents text script job first last output printed held taped events (inr stopped) =
+tapes_sim (Ok status) takes refuses contents text script job first last output printed held good taped events stopped =
+    record { job = job; is = held; good = good; run = taped }
+tapes_sim (Err why) takes refuses contents text script job first last output printed held good taped events (inl untaped) = (events, inl untaped)
+tapes_sim (Err why) takes refuses contents text script job first last output printed held good taped events (inr stopped) =
     (events, inr (job, (held, stopped)))
 
 -- the same through a passage that has its ports
@@ -52,8 +53,8 @@ pub tapes_passed : {P T O : Type 0} (r : Result ℕ Fault) (opens : Opens P) (pa
     → IfErr r (StopsTapedLoop passes takes refuses contents job.settings job.events.items between after first last output printed)
     → TapesPassed opens passes before after takes refuses contents text script r first last output printed
 tapes_passed (Ok status) opens passes takes refuses contents text script job before between after first last output printed texts held apart opened looped taped stopped = (
-  record { job = job; is = held; apart = apart; open_passage = between; opened = opened; run = looped },
-  record { job = job; is = held; open_passage = between; opened = opened; taped = taped },
+  record { job = job; is = held; good = texts.0.good; apart = apart; open_passage = between; opened = opened; run = looped },
+  record { job = job; is = held; good = texts.0.good; open_passage = between; opened = opened; taped = taped },
 )
 tapes_passed (Err why) opens passes takes refuses contents text script job before between after first last output printed texts held apart opened looped taped stopped = record {
   texts = texts.0;
@@ -65,31 +66,33 @@ tapes_passed (Err why) opens passes takes refuses contents text script job befor
 
 module _ {H T : Type 0} (takes : TakesOn T) (begins : Begins H T) (closes : Closes H T) where
   pub captured_of : {E : Type 0} (r : Result ℕ E) (path text script : List ℕ) (job : Job) (first last : T) (printed : Written) (status : ℕ) (host host2 : H)
-      → IsJobOf text script job → begins host path (Ok first) host2 → IfOk r (IsTapedRun takes job.settings job.events.items first last printed.before printed.after)
+      → IsJobOf text script job → first_bad_line script ≡ None → begins host path (Ok first) host2 → IfOk r (IsTapedRun takes job.settings job.events.items first last printed.before printed.after)
       → r ≡ Ok status → closes host2 last (Ok tt) → IsCaptured takes begins closes path text script printed status host host2
-  captured_of {E = E} r path text script job first last printed status host host2 held begun taped is ended = record {
+  captured_of {E = E} r path text script job first last printed status host host2 held good begun taped is ended = record {
     first = first;
     last = last;
     begun = begun;
     run = record {
       job = job;
       is = held;
+      good = good;
       run = subst (λ (x : Result ℕ E). IfOk x (IsTapedRun takes job.settings job.events.items first last printed.before printed.after)) is taped;
     };
     ended = ended;
   }
 
   pub loop_captured_of : {P E : Type 0} (r : Result ℕ E) (opens : Opens P) (passes : Passes P) (path text script : List ℕ) (job : Job) (first last : T)
-      (before between after : P) (status : ℕ) (host host2 : H) → IsJobOf text script job → opens before job.settings between → begins host path (Ok first) host2
+      (before between after : P) (status : ℕ) (host host2 : H) → IsJobOf text script job → first_bad_line script ≡ None → opens before job.settings between → begins host path (Ok first) host2
       → OnOk r (IsTapedLoop passes takes job.settings job.events.items between after first last)
       → r ≡ Ok status → closes host2 last (Ok tt) → IsLoopCaptured takes begins closes opens passes before after path text script host host2
-  loop_captured_of {E = E} r opens passes path text script job first last before between after status host host2 held opened begun taped is ended = record {
+  loop_captured_of {E = E} r opens passes path text script job first last before between after status host host2 held good opened begun taped is ended = record {
     first = first;
     last = last;
     begun = begun;
     run = record {
       job = job;
       is = held;
+      good = good;
       open_passage = between;
       opened = opened;
       taped = subst (λ (x : Result ℕ E). OnOk x (IsTapedLoop passes takes job.settings job.events.items between after first last)) is taped;

@@ -1,5 +1,5 @@
 -- A run that was taken down.
-use Rattle.std.proofs.Common.{◌≡◌, ◌∙◌, ◌⊎◌, inl, inr, ℕ, Option, Result, Ok, Err, IfErr, IfOk, ap, subst, sym}
+use Rattle.std.proofs.Common.{◌≡◌, ◌∙◌, ◌⊎◌, inl, inr, ℕ, None, Option, Result, Ok, Err, IfErr, IfOk, ap, subst, sym}
 use Rattle.faults.specs.Faults.{status_of}
 use Rattle.faults.specs.Jobs.{IsJobOf, TellsRun}
 use Rattle.faults.specs.declared.faults.Fault.{Fault}
@@ -9,17 +9,19 @@ use Rattle.commands.specs.Captures.{IsOfEvents}
 use Rattle.commands.specs.Meters.{HasHeard, HasHeardScript, Reads}
 use Rattle.frame_sim.specs.Tapes.{TakesOn}
 use Rattle.outlets.specs.Telling.{Telling}
+use Rattle.scripts.specs.Script.{first_bad_line}
 use Rattle.simulation.specs.Status.{RunsScript}
 use Rattle.simulation.specs.Stops.{FailsBy, Leaves}
 use Rattle.simulation.specs.Tapes.{IsTapedRun}
 
 -- it is a run of the job of two texts
 pub run_of : {E T : Type 0} (r : Result ℕ E) (takes : TakesOn T) (text script : List ℕ) (job : Job) (before after : T) (output printed : Option (List ℕ)) (status : ℕ)
-    → IsJobOf text script job → IfOk r (IsTapedRun takes job.settings job.events.items before after output printed) → r ≡ Ok status
+    → IsJobOf text script job → first_bad_line script ≡ None
+    → IfOk r (IsTapedRun takes job.settings job.events.items before after output printed) → r ≡ Ok status
     → RunsScript text script output printed status
-run_of {E = E} r takes text script job before after output printed status held taped is =
+run_of {E = E} r takes text script job before after output printed status held good taped is =
     let h = subst (λ (x : Result ℕ E). IfOk x (IsTapedRun takes job.settings job.events.items before after output printed)) is taped in
-    record { job = job; is = held; run = h.run; printed = h.text }
+    record { job = job; is = held; good = good; run = h.run; printed = h.text }
 
 -- what ends one has the status 1
 pub known : {T : Type 0} (r : Result T Fault) → IfErr r IsOfEvents

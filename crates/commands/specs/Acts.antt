@@ -17,7 +17,6 @@ use Rattle.outlets.specs.Telling.{IsTold, IsToldOf, Telling}
 use Rattle.simulation.specs.Status.{RunsScript}
 use Rattle.simulation.specs.Stops.{FailsBy}
 use Rattle.loopback_run.specs.Loops.{LoopsScript}
-use Rattle.loopback_run.specs.Standings.{Standing, unasked}
 use Rattle.loopback_run.specs.Stops.{FailsBy as FailsLoopBy, Opens, Refuses}
 use Rattle.loopback_run.specs.Turns.{Passes}
 use Rattle.box_words.specs.Deeds.{Does, HasListed, HasReported, HasSaid, HasSynced, HasTaken, HasUnlisted, HasUnmade, HasUnreported}
@@ -26,8 +25,8 @@ use Rattle.box_words.specs.Faults.{fault_text as box_text}
 use Rattle.box_words.specs.Said.{said_off, said_side, said_stop}
 use Rattle.box_words.specs.declared.refusals.BoxFault.{BoxFault}
 use Rattle.commands.specs.Asked.{filter_of, form_of}
-use Rattle.commands.specs.Captures.{IsCaptured, IsLoopCaptured, IsUnlooped, LeavesCapture, TapesPassed, TapesSim, Taping}
-use Rattle.commands.specs.Ends.{has_ports, may_pass, may_refuse, version_line}
+use Rattle.commands.specs.Captures.{HasJob, IsCaptured, IsLoopCaptured, IsOpened, IsUnlooped, LeavesCapture, TapesPassed, TapesSim, Taping}
+use Rattle.commands.specs.Ends.{version_line}
 use Rattle.commands.specs.Hosts.{Begins, Closes, HasWorked, Scene, Scope, Work, Works, compared, looked, plan_of, scope_of, served, text_at, written}
 use Rattle.commands.specs.Meters.{Hearing, IsToldBehind}
 use Rattle.commands.specs.Reading.{AreNotHad, AreRead, IsNotHad}
@@ -148,6 +147,10 @@ FailsLoop opens denies passes first last prints text script output printed why =
 abbrev pub Reasons : Type 1
 Reasons = List ℕ → List ℕ → Fault → Type 0
 
+-- what holds of them once it is to be begun
+abbrev pub Readies : Type 1
+Readies = List ℕ → List ℕ → Type 0
+
 module _ {S H T O E : Type 0} (does : Does S) (takes : TakesOn T) (begins : Begins H T) (closes : Closes H T) (prints : O → Option (List ℕ)) where
   -- just the files that are named were read, the settings first, and the script run with this status; so much of it was told; and
   -- it was captured just where the words name a file for that
@@ -173,10 +176,10 @@ module _ {S H T O E : Type 0} (does : Does S) (takes : TakesOn T) (begins : Begi
 module _ {S H T O E : Type 0} (does : Does S) (takes refuses : TakesOn T) (begins : Begins H T) (closes : Closes H T)
     (prints : O → Option (List ℕ)) where
   -- this fault ended the run of these texts: with a capture just where the words name a file for that
-  abbrev pub IsEnded : Failing O → Reasons → Taping T O → RunWords → List ℕ → List ℕ → Fault → Scene S H O E → Scene S H O E → Type 0
-  IsEnded fails reasons tapes files text script why before after =
+  abbrev pub IsEnded : Failing O → Reasons → Readies → Taping T O → RunWords → List ℕ → List ℕ → Fault → Scene S H O E → Scene S H O E → Type 0
+  IsEnded fails reasons readies tapes files text script why before after =
       MatchOption files.capture (IsUncaptured before after × fails text script before.output after.output why)
-      (λ path. LeavesCapture begins closes (string_bytes path) (reasons text script)
+      (λ path. LeavesCapture begins closes (string_bytes path) (reasons text script) (readies text script)
       (λ run first last. tapes text script run first last before.output after.output) why
       before.host after.host before.output after.output)
 
@@ -187,14 +190,14 @@ module _ {S H T O E : Type 0} (does : Does S) (takes refuses : TakesOn T) (begin
     pub script : List ℕ
     pub are_read : AreRead does (string_bytes files.settings) (string_bytes files.script) text script before.site after.site
     pub told : IsToldBehind tells (overhears text script)
-        (λ why. IsEnded (FailsSim prints) TellsRun (TapesSim takes refuses prints) files text script why before after) before.errors after.errors
+        (λ why. IsEnded (FailsSim prints) TellsRun HasJob (TapesSim takes refuses prints) files text script why before after) before.errors after.errors
 
   -- the same through a passage, by what that was and is then: nothing is heard, and this is the fault
   pub record IsEndedLoop {P : Type 0} (opens : Opens P) (denies : Refuses P) (passes : Passes P) (first last : P) (files : RunWords) (why : Fault) (before after : Scene S H O E) : Type 0 where
     pub text : List ℕ
     pub script : List ℕ
     pub are_read : AreRead does (string_bytes files.settings) (string_bytes files.script) text script before.site after.site
-    pub ended : IsEnded (FailsLoop opens denies passes first last prints) (IsUnlooped denies first last)
+    pub ended : IsEnded (FailsLoop opens denies passes first last prints) (IsUnlooped denies first last) (IsOpened opens first last)
         (TapesPassed opens passes first last takes refuses prints) files text script why before after
 
   -- or one of the files wasn't had, and nothing else was done
@@ -222,6 +225,11 @@ module _ {S H T O E : Type 0} (does : Does S) (takes refuses : TakesOn T) (begin
 
 -- ---- each task
 
+-- only `loop` asks a passage for anything
+abbrev pub IsSpared : {P : Type 0} → Task → P → P → Type 0
+IsSpared (task.Loop files) first last = Unit {0}
+IsSpared others first last = last ≡ first
+
 -- What is done for a task that ends with this status. A status of 0 says of `init` that just the boot file that is named was made; of
 -- `stop`, `peer-off`, `side`, `status` and `pairs` that the settings that are named were read, and then just the box that is named was
 -- said just what the words say, and heard it, or took it, or was asked, and answered, and its answer was written. A status of 0 or 3 says
@@ -232,34 +240,34 @@ module _ {S H T O E : Type 0} (does : Does S) (takes refuses : TakesOn T) (begin
 -- words say, as they say it, and `gate` has just one gateway run, as they say; what the host told is told, and nothing else. Neither
 -- `gate` nor the version does anything at the site; only `sim` and `loop` begin a capture; and `init`, `stop`, `peer-off`, `side` and
 -- `status --until synced` print nothing.
-module _ {S H T O E : Type 0} (does : Does S) (works : Works Work H) (takes refuses : TakesOn T) (begins : Begins H T) (closes : Closes H T)
-    (prints : O → Option (List ℕ)) (tells : Telling E) (hears overhears : Hearing E) where
-  abbrev pub Acts : Task → ℕ → Scene S H O E → Scene S H O E → Type 0
-  Acts (task.Init file) status before after = IsUnprinted before after
+module _ {S H T P O E : Type 0} (does : Does S) (works : Works Work H) (takes refuses : TakesOn T) (begins : Begins H T) (closes : Closes H T)
+    (opens : Opens P) (denies : Refuses P) (passes : Passes P) (prints : O → Option (List ℕ)) (tells : Telling E) (hears overhears : Hearing E) where
+  abbrev pub Acts : P → P → Task → ℕ → Scene S H O E → Scene S H O E → Type 0
+  Acts first last (task.Init file) status before after = IsUnprinted before after
       × EndsSo tells (λ b a. does b (made (string_bytes file)) a) (HasUnmade does (string_bytes file)) status before after
-  Acts (task.Check words) status before after = IsUncaptured before after × (status ≡ 0 → IsUntold before after)
+  Acts first last (task.Check words) status before after = IsUncaptured before after × (status ≡ 0 → IsUntold before after)
       × HasLooked does works prints tells words status before after
-  Acts (task.Gate words) status before after = (after.site ≡ before.site) × (status ≡ 0 → IsUntold before after)
+  Acts first last (task.Gate words) status before after = (after.site ≡ before.site) × (status ≡ 0 → IsUntold before after)
       × HasWorked tells works (served (plan_of words)) (written prints before.output after.output) status before.host after.host
       before.errors after.errors
-  Acts (task.Status words) status before after = (words.until_synced ≡ true → IsUnprinted before after)
+  Acts first last (task.Status words) status before after = (words.until_synced ≡ true → IsUnprinted before after)
       × EndsSo tells (IsAsked does words (prints before.output) (prints after.output)) (λ why. IsAskedInVain does prints words why before.output after.output) status before after
-  Acts (task.Pairs words) status before after = EndsSo tells
+  Acts first last (task.Pairs words) status before after = EndsSo tells
       (HasListed does (string_bytes words.settings) words.id (filter_of words) (prints before.output) (prints after.output))
       (λ why. HasUnlisted does prints (string_bytes words.settings) words.id (filter_of words) why before.output after.output) status before after
-  Acts (task.Stop settings id) status before after = IsUnprinted before after
+  Acts first last (task.Stop settings id) status before after = IsUnprinted before after
       × EndsSo tells (HasSaid does (string_bytes settings) id (Some said_stop)) (HasUnsaid does (string_bytes settings) id (Some said_stop))
       status before after
-  Acts (task.PeerOff words) status before after = IsUnprinted before after
+  Acts first last (task.PeerOff words) status before after = IsUnprinted before after
       × EndsSo tells (HasTaken does (string_bytes words.settings) words.id (Some (said_off words.boot words.force)))
       (HasUntaken does (string_bytes words.settings) words.id (Some (said_off words.boot words.force))) status before after
-  Acts (task.Side settings id side up) status before after = IsUnprinted before after
+  Acts first last (task.Side settings id side up) status before after = IsUnprinted before after
       × EndsSo tells (HasSaid does (string_bytes settings) id (Some (said_side side up)))
       (HasUnsaid does (string_bytes settings) id (Some (said_side side up))) status before after
-  Acts (task.Sim files) status before after =
+  Acts first last (task.Sim files) status before after =
       ((status ≡ 0) ⊎ (status ≡ 3) → HasRunOf does takes begins closes prints hears files status before after)
       × (status ≡ 1 → EndsSim does takes refuses begins closes prints tells overhears files before after)
-  Acts (task.Loop files) status before after = (last : Standing)
-      × Repeats does takes refuses begins closes prints tells has_ports may_refuse may_pass unasked last files status before after
-  Acts task.Version status before after = (after.site ≡ before.site) × IsUncaptured before after × (status ≡ 0 → IsUntold before after)
+  Acts first last (task.Loop files) status before after =
+      Repeats does takes refuses begins closes prints tells opens denies passes first last files status before after
+  Acts first last task.Version status before after = (after.site ≡ before.site) × IsUncaptured before after × (status ≡ 0 → IsUntold before after)
       × (status ≡ 1 → IsTold tells before.errors (fault_text NotWritten) after.errors × IsBegun (prints before.output) (prints after.output) version_line)

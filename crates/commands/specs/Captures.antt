@@ -14,6 +14,7 @@ use Rattle.faults.specs.declared.faults.Fault.{Fault}
 use Rattle.faults.specs.declared.faults.Fault.TheVariants as fault
 use Rattle.faults.specs.declared.files.Refusal.TheVariants.{Exists, NotWritten}
 use Rattle.frame_sim.specs.Tapes.{TakesOn}
+use Rattle.scripts.specs.Script.{first_bad_line}
 use Rattle.simulation.specs.Tapes.{StopsTapedScript, TapesScript}
 use Rattle.loopback_run.specs.Loops.{LoopsScript, TellsLoop}
 use Rattle.loopback_run.specs.Stops.{HoldJob, Opens, Refuses}
@@ -65,6 +66,15 @@ pub record IsUnlooped {P : Type 0} (refuses : Refuses P) (before after : P) (tex
   pub told : TellsLoop text script why
   pub unopened : IsUnopened refuses text script before after why
 
+-- both texts are good: they hold a job
+abbrev pub HasJob : List ℕ → List ℕ → Type 0
+HasJob text script = (job : Job) × (IsJobOf text script job × (first_bad_line script ≡ None))
+
+-- both texts are good, and the passage is what it was once it had the ports of their settings: it was asked for nothing since
+pub record IsOpened {P : Type 0} (opens : Opens P) (before after : P) (text script : List ℕ) : Type 0 where
+  pub texts : HoldJob text script
+  pub opened : opens before texts.job.settings after
+
 -- a run of events ends early: what takes it down or its output is refused, or memory
 abbrev pub IsOfEvents : Fault → Type 0
 IsOfEvents why = (why ≡ fault.NotWritten) ⊎ (why ≡ fault.NoMemory)
@@ -113,10 +123,11 @@ module _ {H T : Type 0} (begins : Begins H T) (closes : Closes H T) where
     pub told : IsOfEnd path run written why
 
   -- What a fault leaves that ends a run with a capture in the file at a path: none was begun, for such a fault of the texts or the ports,
-  -- which is never that output was refused, or since it couldn't be, and nothing was printed; or it was begun and broken off
-  abbrev pub LeavesCapture : {O : Type 0} → List ℕ → (Fault → Type 0) → (Result ℕ Fault → T → T → Type 0) → Fault → H → H → O → O → Type 0
-  LeavesCapture path is_early tapes why before after output printed =
-      ((printed ≡ output) × (((after ≡ before) × (is_early why × (why ≢ fault.NotWritten))) ⊎ IsUnbegun path why before after))
+  -- which is never that output was refused, or, where all was ready for it, since it couldn't be; and nothing was printed. Or it was begun
+  -- and broken off
+  abbrev pub LeavesCapture : {O : Type 0} → List ℕ → (Fault → Type 0) → Type 0 → (Result ℕ Fault → T → T → Type 0) → Fault → H → H → O → O → Type 0
+  LeavesCapture path is_early is_ready tapes why before after output printed =
+      ((printed ≡ output) × (((after ≡ before) × (is_early why × (why ≢ fault.NotWritten))) ⊎ (is_ready × IsUnbegun path why before after)))
       ⊎ IsBrokenOff path tapes why before after
 
 module _ {H T : Type 0} (takes : TakesOn T) (begins : Begins H T) (closes : Closes H T) where

@@ -1,5 +1,6 @@
 -- What comes of works on this machine.
-use Rattle.std.specs.Prelude.{◌≡◌, ◌⊎◌, ℕ, Bool, false, List, [], ◌∷◌, ◌++◌}
+use Rattle.std.specs.Prelude.{◌≡◌, ◌⊎◌, ℕ, Bool, false, List, [], ◌∷◌, ◌++◌, Result, Ok, Err}
+use Rattle.std.specs.declared.io.ErrorKind.{ErrorKind}
 use Rattle.outlets.specs.Telling.{IsToldOf, Telling}
 use Rattle.checks.specs.Comparing.{HasCompared}
 use Rattle.checks.specs.Reports.{HasChecked}
@@ -41,6 +42,24 @@ WorksHere finds takes serves before (compared one other) printed lines status af
     × HasCompared (λ o. o) lists first second printed.before printed.after [] lines status
 WorksHere finds takes serves before (served plan) printed lines status after = (start : Start)
     × (plan_in start ≡ plan) × serves before start printed lines status after
+
+-- A capture was begun in the file at this path. It is no more than a name for the call, as are those below it: who makes the call has it,
+-- and nobody else.
+unfoldable pub WasBegun : {T : Type 0} → List ℕ → T → Type 0
+WasBegun path capture = Unit {0}
+
+-- it was to be, and couldn't, for this cause
+unfoldable pub WasUnbegun : List ℕ → ErrorKind → Type 0
+WasUnbegun path cause = Unit {0}
+
+-- it was to be ended, and this was answered
+unfoldable pub WasEnded : {T : Type 0} → T → Result (Unit {0}) ErrorKind → Type 0
+WasEnded capture answer = Unit {0}
+
+-- how a capture is begun in the file at a path
+abbrev pub IsBegunAt : {T : Type 0} → List ℕ → Result T ErrorKind → Type 0
+IsBegunAt path (Ok capture) = WasBegun path capture
+IsBegunAt path (Err cause) = WasUnbegun path cause
 
 -- a capture is as it is begun: its clocks are those of a beginning, and nothing was refused yet
 abbrev pub IsFresh : Moments → Bool → Type 0

@@ -5,7 +5,7 @@ use Rattle.command_line.specs.Tasks.{IsAnswer, Refuses}
 use Rattle.command_line.specs.declared.faults.LineFault.{LineFault}
 use Rattle.command_line.specs.declared.tasks.Task.{Task}
 use Rattle.outlets.specs.Telling.{Telling}
-use Rattle.commands.specs.Acts.{IsUncaptured, IsUnprinted}
+use Rattle.commands.specs.Acts.{IsSpared, IsUncaptured, IsUnprinted}
 use Rattle.commands.specs.Hosts.{Scene, scene}
 
 -- the words are refused, and not for want of memory
@@ -28,18 +28,25 @@ pub record IsRefusal {S H O E : Type 0} (tells : Telling E) (words : List (List 
   pub unprinted : IsUnprinted before after
   pub told : IsFaultTold tells before.errors fault after.errors
 
--- they ask for a task, which was done so; or they are refused
-abbrev pub HasActed : {S H O E : Type 0} → Telling E → (Task → ℕ → Scene S H O E → Scene S H O E → Type 0) → List (List ℕ) → ℕ
-    → Scene S H O E → Scene S H O E → Type 0
-HasActed tells acts words status before after =
-    ((asked : Task) × (IsAnswer words asked × acts asked status before after)) ⊎ IsRefusal tells words status before after
+-- what is done for a task with this status, by what a passage was and is then
+abbrev pub ActsBy : Type 0 → Type 0 → Type 0 → Type 0 → Type 0 → Type 1
+ActsBy S H P O E = P → P → Task → ℕ → Scene S H O E → Scene S H O E → Type 0
 
--- the same at some site and by some host, where who watches hears by some clock
-pub record HasActedSomewhere {S H C O E : Type 0} (tells : Telling E) (acts : C → Task → ℕ → Scene S H O E → Scene S H O E → Type 0) (words : List (List ℕ)) (status : ℕ)
+-- they ask for a task, which was done so, and only `loop` asked the passage for anything; or they are refused, and nothing did
+abbrev pub HasActed : {S H P O E : Type 0} → Telling E → ActsBy S H P O E → P → P → List (List ℕ) → ℕ → Scene S H O E → Scene S H O E → Type 0
+HasActed tells acts first last words status before after =
+    ((asked : Task) × (IsAnswer words asked × (IsSpared asked first last × acts first last asked status before after)))
+    ⊎ ((last ≡ first) × IsRefusal tells words status before after)
+
+-- the same at some site, by some host and through some new passage, where who watches hears by some clock
+pub record HasActedSomewhere {S H P C O E : Type 0} (tells : Telling E) (is_new : P → Type 0) (acts : C → ActsBy S H P O E) (words : List (List ℕ)) (status : ℕ)
     (output printed : O) (before after : E) : Type 0 where
   pub site : S
   pub left : S
   pub host : H
   pub behind : H
+  pub first : P
+  pub last : P
+  pub first_is : is_new first
   pub clock : C
-  pub acted : HasActed tells (acts clock) words status (scene site host output before) (scene left behind printed after)
+  pub acted : HasActed tells (acts clock) first last words status (scene site host output before) (scene left behind printed after)

@@ -1,11 +1,11 @@
 //! The file of a capture.
 ghost use Rattle.std.specs.IoError.{error_kind};
-ghost use Rattle.std.specs.Prelude.{◌≡◌, ◌⊎◌, is_err, false, true, Ok, IfErr, IfOk};
+ghost use Rattle.std.specs.Prelude.{◌≡◌, ◌⊎◌, is_err, false, true, Err, Ok, IfErr, IfOk, IsErr, OnOk};
 ghost use Rattle.faults.specs.Faults.{status_of};
 ghost use Rattle.faults.specs.Texts.{fault_text};
 ghost use Rattle.outlets.specs.Telling.{IsToldOf};
 ghost use Rattle.commands.specs.Captures.{IsOfCapture, IsOfEnd};
-ghost use Rattle.commands.specs.Here.{IsFresh};
+ghost use Rattle.commands.specs.Here.{IsFresh, WasBegun, WasEnded, WasUnbegun};
 
 use captures::{Reader, open};
 use faults::{Fault, Job};
@@ -21,15 +21,32 @@ use std::io::{self, BufWriter, Write};
 /// # Errors
 ///
 /// `AlreadyExists` where it is a regular file that has something else, and keeps it; where it can't be made or written.
+#[tactic(auto, unfolding(crate::specs::Here::WasBegun, crate::specs::Here::WasUnbegun))]
 pub(crate) fn capture_at<R: Files + AllocGlobal>(
     rt: &R,
     path: &str,
     _job: &Job,
 ) -> io::Result<Capture<BufWriter<R::File>>>
     ensures fresh { IfOk result (λ capture. IsFresh capture.clocks capture.is_refused) }
+    ensures begun { IfOk result (WasBegun path.now) }
+    ensures unbegun { IfErr result (λ error. WasUnbegun path.now (error_kind error)) }
 {
     let file = open(rt, path, Reader::Awaited)?.clear()?;
     Capture::begin(BufWriter::new(rt.alloc(), file)?)
+}
+
+/// Ends a capture: all of it is handed on.
+///
+/// # Errors
+///
+/// Where that is refused, or something was refused before.
+#[tactic(auto, unfolding(crate::specs::Here::WasEnded))]
+pub(crate) fn end_of<W: Write + Drop>(mut capture: Capture<W>) -> io::Result<()>
+    ensures refused { capture.is_refused ≡ true → IsErr result }
+    ensures ended { OnOk result (WasEnded capture (Ok tt)) }
+    ensures unended { IfErr result (λ error. WasEnded capture (Err (error_kind error))) }
+{
+    capture.end()
 }
 
 /// Tells why a capture couldn't be begun or written, and gives the exit status.

@@ -4,8 +4,9 @@ ghost use Rattle.command_line.specs.Line.{AskVersion, MayAskVersion};
 ghost use Rattle.command_line.specs.Tasks.{FoundsAtZero};
 ghost use Rattle.commands.specs.Words.{AreRefused, HasActed, HasActedSomewhere, IsRefusalTold};
 ghost use Rattle.commands.specs.Asked.{format_of};
-ghost use Rattle.commands.specs.Acts.{Acts};
-ghost use Rattle.commands.specs.Ends.{AreDone, Ends};
+ghost use Rattle.loopback_run.specs.Standings.{IsUnasked};
+ghost use Rattle.commands.specs.Acts.{Acts, IsSpared};
+ghost use Rattle.commands.specs.Ends.{AreDone, AreDoneAnew, Ends};
 ghost use Rattle.commands.specs.Hosts.{scene};
 ghost use Rattle.commands.specs.Meters.{Overhears, Watches};
 
@@ -20,7 +21,7 @@ use command_line::{GateWords, Task, WayWords, command};
 use frame_sim::Tape;
 use gate::{Start, WayTexts, init};
 use journal::Format;
-use loopback_run::Loopback;
+use loopback_run::{Channel, Loopback};
 use outlets::Tells;
 use rounds::{Clockwork, Stopwatch};
 use simulation::Capture;
@@ -55,32 +56,54 @@ where
         → ¬ (MayAskVersion (map string_bytes words.now)) → (result ≡ 1) ⊎ (result ≡ 2) }
     ensures version { AskVersion (map string_bytes words.now)
         → (result ≡ 0) ⊎ (result ≡ 1) }
-    ensures done { (result ≡ 0) ⊎ (result ≡ 3) → AreDone (map string_bytes words.now)
-        (O.contents output.old) (O.contents output.new) result }
+    ensures done { (result ≡ 0) ⊎ (result ≡ 3) → AreDoneAnew IsUnasked
+        ⟦<Loopback<'static, R> as Channel>⟧.opens ⟦<Loopback<'static, R> as Channel>⟧.passes
+        (map string_bytes words.now) (O.contents output.old) (O.contents output.new) result }
     ensures quiet { is_watched ≡ false → (result ≡ 0) ⊎ (result ≡ 3) → errors.new ≡ errors.old }
     ensures most { result ≤ 3 }
-    ensures acts { HasActedSomewhere E.tells (λ clock. Acts ⟦<Machine<'static, R> as Site>⟧.does
+    ensures acts { HasActedSomewhere E.tells IsUnasked
+        (λ clock. Acts ⟦<Machine<'static, R> as Site>⟧.does
         ⟦<ThisHost<'static, R, SystemServes<'static, R>> as Host>⟧.works
         ⟦<Capture<BufWriter<R::File>> as Tape>⟧.takes
         ⟦<Capture<BufWriter<R::File>> as Tape>⟧.refuses
         ⟦<ThisHost<'static, R, SystemServes<'static, R>> as Host>⟧.begins
-        ⟦<ThisHost<'static, R, SystemServes<'static, R>> as Host>⟧.ends O.contents E.tells
+        ⟦<ThisHost<'static, R, SystemServes<'static, R>> as Host>⟧.ends
+        ⟦<Loopback<'static, R> as Channel>⟧.opens ⟦<Loopback<'static, R> as Channel>⟧.refuses
+        ⟦<Loopback<'static, R> as Channel>⟧.passes O.contents E.tells
         (Watches is_watched ⟦<Stopwatch<'static, R> as Clockwork>⟧.reads E.tells clock)
         (Overhears is_watched ⟦<Stopwatch<'static, R> as Clockwork>⟧.reads E.tells clock))
         (map string_bytes words.now) result output.old output.new errors.old errors.new }
 {
     let (mut site, mut host, clock) = (Machine::new(rt), ThisHost::new(rt), Stopwatch::start(rt));
+    let mut passage = Loopback::new(rt);
     act_at(
-        rt, &mut site, &mut host, clock, words, is_watched, output, errors,
+        rt,
+        &mut site,
+        &mut host,
+        &mut passage,
+        clock,
+        words,
+        is_watched,
+        output,
+        errors,
     )
 }
 
-/// The same at a site and by a host, where who watches a script hears by a clock how far it is: the task of the words is
+/// The same at a site, by a host and through a passage, where who watches a script hears by a clock how far it is: the task of the words is
 /// done; or just why they ask for none is told.
-fn act_at<R: Net + Clock + AllocGlobal, S: Site, H: Host, C: Clockwork + Drop, O: Write, E: Tells>(
+fn act_at<
+    R: Clock + AllocGlobal,
+    S: Site,
+    H: Host,
+    P: Channel,
+    C: Clockwork + Drop,
+    O: Write,
+    E: Tells,
+>(
     rt: &R,
     site: &mut S,
     host: &mut H,
+    passage: &mut P,
     clock: C,
     words: &[String],
     is_watched: bool,
@@ -95,28 +118,41 @@ fn act_at<R: Net + Clock + AllocGlobal, S: Site, H: Host, C: Clockwork + Drop, O
         → ¬ (MayAskVersion (map string_bytes words.now)) → (result ≡ 1) ⊎ (result ≡ 2) }
     ensures version { AskVersion (map string_bytes words.now)
         → (result ≡ 0) ⊎ (result ≡ 1) }
-    ensures done { (result ≡ 0) ⊎ (result ≡ 3) → AreDone (map string_bytes words.now)
-        (O.contents output.old) (O.contents output.new) result }
+    ensures done { (result ≡ 0) ⊎ (result ≡ 3) → AreDone P.opens P.passes passage.old
+        (map string_bytes words.now) (O.contents output.old) (O.contents output.new) result }
     ensures quiet { is_watched ≡ false → (result ≡ 0) ⊎ (result ≡ 3) → errors.new ≡ errors.old }
     ensures most { result ≤ 3 }
     ensures acts { HasActed E.tells (Acts S.does H.works H.Record.takes H.Record.refuses
-        H.begins H.ends O.contents E.tells (Watches is_watched C.reads E.tells clock)
-        (Overhears is_watched C.reads E.tells clock))
+        H.begins H.ends P.opens P.refuses P.passes O.contents E.tells
+        (Watches is_watched C.reads E.tells clock)
+        (Overhears is_watched C.reads E.tells clock)) passage.old passage.new
         (map string_bytes words.now) result (scene site.old host.old output.old errors.old)
         (scene site.new host.new output.new errors.new) }
 {
     match command(rt.alloc(), words) {
-        Ok(task) => done(rt, site, host, clock, &task, is_watched, output, errors),
+        Ok(task) => done(
+            rt, site, host, passage, clock, &task, is_watched, output, errors,
+        ),
         Err(fault) => fault.tell(rt.alloc(), errors),
     }
 }
 
 /// Does a task: files are read, boxes are spoken to, and boot files made, at a site; a host looks at settings and runs
-/// gateways; and who watches a script hears by a clock how far it is.
-fn done<R: Net + Clock + AllocGlobal, S: Site, H: Host, C: Clockwork + Drop, O: Write, E: Tells>(
+/// gateways; what a script of `loop` hands in goes through a passage; and who watches a script of `sim` hears by a clock how
+/// far it is.
+fn done<
+    R: Clock + AllocGlobal,
+    S: Site,
+    H: Host,
+    P: Channel,
+    C: Clockwork + Drop,
+    O: Write,
+    E: Tells,
+>(
     rt: &R,
     site: &mut S,
     host: &mut H,
+    passage: &mut P,
     clock: C,
     task: &Task,
     is_watched: bool,
@@ -126,12 +162,14 @@ fn done<R: Net + Clock + AllocGlobal, S: Site, H: Host, C: Clockwork + Drop, O: 
     requires found { FoundsAtZero task.now }
     ensures status { (result ≡ 0) ⊎ ((result ≡ 1) ⊎ (result ≡ 3)) }
     ensures done { (result ≡ 0) ⊎ (result ≡ 3)
-        → Ends (O.contents output.old) (O.contents output.new) task.now result }
+        → Ends P.opens P.passes passage.old (O.contents output.old) (O.contents output.new)
+        task.now result }
     ensures quiet { is_watched ≡ false → (result ≡ 0) ⊎ (result ≡ 3) → errors.new ≡ errors.old }
+    ensures spared { IsSpared task.now passage.old passage.new }
     ensures acts { Acts S.does H.works H.Record.takes H.Record.refuses H.begins H.ends
-        O.contents E.tells
+        P.opens P.refuses P.passes O.contents E.tells
         (Watches is_watched C.reads E.tells clock)
-        (Overhears is_watched C.reads E.tells clock) task.now result
+        (Overhears is_watched C.reads E.tells clock) passage.old passage.new task.now result
         (scene site.old host.old output.old errors.old)
         (scene site.new host.new output.new errors.new) }
 {
@@ -154,10 +192,7 @@ fn done<R: Net + Clock + AllocGlobal, S: Site, H: Host, C: Clockwork + Drop, O: 
             up,
         } => side(alloc, site, settings.as_str(), *id, *told, *up, errors),
         Task::Sim(files) => sim(alloc, site, host, clock, files, is_watched, output, errors),
-        Task::Loop(files) => {
-            let mut passage = Loopback::new(rt);
-            repeat(alloc, site, host, &mut passage, files, output, errors)
-        }
+        Task::Loop(files) => repeat(alloc, site, host, passage, files, output, errors),
         Task::Version => tell_version(alloc, output, errors),
     }
 }

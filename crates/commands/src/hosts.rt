@@ -4,10 +4,10 @@ ghost use Rattle.std.specs.Prelude.{◌≡◌, ◌⊎◌, Err, IfErr, IfOk, IsEr
 ghost use Rattle.nat_types.specs.declared.gateways.GatewayId.TheVariants.{Zero};
 ghost use Rattle.checks.specs.Counts.{AreAlike, IsCleanText, IsGoodText};
 ghost use Rattle.gate.specs.Served.{HasServed};
-ghost use Rattle.commands.specs.Here.{IsFresh, WorksHere};
+ghost use Rattle.commands.specs.Here.{IsBegunAt, IsFresh, WasEnded, WorksHere};
 ghost use Rattle.commands.specs.Hosts.{HasWorked, compared, looked, plan_in, scope_in, served, text_in, written};
 
-use crate::capture_files::capture_at;
+use crate::capture_files::{capture_at, end_of};
 use crate::serving::{Serves, SystemServes};
 use boot_file::Lockable;
 use checks::{Request, Source, Surroundings, ThisMachine, check, compare};
@@ -113,17 +113,18 @@ where
 
     type Record = Capture<BufWriter<R::File>>;
 
-    ghost begins = { λ host _ answer host2. (host2.1 ≡ host.1)
+    ghost begins = { λ host path answer host2. (host2.1 ≡ host.1) × IsBegunAt path answer
         × IfOk answer (λ tape. IsFresh tape.clocks tape.is_refused) };
 
-    ghost ends = { λ _ tape answer. tape.is_refused ≡ true → IsErr answer };
+    ghost ends = { λ _ tape answer. WasEnded tape answer
+        × (tape.is_refused ≡ true → IsErr answer) };
 
     fn begin(&mut self, path: &str, job: &Job) -> io::Result<Capture<BufWriter<R::File>>> {
         capture_at(self.0, path, job)
     }
 
-    fn end(&self, mut tape: Capture<BufWriter<R::File>>) -> io::Result<()> {
-        tape.end()
+    fn end(&self, tape: Capture<BufWriter<R::File>>) -> io::Result<()> {
+        end_of(tape)
     }
 
     fn look<O: Write, E: Tells>(

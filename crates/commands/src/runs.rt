@@ -13,7 +13,7 @@ ghost use Rattle.simulation.specs.Status.{RunsScript};
 ghost use Rattle.simulation.specs.Tapes.{IsTapedRun, StopsTaped};
 ghost use Rattle.simulation.specs.Watched.{IsToldAll, IsToldPart, OverhearsScript, WatchesScript};
 ghost use Rattle.commands.specs.Acts.{EndsSim, FailsSim, HasRunOf, Repeats};
-ghost use Rattle.commands.specs.Captures.{IsCaptured, IsHeldBy, IsLoopCaptured, IsOfEvents, IsOfPorts, IsUnlooped, IsUnopened, LeavesCapture, TapesPassed, TapesSim};
+ghost use Rattle.commands.specs.Captures.{HasJob, IsCaptured, IsHeldBy, IsLoopCaptured, IsOfEvents, IsOfPorts, IsOpened, IsUnlooped, IsUnopened, LeavesCapture, TapesPassed, TapesSim};
 ghost use Rattle.commands.specs.Hosts.{scene, written};
 ghost use Rattle.commands.specs.Meters.{HasHeard, HasHeardScript, HasOverheard, HasOverheardScript, Hears, IsToldBehind, Overhears, Watches, telling};
 ghost use Rattle.commands.specs.Reading.{AreNotHad, AreRead};
@@ -178,6 +178,7 @@ fn sim_captured<H: Host, C: Clockwork + Drop, O: Write, E: Tells>(
     ensures failed { result ≡ 1 → IsToldBehind E.tells
         (Overhears is_watched C.reads E.tells clock settings.now script.now)
         (λ why. LeavesCapture H.begins H.ends path.now (TellsRun settings.now script.now)
+        (HasJob settings.now script.now)
         (λ run first last. TapesSim H.Record.takes H.Record.refuses O.contents settings.now
         script.now run first last output.old output.new) why
         host.old host.new output.old output.new) errors.old errors.new }
@@ -310,6 +311,7 @@ fn repeat_captured<H: Host, P: Channel, O: Write, E: Tells>(
     ensures failed { result ≡ 1 → IsToldOf E.tells fault_text
         (λ why. LeavesCapture H.begins H.ends path.now
         (IsUnlooped P.refuses passage.old passage.new settings.now script.now)
+        (IsOpened P.opens passage.old passage.new settings.now script.now)
         (λ run first last. TapesPassed P.opens P.passes passage.old passage.new H.Record.takes
         H.Record.refuses O.contents settings.now script.now run first last
         output.old output.new) why host.old host.new output.old output.new)
@@ -322,7 +324,7 @@ fn repeat_captured<H: Host, P: Channel, O: Write, E: Tells>(
                 let written = host.end(tape);
                 ended(alloc, run, written, path, errors)
             }
-            Err(error) => unmade(alloc, &error, path, errors),
+            Err(why) => unmade(alloc, &why, path, errors),
         },
         Err(fault) => fault.tell(alloc, errors),
     }

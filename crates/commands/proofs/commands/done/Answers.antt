@@ -2,7 +2,6 @@ use Rattle.std.proofs.Common.{refl}
 use Rattle.commands.proofs.Statuses.{is_0}
 use Rattle.std.specs.Prelude.{string_bytes}
 use Rattle.commands.proofs.Looking.{looked}
-use Rattle.commands.proofs.Passing.{has_loop, repeats_from}
 use Rattle.commands.proofs.commands.done.Goals as goal
 
 pub returns-in-Init-clause-done : goal.returns-in-Init-clause-done
@@ -48,7 +47,8 @@ returns-in-Sim-clause-done g c h =
 
 pub returns-in-Loop-clause-done : goal.returns-in-Loop-clause-done
 returns-in-Loop-clause-done g c h =
-    rw c.in-Loop.is (has_loop _ _ _ _ _ _ _ c.new-passage.ensures (c.repeat.ensures.repeats.0 h).run)
+    let ran = c.repeat.ensures.repeats.0 h in
+    rw c.in-Loop.is (record { text = ran.text; script = ran.script; last = _; run = ran.run })
 
 pub returns-in-Version-clause-done : goal.returns-in-Version-clause-done
 returns-in-Version-clause-done g c h =
@@ -129,8 +129,7 @@ pub returns-in-Sim-clause-acts : goal.returns-in-Sim-clause-acts
 returns-in-Sim-clause-acts g c = rw c.in-Sim.is (c.sim.ensures.named, c.sim.ensures.failed)
 
 pub returns-in-Loop-clause-acts : goal.returns-in-Loop-clause-acts
-returns-in-Loop-clause-acts g c = rw c.in-Loop.is (repeats_from g.S.Site.does g.H.Record.Tape.takes g.H.Record.Tape.refuses g.H.Host.begins g.H.Host.ends g.O.Write.contents
-    g.E.Tells.tells _ _ _ _ _ _ c.new-passage.ensures c.repeat.ensures.repeats)
+returns-in-Loop-clause-acts g c = rw c.in-Loop.is c.repeat.ensures.repeats
 
 pub returns-in-Version-clause-acts : goal.returns-in-Version-clause-acts
 returns-in-Version-clause-acts g c = rw c.in-Version.is (refl, refl, c.tell_version.ensures.quiet, λ one. (c.tell_version.ensures.told one, c.tell_version.ensures.begun one))
@@ -167,3 +166,36 @@ returns-in-Sim-clause-quiet g c unwatched h = (c.sim.ensures.named h).told.1 unw
 
 pub returns-in-Loop-clause-quiet : goal.returns-in-Loop-clause-quiet
 returns-in-Loop-clause-quiet g c unwatched h = (c.repeat.ensures.repeats.0 h).quiet
+
+pub returns-in-Init-clause-spared : goal.returns-in-Init-clause-spared
+returns-in-Init-clause-spared g c = rw c.in-Init.is refl
+
+pub returns-in-Check-clause-spared : goal.returns-in-Check-clause-spared
+returns-in-Check-clause-spared g c = rw c.in-Check.is refl
+
+pub returns-in-Gate-clause-spared : goal.returns-in-Gate-clause-spared
+returns-in-Gate-clause-spared g c = rw c.in-Gate.is refl
+
+pub returns-in-Status-clause-spared : goal.returns-in-Status-clause-spared
+returns-in-Status-clause-spared g c = rw c.in-Status.is refl
+
+pub returns-in-Pairs-clause-spared : goal.returns-in-Pairs-clause-spared
+returns-in-Pairs-clause-spared g c = rw c.in-Pairs.is refl
+
+pub returns-in-Stop-clause-spared : goal.returns-in-Stop-clause-spared
+returns-in-Stop-clause-spared g c = rw c.in-Stop.is refl
+
+pub returns-in-PeerOff-clause-spared : goal.returns-in-PeerOff-clause-spared
+returns-in-PeerOff-clause-spared g c = rw c.in-PeerOff.is refl
+
+pub returns-in-Side-clause-spared : goal.returns-in-Side-clause-spared
+returns-in-Side-clause-spared g c = rw c.in-Side.is refl
+
+pub returns-in-Sim-clause-spared : goal.returns-in-Sim-clause-spared
+returns-in-Sim-clause-spared g c = rw c.in-Sim.is refl
+
+pub returns-in-Version-clause-spared : goal.returns-in-Version-clause-spared
+returns-in-Version-clause-spared g c = rw c.in-Version.is refl
+
+pub returns-in-Loop-clause-spared : goal.returns-in-Loop-clause-spared
+returns-in-Loop-clause-spared g c = rw c.in-Loop.is tt

@@ -1,5 +1,5 @@
 use Rattle.std.proofs.Common.{inl, inr, refl}
-use Rattle.commands.proofs.Passing.{loops_of}
+use Rattle.commands.proofs.Passing.{loops_of, opened_of}
 use Rattle.commands.proofs.Recording.{closed_of, ended_of, loop_captured_of, tapes_passed}
 use Rattle.faults.specs.Texts.{fault_text}
 use Rattle.commands.proofs.Telling.{told_as}
@@ -7,12 +7,12 @@ use Rattle.commands.proofs.runs.repeat_captured.Goals as goal
 
 pub returns-in-Ok-begin-clause-run : goal.returns-in-Ok-begin-clause-run
 returns-in-Ok-begin-clause-run g c h =
-    loops_of _ g.P.Channel.opens g.P.Channel.passes _ _ _ _ _ _ _ _ _ c.in-Ok.ensures.job c.in-Ok.ensures.apart c.in-Ok.ensures.opened c.looped-run.ensures.run
+    loops_of _ g.P.Channel.opens g.P.Channel.passes _ _ _ _ _ _ _ _ _ c.in-Ok.ensures.job c.in-Ok.ensures.held.0.good c.in-Ok.ensures.apart c.in-Ok.ensures.opened c.looped-run.ensures.run
     (c.ended.ensures.run h)
 
 pub returns-in-Ok-begin-clause-captured : goal.returns-in-Ok-begin-clause-captured
 returns-in-Ok-begin-clause-captured g c h =
-    loop_captured_of _ _ _ _ g.P.Channel.opens g.P.Channel.passes _ _ _ _ _ _ _ _ _ _ _ _ c.in-Ok.ensures.job c.in-Ok.ensures.opened c.in-Ok-begin.ensures.begun
+    loop_captured_of _ _ _ _ g.P.Channel.opens g.P.Channel.passes _ _ _ _ _ _ _ _ _ _ _ _ c.in-Ok.ensures.job c.in-Ok.ensures.held.0.good c.in-Ok.ensures.opened c.in-Ok-begin.ensures.begun
     c.looped-run.ensures.taped (c.ended.ensures.run h) (ended_of _ _ c.end-written.ensures.ended c.ended.ensures.written h)
 
 pub returns-in-Ok-begin-clause-failed : goal.returns-in-Ok-begin-clause-failed
@@ -30,6 +30,14 @@ returns-in-Ok-begin-clause-failed g c one =
       closed = closed_of g.H.Host.begins g.H.Host.ends c.end-written.result _ c.looped-run.new.tape c.end-written.ensures.ended c.end-written.ensures.unended;
       told = is;
     }))
+
+pub returns-in-Ok-clause-failed : goal.returns-in-Ok-clause-failed
+returns-in-Ok-clause-failed g c one =
+    let ready = opened_of g.P.Channel.opens _ _ _ _ _ c.in-Ok.ensures.held c.in-Ok.ensures.opened in
+    told_as g.E.Tells.tells fault_text _ _ c.args.errors.now c.unmade.new.errors c.unmade.ensures.told (λ why is. inl (
+      refl,
+      inr (ready, record { cause = _; unbegun = c.in-Err-begin.ensures.unbegun; told = is }),
+    ))
 
 pub returns-clause-failed : goal.returns-clause-failed
 returns-clause-failed g c one = (

@@ -7,7 +7,7 @@ use Rattle.commands.proofs.Telling.{told_as}
 use Rattle.commands.proofs.runs.sim_captured.Goals as goal
 
 pub returns-in-Ok-begin-clause-run : goal.returns-in-Ok-begin-clause-run
-returns-in-Ok-begin-clause-run g c h = run_of _ _ _ _ _ _ _ _ _ _ c.in-Ok.ensures.job c.taped-run.ensures.run (c.ended.ensures.run h)
+returns-in-Ok-begin-clause-run g c h = run_of _ _ _ _ _ _ _ _ _ _ c.in-Ok.ensures.job c.in-Ok.ensures.good c.taped-run.ensures.run (c.ended.ensures.run h)
 
 pub returns-in-Err-clause-run : goal.returns-in-Err-clause-run
 returns-in-Err-clause-run g c done = isnt_1 _ (c.tell.ensures.status ∙ c.in-Err.ensures.known) done
@@ -24,7 +24,7 @@ returns-in-Err-clause-heard g c watched done = isnt_1 _ (c.tell.ensures.status �
 
 pub returns-in-Ok-begin-clause-captured : goal.returns-in-Ok-begin-clause-captured
 returns-in-Ok-begin-clause-captured g c h =
-    captured_of _ _ _ _ _ _ _ _ _ _ _ _ _ _ c.in-Ok.ensures.job c.in-Ok-begin.ensures.begun c.taped-run.ensures.run (c.ended.ensures.run h)
+    captured_of _ _ _ _ _ _ _ _ _ _ _ _ _ _ c.in-Ok.ensures.job c.in-Ok.ensures.good c.in-Ok-begin.ensures.begun c.taped-run.ensures.run (c.ended.ensures.run h)
     (ended_of _ _ c.end-written.ensures.ended c.ended.ensures.written h)
 
 pub returns-in-Err-clause-captured : goal.returns-in-Err-clause-captured
@@ -44,7 +44,7 @@ returns-in-Ok-begin-clause-failed g c one = (
       begun = c.in-Ok-begin.ensures.begun;
       run = c.taped-run.result;
       taped = tapes_sim c.taped-run.result g.H.Record.Tape.takes g.H.Record.Tape.refuses g.O.Write.contents c.args.settings.now c.args.script.now c.in-Ok.job
-          c.in-Ok-begin.tape c.taped-run.new.tape c.args.output.now c.taped-run.new.output c.in-Ok.ensures.job c.taped-run.ensures.run
+          c.in-Ok-begin.tape c.taped-run.new.tape c.args.output.now c.taped-run.new.output c.in-Ok.ensures.job c.in-Ok.ensures.good c.taped-run.ensures.run
           c.taped-run.ensures.told c.taped-run.ensures.stopped;
       written = c.end-written.result;
       closed = closed_of g.H.Host.begins g.H.Host.ends c.end-written.result _ c.taped-run.new.tape c.end-written.ensures.ended c.end-written.ensures.unended;
@@ -60,11 +60,14 @@ returns-in-Err-begin-clause-failed g c one = (
     unheard _ _ _ _ _ _ _,
     told_as g.E.Tells.tells fault_text _ _ c.args.errors.now c.unmade.new.errors c.unmade.ensures.told (λ why is. inl (
       refl,
-      inr (record {
-        cause = _;
-        unbegun = c.in-Err-begin.ensures.unbegun;
-        told = is;
-      }),
+      inr (
+        (c.in-Ok.job, (c.in-Ok.ensures.job, c.in-Ok.ensures.good)),
+        record {
+          cause = _;
+          unbegun = c.in-Err-begin.ensures.unbegun;
+          told = is;
+        },
+      ),
     )),
   ),
 )
