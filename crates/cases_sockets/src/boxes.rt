@@ -5,7 +5,7 @@ use anyhow::{Context, Result};
 use cases_words::Case;
 use control::{Control, ControlPath};
 use nat_types::Side;
-use sockets::{Place, Ports, Sockets, Way, Ways};
+use sockets::{Machine, Place, Ports, Sockets, Way, Ways};
 use std::net::UdpSocket;
 use std::os::fd::AsRawFd;
 
@@ -147,12 +147,14 @@ pub(crate) fn on_loopback(rt: &HostRuntime, number: usize, control: &str) -> Res
 fn opened(rt: &HostRuntime, number: usize, control: &str, ways: &Ways) -> Result<Sockets> {
     let ports = *PORTS.get(number).context("no box of that name")?;
     let control = controlled(rt, control)?;
-    Ok(Sockets::open(rt, rt.alloc(), ways, ports, control)?)
+    let mut machine = Machine::new(rt);
+    Ok(Sockets::open(&mut machine, rt.alloc(), ways, ports, control)?)
 }
 
 pub(crate) fn controlled(rt: &HostRuntime, name: &str) -> Result<Control> {
     let path = ControlPath::beside(rt.alloc(), name)?;
-    Ok(Control::open(rt, &path)?)
+    let mut machine = control::Machine::new(rt);
+    Ok(Control::open(&mut machine, &path, rt.alloc())?)
 }
 
 /// The place that the next word names.

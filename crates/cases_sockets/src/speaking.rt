@@ -217,7 +217,8 @@ fn say(rt: &HostRuntime, case: &mut Case) {
 
 fn said(rt: &HostRuntime, name: &str) -> Result<()> {
     let path = ControlPath::beside(rt.alloc(), name)?;
-    control::say(rt, &path, b"NO\0\0\0\0\0\0\0\x07")?;
+    let mut machine = control::Machine::new(rt);
+    control::say(&mut machine, &path, b"NO\0\0\0\0\0\0\0\x07")?;
     Ok(())
 }
 
@@ -234,7 +235,9 @@ fn ask(rt: &HostRuntime, case: &mut Case) {
 fn asked(rt: &HostRuntime, name: &str) -> Result<usize> {
     let path = ControlPath::beside(rt.alloc(), name)?;
     let mut room = [0; LONGEST];
-    Ok(control::ask(rt, &path, &spelled_status(), &mut room)?)
+    let mut machine = control::Machine::new(rt);
+    let count = control::ask(&mut machine, &path, &spelled_status(), &mut room)?;
+    Ok(count)
 }
 
 fn mode(rt: &HostRuntime, case: &mut Case) {

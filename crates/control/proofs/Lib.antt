@@ -2,6 +2,5 @@ mod Rooms
 mod Coming
 mod Turns
 mod Speaking
-mod Openings
 mod Telling
 mod Dialled

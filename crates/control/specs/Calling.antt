@@ -3,6 +3,7 @@ use Rattle.std.specs.Prelude.{Bool, true, false, ◌≡◌, ◌≢◌, ◌⊎◌
 use Rattle.std.specs.IoError.{error_kind}
 use Rattle.std.specs.declared.io.Error.{Error}
 use Rattle.std.specs.declared.io.ErrorKind.TheVariants.{WouldBlock}
+use Rattle.mio.specs.declared.net.uds.listener.UnixListener.{UnixListener}
 use Rattle.mio.specs.declared.token.Token.{Token}
 use Rattle.control.specs.Attending.{with_room}
 
@@ -13,6 +14,15 @@ Calls L S = L → Result S Error → L → Type 0
 -- what is answered where a wait is to report somebody under a token, and what he is then
 abbrev pub Reports : Type 0 → Type 1
 Reports S = S → Token → Result (Unit {0}) Error → S → Type 0
+
+-- A wait was to report this under a token, and it was answered so. It is no more than a name for the call, by what it was before and is then:
+-- who makes the call has it, and nobody else.
+unfoldable pub WasReported : {S : Type 0} → Reports S
+WasReported before token answer after = Unit {0}
+
+-- a wait was to report a listener of the system's under this token, and it was answered so
+abbrev pub WasListenedTo : Token → Result (Unit {0}) Error → Type 0
+WasListenedTo token answer = (before : UnixListener) × ((after : UnixListener) × WasReported before token answer after)
 
 -- once he is registered he is waited for, behind the others; one who can't be registered is let go
 abbrev pub IsKept : {S : Type 0} → Result (Unit {0}) Error → List S → S → List S → Type 0

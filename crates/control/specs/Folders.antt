@@ -18,14 +18,10 @@ closing (Err fault) folder mode = not_closed folder mode
 abbrev pub Does : Type 0 → Type 1
 Does F = F → Deed → F → Type 0
 
--- This was done in the folders of this machine: the system was asked for it, and answered so. It says nothing of such a call, so this is no
--- more than a name for it: who makes the call has it, and nobody else.
-unfoldable pub WasDone : Deed → Type 0
-WasDone deed = Unit {0}
-
--- so this machine does, of whose folders nothing is known
-abbrev pub by_machine : {F : Type 0} → Does F
-by_machine before deed after = WasDone deed
+-- This machine was asked for this, and answered so. It is no more than a name for the call, by what the machine was before and is then: who
+-- makes the call has it, and nobody else.
+unfoldable pub WasDone : {M : Type 0} → Does M
+WasDone before deed after = Unit {0}
 
 -- It is made for its owner alone (mode 700 in base 8), and closed to all others where it was there before; then what was left of an
 -- earlier socket is removed.

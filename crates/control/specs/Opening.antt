@@ -1,22 +1,23 @@
 -- How a control socket is opened.
-use Rattle.std.specs.Prelude.{ℕ, List, Result, Ok}
+use Rattle.std.specs.Prelude.{ℕ, ◌≡◌, ◌⊎◌, List, Result, Ok, Err}
 use Rattle.std.specs.declared.io.Error.{Error}
 use Rattle.mio.specs.declared.net.uds.listener.UnixListener.{UnixListener}
-use Rattle.control.specs.Folders.{Does, IsReady, by_machine}
+use Rattle.control.specs.Folders.{Does, IsReady, IsRefused, WasDone}
 use Rattle.control.specs.Paths.{Paths}
 
 -- what answers who asks for a socket that is bound at a path, and what is bound then
 abbrev pub Binding : Type 0 → Type 0 → Type 1
 Binding F L = F → List ℕ → Result L Error → F → Type 0
 
--- The system was asked for a socket that is bound at this path, and answered so. It is no more than a name for the call: who makes it has it,
--- and nobody else.
-unfoldable pub WasBound : {L : Type 0} → List ℕ → Result L Error → Type 0
-WasBound socket answer = Unit {0}
+-- This machine was asked for a socket that is bound at this path, and answered so. It is no more than a name for the call, by what the machine
+-- was before and is then: who makes the call has it, and nobody else.
+unfoldable pub WasBound : {M L : Type 0} → Binding M L
+WasBound before socket answer after = Unit {0}
 
--- so this machine answers
-abbrev pub bound_by_machine : {F L : Type 0} → Binding F L
-bound_by_machine before socket answer after = WasBound socket answer
+-- Memory for so many callers was refused. No clause can say when that is, so this is no more than a name: who asks for it has it, and nobody
+-- else.
+unfoldable pub WasRefused : ℕ → Type 0
+WasRefused callers = Unit {0}
 
 -- the folder is readied; then a socket is bound in it, at its path, and it is this one
 pub record IsOpened {F L : Type 0} (does : Does F) (binds : Binding F L) (path : Paths) (before : F) (listener : L) (after : F) : Type 0 where
@@ -24,6 +25,22 @@ pub record IsOpened {F L : Type 0} (does : Does F) (binds : Binding F L) (path :
   pub ready : IsReady does path before between
   pub bound : binds between path.socket (Ok listener) after
 
+-- the folder is readied; then the socket in it is refused
+pub record IsUnbound {F L : Type 0} (does : Does F) (binds : Binding F L) (path : Paths) (before after : F) : Type 0 where
+  pub between : F
+  pub ready : IsReady does path before between
+  pub error : Error
+  pub refused : binds between path.socket (Err error) after
+
+-- there is no room for callers, and nothing is done; or it is refused to close the folder; or to bind the socket; and nothing else is done
+abbrev pub IsUnopened : {F L : Type 0} → Does F → Binding F L → Paths → F → F → Type 0
+IsUnopened does binds path before after =
+    (WasRefused 8 × (after ≡ before)) ⊎ (IsRefused does path before after ⊎ IsUnbound does binds path before after)
+
 -- so it was by this machine
-abbrev pub WasOpened : Paths → Type 0
-WasOpened path = (listener : UnixListener) × IsOpened (by_machine {F = Unit {0}}) (bound_by_machine {F = Unit {0}}) path tt listener tt
+abbrev pub WasOpened : {M : Type 0} → Paths → M → M → Type 0
+WasOpened path before after = (listener : UnixListener) × IsOpened WasDone WasBound path before listener after
+
+-- or wasn't
+abbrev pub WasNotOpened : {M : Type 0} → Paths → M → M → Type 0
+WasNotOpened path before after = IsUnopened {L = UnixListener} WasDone WasBound path before after

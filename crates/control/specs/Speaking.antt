@@ -1,60 +1,62 @@
--- What was said to a box by the system's lines, and what it answered.
-use Rattle.std.specs.Prelude.{ℕ, Bool, true, false, ◌⊎◌, List, take, Option, Some, None, Result, Ok, Err}
-use Rattle.std.specs.declared.io.Error.{Error}
-use Rattle.std.specs.declared.net.unix.UnixStream.{UnixStream}
-use Rattle.control.specs.Dialling.{Dialling, IsDialled, IsUndialled, Limit}
+-- What was said to a box by this machine's lines, and what it answered.
+use Rattle.std.specs.Prelude.{ℕ, true, false, ◌⊎◌, List, [], None}
+use Rattle.outlets.specs.Writes.{Asks}
+use Rattle.control.specs.Dialling.{Dialling, IsDialled, IsUndialled, Limiting}
+use Rattle.control.specs.Lines.{Does, StreamDoes}
 use Rattle.control.specs.Paths.{Paths}
+use Rattle.control.specs.Reads.{Reads}
+use Rattle.control.specs.Saying.{IsAnswered, IsLost, Tells}
+use Rattle.control.specs.declared.machine.SystemLine.{SystemLine}
 
--- The four names below are each of a call. They say nothing of it, so they are no more than names: who makes the call has it, and nobody else.
--- the system was asked for a line to the socket at this path, and answered so
-unfoldable pub WasDialled : {L : Type 0} → List ℕ → Result L Error → Type 0
-WasDialled socket answer = Unit {0}
+-- The names below are each of a call, by what was asked, what it was before and what it is then. They say nothing of it, so they are no more
+-- than names: who makes the call has it, and nobody else.
+-- this machine was asked for a line to the socket at this path, and answered so
+unfoldable pub WasDialled : {M L : Type 0} → Dialling M L
+WasDialled before socket answer after = Unit {0}
 
--- a line of the system's was to take this limit, and did, or didn't; and what it is then
-unfoldable pub WasLimited : {L : Type 0} → L → Limit → Bool → L → Type 0
+-- a line was to take this limit, and did, or didn't
+unfoldable pub WasLimited : {L : Type 0} → Limiting L
 WasLimited before limit taken after = Unit {0}
 
--- a word was said on a line of the system's, and was taken, or it isn't known that it was; and what the line is then
-unfoldable pub WasSaid : {L : Type 0} → L → List ℕ → Bool → L → Type 0
-WasSaid before word taken after = Unit {0}
+-- a line was to take these bytes, by one write, and answered so
+unfoldable pub WasWritten : {L : Type 0} → Asks L
+WasWritten before bytes answer after = Unit {0}
 
--- a word was said on a line of the system's, and answered by these bytes, or not; and what the line is then
-unfoldable pub WasAsked : {L : Type 0} → L → List ℕ → Option (List ℕ) → L → Type 0
-WasAsked before word answer after = Unit {0}
+-- a line was read, once, and answered so; this is what the room has then
+unfoldable pub WasRead : {L : Type 0} → Reads L
+WasRead before room answer after = Unit {0}
 
--- the bytes of an answer, by what came of asking and the room that it was read into
-abbrev pub answer_had : {E : Type 0} → Result ℕ E → List ℕ → Option (List ℕ)
-answer_had (Ok count) room = Some (take count room)
-answer_had (Err fault) room = None
+-- a line was let go, and no more passes on it
+unfoldable pub WasLetGo : {L : Type 0} → L → Type 0
+WasLetGo line = Unit {0}
 
--- so the system makes lines
-abbrev pub by_system : {D L : Type 0} → Dialling D L
-by_system before socket answer after = WasDialled socket answer
+-- so words and answers pass on a line, of which it isn't known what was written to it, nor what is to come
+abbrev pub passes : {L : Type 0} → Does L
+passes = StreamDoes (λ line. None) (λ line. None) WasWritten WasRead
 
--- a line of the system's to the socket at this path, which waits 2 seconds at most
-abbrev pub IsLineTo : Paths → UnixStream → Type 0
-IsLineTo path line = IsDialled (by_system {D = Unit {0}}) WasLimited path tt tt line
+-- this machine made just one line, to the socket at this path, which waits 2 seconds at most; this was done on it, and then it was let go
+abbrev pub OnLine : {M : Type 0} → Paths → (SystemLine → SystemLine → Type 0) → M → M → Type 0
+OnLine path done before after = (line : SystemLine) × ((last : SystemLine) × (IsDialled WasDialled WasLimited path before after line
+    × (done line last × WasLetGo last)))
 
 -- there was none
-abbrev pub HasNoLine : Paths → Type 0
-HasNoLine path = IsUndialled (by_system {D = Unit {0}} {L = UnixStream}) WasLimited path tt tt
+abbrev pub HasNoLine : {M : Type 0} → Paths → M → M → Type 0
+HasNoLine path before after = IsUndialled {L = SystemLine} WasDialled WasLimited path before after
 
--- on a line to the socket at this path this was done
-abbrev pub OnLine : Paths → (UnixStream → UnixStream → Type 0) → Type 0
-OnLine path done = (line : UnixStream) × ((after : UnixStream) × (IsLineTo path line × done line after))
+-- just this word was said to whoever listens at this path, and he took it
+abbrev pub IsTaken : {M : Type 0} → Paths → List ℕ → M → M → Type 0
+IsTaken path word before after = OnLine path (λ line last. Tells passes word true line last) before after
 
--- a word was said to whoever listens at this path, and he took it
-abbrev pub IsTaken : Paths → List ℕ → Type 0
-IsTaken path word = OnLine path (λ line after. WasSaid line word true after)
+-- there was no line to him; or just the word was said, or couldn't be, and no answer came that he took it
+abbrev pub IsUntaken : {M : Type 0} → Paths → List ℕ → M → M → Type 0
+IsUntaken path word before after =
+    HasNoLine path before after ⊎ OnLine path (λ line last. IsLost passes word line last ⊎ Tells passes word false line last) before after
 
--- there was no line to him; or the word was said, and it isn't known that he took it
-abbrev pub IsUntaken : Paths → List ℕ → Type 0
-IsUntaken path word = HasNoLine path ⊎ OnLine path (λ line after. WasSaid line word false after)
+-- just this word was said to whoever listens at this path, and he answered these bytes: all, or as much as a room of this length takes
+abbrev pub IsAnsweredBy : {M : Type 0} → Paths → List ℕ → ℕ → List ℕ → M → M → Type 0
+IsAnsweredBy path word room answer before after = OnLine path (λ line last. IsAnswered passes word room answer line last) before after
 
--- a word was said to whoever listens at this path, and he answered these bytes
-abbrev pub IsAnsweredBy : Paths → List ℕ → List ℕ → Type 0
-IsAnsweredBy path word answer = OnLine path (λ line after. WasAsked line word (Some answer) after)
-
--- there was no line to him; or the word was said, and no answer came
-abbrev pub IsUnanswered : Paths → List ℕ → Type 0
-IsUnanswered path word = HasNoLine path ⊎ OnLine path (λ line after. WasAsked line word None after)
+-- there was no line to him; or just the word was said, or couldn't be, and no answer came
+abbrev pub IsUnanswered : {M : Type 0} → Paths → List ℕ → ℕ → M → M → Type 0
+IsUnanswered path word room before after =
+    HasNoLine path before after ⊎ OnLine path (λ line last. IsLost passes word line last ⊎ IsAnswered passes word room [] line last) before after

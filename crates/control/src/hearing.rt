@@ -2,15 +2,17 @@
 ghost use Rattle.std.specs.Prelude.{◌≡◌, ◌≤◌, ◌||◌, ◌⊎◌, true, false, length, take, is_some, IfOk, IfSome, IsNone, OnErr, OnOk};
 ghost use Rattle.control.specs.Attending.{HasLooked, SaysWord, answered, is_ready, nobody_yet};
 ghost use Rattle.control.specs.Attending.{registered, with_more, woken};
-ghost use Rattle.control.specs.Opening.{WasOpened};
+ghost use Rattle.control.specs.Calling.{WasListenedTo};
+ghost use Rattle.control.specs.Opening.{WasNotOpened, WasOpened};
 ghost use Rattle.control.specs.Telling.{IsTold};
 
 use crate::audience::Audience;
-use crate::folders::Machine;
+use crate::machine::Machine;
 use crate::opening::opened;
 use crate::{ControlPath, NoSocket};
 use mio::net::{UnixListener, UnixStream};
 use mio::{Registry, Token};
+use std::alloc::Global;
 use std::fs::Files;
 use std::io;
 use std::marker::Model;
@@ -41,20 +43,23 @@ impl Control {
     /// # Errors
     ///
     /// `NoSocket` where one of these can't be had.
-    pub fn open<R: Files + Net + AllocGlobal>(
-        rt: &R,
+    pub fn open<R: Files + Net>(
+        machine: &mut Machine<'_, R>,
         path: &ControlPath,
+        alloc: Global,
     ) -> Result<Control, NoSocket>
         ensures nobody { IfOk result (λ c. c ≡ nobody_yet) }
-        ensures opened { OnOk result (WasOpened path.now) }
+        ensures opened { OnOk result (WasOpened path.now machine.old machine.new) }
+        ensures unopened { OnErr result (WasNotOpened path.now machine.old machine.new) }
     {
         Ok(Control {
-            audience: opened(&mut Machine(rt), path, rt.alloc())?,
+            audience: opened(machine, path, alloc)?,
         })
     }
 
     /// Has a wait report who calls, and who says something, under a token. Nobody is heard before.
     pub fn register(&mut self, registry: &Registry, token: Token) -> io::Result<()>
+        ensures asked { WasListenedTo token result }
         ensures ok { OnOk result (self.new ≡ registered token self.old) }
         ensures err { OnErr result (self.new ≡ self.old) }
     {

@@ -10,6 +10,7 @@ mod folders;
 mod hearing;
 mod lines;
 mod listeners;
+mod machine;
 mod newcomers;
 mod opening;
 mod paths;
@@ -21,6 +22,7 @@ pub use answers::{
     Answer, PeerOffRefusal, begun_page, begun_report, spelled_heard, spelled_refusal,
 };
 pub use hearing::Control;
+pub use machine::Machine;
 pub use paths::{ControlPath, LONGEST_PATH, PathFault};
 pub use saying::{NoSocket, ask, say};
 pub use words::{

@@ -3,13 +3,10 @@ ghost use Rattle.std.specs.Duration.{as_nanos};
 ghost use Rattle.std.specs.Prelude.{◌<◌, ◌≤◌, IfOk, is_ok, length};
 ghost use Rattle.control.specs.Dialling.{hears_within, says_within};
 ghost use Rattle.control.specs.Lines.{Passed, StreamDoes, hearing, saying};
-ghost use Rattle.control.specs.Speaking.{WasDialled, WasLimited};
 
 use crate::speakers::{Speaks, next_of};
 use outlets::{Takes, put_in_turns};
 use std::io;
-use std::net::Net;
-use std::os::unix::net::UnixStream;
 use std::time::Duration;
 
 /// A line to a box: a word is said there, and its answer comes.
@@ -42,19 +39,6 @@ pub(crate) trait Dials<L> {
         ensures { dials self.old socket.now result self.new };
 }
 
-/// The system: of a line nothing is known but that it was asked for, to that socket.
-#[derive(Drop)]
-pub(crate) struct SystemDials<'a, R>(pub(crate) &'a R);
-
-impl<R: Net> Dials<UnixStream> for SystemDials<'_, R> {
-    ghost dials = { λ _ socket answer _. WasDialled socket answer };
-
-    #[tactic(auto, unfolding(crate::specs::Speaking::WasDialled))]
-    fn dial(&mut self, socket: &str) -> io::Result<UnixStream> {
-        UnixStream::connect(self.0, socket)
-    }
-}
-
 /// A line that limits how long its calls wait.
 pub(crate) trait Limits: Sized {
     ghost use Rattle.control.specs.Dialling.{Limiting};
@@ -82,20 +66,5 @@ impl<S: Speaks + Takes> Line for S {
 
     fn hear(&mut self, room: &mut [u8]) -> io::Result<usize> {
         next_of(self, room)
-    }
-}
-
-/// The system's, of which nothing is known but which limit it was to take, and whether it did.
-impl Limits for UnixStream {
-    ghost limits = { WasLimited };
-
-    #[tactic(auto, unfolding(crate::specs::Speaking::WasLimited))]
-    fn limit_hearing(&mut self, limit: Duration) -> io::Result<()> {
-        self.set_read_timeout(Some(limit))
-    }
-
-    #[tactic(auto, unfolding(crate::specs::Speaking::WasLimited))]
-    fn limit_saying(&mut self, limit: Duration) -> io::Result<()> {
-        self.set_write_timeout(Some(limit))
     }
 }

@@ -1,7 +1,7 @@
 //! Who calls, and is let in.
 ghost use Rattle.std.specs.Prelude.{◌≡◌, ◌+◌, ◌<◌, ◌≤◌, ◌⊎◌, suc, vec_len, vec_capacity};
 ghost use Rattle.control.specs.Attending.{AreJoined, one_if};
-ghost use Rattle.control.specs.Calling.{IsKept, LetsIn};
+ghost use Rattle.control.specs.Calling.{IsKept, LetsIn, WasReported};
 
 use crate::callers::make_room;
 use crate::newcomers::Newcomers;
@@ -24,10 +24,11 @@ pub(crate) trait Reported {
         ensures { reports self.old token result self.new };
 }
 
-/// Of what a source is then nothing is known.
+/// What a source answers has a name, and no more is known of it.
 impl<S: Source> Reported for S {
-    ghost reports = { λ _ _ _ _. Unit {0} };
+    ghost reports = { WasReported };
 
+    #[tactic(auto, unfolding(crate::specs::Calling::WasReported))]
     fn report(&mut self, registry: &Registry, token: Token) -> io::Result<()> {
         registry.register(self, token, Interest::READABLE)
     }

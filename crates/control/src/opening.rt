@@ -1,18 +1,15 @@
 //! A control socket is opened.
-ghost use Rattle.std.specs.Prelude.{◌≡◌, IfOk};
+ghost use Rattle.std.specs.Prelude.{◌≡◌, ◌≤◌, IfOk, OnErr, vec_capacity, vec_len};
 ghost use Rattle.control.specs.Attending.{nobody_yet};
 ghost use Rattle.control.specs.Audiences.{HasRoom, attending_of};
-ghost use Rattle.control.specs.Opening.{IsOpened, WasBound};
+ghost use Rattle.control.specs.Opening.{IsOpened, IsUnopened, WasRefused};
 
 use crate::audience::Audience;
 use crate::callers::CALLERS;
-use crate::folders::{Folders, Machine, ready};
+use crate::folders::{Folders, ready};
 use crate::{ControlPath, NoSocket};
-use mio::net::UnixListener;
-use std::alloc::Global;
-use std::fs::Files;
+use std::alloc::{AllocError, Global};
 use std::io;
-use std::net::Net;
 
 /// Where sockets are bound at paths.
 pub(crate) trait Binds<L> {
@@ -26,16 +23,6 @@ pub(crate) trait Binds<L> {
         ensures { binds self.old socket.now result self.new };
 }
 
-/// This machine's: of a socket nothing is known but that it was asked for at that path.
-impl<R: Files + Net> Binds<UnixListener> for Machine<'_, R> {
-    ghost binds = { λ _ socket answer _. WasBound socket answer };
-
-    #[tactic(auto, unfolding(crate::specs::Opening::WasBound))]
-    fn bind(&mut self, socket: &str) -> io::Result<UnixListener> {
-        UnixListener::bind(self.0, socket)
-    }
-}
-
 /// Readies the folder of a control socket, and has one bound there, at which nobody has called yet.
 pub(crate) fn opened<F: Folders + Binds<L>, L, S: Drop>(
     folders: &mut F,
@@ -46,9 +33,20 @@ pub(crate) fn opened<F: Folders + Binds<L>, L, S: Drop>(
         folders.old audience.listener folders.new) }
     ensures nobody { IfOk result (λ audience. attending_of audience ≡ nobody_yet) }
     ensures room { IfOk result (λ audience. HasRoom audience) }
+    ensures unopened { OnErr result (IsUnopened F.does F.binds path.now folders.old folders.new) }
 {
-    let callers = Vec::with_capacity(alloc, CALLERS)?;
+    let callers = room_for_callers(alloc)?;
     ready(folders, path)?;
     let listener = folders.bind(path.socket())?;
     Ok(Audience::nobody(listener, callers))
+}
+
+/// Room for as many callers as are waited for.
+#[tactic(auto, unfolding(crate::specs::Opening::WasRefused))]
+fn room_for_callers<S: Drop>(alloc: Global) -> Result<Vec<S>, AllocError>
+    ensures none { IfOk result (λ callers. vec_len callers ≡ 0) }
+    ensures room { IfOk result (λ callers. 8 ≤ vec_capacity callers) }
+    ensures refused { OnErr result (WasRefused 8) }
+{
+    Vec::with_capacity(alloc, CALLERS)
 }

@@ -1,17 +1,17 @@
 //! The end at which a word is said.
 ghost use Rattle.std.specs.Duration.{as_nanos};
-ghost use Rattle.std.specs.Prelude.{◌≡◌, ◌<◌, ◌≤◌, ◌⊎◌, [], false, is_ok, length, take, true, IfOk, OnErr, OnOk};
+ghost use Rattle.std.specs.Prelude.{◌≡◌, ◌<◌, ◌≤◌, ◌⊎◌, [], false, length, take, true, IfOk, OnErr, OnOk};
 ghost use Rattle.control.specs.Answers.{answer_of};
 ghost use Rattle.control.specs.Dialling.{IsDialled, IsUndialled, patience};
 ghost use Rattle.control.specs.Saying.{Comes, IsAnswered, IsCut, IsLost, Tells, is_heard};
-ghost use Rattle.control.specs.Speaking.{IsAnsweredBy, IsTaken, IsUnanswered, IsUntaken, WasAsked, WasSaid, answer_had};
+ghost use Rattle.control.specs.Speaking.{IsAnsweredBy, IsTaken, IsUnanswered, IsUntaken};
 
-use crate::lines::{Dials, Limits, Line, SystemDials};
+use crate::lines::{Dials, Limits, Line};
+use crate::machine::{Machine, SystemLine};
 use crate::{Answer, ControlPath};
 use std::alloc::AllocError;
 use std::io;
 use std::net::Net;
-use std::os::unix::net::UnixStream;
 use std::time::Duration;
 use thiserror::Error;
 
@@ -46,20 +46,18 @@ impl From<io::Error> for NoSocket {
 ///
 /// `NoSocket` where no box listens there, the caller may not speak to it, or it doesn't answer in time that the word is
 /// taken. Whether it took the word isn't known then.
-pub fn say<R: Net>(rt: &R, path: &ControlPath, word: &[u8]) -> Result<(), NoSocket>
-    ensures taken { OnOk result (IsTaken path.now word.now) }
-    ensures untaken { OnErr result (IsUntaken path.now word.now) }
+pub fn say<R: Net>(
+    machine: &mut Machine<'_, R>,
+    path: &ControlPath,
+    word: &[u8],
+) -> Result<(), NoSocket>
+    ensures taken { OnOk result (IsTaken path.now word.now machine.old machine.new) }
+    ensures untaken { OnErr result (IsUntaken path.now word.now machine.old machine.new) }
 {
-    let mut line = connected(&mut SystemDials(rt), path)?;
-    said_on(&mut line, word)
-}
-
-/// Says a word on a line of the system's, and waits until it is taken.
-#[tactic(auto, unfolding(crate::specs::Speaking::WasSaid))]
-fn said_on(line: &mut UnixStream, word: &[u8]) -> Result<(), NoSocket>
-    ensures { WasSaid line.old word.now (is_ok result) line.new }
-{
-    say_at(line, word)
+    let mut line: SystemLine = connected(machine, path)?;
+    let answer = say_at(&mut line, word);
+    line.let_go();
+    answer
 }
 
 /// Says a word, once, and waits until it is taken.
@@ -95,34 +93,30 @@ fn is_heard(answer: &[u8]) -> bool
 /// `NoSocket` where no box listens there, the caller may not speak to it, or it answers nothing, or not in time. Whether
 /// it took the word isn't known then.
 pub fn ask<R: Net>(
-    rt: &R,
+    machine: &mut Machine<'_, R>,
     path: &ControlPath,
     word: &[u8],
     room: &mut [u8],
 ) -> Result<usize, NoSocket>
     ensures within { IfOk result (λ count. count ≤ length room.new) }
     ensures some { IfOk result (λ count. 0 < count) }
-    ensures answered { IfOk result (λ count. IsAnsweredBy path.now word.now (take count room.new)) }
-    ensures unanswered { OnErr result (IsUnanswered path.now word.now) }
+    ensures room { length room.new ≡ length room.old }
+    ensures answered { IfOk result (λ count. IsAnsweredBy path.now word.now (length room.new)
+        (take count room.new) machine.old machine.new) }
+    ensures unanswered { OnErr result
+        (IsUnanswered path.now word.now (length room.new) machine.old machine.new) }
 {
-    let mut line = connected(&mut SystemDials(rt), path)?;
-    asked_on(&mut line, word, room)
-}
-
-/// Says a word on a line of the system's, and waits for its answer.
-#[tactic(auto, unfolding(crate::specs::Speaking::WasAsked))]
-fn asked_on(line: &mut UnixStream, word: &[u8], room: &mut [u8]) -> Result<usize, NoSocket>
-    ensures within { IfOk result (λ count. count ≤ length room.new) }
-    ensures some { IfOk result (λ count. 0 < count) }
-    ensures asked { WasAsked line.old word.now (answer_had result room.new) line.new }
-{
-    ask_at(line, word, room)
+    let mut line: SystemLine = connected(machine, path)?;
+    let answer = ask_at(&mut line, word, room);
+    line.let_go();
+    answer
 }
 
 /// Says a word, once, and waits for its answer.
 fn ask_at<L: Line>(line: &mut L, word: &[u8], room: &mut [u8]) -> Result<usize, NoSocket>
     ensures within { IfOk result (λ count. count ≤ length room.new) }
     ensures some { IfOk result (λ count. 0 < count) }
+    ensures room { length room.new ≡ length room.old }
     ensures answered { IfOk result (λ count. IsAnswered L.does word.now (length room.new)
         (take count room.new) line.old line.new) }
     ensures unanswered { OnErr result (IsLost L.does word.now line.old line.new

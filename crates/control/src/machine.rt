@@ -1,0 +1,123 @@
+//! This machine, and the lines that it makes. What they are asked has names, and no more is known of them.
+ghost use Rattle.control.specs.Folders.{Deed, WasDone};
+ghost use Rattle.control.specs.Opening.{WasBound};
+ghost use Rattle.control.specs.Speaking.{WasDialled, WasLetGo, WasLimited, WasRead, WasWritten};
+
+use crate::folders::Folders;
+use crate::lines::{Dials, Limits};
+use crate::opening::Binds;
+use crate::speakers::Speaks;
+use mio::net::UnixListener;
+use outlets::Takes;
+use std::fs::{Files, Permissions};
+use std::io::{self, Read, Write};
+use std::net::Net;
+use std::os::unix::fs::PermissionsExt;
+use std::os::unix::net::UnixStream;
+use std::time::Duration;
+
+/// This machine, as who makes folders, binds sockets and makes lines. Each is a call by itself, and nobody else has the
+/// system at hand.
+#[derive(Drop)]
+pub struct Machine<'a, R> {
+    rt: &'a R,
+}
+
+impl<'a, R> Machine<'a, R> {
+    pub fn new(rt: &'a R) -> Machine<'a, R> {
+        Machine { rt }
+    }
+}
+
+impl<R: Files> Folders for Machine<'_, R> {
+    ghost does = { WasDone };
+
+    #[tactic(auto, unfolding(crate::specs::Folders::WasDone))]
+    fn make(&mut self, folder: &str, mode: u32) {
+        let _is_there = self.rt.create_dir_with_mode(folder, mode);
+    }
+
+    #[tactic(auto, unfolding(crate::specs::Folders::WasDone))]
+    fn close(&mut self, folder: &str, mode: u32) -> io::Result<()> {
+        self.rt
+            .set_permissions(folder, Permissions::from_mode(mode))
+    }
+
+    #[tactic(auto, unfolding(crate::specs::Folders::WasDone))]
+    fn remove(&mut self, socket: &str) {
+        let _missing = self.rt.remove_file(socket);
+    }
+}
+
+impl<R: Files + Net> Binds<UnixListener> for Machine<'_, R> {
+    ghost binds = { WasBound };
+
+    #[tactic(auto, unfolding(crate::specs::Opening::WasBound))]
+    fn bind(&mut self, socket: &str) -> io::Result<UnixListener> {
+        UnixListener::bind(self.rt, socket)
+    }
+}
+
+impl<R: Net> Dials<SystemLine> for Machine<'_, R> {
+    ghost dials = { WasDialled };
+
+    #[tactic(auto, unfolding(crate::specs::Speaking::WasDialled))]
+    fn dial(&mut self, socket: &str) -> io::Result<SystemLine> {
+        let stream = UnixStream::connect(self.rt, socket)?;
+        Ok(SystemLine { stream })
+    }
+}
+
+/// A line of this machine's to a box.
+#[derive(Drop)]
+pub(crate) struct SystemLine {
+    stream: UnixStream,
+}
+
+impl SystemLine {
+    /// Lets it go: no more passes on it.
+    #[tactic(auto, unfolding(crate::specs::Speaking::WasLetGo))]
+    pub(crate) fn let_go(self)
+        ensures { WasLetGo self }
+    {}
+}
+
+impl Limits for SystemLine {
+    ghost limits = { WasLimited };
+
+    #[tactic(auto, unfolding(crate::specs::Speaking::WasLimited))]
+    fn limit_hearing(&mut self, limit: Duration) -> io::Result<()> {
+        self.stream.set_read_timeout(Some(limit))
+    }
+
+    #[tactic(auto, unfolding(crate::specs::Speaking::WasLimited))]
+    fn limit_saying(&mut self, limit: Duration) -> io::Result<()> {
+        self.stream.set_write_timeout(Some(limit))
+    }
+}
+
+impl Takes for SystemLine {
+    ghost use Rattle.std.specs.Prelude.{None};
+
+    ghost held = { λ _. None };
+
+    ghost answers = { WasWritten };
+
+    #[tactic(auto, unfolding(crate::specs::Speaking::WasWritten))]
+    fn take(&mut self, bytes: &[u8]) -> io::Result<usize> {
+        self.stream.write(bytes)
+    }
+}
+
+impl Speaks for SystemLine {
+    ghost use Rattle.std.specs.Prelude.{None};
+
+    ghost rest = { λ _. None };
+
+    ghost answers = { WasRead };
+
+    #[tactic(auto, unfolding(crate::specs::Speaking::WasRead))]
+    fn hear(&mut self, room: &mut [u8]) -> io::Result<usize> {
+        self.stream.read(room)
+    }
+}
