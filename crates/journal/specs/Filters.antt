@@ -1,9 +1,11 @@
 -- Which records pass.
-use Rattle.std.specs.Prelude.{ℕ, ◌≡◌, ⊤, List, [], Option, Some, None, Result, Ok, Err}
+use Rattle.std.specs.Prelude.{ℕ, ◌≡◌, List, [], Option, Some, None, Result, Ok, Err}
 use Rattle.std.specs.Borrow.{Bor}
 use Rattle.std.specs.declared.env.VarError.{VarError}
 use Rattle.std.specs.declared.env.VarError.TheVariants.{NotPresent, NotUnicode, OutOfMemory}
 use Rattle.log.specs.Filter.{Rule, insert_directives, insert_rule, invalid_spec}
+use Rattle.log.specs.declared.filter.parser.ParseError.{ParseError}
+use Rattle.log.specs.declared.filter.parser.ParseError.TheVariants.{InvalidSpec, OutOfMemory as NoRoom}
 use Rattle.log.specs.declared.level.LevelFilter.TheVariants.{Info}
 use Rattle.journal.specs.declared.filters.TheConstants.{VARIABLE}
 use Rattle.journal.specs.declared.filters.FilterFault.{FilterFault}
@@ -15,14 +17,28 @@ text_of (Some option) environment = option.now
 text_of None (Some environment) = environment.now
 text_of None None = []
 
+-- info for all
+abbrev pub usual_rules : List Rule
+usual_rules = insert_rule [] (None, Info)
+
 -- its directives, over info for all
 abbrev pub rules_of : List ℕ → List Rule
-rules_of text = insert_directives (insert_rule [] (None, Info)) text
+rules_of text = insert_directives usual_rules text
 
--- the first part that is no directive is named; want of memory can come first
+-- Memory was refused while this text was read for a filter. No clause can say when that is, so this is no more than a name: who asks for what takes
+-- the memory has it, and nobody else.
+unfoldable pub WasRefused : List ℕ → Type 0
+WasRefused text = Unit {0}
+
+-- it isn't read: the first part that is no directive is named, or memory was refused
+abbrev pub IsUnread : List ℕ → ParseError → Type 0
+IsUnread text (InvalidSpec part) = invalid_spec text ≡ Some part.now
+IsUnread text NoRoom = WasRefused text
+
+-- the fault tells that part, or that memory was refused
 abbrev pub IsRefused : List ℕ → FilterFault → Type 0
 IsRefused text (NoFilter part) = invalid_spec text ≡ Some part.now
-IsRefused text NoMemory = ⊤
+IsRefused text NoMemory = WasRefused text
 
 -- The environment was asked for the variable that may hold a filter, and gave this text, or why there is none. It is no more than a name for
 -- the call: who makes it has this, and nobody else.

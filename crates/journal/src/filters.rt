@@ -1,12 +1,12 @@
 //! Which records pass.
-ghost use Rattle.std.specs.Prelude.{◌≡◌, ◌≢◌, IfOk, IfErr, IsErr, None, Some, Ok, Err, option_map, string_bytes};
-ghost use Rattle.log.specs.Filter.{filter_rules, invalid_spec, or_errors};
-ghost use Rattle.journal.specs.Filters.{IsOfVariable, IsRefused, WasAsked, WasSaid, rules_of, text_of};
+ghost use Rattle.std.specs.Prelude.{◌≡◌, ◌≢◌, IfOk, IfErr, IsErr, OnErr, OnOk, None, Some, Ok, Err, option_map, string_bytes};
+ghost use Rattle.log.specs.Filter.{builder_rules, filter_rules, insert_directives, invalid_spec, or_errors};
+ghost use Rattle.journal.specs.Filters.{IsOfVariable, IsRefused, IsUnread, WasAsked, WasRefused, WasSaid, rules_of, text_of, usual_rules};
 ghost use Rattle.journal.specs.declared.filters.FilterFault.TheVariants as faults;
 
 use log::LevelFilter;
 use log::filter::{Builder, Filter, ParseError};
-use std::alloc::Global;
+use std::alloc::{AllocError, Global};
 use std::env::{self, VarError};
 use std::rt::Env;
 use thiserror::Error;
@@ -44,14 +44,34 @@ pub fn filter_of<'a>(
         (λ fault. IsRefused (text_of option.entry environment.entry) fault) }
 {
     let text = option.or(environment).unwrap_or("");
-    let Ok(usual) = Builder::new(alloc).filter_level(LevelFilter::Info) else {
+    let Ok(usual) = usual_for(alloc, text) else {
         return Err(FilterFault::NoMemory);
     };
-    match usual.try_parse(text) {
+    match read_over(usual, text) {
         Ok(builder) => Ok(builder.build()),
         Err(ParseError::InvalidSpec(part)) => Err(FilterFault::NoFilter(part)),
         Err(ParseError::OutOfMemory) => Err(FilterFault::NoMemory),
     }
+}
+
+/// The usual level, over which a text is to be read.
+#[tactic(auto, unfolding(crate::specs::Filters::WasRefused))]
+fn usual_for(alloc: Global, _text: &str) -> Result<Builder, AllocError>
+    ensures rules { IfOk result (λ builder. builder_rules builder ≡ usual_rules) }
+    ensures refused { OnErr result (WasRefused _text.now) }
+{
+    Builder::new(alloc).filter_level(LevelFilter::Info)
+}
+
+/// It, with a text's directives.
+#[tactic(auto, unfolding(crate::specs::Filters::WasRefused))]
+fn read_over<'a>(usual: Builder, text: &'a str) -> Result<Builder, ParseError<'a>>
+    ensures rules { IfOk result
+        (λ builder. builder_rules builder ≡ insert_directives (builder_rules usual) text.now) }
+    ensures valid { OnOk result (invalid_spec text.now ≡ None) }
+    ensures refused { IfErr result (IsUnread text.now) }
+{
+    usual.try_parse(text)
 }
 
 /// The filter that the environment holds, if it holds one.
