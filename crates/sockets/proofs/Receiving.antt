@@ -7,7 +7,7 @@ use Rattle.mio.specs.Events.{items}
 use Rattle.mio.specs.declared.event.event.Event.{Event}
 use Rattle.sockets.specs.Hearing.{Attached}
 use Rattle.sockets.specs.Letters.{answer_of}
-use Rattle.sockets.specs.Looking.{LooksFor, turned, woken_by_all}
+use Rattle.sockets.specs.Looking.{turned, woken_by_all}
 use Rattle.sockets.specs.Polling.{WasPolled, most_of}
 use Rattle.sockets.specs.Receiving.{AsksFor, AsksPlaces, AsksTurns, AsksUpTo, CatchesUp, HasReceived, HasWaited, Waits, WaitsFor, WaitsForAny}
 use Rattle.sockets.specs.Waking.{TakesAt, woken_at_all}
@@ -96,33 +96,29 @@ waits_for r failed limit a b waits is = subst (λ (f : Bool). WaitsForAny limit 
 
 -- something came
 pub at_once : (limit : ℕ) (a b c : Board) (found : Option (Place × ℕ)) (datagram : Place × ℕ) → CatchesUp limit false a b → c.poll ≡ b.poll
-    → AsksFor (Ok found) b c → LooksFor {E = WireFault} (Ok found) b.control c.control → found ≡ Some datagram
-    → WaitsFor limit (Ok (Some datagram)) a c
-at_once limit a b c found datagram catches poll places control some =
-    let asks : AsksPlaces (Ok found) b c = record { poll = poll; places = places; control = control } in
+    → AsksFor (Ok found) b c → found ≡ Some datagram → WaitsFor limit (Ok (Some datagram)) a c
+at_once limit a b c found datagram catches poll places some =
+    let asks : AsksPlaces (Ok found) b c = record { poll = poll; places = places } in
     inl (b, (catches, subst (λ (f : Option (Place × ℕ)). AsksPlaces (Ok f) b c) some asks))
 
 -- it failed
 pub at_once_failed : (limit : ℕ) (a b c : Board) (fault : WireFault) → CatchesUp limit false a b → c.poll ≡ b.poll → AsksFor (Err fault) b c
-    → LooksFor (Err fault) b.control c.control → WaitsFor limit (Err fault) a c
-at_once_failed limit a b c fault catches poll places control =
-    inr (inl (b, (catches, record { poll = poll; places = places; control = control })))
+    → WaitsFor limit (Err fault) a c
+at_once_failed limit a b c fault catches poll places = inr (inl (b, (catches, record { poll = poll; places = places })))
 
 -- nothing was there, and so it was waited for
 pub has_waited : (limit : ℕ) (failed : Bool) (a b c d : Board) (found : Option (Place × ℕ)) → CatchesUp limit false a b → c.poll ≡ b.poll
-    → AsksFor (Ok found) b c → LooksFor {E = WireFault} (Ok found) b.control c.control → found ≡ None → WaitsForAny limit failed c d
-    → HasWaited limit failed a d
-has_waited limit failed a b c d found catches poll places control none waits =
-    let asks : AsksPlaces (Ok found) b c = record { poll = poll; places = places; control = control } in
+    → AsksFor (Ok found) b c → found ≡ None → WaitsForAny limit failed c d → HasWaited limit failed a d
+has_waited limit failed a b c d found catches poll places none waits =
+    let asks : AsksPlaces (Ok found) b c = record { poll = poll; places = places } in
     (c, ((b, (catches, subst (λ (f : Option (Place × ℕ)). AsksPlaces (Ok f) b c) none asks)), waits))
 
 -- and this was answered then
 pub behind_wait : (limit : ℕ) (a d e : Board) (result : Result (Option (Place × ℕ)) WireFault) → HasWaited limit false a d → e.poll ≡ d.poll
-    → AsksFor result d e → LooksFor result d.control e.control → WaitsFor limit result a e
-behind_wait limit a d e (Ok (Some found)) waited poll places control = inr (d, (waited, record { poll = poll; places = places; control = control }))
-behind_wait limit a d e (Ok None) waited poll places control = (d, (waited, record { poll = poll; places = places; control = control }))
-behind_wait limit a d e (Err fault) waited poll places control =
-    inr (inr (d, (waited, record { poll = poll; places = places; control = control })))
+    → AsksFor result d e → WaitsFor limit result a e
+behind_wait limit a d e (Ok (Some found)) waited poll places = inr (d, (waited, record { poll = poll; places = places }))
+behind_wait limit a d e (Ok None) waited poll places = (d, (waited, record { poll = poll; places = places }))
+behind_wait limit a d e (Err fault) waited poll places = inr (inr (d, (waited, record { poll = poll; places = places })))
 
 -- ---- a call
 

@@ -12,7 +12,7 @@ use Rattle.sockets.specs.Asking.{IsSpent}
 use Rattle.sockets.specs.Boards.{HearsAt, came, is_inside, is_link, is_outside, was_received}
 use Rattle.sockets.specs.Hearing.{Attached, Hears, woken}
 use Rattle.sockets.specs.Looking.{turned}
-use Rattle.sockets.specs.Showing.{FailedAt}
+use Rattle.sockets.specs.Showing.{FailedAt, failing_at}
 use Rattle.sockets.specs.Waking.{AreMaybeWoken, TakesAt, TakesWhere, is_asked, woken_at, woken_at_all}
 use Rattle.sockets.proofs.Hearing.{hears_nothing, hears_on}
 use Rattle.sockets.proofs.Looking.{or_no}
@@ -47,7 +47,7 @@ none_asked_yet is first a so = absurd (cc)
 
 spent_where : (before here : Bool) (a a2 : Attached Channel) → (before ≡ true → IsSpent was_received a)
     → TakesWhere {E = WireFault} here a a2 (Ok None) → (before || here) ≡ true → IsSpent was_received a2
-spent_where before true a a2 had takes is = takes.1
+spent_where before true a a2 had takes is = takes.spent
 spent_where before false a a2 had same is = subst (λ (x : Attached Channel). IsSpent was_received x) (sym same) (had (or_no before is))
 
 -- one more was asked, and nothing was there
@@ -87,8 +87,8 @@ pub outside_asked : (turns : ℕ) (first : Place) → turns ≡ 4 → is_asked i
 outside_asked turns first all = ap (λ (n : ℕ). is_asked is_outside n first) all ∙ outside_in_four first
 
 -- it failed
-pub failed_at : (place : Place) (fault : WireFault) (b b2 : Board) → TakesAt b b2 place (Err fault) → FailedAt place b2
-failed_at Link fault b b2 takes = (b.link, takes.link.0)
-failed_at (Side Inside) fault b b2 takes = (b.inside, takes.inside.0)
-failed_at (Side Outside) fault b b2 takes = (b.outside, takes.outside.0)
-failed_at Operator fault b b2 takes = tt
+pub failed_at : (place : Place) (fault : WireFault) (b b2 : Board) → TakesAt b b2 place (Err fault) → (failing_at b2 place ≡ true) × FailedAt place b2
+failed_at Link fault b b2 takes = (takes.link.failing, (b.link, takes.link.asked))
+failed_at (Side Inside) fault b b2 takes = (takes.inside.failing, (b.inside, takes.inside.asked))
+failed_at (Side Outside) fault b b2 takes = (takes.outside.failing, (b.outside, takes.outside.asked))
+failed_at Operator fault b b2 takes = absurd takes.control

@@ -1,5 +1,6 @@
 -- What is asked of what carries a place's bytes, and when.
 use Rattle.std.specs.Prelude.{ℕ, zero, suc, Bool, true, false, ◌≡◌, ◌≤◌, ◌<◌, ◌⊎◌, List, length, take, Option, Some, None, Result, Ok, Err}
+use Rattle.std.specs.declared.io.Error.{Error}
 use Rattle.sockets.specs.declared.attachments.Brought.{Brought}
 use Rattle.sockets.specs.declared.attachments.Brought.TheVariants.{Heard, Stranger, Nothing, Failed}
 use Rattle.sockets.specs.declared.conduits.Arrived.{Arrived}
@@ -38,9 +39,9 @@ Receives C = C → Result (Option Arrived) WireFault → List ℕ → C → Type
 unfoldable pub WasReceived : {S : Type 0} → S → Result (Option Arrived) WireFault → List ℕ → S → Type 0
 WasReceived before result room after = Unit {0}
 
--- the same where waits are to report a socket under the token of this number
-unfoldable pub WasRegistered : {S : Type 0} → S → ℕ → S → Type 0
-WasRegistered before number after = Unit {0}
+-- the same where the system was to have waits report a socket under the token of this number: by who asks it, as he was before and is then
+unfoldable pub WasRegistered : {M S : Type 0} → M → S → ℕ → Result (Unit {0}) Error → S → M → Type 0
+WasRegistered before s number answer s2 after = Unit {0}
 
 -- an answer is of these kinds: something of the far end's, or of somebody else's, nothing, or a failure
 pub data Kind : Type 0 where

@@ -1,6 +1,8 @@
 -- What is told of each place of a box: what its own attachment has heard.
-use Rattle.std.specs.Prelude.{ℕ, Bool, true, false, ◌≡◌, List, [], ◌∷◌, ◌++◌, take, Option, Some, None, Result, Ok, Err, is_err}
+use Rattle.std.specs.Prelude.{ℕ, Bool, true, false, ◌≡◌, List, [], ◌∷◌, ◌++◌, ◌⊎◌, take, Option, Some, None, Result, Ok, Err, is_err}
 use Rattle.control.specs.Attending.{Attending, registered}
+use Rattle.std.specs.declared.io.Error.{Error}
+use Rattle.sockets.specs.declared.machine.Waiting.{Waiting}
 use Rattle.mio.specs.Events.{capacity}
 use Rattle.mio.specs.declared.token.Token.{Token}
 use Rattle.nat_types.specs.declared.gateways.Side.TheVariants.{Inside, Outside}
@@ -10,14 +12,17 @@ use Rattle.sockets.specs.declared.places.Ports.{Ports}
 use Rattle.sockets.specs.declared.ways.Way.{Way}
 use Rattle.sockets.specs.declared.ways.Ways.{Ways}
 use Rattle.sockets.specs.declared.channels.Channel.{Channel}
+use Rattle.sockets.specs.declared.machine.Opened.{Opened}
 use Rattle.sockets.specs.declared.sockets.Board.{Board}
 use Rattle.sockets.specs.declared.sockets.Places.{Places}
+use Rattle.sockets.specs.declared.sockets.SocketFault.{SocketFault}
+use Rattle.sockets.specs.declared.sockets.SocketFault.TheVariants.{NoMemory, NoSocket}
 use Rattle.sockets.specs.FarEnds.{Arrival, far_end_of, head_of}
 use Rattle.sockets.specs.Hearing.{Attached, Hears}
 use Rattle.sockets.specs.Traffic.{handed_on}
-use Rattle.sockets.specs.Asking.{HandsOver, Receives, Sends, WasReceived, WasSent}
-use Rattle.sockets.specs.Losses.{none_lost}
-use Rattle.sockets.specs.Opening.{IsAttached}
+use Rattle.sockets.specs.Asking.{HandsOver, Receives, Sends, WasReceived, WasRegistered, WasSent}
+use Rattle.sockets.specs.Losses.{none_lost, with_loss}
+use Rattle.sockets.specs.Opening.{IsAttached, RefusesOne, WasHandedOut, WasPollMade, places_of, wanted}
 use Rattle.sockets.specs.declared.losses.SendFault.{SendFault}
 
 abbrev pub is_link : Place → Bool
@@ -78,13 +83,16 @@ was_sent c bytes result c2 = WasSent c.socket bytes result c2.socket
 abbrev pub was_received : Receives Channel
 was_received c result room c2 = WasReceived c.socket result room c2.socket
 
--- bytes are handed on to the far end, behind what stands before them: the system was asked to send just these; or not, where the answer is an Err
+-- bytes are handed on to the far end, behind what stands before them: the system was asked to send just these; or not, where the answer is an
+-- Err. The place fails from then on just after an Err, which is counted as a loss
 pub record HandsOn (a a2 : Attached Channel) (result : Result (Unit {0}) SendFault) (bytes : List ℕ) : Type 0 where
   pub asked : HandsOver was_sent a.conduit a2.conduit result (head_of a.far ++ bytes)
   pub sent : a2.conduit.traffic.sent ≡ a.conduit.traffic.sent ++ handed_on result (head_of a.far ++ bytes)
   pub came : came a2.conduit ≡ came a.conduit
   pub same_far : a2.far ≡ a.far
   pub strangers : a2.strangers ≡ a.strangers
+  pub failing : a2.failing ≡ is_err result
+  pub losses : a2.losses ≡ with_loss result a.losses
   pub ready : a2.ready ≡ a.ready
 
 abbrev pub HandsOnWhere : Bool → Attached Channel → Attached Channel → Result (Unit {0}) SendFault → List ℕ → Type 0
@@ -103,33 +111,71 @@ pub record SendsAt (b b2 : Board) (place : Place) (result : Result (Unit {0}) Se
   pub outside : HandsOnWhere (is_outside place) b.outside b2.outside result bytes
   pub operator : FailsAtOperator place result
 
--- just opened by its way, with its ports where that is the loopback address: nothing has come, failed or was lost, it may have something, and
--- waits report it under the token of this number
-pub record IsNew (number : ℕ) (way : Way) (ports : ℕ × ℕ) (a : Attached Channel) : Type 0 where
+-- Just handed out, with its ports where its way is the loopback address: nothing has come, failed or was lost, and it may have something.
+pub record IsNew {M : Type 0} (before : M) (opened : Opened) (way : Way) (ports : ℕ × ℕ) (a : Attached Channel) (after : M) : Type 0 where
   pub far : a.far ≡ far_end_of way ports
   pub came : came a.conduit ≡ []
   pub strangers : a.strangers ≡ 0
   pub failing : a.failing ≡ false
   pub losses : a.losses ≡ none_lost
   pub ready : a.ready ≡ true
-  pub opened : IsAttached number way ports a.conduit.socket
+  pub handed_out : WasHandedOut before opened a.conduit.socket after
+
+-- each place has its own way, and its own ports where that is the loopback address: they were opened one after the other
+pub record OpensPlaces {M : Type 0} (before : M) (ways : Ways) (ports : Ports) (p : Places) (after : M) : Type 0 where
+  pub second : M
+  pub third : M
+  pub link : IsAttached before (wanted 0 ways.link ports.link) (Ok p.link) second
+  pub inside : IsAttached second (wanted 1 ways.inside ports.inside) (Ok p.inside) third
+  pub outside : IsAttached third (wanted 2 ways.outside ports.outside) (Ok p.outside) after
 
 -- the control socket's token, and that of its callers: it is none of the three places'
 abbrev pub control_token : Token
 control_token = record { 0 = 3 }
 
--- each place has its own way, and its own ports where that is the loopback address; the control socket is as it was handed in, but that waits
--- report it under its token; the link is asked first; they have room for eight events
-pub record Opens (ways : Ways) (ports : Ports) (handed_in : Attending) (b : Board) : Type 0 where
-  pub link : IsNew 0 ways.link ports.link b.link
-  pub inside : IsNew 1 ways.inside ports.inside b.inside
-  pub outside : IsNew 2 ways.outside ports.outside b.outside
+-- the system was asked for what waits, to report the control socket under its token, and for the places, and refused none
+pub record IsHad {M : Type 0} (before : M) (ways : Ways) (ports : Ports) (handed_in : Attending) (poll : Waiting) (control : Attending) (p : Places)
+    (after : M) : Type 0
+  where
+    pub between : M
+    pub behind : M
+    pub polled : WasPollMade before (Ok poll) between
+    pub asked : WasRegistered between handed_in control_token.0 (Ok tt) control behind
+    pub places : OpensPlaces behind ways ports p after
+
+-- and then all three were handed out
+pub record HandsOut {M : Type 0} (before : M) (ways : Ways) (ports : Ports) (p : Places) (b : Board) (after : M) : Type 0 where
+  pub second : M
+  pub third : M
+  pub link : IsNew before p.link ways.link ports.link b.link second
+  pub inside : IsNew second p.inside ways.inside ports.inside b.inside third
+  pub outside : IsNew third p.outside ways.outside ports.outside b.outside after
+
+-- so a box has them; the control socket is as it was handed in, but that waits report it; the link is asked first; there is room for eight events
+pub record Opens {M : Type 0} (before : M) (ways : Ways) (ports : Ports) (handed_in : Attending) (b : Board) (after : M) : Type 0 where
+  pub places : Places
+  pub between : M
+  pub had : IsHad before ways ports handed_in b.poll b.control places between
+  pub handed_out : HandsOut between ways ports places b after
   pub control : b.control ≡ registered control_token handed_in
   pub first : b.first ≡ Link
   pub room : capacity b.events ≡ 8
 
--- the same of the places before they are a box's
-pub record OpensPlaces (ways : Ways) (ports : Ports) (p : Places) : Type 0 where
-  pub link : IsNew 0 ways.link ports.link p.link
-  pub inside : IsNew 1 ways.inside ports.inside p.inside
-  pub outside : IsNew 2 ways.outside ports.outside p.outside
+-- behind what waits to report the control socket was refused; or it wasn't, and one of the places is
+abbrev pub RefusesBehindPoll : {M : Type 0} → M → Ways → Ports → Attending → Error → M → Type 0
+RefusesBehindPoll {M} before ways ports handed_in error after =
+    ((control : Attending) × WasRegistered before handed_in control_token.0 (Err error) control after)
+    ⊎ ((control : Attending) × ((between : M) × (WasRegistered before handed_in control_token.0 (Ok tt) control between
+    × RefusesOne between (places_of ways ports) error after)))
+
+-- what waits is refused; or it isn't, and what is asked behind it is
+abbrev pub RefusesSocket : {M : Type 0} → M → Ways → Ports → Attending → Error → M → Type 0
+RefusesSocket {M} before ways ports handed_in error after = WasPollMade before (Err error) after
+    ⊎ ((poll : Waiting) × ((between : M) × (WasPollMade before (Ok poll) between × RefusesBehindPoll between ways ports handed_in error after)))
+
+-- A box's sockets aren't had: the system refused what it was asked, and wasn't asked for more behind that. Or it refused nothing, and there is no
+-- memory for events.
+abbrev pub IsRefused : {M : Type 0} → M → Ways → Ports → Attending → SocketFault → M → Type 0
+IsRefused before ways ports handed_in NoSocket after = (error : Error) × RefusesSocket before ways ports handed_in error after
+IsRefused before ways ports handed_in NoMemory after =
+    (poll : Waiting) × ((control : Attending) × ((p : Places) × IsHad before ways ports handed_in poll control p after))

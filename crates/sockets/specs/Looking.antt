@@ -82,10 +82,12 @@ abbrev pub woken_by_all : List Event → Attending → Attending
 woken_by_all [] c = c
 woken_by_all (event ∷ rest) c = woken_by_all rest (woken_by (event_token event) c)
 
--- who awaits an answer is told these bytes, once, and let go, and all else stays but the count of those who went unanswered
+-- who awaits an answer is told these bytes, once, and let go, and all else stays but the count of those who went unanswered: where nobody awaits
+-- one it does too
 pub record IsAnswered (bytes : List ℕ) (c c2 : Attending) : Type 0 where
   pub rest : c2 ≡ answered c c2.unanswered
   pub told : c.awaits ≡ true → IsTold bytes c.unanswered c2.unanswered
+  pub nobody : c.awaits ≡ false → c2.unanswered ≡ c.unanswered
 
 -- ---- the places in turn
 

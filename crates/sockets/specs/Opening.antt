@@ -1,65 +1,101 @@
--- What a way needs is opened.
-use Rattle.std.specs.Prelude.{ℕ, pos, ◌≡◌}
-use Rattle.mio.specs.declared.net.udp.UdpSocket.{UdpSocket}
-use Rattle.sockets.specs.Asking.{WasRegistered}
+-- What a way needs is opened, as far as nothing is refused.
+use Rattle.std.specs.Prelude.{ℕ, ◌≡◌, ◌⊎◌, List, [], ◌∷◌, Result, Ok, Err}
+use Rattle.std.specs.declared.io.Error.{Error}
 use Rattle.std.specs.declared.net.socket_addr.SocketAddr.{SocketAddr}
+use Rattle.sockets.specs.declared.machine.Waiting.{Waiting}
+use Rattle.sockets.specs.Asking.{WasRegistered}
 use Rattle.sockets.specs.Ends.{IsSocketOf, are_on_loopback}
-use Rattle.sockets.specs.declared.channels.Socket.{Socket}
-use Rattle.sockets.specs.declared.channels.Socket.TheVariants as socket
 use Rattle.sockets.specs.declared.ends.End.{End}
 use Rattle.sockets.specs.declared.ends.Ends.{Ends}
+use Rattle.sockets.specs.declared.machine.Inherited.{Inherited}
+use Rattle.sockets.specs.declared.machine.Opened.{Opened}
+use Rattle.sockets.specs.declared.machine.Opened.TheVariants as opened
+use Rattle.sockets.specs.declared.machine.Socket.{Socket}
+use Rattle.sockets.specs.declared.machine.Udp.{Udp}
+use Rattle.sockets.specs.declared.places.Ports.{Ports}
 use Rattle.sockets.specs.declared.ways.Way.{Way}
 use Rattle.sockets.specs.declared.ways.Way.TheVariants as way
+use Rattle.sockets.specs.declared.ways.Ways.{Ways}
 
--- a socket was just bound at an end
-pub record IsBoundAt {B S : Type 0} (binds : B → SocketAddr → S → B → Type 0) (before after : B) (end : End) (s : S) : Type 0 where
-  pub address : SocketAddr
-  pub address_is : IsSocketOf end address
-  pub is_bound : binds before address s after
+-- ---- what the system is asked
 
--- it was bound at the own end, and then connected to the other
-pub record IsJoined {B S : Type 0} (binds : B → SocketAddr → S → B → Type 0) (connects : S → SocketAddr → S → Type 0) (before after : B) (ends : Ends) (s : S) : Type 0 where
-  pub first : S
-  pub own : IsBoundAt binds before after ends.own first
-  pub address : SocketAddr
-  pub address_is : IsSocketOf ends.other address
-  pub is_connected : connects first address s
+-- The system was asked for a socket at this address, and answered so: by who asks it, as he was before and is then. It is no more than a name
+-- for the call: who makes it has this, and nobody else. What he is then nobody else can say, so one more call leads elsewhere.
+unfoldable pub WasBound : {M : Type 0} → M → SocketAddr → Result Udp Error → M → Type 0
+WasBound before address answer after = Unit {0}
+
+-- the same where it was asked for what waits for sockets
+unfoldable pub WasPollMade : {M : Type 0} → M → Result Waiting Error → M → Type 0
+WasPollMade before answer after = Unit {0}
+
+-- and where an inherited descriptor of this number was taken over
+unfoldable pub WasInherited : {M : Type 0} → M → ℕ → Inherited → M → Type 0
+WasInherited before number it after = Unit {0}
+
+-- and where it was asked to connect a socket to this address
+unfoldable pub WasConnected : {M : Type 0} → M → Udp → SocketAddr → Result (Unit {0}) Error → Udp → M → Type 0
+WasConnected before s address answer s2 after = Unit {0}
+
+-- and where what was opened was handed out as a socket: nothing passes through it before
+unfoldable pub WasHandedOut : {M : Type 0} → M → Opened → Socket → M → Type 0
+WasHandedOut before opened socket after = Unit {0}
+
+-- ---- a socket
+
+abbrev pub IsBoundAt : {M : Type 0} → M → End → Result Udp Error → M → Type 0
+IsBoundAt before end answer after = (address : SocketAddr) × (IsSocketOf end address × WasBound before address answer after)
+
+abbrev pub IsConnectedTo : {M : Type 0} → M → Udp → End → Result (Unit {0}) Error → Udp → M → Type 0
+IsConnectedTo before s end answer s2 after = (address : SocketAddr) × (IsSocketOf end address × WasConnected before s address answer s2 after)
+
+-- one was bound at the own end, and then connected to the other; or the first of both that was asked is refused
+abbrev pub IsJoined : {M : Type 0} → M → Ends → Result Opened Error → M → Type 0
+IsJoined {M} before ends (Ok s) after =
+    (first : Udp) × ((last : Udp) × ((between : M) × (IsBoundAt before ends.own (Ok first) between
+    × (IsConnectedTo between first ends.other (Ok tt) last after × (s ≡ opened.Connected last)))))
+IsJoined {M} before ends (Err error) after = IsBoundAt before ends.own (Err error) after
+    ⊎ ((first : Udp) × ((last : Udp) × ((between : M) × (IsBoundAt before ends.own (Ok first) between
+    × IsConnectedTo between first ends.other (Err error) last after))))
+
+-- one was bound at the own end, and sends to the other; or it is refused
+abbrev pub IsAimed : {M : Type 0} → M → Ends → Result Opened Error → M → Type 0
+IsAimed before ends (Ok s) after =
+    (own : Udp) × ((other : SocketAddr) × (IsBoundAt before ends.own (Ok own) after × (IsSocketOf ends.other other × (s ≡ opened.Open own other))))
+IsAimed before ends (Err error) after = IsBoundAt before ends.own (Err error) after
 
 -- this is what a way needs: on the loopback address the place has these ports
-abbrev pub IsOpened : {B S : Type 0} → (B → SocketAddr → S → B → Type 0) → (S → SocketAddr → S → Type 0) → B → B → Way → ℕ × ℕ → Socket S → Type 0
-IsOpened binds connects before after way.Loopback ports (socket.Connected s) = IsJoined binds connects before after (are_on_loopback ports) s
-IsOpened binds connects before after way.Loopback ports (socket.Open s other) = ⊥
-IsOpened binds connects before after way.Loopback ports (socket.Descriptor number) = ⊥
-IsOpened binds connects before after (way.Udp ends) ports (socket.Connected s) = IsJoined binds connects before after ends s
-IsOpened binds connects before after (way.Udp ends) ports (socket.Open s other) = ⊥
-IsOpened binds connects before after (way.Udp ends) ports (socket.Descriptor number) = ⊥
-IsOpened binds connects before after (way.Vxlan ends network) ports (socket.Connected s) = ⊥
-IsOpened binds connects before after (way.Vxlan ends network) ports (socket.Open s other) = IsBoundAt binds before after ends.own s × IsSocketOf ends.other other
-IsOpened binds connects before after (way.Vxlan ends network) ports (socket.Descriptor number) = ⊥
-IsOpened binds connects before after (way.Descriptor number) ports (socket.Connected s) = ⊥
-IsOpened binds connects before after (way.Descriptor number) ports (socket.Open s other) = ⊥
-IsOpened binds connects before after (way.Descriptor number) ports (socket.Descriptor found) = (found ≡ pos number) × (after ≡ before)
+abbrev pub IsOpened : {M : Type 0} → M → Way → ℕ × ℕ → Result Opened Error → M → Type 0
+IsOpened before way.Loopback ports answer after = IsJoined before (are_on_loopback ports) answer after
+IsOpened before (way.Udp ends) ports answer after = IsJoined before ends answer after
+IsOpened before (way.Vxlan ends network) ports answer after = IsAimed before ends answer after
+IsOpened before (way.Descriptor number) ports answer after =
+    (it : Inherited) × (WasInherited before number it after × (answer ≡ Ok (opened.Descriptor it)))
 
--- ---- by the system
+-- ---- a place
 
--- It bound this socket at this address. It is no more than a name for the call: who makes it has this, and nobody else.
-unfoldable pub WasBound : {S : Type 0} → SocketAddr → S → Type 0
-WasBound address socket = Unit {0}
+-- its token's number, its way, and its ports on the loopback address
+pub record Wanted : Type 0 where
+  pub number : ℕ
+  pub way : Way
+  pub ports : ℕ × ℕ
 
--- the same, of whoever asks it
-abbrev pub by_system : {B S : Type 0} → B → SocketAddr → S → B → Type 0
-by_system before address socket after = WasBound address socket
+abbrev pub wanted : ℕ → Way → ℕ × ℕ → Wanted
+wanted number way ports = record { number = number; way = way; ports = ports }
 
--- it connected a socket to this address, and the socket is this from then on
-unfoldable pub WasConnected : {S : Type 0} → S → SocketAddr → S → Type 0
-WasConnected before address after = Unit {0}
+-- what its way needs was opened, and then waits were to report it under its token; or the first of both that was asked is refused
+abbrev pub IsAttached : {M : Type 0} → M → Wanted → Result Opened Error → M → Type 0
+IsAttached {M} before w (Ok s) after =
+    (first : Opened) × ((between : M) × (IsOpened before w.way w.ports (Ok first) between × WasRegistered between first w.number (Ok tt) s after))
+IsAttached {M} before w (Err error) after = IsOpened before w.way w.ports (Err error) after
+    ⊎ ((first : Opened) × ((last : Opened) × ((between : M) × (IsOpened before w.way w.ports (Ok first) between
+    × WasRegistered between first w.number (Err error) last after))))
 
--- by the system a way has what it needs
-abbrev pub IsOpenedBySystem : Way → ℕ × ℕ → Socket UdpSocket → Type 0
-IsOpenedBySystem way ports s = IsOpened (by_system {B = Unit {0}}) WasConnected tt tt way ports s
+-- those of a box, in the order in which they are opened
+abbrev pub places_of : Ways → Ports → List Wanted
+places_of ways ports = wanted 0 ways.link ports.link ∷ wanted 1 ways.inside ports.inside ∷ wanted 2 ways.outside ports.outside ∷ []
 
--- it was opened so, and then waits were to report it under the token of this number
-pub record IsAttached (number : ℕ) (way : Way) (ports : ℕ × ℕ) (s : Socket UdpSocket) : Type 0 where
-  pub first : Socket UdpSocket
-  pub opened : IsOpenedBySystem way ports first
-  pub registered : WasRegistered first number s
+-- one of these is refused: those before it were had, and nothing is asked for those behind it
+abbrev pub RefusesOne : {M : Type 0} → M → List Wanted → Error → M → Type 0
+RefusesOne before [] error after = ⊥
+RefusesOne {M} before (w ∷ others) error after = IsAttached before w (Err error) after
+    ⊎ ((s : Opened) × ((between : M) × (IsAttached before w (Ok s) between × RefusesOne between others error after)))

@@ -8,7 +8,7 @@ use Rattle.sockets.specs.declared.sockets.Board.{Board}
 use Rattle.sockets.specs.declared.sockets.Sockets.{Sockets}
 use Rattle.sockets.specs.declared.wire.WireFault.{WireFault}
 use Rattle.sockets.specs.Letters.{Polled, answer_of}
-use Rattle.sockets.specs.Looking.{LooksFor, turned, woken_by_all}
+use Rattle.sockets.specs.Looking.{turned, woken_by_all}
 use Rattle.sockets.specs.Polling.{WasPolled, most_of}
 use Rattle.sockets.specs.Waking.{AreWoken, TakesAt, is_any_ready}
 
@@ -57,11 +57,10 @@ AsksFor (Ok (Some found)) b b2 = AsksUpTo found.0 (Ok (Some found.1)) b b2
 AsksFor (Ok None) b b2 = AsksTurns 4 b b2
 AsksFor (Err fault) b b2 = (place : Place) × AsksUpTo place (Err fault) b b2
 
--- so they were, and the control socket was looked at; nothing was waited for meanwhile
+-- so they were, and nothing was waited for meanwhile
 pub record AsksPlaces (result : Result (Option (Place × ℕ)) WireFault) (b b2 : Board) : Type 0 where
   pub poll : b2.poll ≡ b.poll
   pub places : AsksFor result b b2
-  pub control : LooksFor result b.control b2.control
 
 -- ---- to receive
 

@@ -2,7 +2,7 @@
 use Rattle.std.specs.Prelude.{ℕ, Bool, true, false, ◌≡◌, ◌⊎◌, [], Option, Some, None, Result, Ok, Err}
 use Rattle.std.specs.declared.time.Duration.{Duration}
 use Rattle.mio.specs.Events.{items}
-use Rattle.mio.specs.declared.poll.Poll.{Poll}
+use Rattle.sockets.specs.declared.machine.Waiting.{Waiting}
 use Rattle.nat_types.specs.declared.gateways.Side.TheVariants.{Inside, Outside}
 use Rattle.sockets.specs.declared.channels.Channel.{Channel}
 use Rattle.sockets.specs.declared.losses.Losses.{Losses}
@@ -63,7 +63,7 @@ TurnsFor (Err fault) b b2 = Unit {0}
 
 -- a wait failed, and so reported nothing
 abbrev pub IsOfWait : Board → Type 0
-IsOfWait b = (items b.events ≡ []) × ((before : Poll) × ((limit : Duration) × WasPolled before limit true (items b.events) b.poll))
+IsOfWait b = (items b.events ≡ []) × ((before : Waiting) × ((limit : Duration) × WasPolled before limit true (items b.events) b.poll))
 
 -- the place that was asked last fails; or a wait did
 abbrev pub HasFailed : Board → Type 0

@@ -9,8 +9,8 @@ use Rattle.sockets.specs.declared.places.Place.{Place}
 use Rattle.sockets.specs.declared.sockets.Board.{Board}
 use Rattle.sockets.specs.Asking.{AsksOn, IsSpent, IsSpentBy, kind_told}
 use Rattle.sockets.specs.Boards.{is_inside, is_link, is_outside, was_received}
-use Rattle.sockets.specs.Hearing.{Attached, woken}
-use Rattle.sockets.specs.Looking.{turned}
+use Rattle.sockets.specs.Hearing.{Attached, failing_after, woken}
+use Rattle.sockets.specs.Looking.{LooksAt, turned}
 
 -- a place with a token of this number, by the token of what a wait reported
 abbrev pub woken_at : ℕ → Token → Attached Channel → Attached Channel
@@ -35,17 +35,25 @@ AreMaybeWoken b b2 = (events : List Event) × AreWoken events b b2
 abbrev pub is_any_ready : Board → Bool
 is_any_ready b = b.link.ready || (b.inside.ready || (b.outside.ready || is_ready b.control))
 
--- a place was asked on, and is spent where nothing was taken; another is as it was
+-- a place was asked on, and is spent where nothing was taken; an Err leaves it failing, what came ends that, and no loss is counted
+pub record Takes {E : Type 0} (a a2 : Attached Channel) (result : Result (Option ℕ) E) : Type 0 where
+  pub asked : AsksOn was_received a a2 (kind_told result)
+  pub spent : IsSpentBy was_received result a2
+  pub failing : a2.failing ≡ failing_after result a.failing
+  pub losses : a2.losses ≡ a.losses
+
 abbrev pub TakesWhere : {E : Type 0} → Bool → Attached Channel → Attached Channel → Result (Option ℕ) E → Type 0
-TakesWhere true a a2 result = AsksOn was_received a a2 (kind_told result) × IsSpentBy was_received result a2
+TakesWhere true a a2 result = Takes a a2 result
 TakesWhere false a a2 result = a2 ≡ a
 
+-- it is so of the place that is asked, and the others are as they were; the control socket is looked at, once, just where it is asked
 pub record TakesAt {E : Type 0} (b b2 : Board) (place : Place) (result : Result (Option ℕ) E) : Type 0 where
   pub link : TakesWhere (is_link place) b.link b2.link result
   pub inside : TakesWhere (is_inside place) b.inside b2.inside result
   pub outside : TakesWhere (is_outside place) b.outside b2.outside result
+  pub control : LooksAt place result b.control b2.control
 
--- each place is
+-- each place is spent
 pub record AreSpent (b : Board) : Type 0 where
   pub link : IsSpent was_received b.link
   pub inside : IsSpent was_received b.inside

@@ -2,21 +2,22 @@
 ghost use Rattle.control.specs.Attending.{is_ready};
 ghost use Rattle.mio.specs.Events.{capacity, items};
 ghost use Rattle.std.specs.Duration.{as_nanos};
-ghost use Rattle.std.specs.Prelude.{◌≡◌, ◌≤◌, [], IfErr, IfOk, IfSome, Ok, OnErr, is_err, option_map, take, true};
-ghost use Rattle.sockets.specs.Boards.{HearsAt, IsNew, Opens, OpensPlaces, Rests, SendsAt, Tells, after};
+ghost use Rattle.std.specs.Prelude.{◌≡◌, ◌≤◌, Err, IfErr, IfOk, IfSome, Ok, is_err, option_map, take};
+ghost use Rattle.sockets.specs.Boards.{HearsAt, IsNew, IsRefused, Opens, OpensPlaces, Rests, SendsAt, Tells, after};
 ghost use Rattle.sockets.specs.Doing.{AnswersAt, DoesAt};
 ghost use Rattle.sockets.specs.Hearing.{told};
-ghost use Rattle.sockets.specs.Looking.{IsMaybeWoken, LooksAt, LooksFor, SaysAt, SaysFor, woken_by, woken_by_all};
-ghost use Rattle.sockets.specs.Polling.{WasPolled};
+ghost use Rattle.sockets.specs.Looking.{IsMaybeWoken, LooksFor, SaysAt, SaysFor, woken_by, woken_by_all};
+ghost use Rattle.sockets.specs.Opening.{RefusesOne, places_of};
 ghost use Rattle.sockets.specs.Receiving.{AsksFor, CatchesUp, Waits, WaitsAt, WaitsFor, WaitsForAny};
 ghost use Rattle.sockets.specs.Waking.{AreMaybeWoken, AreWoken, SpentFor, TakesAt, is_any_ready, woken_at, woken_at_all};
 ghost use Rattle.sockets.specs.Showing.{HasFailed, IsOfLast, IsOfWait, TurnsFor, attached_at, failing_at, losses_at, strangers_at};
 
-use crate::channels::Channel;
+use crate::channels::{Channel, attached};
+use crate::machine::{Machine, Opened, Waiting};
 use crate::wire::{LONGEST, Wire, WireFault};
 use crate::{Attachment, Losses, Place, Ports, SendFault, Way, Ways};
 use control::Control;
-use mio::{Events, Poll, Token};
+use mio::{Events, Token};
 use nat_types::Side;
 use std::alloc::{AllocError, Global};
 use std::io;
@@ -62,7 +63,7 @@ impl From<io::Error> for SocketFault {
 /// The places of a box, and its control socket.
 #[derive(Drop)]
 struct Board {
-    poll: Poll,
+    poll: Waiting,
     events: Events,
     link: Attachment<Channel>,
     inside: Attachment<Channel>,
@@ -74,28 +75,33 @@ struct Board {
 
 impl Board {
     fn open<R: Net>(
-        net: &R,
+        machine: &mut Machine<'_, R>,
         alloc: Global,
         ways: &Ways,
         ports: Ports,
         control: Control,
     ) -> Result<Board, SocketFault>
-        ensures { IfOk result (Opens ways.now ports control) }
+        ensures opened { IfOk result (λ b. Opens machine.old ways.now ports control b machine.new) }
+        ensures refused { IfErr result
+            (λ fault. IsRefused machine.old ways.now ports control fault machine.new) }
     {
-        let (mut control, poll) = beside(control, Poll::new(net))?;
-        let registered = control.register(poll.registry(), CONTROL);
+        let (mut control, poll) = beside(control, machine.told_to_make_poll())?;
+        let registered = machine.told_to_register_control(&mut control, &poll, CONTROL);
         let (held, ()) = beside((control, poll), registered)?;
-        let places = open_places(net, &held.1, ways, ports);
+        let places = open_places(machine, &held.1, ways, ports);
         let (held, places) = beside(held, places)?;
         let events = Events::with_capacity(alloc, 8);
         let ((held, places), events) = beside((held, places), events)?;
         let (control, poll) = held;
+        let link = place(machine, places.link, ways.link, ports.link);
+        let inside = place(machine, places.inside, ways.inside, ports.inside);
+        let outside = place(machine, places.outside, ways.outside, ports.outside);
         Ok(Board {
             poll,
             events,
-            link: places.link,
-            inside: places.inside,
-            outside: places.outside,
+            link,
+            inside,
+            outside,
             control,
             first: Place::Link,
         })
@@ -138,18 +144,16 @@ impl Board {
     fn take(&mut self, place: Place, room: &mut [u8; LONGEST]) -> Result<Option<usize>, WireFault>
         ensures hears { HearsAt self.old self.new place (told result room.new) }
         ensures within { IfOk result (λ found. IfSome found (λ count. count ≤ 4096)) }
-        ensures looks { LooksAt place result self.old.control self.new.control }
         ensures says { IfOk result
             (λ found. IfSome found (λ count. SaysAt place (take count room.new) self.new.control)) }
         ensures rests { Rests self.old self.new }
         ensures takes { TakesAt self.old self.new place result }
-        ensures failing { IfErr result (λ fault. failing_at self.new place ≡ true) }
     {
         match place {
             Place::Link => self.link.take(room),
             Place::Side(Side::Inside) => self.inside.take(room),
             Place::Side(Side::Outside) => self.outside.take(room),
-            Place::Operator => Ok(self.control.take(self.poll.registry(), room)),
+            Place::Operator => Ok(self.poll.take_word(&mut self.control, room)),
         }
     }
 
@@ -187,7 +191,7 @@ impl Board {
         ensures waits { Waits (as_nanos limit) (is_err result) self.old self.new }
         ensures room { capacity self.new.events ≡ capacity self.old.events }
     {
-        match polled(&mut self.poll, &mut self.events, limit) {
+        match self.poll.told_to_wait(&mut self.events, limit) {
             Ok(()) => {
                 wake(
                     &self.events,
@@ -277,19 +281,6 @@ impl Board {
     }
 }
 
-/// Asks the system to wait for at most so long, and has what it reports instead of what it did before.
-#[tactic(auto, unfolding(crate::specs::Polling::WasPolled))]
-fn polled(poll: &mut Poll, events: &mut Events<Global>, limit: Duration) -> Result<(), WireFault>
-    ensures polled { WasPolled poll.old limit (is_err result) (items events.new) poll.new }
-    ensures failed { OnErr result (items events.new ≡ []) }
-    ensures room { capacity events.new ≡ capacity events.old }
-{
-    match poll.poll(events, Some(limit)) {
-        Ok(()) => Ok(()),
-        Err(_) => Err(WireFault),
-    }
-}
-
 /// Tells the places that a wait has reported, by their tokens.
 fn wake(
     events: &Events<Global>,
@@ -335,6 +326,7 @@ fn wake_at(
 fn beside<A: Drop, B, E>(held: A, made: Result<B, E>) -> Result<(A, B), E>
     ensures held { IfOk result (λ both. both.0 ≡ held) }
     ensures made { IfOk result (λ both. made ≡ Ok both.1) }
+    ensures refused { IfErr result (λ fault. made ≡ Err fault) }
 {
     match made {
         Ok(made) => Ok((held, made)),
@@ -342,22 +334,29 @@ fn beside<A: Drop, B, E>(held: A, made: Result<B, E>) -> Result<(A, B), E>
     }
 }
 
-/// The places of a box.
+/// What was opened for the places of a box.
 #[derive(Drop)]
 struct Places {
-    link: Attachment<Channel>,
-    inside: Attachment<Channel>,
-    outside: Attachment<Channel>,
+    link: Opened,
+    inside: Opened,
+    outside: Opened,
 }
 
-/// The places by their ways.
-fn open_places<R: Net>(net: &R, poll: &Poll, ways: &Ways, ports: Ports) -> io::Result<Places>
-    ensures { IfOk result (OpensPlaces ways.now ports) }
+/// What the places need by their ways.
+fn open_places<R: Net>(
+    machine: &mut Machine<'_, R>,
+    waits: &Waiting,
+    ways: &Ways,
+    ports: Ports,
+) -> io::Result<Places>
+    ensures opened { IfOk result (λ p. OpensPlaces machine.old ways.now ports p machine.new) }
+    ensures refused { IfErr result
+        (λ error. RefusesOne machine.old (places_of ways.now ports) error machine.new) }
 {
-    let link = attached(net, poll, 0, ways.link, ports.link)?;
-    let inside = attached(net, poll, 1, ways.inside, ports.inside);
+    let link = attached(machine, waits, 0, ways.link, ports.link)?;
+    let inside = attached(machine, waits, 1, ways.inside, ports.inside);
     let (link, inside) = beside(link, inside)?;
-    let outside = attached(net, poll, 2, ways.outside, ports.outside);
+    let outside = attached(machine, waits, 2, ways.outside, ports.outside);
     let ((link, inside), outside) = beside((link, inside), outside)?;
     Ok(Places {
         link,
@@ -366,18 +365,17 @@ fn open_places<R: Net>(net: &R, poll: &Poll, ways: &Ways, ports: Ports) -> io::R
     })
 }
 
-/// A place by its way, reported by waits under a token's number.
-fn attached<R: Net>(
-    net: &R,
-    poll: &Poll,
-    number: usize,
+/// A place by what was opened for its way.
+fn place<R: Net>(
+    machine: &mut Machine<'_, R>,
+    opened: Opened,
     way: Way,
     ports: (u16, u16),
-) -> io::Result<Attachment<Channel>>
-    ensures { IfOk result (IsNew number way ports) }
+) -> Attachment<Channel>
+    ensures { IsNew machine.old opened way ports result machine.new }
 {
-    let channel = Channel::open(net, poll.registry(), Token(number), way, ports)?;
-    Ok(Attachment::new(channel, way.far_end(ports)))
+    let socket = machine.told_to_hand_out(opened);
+    Attachment::new(Channel::new(socket), way.far_end(ports))
 }
 
 /// The place that is asked next.
@@ -406,16 +404,19 @@ impl Sockets {
     ///
     /// `NoSocket` where one can't be had, `NoMemory`.
     pub fn open<R: Net>(
-        net: &R,
+        machine: &mut Machine<'_, R>,
         alloc: Global,
         ways: &Ways,
         ports: Ports,
         control: Control,
     ) -> Result<Sockets, SocketFault>
-        ensures { IfOk result (λ sockets. Opens ways.now ports control sockets.board) }
+        ensures opened { IfOk result
+            (λ s. Opens machine.old ways.now ports control s.board machine.new) }
+        ensures refused { IfErr result
+            (λ fault. IsRefused machine.old ways.now ports control fault machine.new) }
     {
         Ok(Sockets {
-            board: Board::open(net, alloc, ways, ports, control)?,
+            board: Board::open(machine, alloc, ways, ports, control)?,
         })
     }
 

@@ -29,11 +29,11 @@ returns-in-Ok-Some-clause-hears c =
     c.in-Ok-Some.ensures.hears c.in-Ok-Some.field-0-is
 
 pub returns-in-Ok-Some-clause-called : goal.returns-in-Ok-Some-clause-called
-returns-in-Ok-Some-clause-called c = let more = rises _ _ _ _ c.in-Ok-Some.ensures.looks in omega (arith, c.loop.invariant.called, more)
+returns-in-Ok-Some-clause-called c = let more = rises _ _ _ _ c.in-Ok-Some.ensures.takes.control in omega (arith, c.loop.invariant.called, more)
 
 pub returns-in-Ok-Some-clause-looks : goal.returns-in-Ok-Some-clause-looks
 returns-in-Ok-Some-clause-looks c =
-    word_on _ _ _ _ c.loop.self.control _ c.loop.invariant.vain c.in-Ok-Some.ensures.looks c.in-Ok-Some.field-0-is
+    word_on _ _ _ _ c.loop.self.control _ c.loop.invariant.vain c.in-Ok-Some.ensures.takes.control c.in-Ok-Some.field-0-is
 
 pub returns-in-Ok-Some-clause-turns : goal.returns-in-Ok-Some-clause-turns
 returns-in-Ok-Some-clause-turns c = record {
@@ -41,7 +41,7 @@ returns-in-Ok-Some-clause-turns c = record {
   turns = c.loop.counter;
   asked = c.loop.invariant.first;
   looked = λ among. looked_still c.loop.self.first c.in-Ok-Some.field-0 _ c.args.self.now.control c.loop.self.control
-      c.take.new.self.control (c.loop.invariant.looked among) c.in-Ok-Some.ensures.looks
+      c.take.new.self.control (c.loop.invariant.looked among) c.in-Ok-Some.ensures.takes.control
       c.in-Ok-Some.field-0-is;
 }
 
@@ -51,18 +51,18 @@ returns-in-Ok-Some-clause-says c =
     c.in-Ok-Some.field-0-is
 
 pub returns-in-Err-clause-looks : goal.returns-in-Err-clause-looks
-returns-in-Err-clause-looks c = vain_failed _ _ _ c.loop.self.control _ c.loop.invariant.vain c.in-Err.ensures.looks
+returns-in-Err-clause-looks c = vain_failed _ _ _ c.loop.self.control _ c.loop.invariant.vain c.in-Err.ensures.takes.control
 
 pub returns-in-Err-clause-hears : goal.returns-in-Err-clause-hears
 returns-in-Err-clause-hears c =
     heard_failed _ c.loop.self _ _ _ c.loop.invariant.heard (record { link = refl; inside = refl; outside = refl }) c.in-Err.ensures.hears
 
 pub returns-in-Err-clause-called : goal.returns-in-Err-clause-called
-returns-in-Err-clause-called c = let more = rises_at_err _ _ _ _ c.in-Err.ensures.looks in omega (arith, c.loop.invariant.called, more)
+returns-in-Err-clause-called c = let more = rises_at_err _ _ _ _ c.in-Err.ensures.takes.control in omega (arith, c.loop.invariant.called, more)
 
 pub loop-preserved : goal.loop-preserved
 loop-preserved c =
-    let more = rises _ _ _ _ c.in-Ok-None.ensures.looks in
+    let more = rises _ _ _ _ c.in-Ok-None.ensures.takes.control in
     record {
       heard = heard_still _ c.loop.self _ _ _ _ _ c.loop.invariant.heard (record { link = refl; inside = refl; outside = refl })
           c.in-Ok-None.ensures.hears c.in-Ok-None.field-0-is;
@@ -71,11 +71,11 @@ loop-preserved c =
       poll = c.take.ensures.rests.poll ∙ c.loop.invariant.poll;
       asked = asks_on c.loop.counter c.args.self.now c.loop.self c.take.new.self c.loop.self.first c.in-Ok-None.field-0 c.loop.invariant.first
           c.loop.invariant.asked
-          (record { link = c.in-Ok-None.ensures.takes.link; inside = c.in-Ok-None.ensures.takes.inside; outside = c.in-Ok-None.ensures.takes.outside })
+          (record { link = c.in-Ok-None.ensures.takes.link; inside = c.in-Ok-None.ensures.takes.inside; outside = c.in-Ok-None.ensures.takes.outside; control = c.in-Ok-None.ensures.takes.control })
           c.in-Ok-None.field-0-is;
       looked = looked_on c.loop.counter c.args.self.now.first c.loop.self.first c.in-Ok-None.field-0 c.args.self.now.control c.loop.self.control
-          c.take.new.self.control c.loop.invariant.first c.loop.invariant.looked c.loop.invariant.called c.in-Ok-None.ensures.looks c.in-Ok-None.field-0-is;
-      vain = vain_on _ c.in-Ok-None.field-0 _ c.loop.self.control _ c.loop.invariant.vain c.in-Ok-None.ensures.looks c.in-Ok-None.field-0-is;
+          c.take.new.self.control c.loop.invariant.first c.loop.invariant.looked c.loop.invariant.called c.in-Ok-None.ensures.takes.control c.in-Ok-None.field-0-is;
+      vain = vain_on _ c.in-Ok-None.field-0 _ c.loop.self.control _ c.loop.invariant.vain c.in-Ok-None.ensures.takes.control c.in-Ok-None.field-0-is;
       called = omega (arith, c.loop.invariant.called, more);
       link = spent_on is_link c.loop.counter c.args.self.now.first c.loop.self.first c.in-Ok-None.field-0 c.loop.self.link c.take.new.self.link
           c.loop.invariant.first c.loop.invariant.link c.in-Ok-None.ensures.takes.link c.in-Ok-None.field-0-is;
@@ -106,20 +106,20 @@ returns-clause-spent c =
 
 pub returns-in-Err-clause-failed : goal.returns-in-Err-clause-failed
 returns-in-Err-clause-failed c =
-    (c.loop.self.first, (c.take.ensures.rests.first ∙ c.after-self.ensures, (c.in-Err.ensures.failing, failed_at c.loop.self.first _ _ _ c.in-Err.ensures.takes)))
+    (c.loop.self.first, (c.take.ensures.rests.first ∙ c.after-self.ensures, failed_at c.loop.self.first _ _ _ c.in-Err.ensures.takes))
 
 pub returns-in-Ok-Some-clause-asks : goal.returns-in-Ok-Some-clause-asks
 returns-in-Ok-Some-clause-asks c =
     asks_some c.loop.counter c.args.self.now c.loop.self c.take.new.self c.loop.self.first c.in-Ok-Some.field-0 _ c.loop.invariant.first
     c.loop.invariant.asked
-    (record { link = c.in-Ok-Some.ensures.takes.link; inside = c.in-Ok-Some.ensures.takes.inside; outside = c.in-Ok-Some.ensures.takes.outside })
+    (record { link = c.in-Ok-Some.ensures.takes.link; inside = c.in-Ok-Some.ensures.takes.inside; outside = c.in-Ok-Some.ensures.takes.outside; control = c.in-Ok-Some.ensures.takes.control })
     c.in-Ok-Some.field-0-is
 
 pub returns-in-Err-clause-asks : goal.returns-in-Err-clause-asks
 returns-in-Err-clause-asks c = (
   c.loop.self.first,
   asks_last c.loop.counter c.args.self.now c.loop.self c.take.new.self c.loop.self.first _ c.loop.invariant.first c.loop.invariant.asked
-      (record { link = c.in-Err.ensures.takes.link; inside = c.in-Err.ensures.takes.inside; outside = c.in-Err.ensures.takes.outside }),
+      (record { link = c.in-Err.ensures.takes.link; inside = c.in-Err.ensures.takes.inside; outside = c.in-Err.ensures.takes.outside; control = c.in-Err.ensures.takes.control }),
 )
 
 pub returns-clause-asks : goal.returns-clause-asks
