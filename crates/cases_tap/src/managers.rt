@@ -5,17 +5,17 @@ use std::io::{self, ErrorKind, Read};
 use std::net::Shutdown;
 use std::os::fd::AsRawFd;
 use std::os::unix::net::UnixStream;
-use supervision::{Manager, Supervisor, Unsupervised};
+use supervision::{Machine, Manager, Supervisor, Unsupervised};
 
-/// The manager that a text writes.
-fn manager_in(text: &str) -> Option<Manager> {
+/// The manager's descriptor that a text writes. What a caller has to show stays small where this says nothing of it.
+fn descriptor_in(text: &str) -> Option<u16> {
     Manager::read(text)
 }
 
 /// Prints the descriptor that a text writes.
 pub(crate) fn read_manager(case: &mut Case) {
-    match manager_in(case.word()) {
-        Some(manager) => case.say("  descriptor ", manager.descriptor),
+    match descriptor_in(case.word()) {
+        Some(descriptor) => case.say("  descriptor ", descriptor),
         None => case.put("  none"),
     }
     case.end();
@@ -85,23 +85,25 @@ fn told_over(rt: &HostRuntime, is_gone: bool, news: News) -> io::Result<UnixStre
         other.shutdown(Shutdown::Both)?;
     }
     other.set_nonblocking(true)?;
-    tell_by(&own, news)?;
+    tell_by(rt, &own, news)?;
     Ok(other)
 }
 
-fn tell_by(own: &UnixStream, news: News) -> io::Result<()> {
+fn tell_by(rt: &HostRuntime, own: &UnixStream, news: News) -> io::Result<()> {
     match u16::try_from(own.as_raw_fd()) {
-        Ok(descriptor) => tell_at(Manager::at(descriptor), news),
+        Ok(descriptor) => tell_at(rt, descriptor, news),
         Err(_) => Err(ErrorKind::InvalidInput.into()),
     }
 }
 
-fn tell_at(manager: Manager, news: News) -> io::Result<()> {
-    if manager.inherit().is_err() {
-        return Err(ErrorKind::NotFound.into());
+fn tell_at(rt: &HostRuntime, descriptor: u16, news: News) -> io::Result<()> {
+    match Manager::inherit(&mut Machine::new(rt), descriptor) {
+        Ok(manager) => {
+            tell(&mut Some(manager), news);
+            Ok(())
+        }
+        Err(_) => Err(ErrorKind::NotFound.into()),
     }
-    tell(&mut Some(manager), news);
-    Ok(())
 }
 
 /// Prints what came by a stream.

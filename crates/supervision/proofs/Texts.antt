@@ -1,11 +1,11 @@
 -- Texts of ways that write no descriptor.
-use Rattle.std.proofs.Common.{arith, ◌≡◌, ◌∙◌, ◌<◌, ◌++◌, ℕ, List, Option, Some, None, IfSome, MatchOption, get_or, codes, refl, sym, ap}
+use Rattle.std.proofs.Common.{arith, ◌≡◌, ◌∙◌, ◌<◌, ◌++◌, ℕ, List, Option, Some, None, MatchOption, get_or, codes, sym, ap}
 use Rattle.sockets.specs.declared.ends.Ends.{Ends}
 use Rattle.sockets.specs.declared.vxlan.Network.{Network}
 use Rattle.sockets.specs.declared.ways.Way.{Way}
 use Rattle.sockets.specs.declared.ways.Way.TheVariants.{Loopback, Udp, Vxlan, Descriptor}
 use Rattle.sockets.specs.Ways.{IsNoWayText, IsWayText}
-use Rattle.supervision.specs.Managers.{IsManagerText, IsNoManagerText, manager_at, manager_of}
+use Rattle.supervision.specs.Managers.{IsManagerText, IsNoManagerText, descriptor_of}
 
 abbrev head_of : List ℕ → ℕ
 head_of l = get_or l 0 0
@@ -17,27 +17,19 @@ differ : (m n : ℕ) → m ≡ n → ¬ (m < n)
 differ m n is below = absurd (omega arith)
 
 no_loopback : (text : List ℕ) → IsWayText text Loopback → IsNoManagerText text
-no_loopback text written manager (rest, whole, number) =
+no_loopback text written descriptor (rest, whole, number) =
     differ 100 108 (heads text (codes "descriptor:" ++ rest) (codes "loopback") whole written) (omega arith)
 
 no_udp : (text : List ℕ) (ends : Ends) → IsWayText text (Udp ends) → IsNoManagerText text
-no_udp text ends (other, is, written) manager (rest, whole, number) = absurd (omega (arith, heads text _ _ is whole))
+no_udp text ends (other, is, written) descriptor (rest, whole, number) = absurd (omega (arith, heads text _ _ is whole))
 
 no_vxlan : (text : List ℕ) (ends : Ends) (network : Network) → IsWayText text (Vxlan ends network) → IsNoManagerText text
-no_vxlan text ends network (other, is, written) manager (rest, whole, number) = absurd (omega (arith, heads text _ _ is whole))
+no_vxlan text ends network (other, is, written) descriptor (rest, whole, number) = absurd (omega (arith, heads text _ _ is whole))
 
 pub read_by : (text : List ℕ) (way : Option Way) → MatchOption way (IsNoWayText text) (IsWayText text)
-    → MatchOption (manager_of way) (IsNoManagerText text) (IsManagerText text)
-read_by text None none = λ manager written. none (Descriptor manager.descriptor) written
+    → MatchOption (descriptor_of way) (IsNoManagerText text) (IsManagerText text)
+read_by text None none = λ number written. none (Descriptor number) written
 read_by text (Some Loopback) written = no_loopback text written
 read_by text (Some (Udp ends)) written = no_udp text ends written
 read_by text (Some (Vxlan ends network)) written = no_vxlan text ends network written
 read_by text (Some (Descriptor number)) written = written
-
--- who is reached by a way was told nothing yet
-pub untold_by : (way : Option Way) → IfSome (manager_of way) (λ manager. manager ≡ manager_at manager.descriptor)
-untold_by None = tt
-untold_by (Some Loopback) = tt
-untold_by (Some (Udp ends)) = tt
-untold_by (Some (Vxlan ends network)) = tt
-untold_by (Some (Descriptor number)) = refl

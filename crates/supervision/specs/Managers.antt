@@ -10,21 +10,21 @@ use Rattle.supervision.specs.declared.managers.NotOpen.{NotOpen}
 abbrev pub manager_at : ℕ → Manager
 manager_at number = record { descriptor = number; messages = [] }
 
--- the text writes this manager's descriptor, as that of a way
-abbrev pub IsManagerText : List ℕ → Manager → Type 0
-IsManagerText text manager = IsWayText text (Descriptor manager.descriptor)
+-- the text writes this descriptor of a manager, as that of a way
+abbrev pub IsManagerText : List ℕ → ℕ → Type 0
+IsManagerText text number = IsWayText text (Descriptor number)
 
 -- it writes none
 abbrev pub IsNoManagerText : List ℕ → Type 0
-IsNoManagerText text = (manager : Manager) → ¬ (IsManagerText text manager)
+IsNoManagerText text = (number : ℕ) → ¬ (IsManagerText text number)
 
--- who is reached by a way, where that is a descriptor
-abbrev pub manager_of : Option Way → Option Manager
-manager_of (Some (Descriptor number)) = Some (manager_at number)
-manager_of (Some Loopback) = None
-manager_of (Some (Udp ends)) = None
-manager_of (Some (Vxlan ends network)) = None
-manager_of None = None
+-- the descriptor that a way is, where it is one
+abbrev pub descriptor_of : Option Way → Option ℕ
+descriptor_of (Some (Descriptor number)) = Some number
+descriptor_of (Some Loopback) = None
+descriptor_of (Some (Udp ends)) = None
+descriptor_of (Some (Vxlan ends network)) = None
+descriptor_of None = None
 
 -- what is told of a manager's descriptor that isn't open
 abbrev pub not_open_text : NotOpen → List ℕ

@@ -1,11 +1,12 @@
 //! What a service manager is told of a box: that it is up, that it goes on, and that it ends.
 #![tactic(auto)]
 
+mod machine;
 mod managers;
-mod messages;
 mod notices;
 mod supervisors;
 
+pub use machine::Machine;
 pub use managers::{Manager, NotOpen};
 pub use notices::Notice;
 pub use supervisors::{Supervisor, Unsupervised};

@@ -1,15 +1,15 @@
 //! A service manager at the other end of a socket.
-ghost use Rattle.std.specs.Prelude.{◌≡◌, ◌↔◌, ◌<ℤ◌, pos, IfErr, IfSome, IsTrue, MatchOption, OnErr, OnOk};
-ghost use Rattle.supervision.specs.Descriptors.{IsRefused, NeverWaits, WasAnswered};
+ghost use Rattle.std.specs.Prelude.{◌≡◌, IfErr, IfOk, MatchOption, OnErr, OnOk};
+ghost use Rattle.supervision.specs.Descriptors.{IsRefused, IsSetOnce, NeverWaits};
 ghost use Rattle.supervision.specs.Hearing.{gets};
-ghost use Rattle.supervision.specs.Managers.{IsManagerText, IsNoManagerText, manager_at, manager_of};
+ghost use Rattle.supervision.specs.Managers.{IsManagerText, IsNoManagerText, descriptor_of, manager_at};
 
 use crate::Supervisor;
-use crate::messages::Messages;
+use crate::machine::{Machine, Messages};
 use crate::notices::{Notice, laid_out};
 use sockets::Way;
 use std::fmt;
-use std::os::fd::RawFd;
+use std::net::Net;
 use thiserror::Error;
 
 /// A service manager at the other end of an open socket, which the box inherits: each notice is a message.
@@ -19,12 +19,12 @@ pub struct Manager {
     messages: Messages,
 }
 
-/// The manager that is reached by a way, if that is a descriptor.
-fn manager_by(way: Option<Way>) -> Option<Manager>
-    ensures { result ≡ manager_of way }
+/// The descriptor that a way is, if it is one.
+fn descriptor_of(way: Option<Way>) -> Option<u16>
+    ensures { result ≡ descriptor_of way }
 {
     match way? {
-        Way::Descriptor(descriptor) => Some(Manager::at(descriptor)),
+        Way::Descriptor(descriptor) => Some(descriptor),
         Way::Loopback | Way::Udp(_) | Way::Vxlan(_, _) => None,
     }
 }
@@ -46,39 +46,34 @@ impl fmt::Display for NotOpen {
 }
 
 impl Manager {
-    /// The manager at a descriptor. It was told nothing yet.
-    pub fn at(descriptor: u16) -> Manager
-        ensures { result ≡ manager_at descriptor }
+    /// The descriptor of the manager that a text writes: `descriptor:3`, or a greater one.
+    pub fn read(text: &str) -> Option<u16>
+        ensures { MatchOption result (IsNoManagerText text.now) (IsManagerText text.now) }
     {
-        Manager {
-            descriptor,
-            messages: Messages::none(),
-        }
+        descriptor_of(Way::read(text))
     }
 
-    /// The manager that a text writes: `descriptor:3`, or a greater one. It was told nothing yet.
-    pub fn read(text: &str) -> Option<Manager>
-        ensures text { MatchOption result (IsNoManagerText text.now) (IsManagerText text.now) }
-        ensures untold { IfSome result (λ manager. manager ≡ manager_at manager.descriptor) }
-    {
-        manager_by(Way::read(text))
-    }
-
-    /// Makes the descriptor one that never waits. It comes before anything is opened: else what the box opens itself
-    /// could be taken for the one that it inherits.
+    /// Takes a descriptor over, and gives the manager at it: it is made one that never waits. It comes before anything is
+    /// opened: else what the box opens itself could be taken for the one that it inherits.
     ///
     /// # Errors
     ///
     /// It isn't open.
-    pub fn inherit(&self) -> Result<(), NotOpen>
-        ensures ok { OnOk result (NeverWaits self.now.descriptor) }
-        ensures err { OnErr result (IsRefused self.now.descriptor) }
-        ensures named { IfErr result (λ fault. fault.0 ≡ self.now.descriptor) }
+    pub fn inherit<R: Net>(
+        machine: &mut Machine<'_, R>,
+        descriptor: u16,
+    ) -> Result<Manager, NotOpen>
+        ensures asked { IsSetOnce machine.old descriptor machine.new }
+        ensures made { IfOk result (λ manager. manager ≡ manager_at descriptor) }
+        ensures ok { OnOk result (NeverWaits descriptor) }
+        ensures err { OnErr result (IsRefused descriptor) }
+        ensures named { IfErr result (λ fault. fault.0 ≡ descriptor) }
     {
-        if is_refused(set_never_waiting(self.descriptor)) {
-            return Err(NotOpen(self.descriptor));
-        }
-        Ok(())
+        let messages = machine.taken_over(descriptor)?;
+        Ok(Manager {
+            descriptor,
+            messages,
+        })
     }
 
     /// Tells it something, by one message.
@@ -88,21 +83,6 @@ impl Manager {
         let text = laid_out(notice);
         self.messages.send(self.descriptor, &text);
     }
-}
-
-/// Asks the system to make a descriptor one that never waits, and gives its answer.
-#[tactic(auto, unfolding(crate::specs::Descriptors::WasAnswered))]
-fn set_never_waiting(descriptor: u16) -> i32
-    ensures { WasAnswered descriptor result }
-{
-    os::set_nonblocking(RawFd::from(descriptor), true)
-}
-
-/// Whether the system refused a call, by what it answered.
-fn is_refused(answer: i32) -> bool
-    ensures { IsTrue result ↔ (answer <ℤ pos 0) }
-{
-    answer < 0
 }
 
 impl Supervisor for Manager {
