@@ -2,4 +2,5 @@ mod Ending
 mod Hearing
 mod Lacking
 mod Taking
+mod Tellings
 mod Walks

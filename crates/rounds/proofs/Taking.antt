@@ -1,10 +1,15 @@
 -- What is taken, one part after another.
-use Rattle.std.proofs.Common.{◌≡◌, ◌∙◌, ◌+◌, ◌<◌, ◌++◌, ℕ, zero, suc, Bool, true, false, not, List, [], ◌∷◌, take, Option, Some, None, Ok, length, refl, sym, ap, subst, inl, inr, add-one, length-append}
-use Rattle.std.proofs.lemmas.List.{append-nil, append_assoc, take_at}
+use Rattle.std.proofs.Common.{◌≡◌, ◌∙◌, ◌+◌, ◌<◌, ◌++◌, min, ℕ, zero, suc, Bool, true, false, not, List, [], ◌∷◌, take, Option, Some, None, Ok, length, refl, sym, ap, subst, inl, inr, add-one, length-append}
+use Rattle.std.proofs.lemmas.List.{append-nil, append_assoc, get_or-set_other, take_at}
 use Rattle.std.proofs.lemmas.List.Folds.{list_any-append}
+use Rattle.journal.specs.declared.origins.Origin.{Origin}
+use Rattle.reports.specs.Counts.{count_at, counted, key_of, most}
+use Rattle.reports.specs.declared.counters.Count.{Count}
+use Rattle.reports.specs.declared.counters.Count.TheVariants.{Lost, Sent}
 use Rattle.sockets.specs.Letters.{Call, Polled, answer_of, asked, came, failed, is_nothing, nothing}
 use Rattle.sockets.specs.declared.places.Place.{Place}
 use Rattle.sockets.specs.declared.wire.WireFault.{WireFault}
+use Rattle.rounds.specs.Losing.{LosesNone}
 use Rattle.rounds.specs.Rounds.{AreMade, Box, Calls, HasLimit, TakesAll, TakesLetter, Waits}
 use Rattle.rounds.specs.Polls.{Asks, HasAsked, HasPolled}
 
@@ -35,6 +40,17 @@ made_more does calls rest rest2 x a b c had is one = record {
 pub made_all : {W : Type 0} (does : Calls W) (calls rest : List Call) (a b : W) → HasMade does calls rest a b → rest ≡ [] → AreMade does calls a b
 made_all does calls rest a b had is =
     subst (λ (xs : List Call). AreMade does xs a b) (sym (had.are ∙ (ap (λ (ys : List Call). had.done ++ ys) is ∙ append-nil had.done))) had.made
+
+-- keys of a box's counts are apart
+abbrev pub KeysApart : Type 0
+KeysApart = (origin other : Origin) → (what that : Count) → key_of other that ≡ key_of origin what → (other ≡ origin) × (that ≡ what)
+
+-- one that is sent is no other loss
+pub none_lost : (first before after : List ℕ) (origin : Origin) → KeysApart → LosesNone first before → after ≡ counted origin Sent 1 before → LosesNone first after
+none_lost first before after origin apart none is = λ other cause.
+    ap (λ (xs : List ℕ). count_at xs other (Lost cause)) is
+    ∙ (get_or-set_other before (key_of origin Sent) (key_of other (Lost cause)) (min (count_at before origin Sent + 1) most) 0
+    (λ same. absurd (let that = (apart origin other Sent (Lost cause) same).1 in cc)) ∙ none other cause)
 
 -- ---- what is answered
 
@@ -160,7 +176,7 @@ polled_out does waits track limit n now most a b c more limited had one is below
 -- it was asked as often as it may be
 pub polled_most : {W : Type 0} (does : Calls W) (waits : Waits W) (track : Bool) (limit n most : ℕ) (a b : Box W) → HasAsked does waits track limit n a b → n ≡ most
     → HasPolled does waits track limit most a b
-polled_most does waits track limit n most a b had is = record {
+polled_most does waits track limit n m a b had is = record {
   answers = had.answers;
   poll = record { before = had.answers; not_yet = had.not_yet; ends = inr (refl, had.count ∙ is) };
   taken = had.taken;

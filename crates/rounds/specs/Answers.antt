@@ -1,5 +1,5 @@
 -- What a question is answered.
-use Rattle.std.specs.Prelude.{◌≡◌, ℕ, List, length, nat_lt, take, Option, Some}
+use Rattle.std.specs.Prelude.{◌≡◌, ◌++◌, ℕ, List, [], ◌∷◌, length, nat_lt, take, Option, Some}
 use Rattle.nat_types.specs.declared.pairs.Key.{Key}
 use Rattle.nat_types.specs.declared.gateways.Side.TheVariants.{Inside, Outside}
 use Rattle.addresses.specs.declared.transport.Protocol.TheVariants.{Icmp, Tcp, Udp}
@@ -29,6 +29,8 @@ use Rattle.rounds.specs.Gateways.{CountsEntries, free_among, owned_by, peer_seen
 use Rattle.rounds.specs.declared.desk.Identity.{Identity}
 use Rattle.rounds.specs.declared.judging.Question.{Question}
 use Rattle.rounds.specs.declared.judging.Question.TheVariants.{Status, Pairs}
+use Rattle.rounds.specs.declared.teller.Telling.{Telling}
+use Rattle.rounds.specs.declared.teller.Telling.TheVariants.{Asked}
 
 -- a report says how a gateway stands: its moment, its table's state, the other gateway, how many entries and owned ports it has, on how many of
 -- these no entry of each protocol stands, and how many packets wait for a pair, or for their next hop's address
@@ -69,10 +71,16 @@ page_at g last =
     let entries = behind last g.ledger.book.entries in
     listing (take MOST_ENTRIES entries) (nat_lt MOST_ENTRIES (length entries))
 
--- the whole answer to a question: a report of whose box it is and how its gateway stands, or the page behind the key
-abbrev pub IsAnswerTo : Identity → Shown → Question → List ℕ → Type 0
-IsAnswerTo who g Status bytes = (r : Report) × (IsReportOf who g r × (answer_of bytes ≡ Some (report (spelling report_format r))))
-IsAnswerTo who g (Pairs last) bytes = answer_of bytes ≡ Some (page (spelling page_format (page_at g last)))
+-- the whole answer to a question, for which the log is asked this: a report of whose box it is and how its gateway stands, which says how many
+-- lines the log has left out, as it answered; or the page behind the key
+abbrev pub IsAnswerTo : Identity → Shown → Question → List Telling → List ℕ → Type 0
+IsAnswerTo who g Status asked bytes = (r : Report) × (IsReportOf who g r
+    × ((asked ≡ Asked r.lines_left_out ∷ []) × (answer_of bytes ≡ Some (report (spelling report_format r)))))
+IsAnswerTo who g (Pairs last) asked bytes = (asked ≡ []) × (answer_of bytes ≡ Some (page (spelling page_format (page_at g last))))
+
+-- this is the answer to a question, and what was told before is told with what the log is asked for it
+abbrev pub Answers : Identity → Shown → Question → List Telling → List Telling → List ℕ → Type 0
+Answers who g question told told2 bytes = (asked : List Telling) × ((told2 ≡ asked ++ told) × IsAnswerTo who g question asked bytes)
 
 -- ---- what is counted
 

@@ -9,9 +9,13 @@ use Rattle.std.specs.declared.io.ErrorKind.TheVariants.{Interrupted, WouldBlock}
 unfoldable pub WasPolled : ℤ → Type 0
 WasPolled answer = Unit {0}
 
--- it was asked for what stands there, and answered so: how many bytes, or why it gave none
-unfoldable pub WasRead : Result ℕ Error → Type 0
-WasRead answer = Unit {0}
+-- it was asked for what stands there, for at most so many bytes, and answered so: how many there were, or why it gave none
+unfoldable pub WasRead : ℕ → Result ℕ Error → Type 0
+WasRead room answer = Unit {0}
+
+-- a poll reports it
+abbrev pub IsReported : ℤ → Type 0
+IsReported answer = WasPolled answer × (pos 0 <ℤ answer)
 
 -- nothing is left there, or can be read
 abbrev pub IsEnd : Result ℕ Error → Type 0
@@ -23,14 +27,17 @@ abbrev pub IsNoEnd : Result ℕ Error → Type 0
 IsNoEnd (Ok count) = 0 < count
 IsNoEnd (Err error) = (error_kind error ≡ Interrupted) ⊎ (error_kind error ≡ WouldBlock)
 
--- the standard input is at its end: a poll reports it, and then nothing is left there
-pub record InputEnds : Type 0 where
+-- a poll reports the standard input, and up to 512 bytes of what stands there are read, or can't be
+pub record InputIsRead (Is : Result ℕ Error → Type 0) : Type 0 where
   pub answer : ℤ
-  pub polled : WasPolled answer
-  pub reported : pos 0 <ℤ answer
+  pub reported : IsReported answer
   pub found : Result ℕ Error
-  pub read : WasRead found
-  pub ends : IsEnd found
+  pub read : WasRead 512 found
+  pub is : Is found
+
+-- the standard input is at its end: nothing is left there
+abbrev pub InputEnds : Type 0
+InputEnds = InputIsRead IsEnd
 
 -- it isn't: a poll reports nothing
 pub record InputStands : Type 0 where
@@ -39,10 +46,5 @@ pub record InputStands : Type 0 where
   pub nothing : answer ≤ℤ pos 0
 
 -- or there may be more
-pub record InputHasMore : Type 0 where
-  pub found : Result ℕ Error
-  pub read : WasRead found
-  pub more : IsNoEnd found
-
 abbrev pub InputGoesOn : Type 0
-InputGoesOn = InputStands ⊎ InputHasMore
+InputGoesOn = InputStands ⊎ InputIsRead IsNoEnd

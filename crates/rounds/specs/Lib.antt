@@ -12,3 +12,5 @@ pub mod Told
 pub mod Clocks
 pub mod Inputs
 pub mod Records
+pub mod Losing
+pub mod Tellings

@@ -1,16 +1,28 @@
--- When an operator is told that a place fails, or works again.
-use Rattle.std.specs.Prelude.{ℕ, Bool, true, false, ◌&&◌, ◌-◌, nat_le, not, Some, None, unwrap_or, if◌then◌else◌}
+-- When a box's log is told that a place fails, or works again, or takes too little.
+use Rattle.std.specs.Prelude.{◌≡◌, ℕ, Bool, true, false, ◌&&◌, ◌++◌, ◌-◌, nat_le, nat_lt, not, List, [], ◌∷◌, Some, None, unwrap_or, if◌then◌else◌}
+use Rattle.std.specs.List.{AllByRecursion}
+use Rattle.journal.specs.declared.entries.Entry.{Entry}
+use Rattle.journal.specs.declared.entries.Entry.TheVariants.{Fails, TooLong, Works}
+use Rattle.journal.specs.declared.origins.Origin.{Origin}
+use Rattle.nat_types.specs.declared.gateways.Side.TheVariants.{Inside, Outside}
+use Rattle.journal.specs.declared.origins.Origin.TheVariants as origin
+use Rattle.sockets.specs.declared.losses.Losses.{Losses}
+use Rattle.sockets.specs.declared.places.Place.{Place}
+use Rattle.sockets.specs.declared.places.Place.TheVariants as place
 use Rattle.rounds.specs.declared.outages.Mark.{Mark}
-use Rattle.rounds.specs.declared.outages.TheConstants.{PATIENCE}
+use Rattle.rounds.specs.declared.outages.Outages.{Outages}
+use Rattle.rounds.specs.declared.outages.Watched.{Watched}
+use Rattle.rounds.specs.declared.teller.Telling.{Telling}
+use Rattle.rounds.specs.declared.teller.Telling.TheVariants.{Change}
 
 -- it does what was told of it last
 abbrev pub is_as_told : Bool → Mark → Bool
 is_as_told true mark = mark.fails
 is_as_told false mark = not mark.fails
 
--- it has done otherwise for 100 centiseconds (PATIENCE)
+-- it has done otherwise for 100 centiseconds
 abbrev pub is_turn : Bool → ℕ → Mark → Bool
-is_turn fails moment mark = not (is_as_told fails mark) && nat_le PATIENCE (moment - unwrap_or mark.since moment)
+is_turn fails moment mark = not (is_as_told fails mark) && nat_le 100 (moment - unwrap_or mark.since moment)
 
 -- what is known of it then
 abbrev pub looked : Bool → ℕ → Mark → Mark
@@ -18,3 +30,56 @@ looked fails moment mark =
     if is_as_told fails mark then record mark { since = None }
     else if is_turn fails moment mark then record { fails = fails; since = None }
     else record mark { since = Some (unwrap_or mark.since moment) }
+
+-- that a place fails, or works again
+abbrev pub turn_of : Origin → Bool → Entry
+turn_of origin true = Fails origin
+turn_of origin false = Works origin
+
+-- what is told of a place that fails, or doesn't
+abbrev pub turn_told : Origin → Bool → ℕ → Mark → List Telling
+turn_told origin fails moment mark = if is_turn fails moment mark then Change moment (turn_of origin fails) ∷ [] else []
+
+-- and of one that took less than was to be sent there, where that wasn't told yet
+abbrev pub short_told : Origin → Bool → ℕ → Bool → List Telling
+short_told origin is_long moment is_short = if not is_short && is_long then Change moment (TooLong origin) ∷ [] else []
+
+-- what a wire says of whether a place fails, and of what it lost there
+abbrev pub Says : Type 0 → Type 0 → Type 1
+Says W T = W → Place → T → Type 0
+
+-- a place is told of, by what its wire says of it
+pub record TellsPlace {W : Type 0} (failing : Says W Bool) (lost : Says W Losses) (wire : W) (place : Place) (origin : Origin) (moment : ℕ)
+    (watched watched2 : Watched) (told told2 : List Telling) : Type 0
+  where
+    pub fails : Bool
+    pub says : failing wire place fails
+    pub losses : Losses
+    pub loses : lost wire place losses
+    pub mark : watched2.mark ≡ looked fails moment watched.mark
+    pub is : told2 ≡ short_told origin (nat_lt 0 losses.too_long) moment watched.is_short ++ (turn_told origin fails moment watched.mark ++ told)
+
+-- each place is told of, in this order
+pub record TellsPlaces {W : Type 0} (failing : Says W Bool) (lost : Says W Losses) (wire : W) (moment : ℕ)
+    (all all2 : Outages) (told told2 : List Telling) : Type 0
+  where
+    pub one : List Telling
+    pub inside : TellsPlace failing lost wire (place.Side Inside) origin.Inside moment all.inside all2.inside told one
+    pub two : List Telling
+    pub outside : TellsPlace failing lost wire (place.Side Outside) origin.Outside moment all.outside all2.outside one two
+    pub link : TellsPlace failing lost wire place.Link origin.Link moment all.link all2.link two told2
+
+abbrev pub is_of_place : Entry → Bool
+is_of_place (Fails origin) = true
+is_of_place (Works origin) = true
+is_of_place (TooLong origin) = true
+is_of_place other = false
+
+-- it tells of a place: that it fails, or works again, or takes less than was to be sent there
+abbrev pub IsOfPlace : ℕ → Telling → Type 0
+IsOfPlace moment (Change at entry) = (at ≡ moment) × (is_of_place entry ≡ true)
+IsOfPlace moment other = ⊥
+
+-- some is told of places, and nothing else
+abbrev pub AreOfPlaces : ℕ → List Telling → List Telling → Type 0
+AreOfPlaces moment told told2 = (more : List Telling) × ((told2 ≡ more ++ told) × AllByRecursion (IsOfPlace moment) more)

@@ -1,11 +1,15 @@
 -- The rounds of a box, by what its gateway shows, what its wire was called, how many events were left out, whether its control
--- socket said that it is to end, and the question that it still owes an answer.
-use Rattle.std.specs.Prelude.{◌≡◌, ◌<◌, ◌≤◌, ◌⊎◌, ◌+◌, ◌++◌, ◌||◌, ℕ, Bool, false, true, List, [], ◌∷◌, length, map, Option, Some, None, Result, IfOk}
+-- socket said that it is to end, the question that it still owes an answer, what it counted, and what its log was told.
+use Rattle.std.specs.Prelude.{◌≡◌, ◌<◌, ◌≤◌, ◌⊎◌, ◌+◌, ◌++◌, ◌||◌, ℕ, Bool, false, true, List, [], ◌∷◌, length, map, replicate, Option, Some, None, Result, Ok, IfOk}
 use Rattle.std.specs.Borrow.{Bor}
 use Rattle.std.specs.Duration.{as_nanos}
 use Rattle.std.specs.List.{list_any}
 use Rattle.std.specs.declared.time.Duration.{Duration}
 use Rattle.control.specs.Answers.{Content, answer_of, heard, refused}
+use Rattle.journal.specs.declared.origins.Origin.TheVariants.{Own}
+use Rattle.reports.specs.Counts.{counted}
+use Rattle.reports.specs.declared.counters.Count.TheVariants.{Received, Sent as SentOne}
+use Rattle.reports.specs.declared.counters.TheConstants.{COUNTS}
 use Rattle.sockets.specs.Letters.{Call, Polled, ReceivedDatagram, answered, asked, came, failed, is_nothing, nothing, sent}
 use Rattle.sockets.specs.declared.places.Place.{Place}
 use Rattle.sockets.specs.declared.places.Place.TheVariants as place
@@ -17,25 +21,44 @@ use Rattle.spec_step.specs.Steps.{IsStepOn}
 use Rattle.supervision.specs.Hearing.{Hears}
 use Rattle.rounds.specs.Answers.{IsAnswerTo}
 use Rattle.rounds.specs.Letters.{event_of, is_end, reply_at}
+use Rattle.rounds.specs.Losing.{CountsLoss, cause_on, origin_at, origin_of}
 use Rattle.rounds.specs.Memory.{MayLack, WasLeftOut}
+use Rattle.rounds.specs.Outages.{AreOfPlaces}
+use Rattle.rounds.specs.Records.{with_step}
 use Rattle.rounds.specs.Told.{HearsRounds, HearsRun}
 use Rattle.rounds.specs.Views.{seen}
+use Rattle.rounds.specs.declared.desk.Desk.{Desk}
 use Rattle.rounds.specs.declared.desk.Identity.{Identity}
+use Rattle.rounds.specs.declared.teller.Telling.{Telling}
+use Rattle.rounds.specs.declared.teller.Telling.TheVariants.{End, Turn}
 use Rattle.rounds.specs.declared.judging.Question.{Question}
 use Rattle.rounds.specs.declared.judging.Reply.{Reply}
 use Rattle.rounds.specs.declared.judging.Reply.TheVariants.{Heard, Refused, Later}
 use Rattle.rounds.specs.declared.views.View.{View}
 
--- a box while it runs
+-- a box while it runs: what it told its log stands with the newest first
 pub record Box (W : Type 0) : Type 0 where
   pub shown : Shown
   pub wire : W
   pub left_out : ℕ
   pub ending : Bool
   pub owed : Option Question
+  pub counts : List ℕ
+  pub told : List Telling
 
-abbrev pub box : {W : Type 0} → Shown → W → ℕ → Bool → Option Question → Box W
-box g wire left_out ending owed = record { shown = g; wire = wire; left_out = left_out; ending = ending; owed = owed }
+-- one that has had no round yet
+abbrev pub begun : {W : Type 0} → Shown → W → Box W
+begun g wire = record { shown = g; wire = wire; left_out = 0; ending = false; owed = None; counts = replicate COUNTS 0; told = [] }
+
+-- one with this on its desk
+abbrev pub box : {W : Type 0} → Shown → W → Desk → List Telling → Box W
+box g wire desk told =
+    record { shown = g; wire = wire; left_out = desk.left; ending = desk.ending; owed = desk.question; counts = desk.counters; told = told }
+
+-- the same on another wire
+abbrev pub on_wire : {W V : Type 0} → Box W → V → Box V
+on_wire b wire =
+    record { shown = b.shown; wire = wire; left_out = b.left_out; ending = b.ending; owed = b.owed; counts = b.counts; told = b.told }
 
 -- what a call is to a wire, and what the wire is then
 abbrev pub Calls : Type 0 → Type 1
@@ -77,17 +100,23 @@ TakesBy does true b event b2 =
 TakesBy does false b event b2 =
     (b2.shown ≡ b.shown) × ((b2.wire ≡ b.wire) × ((b2.left_out ≡ b.left_out + 1) × WasLeftOut b.shown event))
 
+-- and the log is told just what has changed with it; and that nothing came of it, if so, which is counted
+abbrev pub IsRecorded : {W : Type 0} → Bool → Box W → Event → Box W → Type 0
+IsRecorded is_done b event b2 = (b2.told ≡ with_step event (cause_on b.shown event is_done) is_done (seen b.shown) (seen b2.shown) b.told)
+    × CountsLoss (origin_of event) (cause_on b.shown event is_done) b.counts b2.counts
+
 abbrev pub Takes : {W : Type 0} → Calls W → Bool → Box W → Event → Box W → Type 0
-Takes does is_done b event b2 = TakesBy does is_done b event b2 × ((b2.ending ≡ b.ending) × (b2.owed ≡ b.owed))
+Takes does is_done b event b2 = TakesBy does is_done b event b2 × ((b2.ending ≡ b.ending) × ((b2.owed ≡ b.owed) × IsRecorded is_done b event b2))
 
 -- what is no event changes nothing
 abbrev pub TakesAny : {W : Type 0} → Calls W → Bool → Box W → Option Event → Box W → Type 0
 TakesAny does is_done b (Some event) b2 = Takes does is_done b event b2
 TakesAny does is_done b None b2 = (is_done ≡ true) × (b2 ≡ b)
 
--- who said the last word is answered with these bytes
+-- who said the last word is answered with these bytes, and that is counted
 abbrev pub IsAnswered : {W : Type 0} → Calls W → List ℕ → Box W → Box W → Type 0
-IsAnswered does bytes b b2 = does b.wire (answered bytes) b2.wire × (b2 ≡ record b { wire = b2.wire })
+IsAnswered does bytes b b2 =
+    does b.wire (answered bytes) b2.wire × (b2 ≡ record b { wire = b2.wire; counts = counted Own SentOne 1 b.counts })
 
 abbrev pub Says : {W : Type 0} → Calls W → Content → Box W → Box W → Type 0
 Says does content b b2 = (bytes : List ℕ) × ((answer_of bytes ≡ Some content) × IsAnswered does bytes b b2)
@@ -105,8 +134,9 @@ Replies does (Some Heard) false b b2 = IsAnswered does [] b b2
 abbrev pub AnswersOwed : {W : Type 0} → Calls W → Identity → Option Question → Box W → Box W → Type 0
 AnswersOwed does who None b b2 = b2 ≡ b
 AnswersOwed does who (Some question) b b2 =
-    (bytes : List ℕ) × ((((bytes ≡ []) × MayLack b.shown question) ⊎ IsAnswerTo who b.shown question bytes)
-    × IsAnswered does bytes (record b { owed = None }) b2)
+    (bytes : List ℕ) × ((asked : List Telling)
+    × (((((bytes ≡ []) × (asked ≡ [])) × MayLack b.shown question) ⊎ IsAnswerTo who b.shown question asked bytes)
+    × IsAnswered does bytes (record b { owed = None; told = asked ++ b.told }) b2))
 
 -- the event that a letter is to a gateway that stands so, or that it is none; carriers are tracked or not
 pub record Brings (track : Bool) (view : View) (letter : ReceivedDatagram) (event : Option Event) : Type 0 where
@@ -114,9 +144,9 @@ pub record Brings (track : Bool) (view : View) (letter : ReceivedDatagram) (even
   pub whole : bytes.now ≡ letter.bytes
   pub is : event ≡ event_of track view letter.place bytes
 
--- what comes at a place may say that the box is to end; then it stays so
+-- what comes at a place is counted, and may say that the box is to end; then it stays so
 abbrev pub ends_by : {W : Type 0} → Box W → Place → List ℕ → Box W
-ends_by b place bytes = record b { ending = b.ending || is_end place bytes }
+ends_by b place bytes = record b { ending = b.ending || is_end place bytes; counts = counted (origin_at place) Received 1 b.counts }
 
 -- a letter may say that the box is to end; it is taken as its event, if it is one to the gateway as it stands; and has its
 -- reply, if it is a word
@@ -152,8 +182,12 @@ pub record IsPoll (most : ℕ) (answers : List Polled) : Type 0 where
 abbrev pub Reads : Type 0 → Type 1
 Reads C = C → ℕ → C → Type 0
 
+-- its log is told which places fail, or work again, or take too little, and nothing else; and then that a round ends, at the gateway's moment
+abbrev pub TellsRound : {W : Type 0} → Box W → Box W → Type 0
+TellsRound b b2 = (told : List Telling) × (AreOfPlaces b.shown.moment b.told told × (b2 ≡ record b { told = Turn b.shown.moment ∷ told }))
+
 -- a round, of a box that says it is this one and isn't to end yet: a poll of its wire, which waits for at most 10 ms; then one tick, with the
--- moment that the clock reads; and then the answer that is owed
+-- moment that the clock reads; then the answer that is owed; and what its log is told
 pub record IsRound {W C : Type 0} (does : Calls W) (waits : Waits W) (track : Bool) (who : Identity) (reads : Reads C)
     (b : Box W) (c : C) (b2 : Box W) (c2 : C) : Type 0
   where
@@ -167,7 +201,9 @@ pub record IsRound {W C : Type 0} (does : Calls W) (waits : Waits W) (track : Bo
     pub is_done : Bool
     pub ticked : Box W
     pub tick : Takes does is_done between (Tick moment) ticked
-    pub answered : AnswersOwed does who ticked.owed ticked b2
+    pub replied : Box W
+    pub answered : AnswersOwed does who ticked.owed ticked replied
+    pub told : TellsRound replied b2
 
 -- rounds, at whose ends the gateway shows these moments, the last one first
 abbrev pub AreRounds : {W C : Type 0} → Calls W → Waits W → Bool → Identity → Reads C → List ℕ → Box W → C → Box W → C → Type 0
@@ -198,14 +234,34 @@ pub record AreRoundsHeard {W C S : Type 0} (does : Calls W) (waits : Waits W) (t
     pub asked : 0 < length all.moments → goes_on
     pub told : HearsRounds hears all.moments s s2
 
--- all rounds, and then one Stop and nothing more
+-- the log is told that the run ends, at the gateway's moment
+abbrev pub TellsEnd : {W : Type 0} → Box W → Box W → Type 0
+TellsEnd b b2 = b2 ≡ record b { told = End b.shown.moment ∷ b.told }
+
+-- all rounds, and then one Stop, which the log is told of, and nothing more
 pub record IsRun {W C : Type 0} (does : Calls W) (waits : Waits W) (track : Bool) (who : Identity) (reads : Reads C) (most : ℕ)
     (otherwise : Type 0) (b : Box W) (c : C) (b2 : Box W) (c2 : C) : Type 0
   where
     pub last : Box W
     pub all : AreAllRounds does waits track who reads most otherwise b c last c2
     pub is_done : Bool
-    pub stop : Takes does is_done last Stop b2
+    pub stopped : Box W
+    pub stop : Takes does is_done last Stop stopped
+    pub ended : TellsEnd stopped b2
+
+-- these rounds, of a gateway that isn't stopped: it shows this behind them, and its wire is this; so many events were left out
+pub record RoundsTo {W C S : Type 0} (does : Calls W) (waits : Waits W) (track : Bool) (who : Identity) (reads : Reads C) (hears : Hears S)
+    (most : ℕ) (otherwise goes_on : Type 0) (b : Box W) (c : C) (s : S) (g : Shown) (wire : W) (c2 : C) (s2 : S) (left : ℕ) : Type 0
+  where
+    pub last : Box W
+    pub rounds : AreRoundsHeard does waits track who reads hears most otherwise goes_on b c s last c2 s2
+    pub shown : last.shown ≡ g
+    pub wire_is : last.wire ≡ wire
+    pub left_out : last.left_out ≡ left
+
+-- how many events were left out is answered
+abbrev pub all_left : ℕ → Result ℕ (Unit {0})
+all_left left = Ok left
 
 -- a whole run, whatever is answered: a gateway shows this at its end, and its wire is this; it had a round only where nothing
 -- told it otherwise; who sees to it hears of it; and Ok answers how many events were left out

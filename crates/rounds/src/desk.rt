@@ -1,18 +1,20 @@
 //! What a box has on its desk while it runs.
-ghost use Rattle.std.specs.Prelude.{◌≡◌, ◌||◌, false, None};
+ghost use Rattle.std.specs.Prelude.{◌≡◌, ◌||◌, false, None, replicate};
+ghost use Rattle.reports.specs.Counts.{counted};
+ghost use Rattle.reports.specs.declared.counters.Count.TheVariants.{Received};
+ghost use Rattle.reports.specs.declared.counters.TheConstants.{COUNTS};
 ghost use Rattle.rounds.specs.Letters.{is_end};
-ghost use Rattle.rounds.specs.Views.{seen};
+ghost use Rattle.rounds.specs.Losing.{origin_at as origin_in, origin_of as event_origin, with_lost};
 
 use crate::judging::Question;
 use crate::left::LeftOut;
 use crate::letters::is_end;
-use crate::logs::{cause_of, origin_of};
+use crate::logs::origin_of;
 use crate::outages::Outages;
 use crate::sides_of;
-use crate::views::{View, view_of};
-use gateway::{Event, Gateway, Out, Outcome};
-use journal::{Origin, Tally};
-use nat_types::{GatewayId, NoMemory};
+use gateway::{Event, Gateway, Out};
+use journal::{Cause, Origin};
+use nat_types::GatewayId;
 use reports::{Count, Counters, Sides};
 use sockets::Place;
 use std::alloc::Global;
@@ -27,16 +29,13 @@ pub struct Identity {
     pub digest: u64,
 }
 
-/// What the gateway has told in its last step, how it stood then, what was told of the places and of this second's
-/// drops, what was counted, what is asked and not answered yet, how many events were left out, and whether the box is to
-/// end.
+/// What the gateway has told in its last step, what was told of the places, what was counted, how its sides were seen last,
+/// what is asked and not answered yet, how many events were left out, and whether the box is to end.
 #[derive(Drop)]
 pub(crate) struct Desk {
     pub(crate) alloc: Global,
     pub(crate) out: Out,
-    pub(crate) view: View,
     pub(crate) outages: Outages,
-    pub(crate) tally: Tally,
     pub(crate) counters: Counters,
     pub(crate) sides: Sides,
     pub(crate) question: Option<Question>,
@@ -47,7 +46,7 @@ pub(crate) struct Desk {
 impl Desk {
     /// Nothing was told, counted, asked or left out yet.
     pub(crate) fn new(alloc: Global, gateway: &Gateway) -> Desk
-        ensures view { result.view ≡ seen gateway.now }
+        ensures counted { result.counters ≡ replicate COUNTS 0 }
         ensures left { result.left ≡ 0 }
         ensures ending { result.ending ≡ false }
         ensures question { result.question ≡ None }
@@ -55,9 +54,7 @@ impl Desk {
         Desk {
             alloc,
             out: Out::new(alloc),
-            view: view_of(gateway),
             outages: Outages::none(),
-            tally: Tally::new(gateway.moment()),
             counters: Counters::new(),
             sides: sides_of(gateway),
             question: None,
@@ -68,6 +65,8 @@ impl Desk {
 
     /// Counts what came at a place, and keeps whether it says that the box is to end.
     pub(crate) fn hear(&mut self, place: Place, bytes: &[u8])
+        ensures counted { self.new.counters
+            ≡ counted (origin_in place) Received 1 self.old.counters }
         ensures left { self.new.left ≡ self.old.left }
         ensures ending { self.new.ending ≡ (self.old.ending || is_end place bytes.now) }
         ensures question { self.new.question ≡ self.old.question }
@@ -76,20 +75,24 @@ impl Desk {
         self.ending = self.ending || is_end(place, bytes);
     }
 
-    /// Counts an event of which nothing came.
-    pub(crate) fn count_outcome(&mut self, event: &Event<'_>, outcome: Result<Outcome, NoMemory>)
+    /// Counts an event of which nothing came, if nothing did.
+    pub(crate) fn count_loss(&mut self, event: &Event<'_>, cause: Option<Cause>)
+        ensures counted { self.new.counters
+            ≡ with_lost (event_origin event.now) cause self.old.counters }
         ensures left { self.new.left ≡ self.old.left }
         ensures ending { self.new.ending ≡ self.old.ending }
         ensures question { self.new.question ≡ self.old.question }
     {
-        if let Some(cause) = cause_of(outcome) {
+        if let Some(cause) = cause {
             self.counters.count(origin_of(event), Count::Lost(cause));
         }
     }
 }
 
 /// Where what comes at a place belongs.
-pub(crate) fn origin_at(place: Place) -> Origin {
+pub(crate) fn origin_at(place: Place) -> Origin
+    ensures { result ≡ origin_in place }
+{
     match place {
         Place::Side(side) => Origin::of(side),
         Place::Link => Origin::Link,

@@ -4,6 +4,7 @@
 
 mod clocks;
 mod desk;
+mod inputs;
 mod judging;
 mod left;
 mod letters;
@@ -14,6 +15,7 @@ mod replies;
 mod rounds;
 mod sides;
 mod standing;
+mod teller;
 mod told;
 mod views;
 
@@ -27,5 +29,6 @@ pub use pages::page_behind;
 pub use rounds::{MOST, WAIT, run_rounds, serve};
 pub use sides::{look_again, sides_of};
 pub use standing::gateway_report;
+pub use teller::Telling;
 pub use told::{InputEnd, Told};
 pub use views::{View, view_of};

@@ -1,40 +1,44 @@
-//! What a box tells its operator of a step.
-ghost use Rattle.std.specs.Prelude.{◌≡◌, ◌≢◌, false, is_ok, true};
-ghost use Rattle.journal.specs.Handed.{IsTold};
-ghost use Rattle.journal.specs.declared.entries.Entry.TheVariants.{Away, Back, PeerBoot, PeerHeard, PeerSilent, Synced, Unsynced};
-ghost use Rattle.rounds.specs.Records.{TellsChanges, TellsRole, role_of, stops};
+//! What a box's log is told of a step.
+ghost use Rattle.std.specs.Prelude.{◌≡◌, ◌++◌};
+ghost use Rattle.rounds.specs.Losing.{cause_of, origin_of as event_origin};
+ghost use Rattle.rounds.specs.Records.{is_same, loss_told, peer_told, role_of, role_told, stopped_told, stops, turn, with_step};
 
 use crate::View;
+use crate::teller::Teller;
 use gateway::{Event, Outcome};
-use journal::{Cause, Entry, Origin, Role, Tally, tell, tell_loss};
-use log::Log;
+use journal::{Cause, Entry, Journal, Origin, Role};
 use nat_types::{NoMemory, Side};
 
-/// Counts an event that was dropped, or left out for want of memory, and tells of the first of its second; and tells of
-/// each change that an operator watches for.
-pub(crate) fn tell_step<L: Log>(
-    log: &L,
-    tally: &mut Tally,
+/// Tells that nothing came of an event, if nothing did; and of each change that an operator watches for.
+pub(crate) fn tell_step<L: Journal>(
+    log: &mut Teller<'_, L>,
     event: &Event<'_>,
-    outcome: Result<Outcome, NoMemory>,
+    cause: Option<Cause>,
+    is_done: bool,
     before: &View,
     after: &View,
 )
-    ensures { TellsChanges L.enables log.now (stops event.now (is_ok outcome))
-        before.now after.now }
+    ensures { log.new.told
+        ≡ with_step event.now cause is_done before.now after.now log.old.told }
 {
-    if let Some(cause) = cause_of(outcome) {
-        tell_loss(log, tally, after.moment, origin_of(event), cause);
-    }
-    let has_stopped = stops(event, outcome.is_ok());
-    tell_away(log, before, after);
+    let moment = after.moment;
+    let has_stopped = stops(event, is_done);
+    tell_loss(log, moment, origin_of(event), cause);
+    tell_turn(
+        log,
+        moment,
+        (Entry::Away, Entry::Back),
+        before.away,
+        after.away,
+    );
     tell_role(log, before, after, Side::Inside, has_stopped);
     tell_role(log, before, after, Side::Outside, has_stopped);
-    tell_synced(log, before, after);
+    let table = (Entry::Synced, Entry::Unsynced);
+    tell_turn(log, moment, table, before.synced, after.synced);
     tell_peer(log, before, after);
-    if has_stopped {
-        tell(log, after.moment, Entry::Stopped);
-    }
+    let hearing = (Entry::PeerHeard, Entry::PeerSilent);
+    tell_turn(log, moment, hearing, before.heard, after.heard);
+    tell_stop(log, moment, has_stopped);
 }
 
 /// Whether an event that is done, or isn't, stops the gateway.
@@ -48,7 +52,9 @@ fn stops(event: &Event<'_>, is_done: bool) -> bool
 }
 
 /// Why nothing came of an event, if nothing did.
-pub(crate) fn cause_of(outcome: Result<Outcome, NoMemory>) -> Option<Cause> {
+pub(crate) fn cause_of(outcome: Result<Outcome, NoMemory>) -> Option<Cause>
+    ensures { result ≡ cause_of outcome }
+{
     match outcome {
         Ok(Outcome::Dropped(reason)) => Some(Cause::Dropped(reason)),
         Ok(_) => None,
@@ -57,7 +63,9 @@ pub(crate) fn cause_of(outcome: Result<Outcome, NoMemory>) -> Option<Cause> {
 }
 
 /// Where an event came from: the box itself, of its clock and of its operator's words.
-pub(crate) fn origin_of(event: &Event<'_>) -> Origin {
+pub(crate) fn origin_of(event: &Event<'_>) -> Origin
+    ensures { result ≡ event_origin event.now }
+{
     match event {
         Event::Frame(side, _) => Origin::of(*side),
         Event::Datagram(_) => Origin::Link,
@@ -65,15 +73,28 @@ pub(crate) fn origin_of(event: &Event<'_>) -> Origin {
     }
 }
 
-fn tell_away<L: Log>(log: &L, before: &View, after: &View)
-    ensures away { before.now.away ≡ false → after.now.away ≡ true
-        → IsTold L.enables log.now after.now.moment Away }
-    ensures back { before.now.away ≡ true → after.now.away ≡ false
-        → IsTold L.enables log.now after.now.moment Back }
+fn tell_loss<L: Journal>(log: &mut Teller<'_, L>, moment: u64, origin: Origin, cause: Option<Cause>)
+    ensures { log.new.told ≡ loss_told moment origin cause ++ log.old.told }
 {
-    match (before.away, after.away) {
-        (false, true) => tell(log, after.moment, Entry::Away),
-        (true, false) => tell(log, after.moment, Entry::Back),
+    if let Some(cause) = cause {
+        log.lose(moment, origin, cause);
+    }
+}
+
+/// Tells the first of two where something is so that wasn't, and the other where it isn't any more.
+fn tell_turn<L: Journal>(
+    log: &mut Teller<'_, L>,
+    moment: u64,
+    entries: (Entry, Entry),
+    before: bool,
+    after: bool,
+)
+    ensures { log.new.told
+        ≡ turn moment entries.0 entries.1 before after ++ log.old.told }
+{
+    match (before, after) {
+        (false, true) => log.change(moment, entries.0),
+        (true, false) => log.change(moment, entries.1),
         _ => {}
     }
 }
@@ -95,42 +116,45 @@ fn role_of(view: &View, side: Side, has_stopped: bool) -> Role
     }
 }
 
-fn tell_role<L: Log>(log: &L, before: &View, after: &View, side: Side, has_stopped: bool)
-    ensures { TellsRole L.enables log.now has_stopped before.now after.now side }
+fn is_same(one: Role, other: Role) -> bool
+    ensures { result ≡ is_same one other }
+{
+    match (one, other) {
+        (Role::Initialize, Role::Initialize) => true,
+        (Role::Backup, Role::Backup) => true,
+        (Role::Active, Role::Active) => true,
+        _ => false,
+    }
+}
+
+fn tell_role<L: Journal>(
+    log: &mut Teller<'_, L>,
+    before: &View,
+    after: &View,
+    side: Side,
+    has_stopped: bool,
+)
+    ensures { log.new.told
+        ≡ role_told has_stopped before.now after.now side ++ log.old.told }
 {
     let role = role_of(after, side, has_stopped);
-    if role != role_of(before, side, false) {
-        tell(log, after.moment, Entry::Role(side, role));
+    if !is_same(role_of(before, side, false), role) {
+        log.change(after.moment, Entry::Role(side, role));
     }
 }
 
-fn tell_synced<L: Log>(log: &L, before: &View, after: &View)
-    ensures synced { before.now.synced ≡ false → after.now.synced ≡ true
-        → IsTold L.enables log.now after.now.moment Synced }
-    ensures unsynced { before.now.synced ≡ true → after.now.synced ≡ false
-        → IsTold L.enables log.now after.now.moment Unsynced }
-{
-    match (before.synced, after.synced) {
-        (false, true) => tell(log, after.moment, Entry::Synced),
-        (true, false) => tell(log, after.moment, Entry::Unsynced),
-        _ => {}
-    }
-}
-
-fn tell_peer<L: Log>(log: &L, before: &View, after: &View)
-    ensures peer { before.now.peer ≢ after.now.peer
-        → IsTold L.enables log.now after.now.moment (PeerBoot after.now.peer) }
-    ensures heard { before.now.heard ≡ false → after.now.heard ≡ true
-        → IsTold L.enables log.now after.now.moment PeerHeard }
-    ensures silent { before.now.heard ≡ true → after.now.heard ≡ false
-        → IsTold L.enables log.now after.now.moment PeerSilent }
+fn tell_peer<L: Journal>(log: &mut Teller<'_, L>, before: &View, after: &View)
+    ensures { log.new.told ≡ peer_told before.now after.now ++ log.old.told }
 {
     if before.peer != after.peer {
-        tell(log, after.moment, Entry::PeerBoot(after.peer));
+        log.change(after.moment, Entry::PeerBoot(after.peer));
     }
-    match (before.heard, after.heard) {
-        (false, true) => tell(log, after.moment, Entry::PeerHeard),
-        (true, false) => tell(log, after.moment, Entry::PeerSilent),
-        _ => {}
+}
+
+fn tell_stop<L: Journal>(log: &mut Teller<'_, L>, moment: u64, has_stopped: bool)
+    ensures { log.new.told ≡ stopped_told moment has_stopped ++ log.old.told }
+{
+    if has_stopped {
+        log.change(moment, Entry::Stopped);
     }
 }

@@ -1,9 +1,9 @@
 //! How long a place fails, or works again, before its operator is told.
 ghost use Rattle.std.specs.Prelude.{◌≡◌};
-ghost use Rattle.rounds.specs.Outages.{looked, is_turn};
+ghost use Rattle.rounds.specs.Outages.{TellsPlace, TellsPlaces, is_turn, looked, turn_of};
 
-use journal::{Entry, Origin, tell};
-use log::Log;
+use crate::teller::Teller;
+use journal::{Entry, Journal, Origin};
 use nat_types::Side;
 use sockets::{Place, Wire};
 
@@ -67,27 +67,33 @@ impl Watched {
 
     /// Tells of the place where it has failed for a while, or works again for as long; and once that it takes less than
     /// was to be sent there.
-    fn tell<W: Wire, L: Log>(
+    fn tell<W: Wire, L: Journal>(
         &mut self,
         wire: &W,
         place: Place,
         origin: Origin,
         moment: u64,
-        log: &L,
-    ) {
+        log: &mut Teller<'_, L>,
+    )
+        ensures { TellsPlace W.failing W.lost wire.now place origin moment self.old self.new
+            log.old.told log.new.told }
+    {
         let fails = wire.is_failing(place);
+        let is_long = 0 < wire.losses(place).too_long;
         if self.mark.look(fails, moment) {
-            tell(log, moment, turn_of(origin, fails));
+            log.change(moment, turn_of(origin, fails));
         }
-        if !self.is_short && 0 < wire.losses(place).too_long {
+        if !self.is_short && is_long {
             self.is_short = true;
-            tell(log, moment, Entry::TooLong(origin));
+            log.change(moment, Entry::TooLong(origin));
         }
     }
 }
 
 /// That a place fails, or works again.
-fn turn_of(origin: Origin, fails: bool) -> Entry {
+fn turn_of(origin: Origin, fails: bool) -> Entry
+    ensures { result ≡ turn_of origin fails }
+{
     if fails {
         Entry::Fails(origin)
     } else {
@@ -115,7 +121,15 @@ impl Outages {
 
     /// Tells of each place that has failed for a while, or works again for as long; and once of each that takes less
     /// than was to be sent there.
-    pub(crate) fn tell<W: Wire, L: Log>(&mut self, wire: &W, moment: u64, log: &L) {
+    pub(crate) fn tell<W: Wire, L: Journal>(
+        &mut self,
+        wire: &W,
+        moment: u64,
+        log: &mut Teller<'_, L>,
+    )
+        ensures { TellsPlaces W.failing W.lost wire.now moment self.old self.new
+            log.old.told log.new.told }
+    {
         let inside = Place::Side(Side::Inside);
         self.inside.tell(wire, inside, Origin::Inside, moment, log);
         let outside = Place::Side(Side::Outside);

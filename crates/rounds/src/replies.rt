@@ -1,14 +1,20 @@
 //! What who says a word to a box is answered.
-ghost use Rattle.std.specs.Prelude.{◌≡◌, ◌≤◌, ◌++◌, length, take, IfOk, OnErr};
+ghost use Rattle.std.specs.Prelude.{◌≡◌, ◌≤◌, ◌++◌, ◌∷◌, List, length, take, IfOk, OnErr};
+ghost use Rattle.journal.specs.declared.origins.Origin.TheVariants.{Own};
+ghost use Rattle.reports.specs.Counts.{counted as counted_one};
+ghost use Rattle.reports.specs.declared.counters.Count.TheVariants.{Sent};
 ghost use Rattle.sockets.specs.Letters.{answered};
 ghost use Rattle.spec_step.specs.Shown.{Shown};
-ghost use Rattle.rounds.specs.Answers.{CountsLosses, IsAnswerTo, SaysOf, ShowsSides, with_losses};
+ghost use Rattle.rounds.specs.Answers.{Answers, CountsLosses, SaysOf, ShowsSides, with_losses};
 ghost use Rattle.rounds.specs.Memory.{MayLack};
 ghost use Rattle.rounds.specs.Rounds.{AnswersOwed, Replies, box};
 ghost use Rattle.rounds.specs.declared.judging.Question.TheVariants.{Status};
+ghost use Rattle.rounds.specs.declared.teller.Telling.{Telling};
+ghost use Rattle.rounds.specs.declared.teller.Telling.TheVariants.{Asked};
 
 use crate::desk::{Desk, Identity};
 use crate::judging::{Question, Reply};
+use crate::teller::Teller;
 use crate::{gateway_report, page_behind};
 use control::{begun_page, begun_report, spelled_heard, spelled_refusal};
 use gateway::Gateway;
@@ -20,9 +26,8 @@ use sockets::{LONGEST, Losses, Place, Wire};
 /// Answers a word at once, where a reply is owed; a question is kept for the round's end. A word that isn't done, for want
 /// of memory, has no answer: who said it doesn't hear that it was taken.
 pub(crate) fn reply<W: Wire>(owed: Option<Reply>, is_done: bool, wire: &mut W, desk: &mut Desk)
-    ensures { (g : Shown) → Replies W.does owed is_done
-        (box g wire.old desk.old.left desk.old.ending desk.old.question)
-        (box g wire.new desk.new.left desk.new.ending desk.new.question) }
+    ensures { (g : Shown) → (told : List Telling) → Replies W.does owed is_done
+        (box g wire.old desk.old told) (box g wire.new desk.new told) }
 {
     match owed {
         None => {}
@@ -36,6 +41,7 @@ pub(crate) fn reply<W: Wire>(owed: Option<Reply>, is_done: bool, wire: &mut W, d
 /// Answers who said the last word, and counts it.
 fn answer<W: Wire>(bytes: &[u8], wire: &mut W, desk: &mut Desk)
     ensures answered { W.does wire.old (answered bytes.now) wire.new }
+    ensures counted { desk.new.counters ≡ counted_one Own Sent 1 desk.old.counters }
     ensures left { desk.new.left ≡ desk.old.left }
     ensures ending { desk.new.ending ≡ desk.old.ending }
     ensures question { desk.new.question ≡ desk.old.question }
@@ -51,12 +57,12 @@ pub(crate) fn answer_question<W: Wire, L: Journal>(
     identity: Identity,
     room: &mut [u8; LONGEST],
     desk: &mut Desk,
-    log: &L,
+    log: &mut Teller<'_, L>,
 )
     requires sides { ShowsSides gateway.now desk.old.sides }
     ensures { AnswersOwed W.does identity desk.old.question
-        (box gateway.now wire.old desk.old.left desk.old.ending desk.old.question)
-        (box gateway.now wire.new desk.new.left desk.new.ending desk.new.question) }
+        (box gateway.now wire.old desk.old log.old.told)
+        (box gateway.now wire.new desk.new log.new.told) }
 {
     let Some(question) = desk.question else {
         return;
@@ -80,13 +86,14 @@ fn answer_to<W: Wire, L: Journal>(
     identity: Identity,
     room: &mut [u8; LONGEST],
     desk: &Desk,
-    log: &L,
+    log: &mut Teller<'_, L>,
 ) -> Result<usize, NoMemory>
     requires sides { ShowsSides gateway.now desk.now.sides }
     ensures within { IfOk result (λ count. count ≤ 4096) }
-    ensures answers { IfOk result (λ count.
-        IsAnswerTo identity gateway.now question (take count room.new)) }
+    ensures answers { IfOk result (λ count. Answers identity gateway.now question
+        log.old.told log.new.told (take count room.new)) }
     ensures refused { OnErr result (MayLack gateway.now question) }
+    ensures unasked { OnErr result (log.new.told ≡ log.old.told) }
 {
     match question {
         Question::Status => {
@@ -106,7 +113,7 @@ fn report_of<W: Wire, L: Journal>(
     wire: &W,
     identity: Identity,
     desk: &Desk,
-    log: &L,
+    log: &mut Teller<'_, L>,
 ) -> Result<Report, NoMemory>
     ensures id { IfOk result (λ r. r.id ≡ identity.id) }
     ensures boot { IfOk result (λ r. r.boot ≡ identity.boot) }
@@ -115,7 +122,10 @@ fn report_of<W: Wire, L: Journal>(
     ensures gateway { IfOk result (λ r. SaysOf gateway.now r.gateway) }
     ensures counters { IfOk result (λ r.
         CountsLosses W.lost wire.now desk.now.counters r.counters) }
+    ensures lines { IfOk result (λ r.
+        log.new.told ≡ Asked r.lines_left_out ∷ log.old.told) }
     ensures refused { OnErr result (MayLack gateway.now Status) }
+    ensures unasked { OnErr result (log.new.told ≡ log.old.told) }
 {
     Ok(Report {
         id: identity.id,

@@ -1,32 +1,31 @@
 //! The rounds of a box.
 ghost use Rattle.std.specs.Duration.{as_nanos};
-ghost use Rattle.std.specs.Prelude.{◌≡◌, ◌<◌, ◌⊎◌, Bool, None, OnErr, OnOk, Option, codes, false, length, true};
+ghost use Rattle.std.specs.Prelude.{◌≡◌, ◌<◌, ◌⊎◌, OnErr, OnOk, codes, false, is_ok, length, true};
 ghost use Rattle.outlets.specs.Printed.{Prints};
 ghost use Rattle.spec_step.specs.Shown.{scene};
 ghost use Rattle.spec_step.specs.Steps.{IsStepOn};
 ghost use Rattle.spec_step.specs.declared.events.Event.TheVariants.{Stop};
 ghost use Rattle.supervision.specs.declared.notices.Notice.TheVariants.{Ending};
+ghost use Rattle.rounds.specs.Losing.{LosesNone, cause_of as cause_in, cause_on};
 ghost use Rattle.rounds.specs.Memory.{WasLeftOut};
-ghost use Rattle.rounds.specs.Records.{TellsChanges, stops};
-ghost use Rattle.rounds.specs.Rounds.{AreMade, AreRoundsHeard, IsRound, IsRun, RunsTo, Takes};
-ghost use Rattle.rounds.specs.Rounds.{TakesAny, TakesLetter, all_sent, box, most_rounds};
-ghost use Rattle.rounds.specs.Polls.{Asks, HasPolled};
+ghost use Rattle.rounds.specs.Rounds.{AreMade, AreRoundsHeard, IsRound, IsRun, RoundsTo, RunsTo, Takes};
+ghost use Rattle.rounds.specs.Rounds.{TakesAny, TakesLetter, TellsRound, all_left, all_sent, begun, box, most_rounds};
+ghost use Rattle.rounds.specs.Polls.{Asks, HasPolled, Ticks, WasPolledOut, WasStopped};
 ghost use Rattle.rounds.specs.Told.{HasHeard, HearsRound, HearsRun};
-ghost use Rattle.rounds.specs.Views.{seen};
-ghost use Rattle.rounds.specs.declared.judging.Question.{Question};
 
 use crate::desk::{Desk, Identity};
 use crate::left::LeftOut;
 use crate::letters::{event_of, reply_at};
-use crate::logs::tell_step;
+use crate::logs::{cause_of, tell_step};
 use crate::replies::{answer_question, reply};
+use crate::teller::Teller;
 use crate::views::view_of;
 use crate::{Clockwork, Told, look_again};
 use gateway::{Event, Gateway, Out, Outcome};
-use journal::{Journal, Origin, tell_end, tell_turn};
+use journal::{Journal, Origin};
 use nat_types::NoMemory;
 use outlets::put;
-use reports::{Count, Counters};
+use reports::{Count, Counters, counters_law};
 use sockets::{LONGEST, Place, Wire};
 use std::alloc::Global;
 use std::io::{self, Write};
@@ -71,7 +70,7 @@ pub fn serve<W: Wire, C: Clockwork, T: Told, S: Supervisor, O: Write, L: Journal
 ) -> io::Result<LeftOut>
     ensures rounds { RunsTo W.does W.waits track identity C.reads S.hears (most_rounds rounds)
         (T.tells until.now) (T.goes_on until.now)
-        (box gateway.old wire.old 0 false None) clock.old supervisor.old
+        (begun gateway.old wire.old) clock.old supervisor.old
         gateway.new wire.new clock.new supervisor.new result }
     ensures ended { Prints (O.contents output.old) result (O.contents output.new)
         (codes "end\n") }
@@ -79,9 +78,21 @@ pub fn serve<W: Wire, C: Clockwork, T: Told, S: Supervisor, O: Write, L: Journal
     let left = run(
         alloc, gateway, wire, clock, until, rounds, track, identity, supervisor, log,
     );
-    put(output, b"end\n")?;
-    output.flush()?;
+    print_end(output, gateway, wire)?;
     Ok(left)
+}
+
+/// Writes `end`, once the gateway was stopped.
+///
+/// # Errors
+///
+/// Those of writing.
+fn print_end<W: Wire, O: Write>(output: &mut O, _gateway: &Gateway, _wire: &W) -> io::Result<()>
+    requires stopped { WasStopped W.does _gateway.now _wire.now }
+    ensures { Prints (O.contents output.old) result (O.contents output.new) (codes "end\n") }
+{
+    put(output, b"end\n")?;
+    output.flush()
 }
 
 /// The rounds of `serve` alone: the gateway isn't stopped and can go on. It says how many events were left out.
@@ -97,17 +108,17 @@ pub fn run_rounds<W: Wire, C: Clockwork, T: Told, S: Supervisor, L: Journal>(
     supervisor: &mut S,
     log: &L,
 ) -> LeftOut
-    ensures { (ending : Bool) × (owed : Option Question) ×
-        AreRoundsHeard W.does W.waits track identity C.reads S.hears (most_rounds rounds)
+    ensures { RoundsTo W.does W.waits track identity C.reads S.hears (most_rounds rounds)
         (T.tells until.now) (T.goes_on until.now)
-        (box gateway.old wire.old 0 false None) clock.old supervisor.old
-        (box gateway.new wire.new result ending owed) clock.new supervisor.new }
+        (begun gateway.old wire.old) clock.old supervisor.old
+        gateway.new wire.new clock.new supervisor.new result }
 {
     let mut desk = Desk::new(alloc, gateway);
+    let mut log = Teller::new(log, gateway.moment());
     all_rounds(
-        gateway, wire, clock, until, rounds, track, identity, supervisor, &mut desk, log,
+        gateway, wire, clock, until, rounds, track, identity, supervisor, &mut desk, &mut log,
     );
-    tell_end(log, &desk.tally, gateway.moment());
+    log.end(gateway.moment());
     desk.left
 }
 
@@ -124,21 +135,20 @@ fn run<W: Wire, C: Clockwork, T: Told, S: Supervisor, L: Journal>(
     supervisor: &mut S,
     log: &L,
 ) -> LeftOut
-    ensures { (ending : Bool) × (owed : Option Question) ×
-        ((run : IsRun W.does W.waits track identity C.reads (most_rounds rounds)
-        (T.tells until.now)
-        (box gateway.old wire.old 0 false None) clock.old
-        (box gateway.new wire.new result ending owed) clock.new)
-        × ((0 < length run.all.moments → T.goes_on until.now)
-        × HearsRun S.hears run.all.moments supervisor.old supervisor.new)) }
+    ensures run { RunsTo W.does W.waits track identity C.reads S.hears (most_rounds rounds)
+        (T.tells until.now) (T.goes_on until.now)
+        (begun gateway.old wire.old) clock.old supervisor.old
+        gateway.new wire.new clock.new supervisor.new (all_left result) }
+    ensures stopped { WasStopped W.does gateway.new wire.new }
 {
     let mut desk = Desk::new(alloc, gateway);
+    let mut log = Teller::new(log, gateway.moment());
     all_rounds(
-        gateway, wire, clock, until, rounds, track, identity, supervisor, &mut desk, log,
+        gateway, wire, clock, until, rounds, track, identity, supervisor, &mut desk, &mut log,
     );
     supervisor.ending();
-    stop(gateway, wire, supervisor, &mut desk, log);
-    tell_end(log, &desk.tally, gateway.moment());
+    stop(gateway, wire, supervisor, &mut desk, &mut log);
+    log.end(gateway.moment());
     desk.left
 }
 
@@ -148,12 +158,12 @@ fn stop<W: Wire, S: Supervisor, L: Journal>(
     wire: &mut W,
     _supervisor: &S,
     desk: &mut Desk,
-    log: &L,
+    log: &mut Teller<'_, L>,
 ) -> bool
     requires told { HasHeard S.hears Ending _supervisor.now }
     ensures taken { Takes W.does result
-        (box gateway.old wire.old desk.old.left desk.old.ending desk.old.question) Stop
-        (box gateway.new wire.new desk.new.left desk.new.ending desk.new.question) }
+        (box gateway.old wire.old desk.old log.old.told) Stop
+        (box gateway.new wire.new desk.new log.new.told) }
 {
     hand_in(gateway, Event::Stop, wire, desk, log)
 }
@@ -169,13 +179,13 @@ fn all_rounds<W: Wire, C: Clockwork, T: Told, S: Supervisor, L: Journal>(
     identity: Identity,
     supervisor: &mut S,
     desk: &mut Desk,
-    log: &L,
+    log: &mut Teller<'_, L>,
 )
     ensures { AreRoundsHeard W.does W.waits track identity C.reads S.hears (most_rounds rounds)
         (T.tells until.now) (T.goes_on until.now)
-        (box gateway.old wire.old desk.old.left desk.old.ending desk.old.question)
+        (box gateway.old wire.old desk.old log.old.told)
         clock.old supervisor.old
-        (box gateway.new wire.new desk.new.left desk.new.ending desk.new.question)
+        (box gateway.new wire.new desk.new log.new.told)
         clock.new supervisor.new }
 {
     let mut room = [0; LONGEST];
@@ -185,8 +195,9 @@ fn all_rounds<W: Wire, C: Clockwork, T: Told, S: Supervisor, L: Journal>(
         if is_over(desk, until) {
             return;
         }
-        round(gateway, wire, clock, track, identity, &mut room, desk, log);
-        last = tell_alive(last, gateway, supervisor);
+        last = round(
+            gateway, wire, clock, track, identity, last, supervisor, &mut room, desk, log,
+        );
     }
 }
 
@@ -221,30 +232,67 @@ fn is_over<T: Told>(desk: &Desk, until: &T) -> bool
     desk.ending || until.is_told()
 }
 
-/// Hands in what comes, and then the clock's moment; answers a question; and tells which places fail, and what a second that
-/// has ended owes.
-fn round<W: Wire, C: Clockwork, L: Journal>(
+/// Hands in what comes, and then the clock's moment; answers a question; and tells which places fail, what a second that
+/// has ended owes, and the supervisor that the box goes on, where a second has begun since a moment. It gives the gateway's
+/// moment.
+fn round<W: Wire, C: Clockwork, S: Supervisor, L: Journal>(
     gateway: &mut Gateway,
     wire: &mut W,
     clock: &mut C,
     track: bool,
     identity: Identity,
+    last: u64,
+    supervisor: &mut S,
     room: &mut [u8; LONGEST],
     desk: &mut Desk,
-    log: &L,
-)
+    log: &mut Teller<'_, L>,
+) -> u64
     requires { desk.old.ending ≡ false }
-    ensures { IsRound W.does W.waits track identity C.reads
-        (box gateway.old wire.old desk.old.left desk.old.ending desk.old.question) clock.old
-        (box gateway.new wire.new desk.new.left desk.new.ending desk.new.question) clock.new }
+    ensures round { IsRound W.does W.waits track identity C.reads
+        (box gateway.old wire.old desk.old log.old.told) clock.old
+        (box gateway.new wire.new desk.new log.new.told) clock.new }
+    ensures moment { result ≡ gateway.new.moment }
+    ensures heard { HearsRound S.hears last gateway.new.moment supervisor.old supervisor.new }
 {
     take_what_comes(gateway, wire, track, room, desk, log);
-    let tick = Event::Tick(clock.moment());
-    hand_in(gateway, tick, wire, desk, log);
+    tick(gateway, wire, clock, track, desk, log);
     look_again(&mut desk.sides, gateway);
     answer_question(gateway, wire, identity, room, desk, log);
-    desk.outages.tell(wire, gateway.moment(), log);
-    tell_turn(log, &mut desk.tally, gateway.moment());
+    tell_round(gateway, wire, desk, log);
+    tell_alive(last, gateway, supervisor)
+}
+
+/// Hands in the clock's moment, once all was taken that came: it is read behind the wait.
+fn tick<W: Wire, C: Clockwork, L: Journal>(
+    gateway: &mut Gateway,
+    wire: &mut W,
+    clock: &mut C,
+    _track: bool,
+    desk: &mut Desk,
+    log: &mut Teller<'_, L>,
+)
+    requires polled { WasPolledOut W.does W.waits _track
+        (box gateway.old wire.old desk.old log.old.told) }
+    ensures { Ticks W.does C.reads
+        (box gateway.old wire.old desk.old log.old.told) clock.old
+        (box gateway.new wire.new desk.new log.new.told) clock.new }
+{
+    hand_in(gateway, Event::Tick(clock.moment()), wire, desk, log);
+}
+
+/// Tells which places fail, or work again, and what a second that has ended owes.
+fn tell_round<W: Wire, L: Journal>(
+    gateway: &Gateway,
+    wire: &W,
+    desk: &mut Desk,
+    log: &mut Teller<'_, L>,
+)
+    ensures { TellsRound (box gateway.now wire.now desk.old log.old.told)
+        (box gateway.now wire.now desk.new log.new.told) }
+{
+    let moment = gateway.moment();
+    desk.outages.tell(wire, moment, log);
+    log.turn(moment);
 }
 
 /// Waits for a datagram, and hands in what is there.
@@ -254,11 +302,11 @@ fn take_what_comes<W: Wire, L: Journal>(
     track: bool,
     room: &mut [u8; LONGEST],
     desk: &mut Desk,
-    log: &L,
+    log: &mut Teller<'_, L>,
 )
     ensures { HasPolled W.does W.waits track 10_000_000 256
-        (box gateway.old wire.old desk.old.left desk.old.ending desk.old.question)
-        (box gateway.new wire.new desk.new.left desk.new.ending desk.new.question) }
+        (box gateway.old wire.old desk.old log.old.told)
+        (box gateway.new wire.new desk.new log.new.told) }
 {
     let mut limit = Duration::from_millis(WAIT);
     for _ in 0..MOST {
@@ -277,11 +325,11 @@ fn take_next<W: Wire, L: Journal>(
     track: bool,
     room: &mut [u8; LONGEST],
     desk: &mut Desk,
-    log: &L,
+    log: &mut Teller<'_, L>,
 ) -> bool
     ensures { Asks W.does W.waits track (as_nanos limit)
-        (box gateway.old wire.old desk.old.left desk.old.ending desk.old.question)
-        result (box gateway.new wire.new desk.new.left desk.new.ending desk.new.question) }
+        (box gateway.old wire.old desk.old log.old.told)
+        result (box gateway.new wire.new desk.new log.new.told) }
 {
     match wire.receive(limit, room) {
         Ok(Some((place, count))) => {
@@ -302,12 +350,12 @@ fn take_letter<W: Wire, L: Journal>(
     wire: &mut W,
     track: bool,
     desk: &mut Desk,
-    log: &L,
+    log: &mut Teller<'_, L>,
 )
     ensures taken { TakesLetter W.does track
-        (box gateway.old wire.old desk.old.left desk.old.ending desk.old.question)
+        (box gateway.old wire.old desk.old log.old.told)
         (record { place = place; bytes = bytes.now })
-        (box gateway.new wire.new desk.new.left desk.new.ending desk.new.question) }
+        (box gateway.new wire.new desk.new log.new.told) }
 {
     desk.hear(place, bytes);
     let owed = reply_at(gateway, place, bytes);
@@ -322,11 +370,11 @@ fn take_event<W: Wire, L: Journal>(
     event: Option<Event<'_>>,
     wire: &mut W,
     desk: &mut Desk,
-    log: &L,
+    log: &mut Teller<'_, L>,
 ) -> bool
     ensures taken { TakesAny W.does result
-        (box gateway.old wire.old desk.old.left desk.old.ending desk.old.question) event.entry
-        (box gateway.new wire.new desk.new.left desk.new.ending desk.new.question) }
+        (box gateway.old wire.old desk.old log.old.told) event.entry
+        (box gateway.new wire.new desk.new log.new.told) }
 {
     match event {
         Some(event) => hand_in(gateway, event, wire, desk, log),
@@ -341,26 +389,24 @@ fn hand_in<W: Wire, L: Journal>(
     event: Event<'_>,
     wire: &mut W,
     desk: &mut Desk,
-    log: &L,
+    log: &mut Teller<'_, L>,
 ) -> bool
     ensures taken { Takes W.does result
-        (box gateway.old wire.old desk.old.left desk.old.ending desk.old.question) event.entry
-        (box gateway.new wire.new desk.new.left desk.new.ending desk.new.question) }
-    ensures view { desk.new.view ≡ seen gateway.new }
-    ensures told { TellsChanges L.enables log.now (stops event.entry result)
-        desk.old.view desk.new.view }
+        (box gateway.old wire.old desk.old log.old.told) event.entry
+        (box gateway.new wire.new desk.new log.new.told) }
 {
     desk.out.clear();
+    let before = view_of(gateway);
     let outcome = stepped(gateway, event, &mut desk.out);
     if let Err(refusal) = outcome {
         desk.left.count(refusal);
     }
     send_all(wire, &desk.out, &mut desk.counters);
-    let view = view_of(gateway);
-    tell_step(log, &mut desk.tally, &event, outcome, &desk.view, &view);
-    desk.count_outcome(&event, outcome);
-    desk.view = view;
-    outcome.is_ok()
+    let cause = cause_of(outcome);
+    desk.count_loss(&event, cause);
+    let is_done = outcome.is_ok();
+    tell_step(log, &event, cause, is_done, &before, &view_of(gateway));
+    is_done
 }
 
 /// Hands an event to the gateway.
@@ -371,14 +417,17 @@ fn stepped(gateway: &mut Gateway, event: Event<'_>, out: &mut Out) -> Result<Out
     ensures err { OnErr result (gateway.new ≡ gateway.old) }
     ensures untold { OnErr result (out.new ≡ out.old) }
     ensures refused { OnErr result (WasLeftOut gateway.old event.entry) }
+    ensures cause { cause_in result ≡ cause_on gateway.old event.entry (is_ok result) }
 {
     gateway.step(event, out)
 }
 
 /// Sends what was told: the frames by the wires of their sides, the datagrams by the link. What was sent is counted.
 fn send_all<W: Wire>(wire: &mut W, out: &Out, counters: &mut Counters)
-    ensures { AreMade W.does (all_sent out.now) wire.old wire.new }
+    ensures made { AreMade W.does (all_sent out.now) wire.old wire.new }
+    ensures counted { LosesNone counters.old counters.new }
 {
+    counters_law();
     for frame in out.frames() {
         if wire.send(Place::Side(frame.side), frame.bytes).is_ok() {
             counters.count(Origin::of(frame.side), Count::Sent);

@@ -1,9 +1,9 @@
 //! What tells a box that it is to end, beside its control socket and the number of its rounds.
-ghost use Rattle.std.specs.Prelude.{◌≡◌, ◌⊎◌, false, true, IsTrue};
-ghost use Rattle.rounds.specs.Inputs.{InputEnds, InputGoesOn, IsEnd, IsNoEnd, WasPolled, WasRead};
+ghost use Rattle.std.specs.Prelude.{◌≡◌, ◌⊎◌, false, true, IsTrue, is_some};
+ghost use Rattle.rounds.specs.Inputs.{InputEnds, InputGoesOn, IsEnd, IsNoEnd};
 
-use libc::types::pollfd;
-use std::io::{self, ErrorKind, Read};
+use crate::inputs::StandardInput;
+use std::io::{self, ErrorKind};
 
 /// What may tell a box that it is to end.
 pub trait Told {
@@ -19,11 +19,10 @@ pub trait Told {
         ensures goes_on { result ≡ false → goes_on self.now };
 }
 
-/// The end of the standard input: a box that watches it ends there.
+/// The end of the standard input: a box that watches it ends there. Else it has none.
 #[derive(Drop)]
 pub struct InputEnd<'a, R> {
-    rt: &'a R,
-    is_watched: bool,
+    watched: Option<StandardInput<'a, R>>,
 }
 
 impl<'a, R: Input> InputEnd<'a, R> {
@@ -34,53 +33,38 @@ impl<'a, R: Input> InputEnd<'a, R> {
         ensures goes_on { ⟦<InputEnd<'a, R> as Told>⟧.goes_on result
             → (is_watched ≡ false) ⊎ InputGoesOn }
     {
-        InputEnd { rt, is_watched }
+        let watched = if is_watched {
+            Some(StandardInput::new(rt))
+        } else {
+            None
+        };
+        InputEnd { watched }
     }
 }
 
 impl<R: Input> Told for InputEnd<'_, R> {
-    ghost tells = { λ i. (i.is_watched ≡ true) × InputEnds };
+    ghost tells = { λ i. (is_some i.watched ≡ true) × InputEnds };
 
-    ghost goes_on = { λ i. (i.is_watched ≡ false) ⊎ InputGoesOn };
+    ghost goes_on = { λ i. (is_some i.watched ≡ false) ⊎ InputGoesOn };
 
     fn is_told(&self) -> bool {
-        self.is_watched && is_at_end(self.rt)
+        match &self.watched {
+            None => false,
+            Some(input) => is_at_end(input),
+        }
     }
 }
 
 /// Whether the standard input is at its end, or closed. What stands there before its end is read and passed over, at
 /// most 512 bytes a call.
-fn is_at_end<R: Input>(rt: &R) -> bool
+fn is_at_end<R: Input>(input: &StandardInput<'_, R>) -> bool
     ensures ends { result ≡ true → InputEnds }
     ensures goes_on { result ≡ false → InputGoesOn }
 {
-    let answer = polled();
-    if answer <= 0 {
-        return false;
+    match input.poll() {
+        None => false,
+        Some(report) => is_end(input.read(report)),
     }
-    is_end(read_some(rt))
-}
-
-/// Asks the system whether something stands on the standard input, or it is closed, and gives its answer. It doesn't wait.
-#[tactic(auto, unfolding(crate::specs::Inputs::WasPolled))]
-fn polled() -> i32
-    ensures { WasPolled result }
-{
-    let mut asked = [pollfd {
-        fd: libc::STDIN_FILENO,
-        events: libc::net::POLLIN,
-        revents: 0,
-    }];
-    libc::net::poll(&mut asked, 0)
-}
-
-/// Asks the system for what stands on the standard input, and gives its answer.
-#[tactic(auto, unfolding(crate::specs::Inputs::WasRead))]
-fn read_some<R: Input>(rt: &R) -> io::Result<usize>
-    ensures { WasRead result }
-{
-    let mut room = [0; 512];
-    rt.reader().read(&mut room)
 }
 
 /// Whether nothing is left there, by what was answered to who asked for it.

@@ -11,7 +11,7 @@ returns-then-is_over g c =
 
 pub loop-preserved : goal.loop-preserved
 loop-preserved g c = record {
-  had = rw c.tell_alive-last.ensures.moment (one_more _ _ _ _ _ _ _ _ _ _ _ _ _ _ _ _ _ c.loop.invariant.had c.round.ensures c.tell_alive-last.ensures.heard);
+  had = rw c.round-last.ensures.moment (one_more _ _ _ _ _ _ _ _ _ _ _ _ _ _ _ _ _ c.loop.invariant.had c.round-last.ensures.round c.round-last.ensures.heard);
   asked = λ _. c.is_over.ensures.asked (search rules);
 }
 

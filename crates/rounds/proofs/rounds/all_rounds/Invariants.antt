@@ -7,7 +7,7 @@ abbrev pub invariant-loop : goal.invariant-loop
 invariant-loop g l = record {
   had :
       HasHad g.W.Wire.does g.W.Wire.waits l.track l.identity g.C.Clockwork.reads g.S.Supervisor.hears l.counter l.last
-      (box l.fn.gateway l.fn.wire l.fn.desk.left l.fn.desk.ending l.fn.desk.question) l.fn.clock l.fn.supervisor
-      (box l.gateway l.wire l.desk.left l.desk.ending l.desk.question) l.clock l.supervisor;
+      (box l.fn.gateway l.fn.wire l.fn.desk l.fn.log.told) l.fn.clock l.fn.supervisor
+      (box l.gateway l.wire l.desk l.log.told) l.clock l.supervisor;
   asked : 0 < l.counter → g.T.Told.goes_on l.until;
 }

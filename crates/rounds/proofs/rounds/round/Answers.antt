@@ -1,16 +1,21 @@
 use Rattle.rounds.proofs.rounds.round.Goals as goal
 
-pub returns : goal.returns
-returns g c = record {
+pub tick-requires : goal.tick-requires
+tick-requires g c = record { polled = (_, c.take_what_comes.ensures) }
+
+pub returns-clause-round : goal.returns-clause-round
+returns-clause-round g c = record {
   goes_on = c.requires;
   answers = c.take_what_comes.ensures.answers;
   poll = c.take_what_comes.ensures.poll;
   between = _;
   letters = c.take_what_comes.ensures.taken;
-  moment = _;
-  read = c.moment.ensures;
-  is_done = _;
+  moment = c.tick.ensures.moment;
+  read = c.tick.ensures.read;
+  is_done = c.tick.ensures.is_done;
   ticked = _;
-  tick = c.hand_in.ensures.taken;
+  tick = c.tick.ensures.tick;
+  replied = _;
   answered = c.answer_question.ensures;
+  told = c.tell_round.ensures;
 }

@@ -9,6 +9,6 @@ abbrev pub invariant-loop : goal.invariant-loop
 invariant-loop g l = record {
   limited : as_nanos l.limit ≡ limit_at l.counter 10_000_000;
   had :
-      HasAsked g.W.Wire.does g.W.Wire.waits l.track 10_000_000 l.counter (box l.fn.gateway l.fn.wire l.fn.desk.left l.fn.desk.ending l.fn.desk.question)
-      (box l.gateway l.wire l.desk.left l.desk.ending l.desk.question);
+      HasAsked g.W.Wire.does g.W.Wire.waits l.track 10_000_000 l.counter (box l.fn.gateway l.fn.wire l.fn.desk l.fn.log.told)
+      (box l.gateway l.wire l.desk l.log.told);
 }
