@@ -2,6 +2,9 @@
 use Rattle.std.specs.Prelude.{◌≡◌, ◌⊎◌, ℕ, List, [], ◌∷◌, Result, Ok, Err}
 use Rattle.std.specs.declared.io.Error.{Error}
 use Rattle.std.specs.declared.net.socket_addr.SocketAddr.{SocketAddr}
+use Rattle.std.specs.declared.alloc.Global.{Global}
+use Rattle.mio.specs.Events.{capacity}
+use Rattle.mio.specs.declared.event.events.Events.{Events}
 use Rattle.mio.specs.declared.net.udp.UdpSocket.{UdpSocket}
 use Rattle.settings.specs.declared.gateway_settings.GatewaySettings.{GatewaySettings}
 use Rattle.settings.specs.declared.whole.Settings.{Settings}
@@ -63,19 +66,28 @@ BindsBoth {B = B} {S = S} binds settings b (Err why) b2 = BindsPorts binds setti
 unfoldable pub WasBound : {B : Type 0} → B → SocketAddr → Result UdpSocket Error → B → Type 0
 WasBound before address answer after = Unit {0}
 
--- the same where the system was asked to report what comes to a socket: this is the port
-unfoldable pub WasWatched : {S : Type 0} → UdpSocket → Result S Error → Type 0
-WasWatched socket answer = Unit {0}
+-- the same where he asked the system to report what comes to a socket, in a room for events: this is the port
+unfoldable pub WasWatched : {B S : Type 0} → B → UdpSocket → Events Global → Result S Error → B → Type 0
+WasWatched before socket room answer after = Unit {0}
+
+-- a room for one event
+abbrev pub IsRoom : Events Global → Type 0
+IsRoom room = capacity room ≡ 1
+
+-- he was given a socket at an address, and asked the system for its reports, which answered so
+abbrev pub IsWatchedAt : {B S : Type 0} → SocketAddr → B → Result S Error → B → Type 0
+IsWatchedAt {B = B} address before answer after = (socket : UdpSocket) × ((next : B) × (WasBound before address (Ok socket) next
+    × ((room : Events Global) × (IsRoom room × WasWatched next socket room answer after))))
 
 -- a port at an address isn't had: the system was asked for it once, and refused the socket, or to report of it
 abbrev pub IsUnboundAt : {B : Type 0} → Type 0 → SocketAddr → B → B → Type 0
 IsUnboundAt S address before after = ((error : Error) × WasBound before address (Err error) after)
-    ⊎ ((socket : UdpSocket) × (WasBound before address (Ok socket) after × ((error : Error) × WasWatched {S = S} socket (Err error))))
+    ⊎ ((error : Error) × IsWatchedAt {S = S} address before (Err error) after)
 
 -- so the system answers who asks for the port of a number: it is that of the loopback address; or there is no memory, and it isn't asked
 abbrev pub HasBound : {B S : Type 0} → B → ℕ → Result S Unbound → B → Type 0
-HasBound before number (Ok port) after = (address : SocketAddr) × (IsSocketOf (on_loopback number) address
-    × ((socket : UdpSocket) × (WasBound before address (Ok socket) after × WasWatched socket (Ok port))))
+HasBound before number (Ok port) after =
+    (address : SocketAddr) × (IsSocketOf (on_loopback number) address × IsWatchedAt address before (Ok port) after)
 HasBound {S = S} before number (Err unbound.NoSocket) after =
     (address : SocketAddr) × (IsSocketOf (on_loopback number) address × IsUnboundAt S address before after)
 HasBound before number (Err unbound.NoMemory) after = after ≡ before

@@ -1,11 +1,12 @@
 -- What the system is asked, so that bytes go through a port of its own, and what comes of it.
-use Rattle.std.specs.Prelude.{◌≡◌, ◌≢◌, ◌≤◌, ◌⊎◌, ℕ, zero, suc, Bool, true, false, List, take, Result, Ok, Err}
+use Rattle.std.specs.Prelude.{◌≡◌, ◌≢◌, ◌≤◌, ◌<◌, ◌+◌, ◌-◌, ◌^◌, ◌⊎◌, ℕ, zero, suc, Bool, true, false, List, take, Option, Some, None, Result, Ok, Err}
 use Rattle.std.specs.IoError.{error_kind}
 use Rattle.std.specs.Duration.{as_nanos}
 use Rattle.std.specs.declared.io.Error.{Error}
 use Rattle.std.specs.declared.io.ErrorKind.TheVariants.{WouldBlock}
 use Rattle.std.specs.declared.net.socket_addr.SocketAddr.{SocketAddr}
 use Rattle.std.specs.declared.time.Duration.{Duration}
+use Rattle.std.specs.declared.time.Instant.{Instant}
 use Rattle.sockets.specs.Ends.{IsSocketOf, on_loopback}
 use Rattle.loopback_run.specs.declared.carrying.Look.{Look}
 use Rattle.loopback_run.specs.declared.carrying.Look.TheVariants.{Came, Other, Failed}
@@ -27,6 +28,13 @@ WasReceived before answer room after = Unit {0}
 unfoldable pub WasAwaited : {S : Type 0} → S → Duration → Bool → S → Type 0
 WasAwaited before limit is_done after = Unit {0}
 
+-- and where the system's clock was asked for the moment, or for how much time has passed since one, and gave this, or nothing
+unfoldable pub WasNow : {S : Type 0} → S → Option Instant → S → Type 0
+WasNow before now after = Unit {0}
+
+unfoldable pub WasSince : {S : Type 0} → S → Instant → Option Duration → S → Type 0
+WasSince before start spent after = Unit {0}
+
 -- ---- one look
 
 -- just these bytes came
@@ -46,35 +54,62 @@ HasNoneCome before after = (error : Error) × ((room : List ℕ) × (WasReceived
 abbrev pub CannotCome : {S : Type 0} → S → S → Type 0
 CannotCome before after = (error : Error) × ((room : List ℕ) × (WasReceived before (Err error) room after × (error_kind error ≢ WouldBlock)))
 
--- none were there yet, and then they were waited for, at most for a second, or couldn't be
-abbrev pub HasWaited : {S : Type 0} → Bool → S → S → Type 0
-HasWaited {S = S} is_done before after = (between : S) × (HasNoneCome before between
-    × ((limit : Duration) × ((as_nanos limit ≤ 1000000000) × WasAwaited between limit is_done after)))
+-- none were there yet, and then they were waited for, at most for what is left of the time, or couldn't be
+abbrev pub HasWaited : {S : Type 0} → Duration → Bool → S → S → Type 0
+HasWaited {S = S} left is_done before after = (between : S) × (HasNoneCome before between × WasAwaited between left is_done after)
 
 -- it was looked once for what came: just these bytes; others, or none, which were waited for; or it can't be had
-abbrev pub HasLooked : {S : Type 0} → List ℕ → Look → S → S → Type 0
-HasLooked bytes Came before after = HasCome bytes before after
-HasLooked bytes Other before after = HasAnotherCome bytes before after ⊎ HasWaited true before after
-HasLooked bytes Failed before after = CannotCome before after ⊎ HasWaited false before after
+abbrev pub HasLooked : {S : Type 0} → Duration → List ℕ → Look → S → S → Type 0
+HasLooked left bytes Came before after = HasCome bytes before after
+HasLooked left bytes Other before after = HasAnotherCome bytes before after ⊎ HasWaited left true before after
+HasLooked left bytes Failed before after = CannotCome before after ⊎ HasWaited left false before after
+
+-- ---- in time
+
+-- it was looked, since so much has passed that this is left of a second
+abbrev pub LooksFor : {S : Type 0} → Duration → List ℕ → Look → S → S → Type 0
+LooksFor spent bytes look before after =
+    (left : Duration) × ((as_nanos left + as_nanos spent ≡ 1_000_000_000) × HasLooked left bytes look before after)
+
+-- more than a second has passed, and it isn't looked any more
+abbrev pub IsOver : {S : Type 0} → Duration → Look → S → S → Type 0
+IsOver spent look before after = (1_000_000_000 < as_nanos spent) × ((look ≡ Failed) × (after ≡ before))
+
+-- one of the two; or it isn't known what has passed, and it isn't looked any more
+abbrev pub LooksBy : {S : Type 0} → Option Duration → List ℕ → Look → S → S → Type 0
+LooksBy None bytes look before after = (look ≡ Failed) × (after ≡ before)
+LooksBy (Some spent) bytes look before after = LooksFor spent bytes look before after ⊎ IsOver spent look before after
+
+-- the clock was asked what has passed since a start, and by that it was looked or not
+abbrev pub LooksIn : {S : Type 0} → Instant → List ℕ → Look → S → S → Type 0
+LooksIn {S = S} start bytes look before after =
+    (spent : Option Duration) × ((next : S) × (WasSince before start spent next × LooksBy spent bytes look next after))
 
 -- ---- until they come
 
 -- so many looks didn't find these bytes, one after the other
-abbrev pub HaveMissed : {S : Type 0} → List ℕ → ℕ → S → S → Type 0
-HaveMissed bytes zero before after = after ≡ before
-HaveMissed {S = S} bytes (suc times) before after = (between : S) × (HaveMissed bytes times before between × HasLooked bytes Other between after)
+abbrev pub HaveMissed : {S : Type 0} → Instant → List ℕ → ℕ → S → S → Type 0
+HaveMissed start bytes zero before after = after ≡ before
+HaveMissed {S = S} start bytes (suc times) before after =
+    (between : S) × (HaveMissed start bytes times before between × LooksIn start bytes Other between after)
 
-abbrev pub HasMissed : {S : Type 0} → List ℕ → S → S → Type 0
-HasMissed bytes before after = (times : ℕ) × HaveMissed bytes times before after
+-- How it ends behind so many looks: the last one found them; or they can't be had, or the time is over, or there were more looks than 64 bits
+-- count.
+abbrev pub EndsLooking : {S : Type 0} → Instant → List ℕ → ℕ → Passed → S → S → Type 0
+EndsLooking start bytes times Received before after = LooksIn start bytes Came before after
+EndsLooking start bytes times Lost before after =
+    LooksIn start bytes Failed before after ⊎ ((2 ^ 64 - 1 ≤ times) × (after ≡ before))
 
--- how a last look ends it: the bytes came; or it failed, or there was no time for one
-abbrev pub EndsLooking : {S : Type 0} → List ℕ → Passed → S → S → Type 0
-EndsLooking bytes Received before after = HasLooked bytes Came before after
-EndsLooking bytes Lost before after = (after ≡ before) ⊎ HasLooked bytes Failed before after
+-- it was looked for these bytes from a start on, until they came, or were given up; where the clock gives no start, they are given up
+abbrev pub AwaitsFrom : {S : Type 0} → Option Instant → List ℕ → Passed → S → S → Type 0
+AwaitsFrom None bytes fate before after = (fate ≡ Lost) × (after ≡ before)
+AwaitsFrom {S = S} (Some start) bytes fate before after =
+    (times : ℕ) × ((last : S) × (HaveMissed start bytes times before last × EndsLooking start bytes times fate last after))
 
--- it was looked for these bytes, until they came, or were given up
+-- the start is the moment that the clock gave before the first look
 abbrev pub HasAwaited : {S : Type 0} → List ℕ → Passed → S → S → Type 0
-HasAwaited {S = S} bytes fate before after = (last : S) × (HasMissed bytes before last × EndsLooking bytes fate last after)
+HasAwaited {S = S} bytes fate before after =
+    (now : Option Instant) × ((next : S) × (WasNow before now next × AwaitsFrom now bytes fate next after))
 
 -- a port was asked once to send bytes to an address: it didn't, and they are lost; or it did, and then it was looked for them
 abbrev pub IsCarriedTo : {S : Type 0} → SocketAddr → List ℕ → Passed → S → S → Type 0

@@ -1,7 +1,6 @@
 //! Who binds ports, and what a port sends its bytes through.
 
 use crate::Passed;
-use std::rt::Clock;
 
 /// What a port sends its bytes through.
 pub(crate) trait Carries {
@@ -12,7 +11,7 @@ pub(crate) trait Carries {
     ghost asks: { Self → ℕ → List ℕ → Fate → Self → Type 0 };
 
     /// Sends bytes to the port of this number, and says whether just these came.
-    fn carry<R: Clock>(&mut self, clock: &R, number: u16, bytes: &[u8]) -> Passed
+    fn carry(&mut self, number: u16, bytes: &[u8]) -> Passed
         ensures { asks self.old number bytes.now result self.new };
 }
 

@@ -1,10 +1,10 @@
 //! How bytes go through a port of the system's.
 ghost use Rattle.std.specs.IoError.{error_kind};
 ghost use Rattle.std.specs.Bool.{Decides};
-ghost use Rattle.std.specs.Prelude.{◌≡◌, ◌≢◌, ◌≤◌, IfSome, false, if◌then◌else◌, true};
+ghost use Rattle.std.specs.Prelude.{◌≡◌, ◌≢◌, ◌+◌, ◌<◌, IfSome, None, false, if◌then◌else◌, true};
 ghost use Rattle.std.specs.declared.io.ErrorKind.TheVariants.{WouldBlock};
 ghost use Rattle.std.specs.Duration.{as_nanos};
-ghost use Rattle.loopback_run.specs.Carrying.{HasAwaited, HasLooked};
+ghost use Rattle.loopback_run.specs.Carrying.{HasAwaited, HasLooked, LooksIn};
 ghost use Rattle.loopback_run.specs.declared.carrying.Look.TheVariants.{Came, Failed, Other};
 
 use crate::Passed;
@@ -25,19 +25,19 @@ enum Look {
     Came,
     /// Others; or none yet, and then they were waited for.
     Other,
-    /// It can't be had, or waited for.
+    /// It can't be had, or waited for, or the time is over.
     Failed,
 }
 
 /// A send, a receive or a clock that fails loses the bytes.
-impl Carries for SystemPort {
+impl<R: Clock> Carries for SystemPort<'_, R> {
     ghost use Rattle.loopback_run.specs.Carrying.{HasCarried};
 
     ghost asks = { HasCarried };
 
-    fn carry<R: Clock>(&mut self, clock: &R, number: u16, bytes: &[u8]) -> Passed {
+    fn carry(&mut self, number: u16, bytes: &[u8]) -> Passed {
         if self.told_to_send(address_of(number), bytes) {
-            awaited(self, clock, bytes)
+            awaited(self, bytes)
         } else {
             Passed::Lost
         }
@@ -45,18 +45,15 @@ impl Carries for SystemPort {
 }
 
 /// Looks for bytes until they come or the time is over. What else comes is ignored.
-fn awaited<R: Clock>(port: &mut SystemPort, clock: &R, bytes: &[u8]) -> Passed
+fn awaited<R: Clock>(port: &mut SystemPort<'_, R>, bytes: &[u8]) -> Passed
     ensures { HasAwaited bytes.now result port.old port.new }
 {
-    let Ok(start) = Instant::now(clock) else {
+    let Some(start) = port.asked_now() else {
         return Passed::Lost;
     };
     let mut room = [0; LONGEST];
-    for _ in 0..u64::MAX {
-        let Some(left) = time_left(clock, start) else {
-            return Passed::Lost;
-        };
-        match looked(port, &mut room, left, bytes) {
+    for _turn in 0..u64::MAX {
+        match looked_in_time(port, start, &mut room, bytes) {
             Look::Came => return Passed::Received,
             Look::Other => {}
             Look::Failed => return Passed::Lost,
@@ -65,22 +62,44 @@ fn awaited<R: Clock>(port: &mut SystemPort, clock: &R, bytes: &[u8]) -> Passed
     Passed::Lost
 }
 
-/// What is left of the time, if anything is.
-fn time_left<R: Clock>(clock: &R, start: Instant) -> Option<Duration>
-    ensures { IfSome result (λ left. as_nanos left ≤ 1000000000) }
+/// Looks once for bytes, if there is time left.
+fn looked_in_time<R: Clock>(
+    port: &mut SystemPort<'_, R>,
+    start: Instant,
+    room: &mut [u8; LONGEST],
+    bytes: &[u8],
+) -> Look
+    ensures { LooksIn start bytes.now result port.old port.new }
 {
-    let spent = start.elapsed(clock).ok()?;
+    let Some(spent) = port.asked_since(start) else {
+        return Look::Failed;
+    };
+    match time_left(spent) {
+        Some(left) => looked(port, room, left, bytes),
+        None => Look::Failed,
+    }
+}
+
+/// What is left of the time, if anything is.
+fn time_left(spent: Duration) -> Option<Duration>
+    ensures left { IfSome result (λ left. as_nanos left + as_nanos spent ≡ 1_000_000_000) }
+    ensures over { result ≡ None → 1_000_000_000 < as_nanos spent }
+{
     Duration::from_millis(LIMIT).checked_sub(spent)
 }
 
 /// Looks once for bytes, and waits for them where none came yet.
-fn looked(port: &mut SystemPort, room: &mut [u8; LONGEST], limit: Duration, bytes: &[u8]) -> Look
-    requires { as_nanos limit ≤ 1000000000 }
-    ensures { HasLooked bytes.now result port.old port.new }
+fn looked<R: Clock>(
+    port: &mut SystemPort<'_, R>,
+    room: &mut [u8; LONGEST],
+    left: Duration,
+    bytes: &[u8],
+) -> Look
+    ensures { HasLooked left bytes.now result port.old port.new }
 {
     match port.told_to_receive(room) {
         Ok((count, _)) => look_at(are_same(&room[..count], bytes)),
-        Err(error) if is_none_yet(&error) => look_after(port.told_to_wait(limit)),
+        Err(error) if is_none_yet(&error) => look_after(port.told_to_wait(left)),
         Err(_) => Look::Failed,
     }
 }

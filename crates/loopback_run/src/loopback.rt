@@ -38,10 +38,10 @@ impl<S> Port<S> {
 
 impl<S: Carries> Port<S> {
     /// Sends bytes to itself, once, and says whether just these came.
-    fn pass<R: Clock>(&mut self, clock: &R, bytes: &[u8]) -> Passed
+    fn pass(&mut self, bytes: &[u8]) -> Passed
         ensures { AsksPort S.asks bytes.now result self.old self.new }
     {
-        self.carrier.carry(clock, self.number, bytes)
+        self.carrier.carry(self.number, bytes)
     }
 }
 
@@ -72,13 +72,13 @@ impl<S: Drop> Ports<S> {
 
 impl<S: Carries> Ports<S> {
     /// Sends bytes through the port of a place, once, and through no other; the operator's has none, and loses them.
-    fn pass<R: Clock>(&mut self, clock: &R, place: Place, bytes: &[u8]) -> Passed
+    fn pass(&mut self, place: Place, bytes: &[u8]) -> Passed
         ensures { AsksOne S.asks place bytes.now result self.old self.new }
     {
         match place {
-            Place::Link => self.link.pass(clock, bytes),
-            Place::Side(Side::Inside) => self.inside.pass(clock, bytes),
-            Place::Side(Side::Outside) => self.outside.pass(clock, bytes),
+            Place::Link => self.link.pass(bytes),
+            Place::Side(Side::Inside) => self.inside.pass(bytes),
+            Place::Side(Side::Outside) => self.outside.pass(bytes),
             Place::Operator => Passed::Lost,
         }
     }
@@ -105,12 +105,12 @@ impl<S: Drop> Both<S> {
 
 impl<S: Carries> Both<S> {
     /// Sends bytes through the port of a gateway's place, once, and through no other.
-    fn pass<R: Clock>(&mut self, clock: &R, id: GatewayId, place: Place, bytes: &[u8]) -> Passed
+    fn pass(&mut self, id: GatewayId, place: Place, bytes: &[u8]) -> Passed
         ensures { AsksOneOf S.asks id place bytes.now result self.old self.new }
     {
         match id {
-            GatewayId::Zero => self.zero.pass(clock, place, bytes),
-            GatewayId::One => self.one.pass(clock, place, bytes),
+            GatewayId::Zero => self.zero.pass(place, bytes),
+            GatewayId::One => self.one.pass(place, bytes),
         }
     }
 }
@@ -125,12 +125,12 @@ struct BoundPorts<S> {
 
 impl<S: Carries> BoundPorts<S> {
     /// Sends bytes through the port of a gateway's place, once, and through no other.
-    fn pass<R: Clock>(&mut self, clock: &R, id: GatewayId, place: Place, bytes: &[u8]) -> Passed
+    fn pass(&mut self, id: GatewayId, place: Place, bytes: &[u8]) -> Passed
         ensures asked { AsksOneOf S.asks id place bytes.now result self.old.both self.new.both }
         ensures settings { self.new.settings.value ≡ self.old.settings.value }
         ensures numbered { AreOfBoth self.old.settings.value self.old.both }
     {
-        self.both.pass(clock, id, place, bytes)
+        self.both.pass(id, place, bytes)
     }
 }
 
@@ -176,12 +176,12 @@ impl<B: Binds<S>, S: Carries + Drop> Holding<B, S> {
     }
 
     /// Sends bytes through the port of a gateway's place, once, and through no other; without ports they are lost.
-    fn pass<R: Clock>(&mut self, clock: &R, id: GatewayId, place: Place, bytes: &[u8]) -> Passed
+    fn pass(&mut self, id: GatewayId, place: Place, bytes: &[u8]) -> Passed
         ensures { HasPassed S.asks (passage_of self.old) (parcel_of id place bytes.now) result
             (passage_of self.new) }
     {
         match &mut self.hold {
-            Hold::Bound(ports) => ports.pass(clock, id, place, bytes),
+            Hold::Bound(ports) => ports.pass(id, place, bytes),
             Hold::Unasked | Hold::Refused(_) => Passed::Lost,
         }
     }
@@ -190,8 +190,7 @@ impl<B: Binds<S>, S: Carries + Drop> Holding<B, S> {
 /// The own UDP ports of both gateways on the loopback address. Where they aren't had, all is lost.
 #[derive(Drop)]
 pub struct Loopback<'a, R> {
-    clock: &'a R,
-    ports: Holding<SystemBinds<'a, R>, SystemPort>,
+    ports: Holding<SystemBinds<'a, R>, SystemPort<'a, R>>,
 }
 
 impl<'a, R> Model for Loopback<'a, R> {
@@ -200,7 +199,7 @@ impl<'a, R> Model for Loopback<'a, R> {
     ghost use Rattle.loopback_run.specs.declared.machine.SystemPort.{SystemPort as Port};
     ghost use Rattle.loopback_run.specs.Holds.{passage_of};
 
-    ghost Value = { Passage (System R) Port };
+    ghost Value = { Passage (System R) (Port R) };
 
     ghost view = { λ l. passage_of l.ports };
 }
@@ -213,9 +212,8 @@ impl<'a, R: Net + Clock + AllocGlobal> Loopback<'a, R> {
         ensures { IsUnasked result }
     {
         Loopback {
-            clock: rt,
             ports: Holding {
-                system: SystemBinds(rt),
+                system: SystemBinds::new(rt),
                 hold: Hold::Unasked,
             },
         }
@@ -240,6 +238,6 @@ impl<R: Net + Clock + AllocGlobal> Channel for Loopback<'_, R> {
 
     /// A send, a receive or a clock that fails loses the bytes, and so does the operator's place.
     fn pass(&mut self, id: GatewayId, place: Place, bytes: &[u8]) -> Passed {
-        self.ports.pass(self.clock, id, place, bytes)
+        self.ports.pass(id, place, bytes)
     }
 }

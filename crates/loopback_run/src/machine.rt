@@ -2,7 +2,7 @@
 ghost use Rattle.std.specs.Prelude.{◌≤◌, IfOk};
 ghost use Rattle.sockets.specs.Ends.{IsSocketOf, on_loopback};
 ghost use Rattle.loopback_run.specs.Binding.{WasBound, WasWatched};
-ghost use Rattle.loopback_run.specs.Carrying.{WasAwaited, WasReceived, WasSent};
+ghost use Rattle.loopback_run.specs.Carrying.{WasAwaited, WasNow, WasReceived, WasSent, WasSince};
 
 use crate::carriers::{Binds, Unbound};
 use mio::net::UdpSocket;
@@ -11,17 +11,19 @@ use sockets::LONGEST;
 use std::alloc::Global;
 use std::io;
 use std::net::{Ipv4Addr, Net, SocketAddr, SocketAddrV4};
-use std::time::Duration;
+use std::rt::Clock;
+use std::time::{Duration, Instant};
 
-/// A socket of the system's that never waits but in a poll.
+/// A socket of the system's that never waits but in a poll, and the system's clock.
 #[derive(Drop)]
-pub(crate) struct SystemPort {
+pub(crate) struct SystemPort<'a, R> {
     socket: UdpSocket,
     poll: Poll,
     events: Events,
+    clock: &'a R,
 }
 
-impl SystemPort {
+impl<R: Clock> SystemPort<'_, R> {
     /// Has the system send bytes to an address, and says whether it did.
     #[tactic(auto, unfolding(crate::specs::Carrying::WasSent))]
     pub(crate) fn told_to_send(&mut self, to: SocketAddr, bytes: &[u8]) -> bool
@@ -49,6 +51,22 @@ impl SystemPort {
     {
         self.poll.poll(&mut self.events, Some(limit)).is_ok()
     }
+
+    /// Asks the system's clock for the moment.
+    #[tactic(auto, unfolding(crate::specs::Carrying::WasNow))]
+    pub(crate) fn asked_now(&mut self) -> Option<Instant>
+        ensures { WasNow self.old result self.new }
+    {
+        Instant::now(self.clock).ok()
+    }
+
+    /// Asks it how much time has passed since a moment.
+    #[tactic(auto, unfolding(crate::specs::Carrying::WasSince))]
+    pub(crate) fn asked_since(&mut self, start: Instant) -> Option<Duration>
+        ensures { WasSince self.old start result self.new }
+    {
+        start.elapsed(self.clock).ok()
+    }
 }
 
 /// The address of the port of this number.
@@ -60,52 +78,62 @@ pub(crate) fn address_of(number: u16) -> SocketAddr
 
 /// The system, as who binds ports.
 #[derive(Drop)]
-pub(crate) struct SystemBinds<'a, R>(pub(crate) &'a R);
+pub(crate) struct SystemBinds<'a, R> {
+    system: &'a R,
+}
 
-impl<R: Net> SystemBinds<'_, R> {
+impl<'a, R> SystemBinds<'a, R> {
+    pub(crate) fn new(system: &'a R) -> SystemBinds<'a, R> {
+        SystemBinds { system }
+    }
+}
+
+impl<'a, R: Net> SystemBinds<'a, R> {
     /// Asks the system for a socket at an address.
     #[tactic(auto, unfolding(crate::specs::Binding::WasBound))]
     fn told_to_bind(&mut self, address: SocketAddr) -> io::Result<UdpSocket>
         ensures { WasBound self.old address result self.new }
     {
-        UdpSocket::bind(self.0, address)
+        UdpSocket::bind(self.system, address)
+    }
+
+    /// Has the system report what comes to a socket, in this room.
+    #[tactic(auto, unfolding(crate::specs::Binding::WasWatched))]
+    fn told_to_watch(
+        &mut self,
+        socket: UdpSocket,
+        events: Events<Global>,
+    ) -> io::Result<SystemPort<'a, R>>
+        ensures { WasWatched self.old socket events result self.new }
+    {
+        let poll = Poll::new(self.system)?;
+        let mut socket = socket;
+        poll.registry()
+            .register(&mut socket, Token(0), Interest::READABLE)?;
+        let clock = self.system;
+        Ok(SystemPort {
+            socket,
+            poll,
+            events,
+            clock,
+        })
     }
 }
 
-/// Has the system report what comes to a socket.
-#[tactic(auto, unfolding(crate::specs::Binding::WasWatched))]
-fn told_to_watch<R: Net>(
-    net: &R,
-    socket: UdpSocket,
-    events: Events<Global>,
-) -> io::Result<SystemPort>
-    ensures { WasWatched socket result }
-{
-    let poll = Poll::new(net)?;
-    let mut port = SystemPort {
-        socket,
-        poll,
-        events,
-    };
-    let registry = port.poll.registry();
-    registry.register(&mut port.socket, Token(0), Interest::READABLE)?;
-    Ok(port)
-}
-
 /// Which ports are had is the system's answer.
-impl<R: Net + AllocGlobal> Binds<SystemPort> for SystemBinds<'_, R> {
+impl<'a, R: Net + AllocGlobal> Binds<SystemPort<'a, R>> for SystemBinds<'a, R> {
     ghost use Rattle.loopback_run.specs.Binding.{HasBound};
 
     ghost binds = { HasBound };
 
-    fn bind(&mut self, number: u16) -> Result<SystemPort, Unbound> {
-        let Ok(events) = Events::with_capacity(self.0.alloc(), 1) else {
+    fn bind(&mut self, number: u16) -> Result<SystemPort<'a, R>, Unbound> {
+        let Ok(events) = Events::with_capacity(self.system.alloc(), 1) else {
             return Err(Unbound::NoMemory);
         };
         let Ok(socket) = self.told_to_bind(address_of(number)) else {
             return Err(Unbound::NoSocket);
         };
-        match told_to_watch(self.0, socket, events) {
+        match self.told_to_watch(socket, events) {
             Ok(port) => Ok(port),
             Err(_) => Err(Unbound::NoSocket),
         }

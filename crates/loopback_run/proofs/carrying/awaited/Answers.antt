@@ -1,27 +1,49 @@
-use Rattle.std.proofs.Common.{inl, inr, refl, subst}
-use Rattle.loopback_run.specs.Carrying.{HasLooked}
-use Rattle.loopback_run.specs.declared.carrying.Look.{Look}
-use Rattle.loopback_run.proofs.Looking.{none_missed, one_missed}
+use Rattle.std.proofs.Common.{arith, None, Some, inl, inr, refl}
+use native.Mathlib.Numerals.{unary_clauses}
 use Rattle.loopback_run.proofs.carrying.awaited.Goals as goal
 
 pub returns-in_default : goal.returns-in_default
-returns-in_default g c = (c.args.port.now, (none_missed c.args.bytes.now c.args.port.now, inl refl))
+returns-in_default g c = (None, (c.asked_now.new.self, (c.in_default.ensures, (refl, refl))))
 
-pub returns-in_default-time_left : goal.returns-in_default-time_left
-returns-in_default-time_left g c = (c.loop.port, (c.loop.invariant, inl refl))
+pub loop-turn-init : goal.loop-turn-init
+loop-turn-init g c = refl
 
 pub returns-in-Came : goal.returns-in-Came
-returns-in-Came g c =
-    (c.loop.port, (c.loop.invariant, subst (λ (look : Look). HasLooked c.args.bytes.now look c.loop.port c.looked.new.port) c.in-Came.is c.looked.ensures))
+returns-in-Came g c = (
+  Some c.in-Some.start,
+  (
+    c.asked_now.new.self,
+    (
+      c.in-Some.ensures,
+      (c.loop-turn._turn, (c.loop-turn.port, (c.loop-turn.invariant, c.in-Came.ensures))),
+    ),
+  ),
+)
 
 pub returns-in-Failed : goal.returns-in-Failed
-returns-in-Failed g c =
-    (c.loop.port, (c.loop.invariant, inr (subst (λ (look : Look). HasLooked c.args.bytes.now look c.loop.port c.looked.new.port) c.in-Failed.is c.looked.ensures)))
+returns-in-Failed g c = (
+  Some c.in-Some.start,
+  (
+    c.asked_now.new.self,
+    (
+      c.in-Some.ensures,
+      (c.loop-turn._turn, (c.loop-turn.port, (c.loop-turn.invariant, inl c.in-Failed.ensures))),
+    ),
+  ),
+)
 
-pub loop-preserved : goal.loop-preserved
-loop-preserved g c =
-    one_missed c.args.bytes.now _ c.loop.port c.looked.new.port c.loop.invariant
-    (subst (λ (look : Look). HasLooked c.args.bytes.now look c.loop.port c.looked.new.port) c.in-Other.is c.looked.ensures)
+pub loop-turn-preserved : goal.loop-turn-preserved
+loop-turn-preserved g c =
+    simp unary_clauses (c.loop-turn.port, (c.loop-turn.invariant, c.in-Other.ensures))
 
 pub returns : goal.returns
-returns g c = (c.loop.port, (c.loop.invariant, inl refl))
+returns g c = (
+  Some c.in-Some.start,
+  (
+    c.asked_now.new.self,
+    (
+      c.in-Some.ensures,
+      (c.loop-turn._turn, (c.loop-turn.port, (c.loop-turn.invariant, inr (omega arith, refl)))),
+    ),
+  ),
+)

@@ -1,5 +1,5 @@
-use Rattle.loopback_run.specs.Carrying.{HasMissed}
+use Rattle.loopback_run.specs.Carrying.{HaveMissed}
 use Rattle.loopback_run.proofs.carrying.awaited.Given as goal
 
-abbrev pub invariant-loop : goal.invariant-loop
-invariant-loop g l = HasMissed l.bytes l.fn.port l.port
+abbrev pub invariant-loop-turn : goal.invariant-loop-turn
+invariant-loop-turn g l = HaveMissed l.start l.bytes l._turn l.initial.port l.port
