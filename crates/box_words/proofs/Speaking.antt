@@ -1,29 +1,34 @@
 -- What is said at this machine.
-use Rattle.std.proofs.Common.{inl, inr, refl, ℕ, List, take, Result, Ok, Err, IfOk, OnOk, OnErr}
+use Rattle.std.proofs.Common.{◌≤◌, inl, inr, refl, ℕ, List, take, Result, Ok, Err, IfOk, OnOk, OnErr}
 use Rattle.control.specs.Answers.{answer_of}
 use Rattle.control.specs.Paths.{Paths}
 use Rattle.control.specs.Speaking.{IsAnsweredBy, IsTaken, IsUnanswered, IsUntaken}
 use Rattle.control.specs.Words.{word_of}
 use Rattle.box_words.specs.Deeds.{asked, said, unsaid}
-use Rattle.box_words.specs.Machines.{MachineDoes}
+use Rattle.box_words.specs.Machines.{MachineDoes, WasDone}
 
 -- a word was taken, or it isn't known
-pub taken : {T E : Type 0} (r : Result T E) (path : Paths) (word : List ℕ) → OnOk r (IsTaken path word) → OnOk r (MachineDoes (said path (word_of word)))
-taken (Ok done) path word is = (word, (refl, is))
-taken (Err why) path word is = tt
+pub taken : {M L T E : Type 0} (r : Result T E) (path : Paths) (word : List ℕ) (before after : M) (lines lines2 : L) → OnOk r (WasDone before (said path (word_of word)) after)
+    → OnOk r (IsTaken path word lines lines2) → OnOk r (MachineDoes before lines (said path (word_of word)) after lines2)
+taken (Ok done) path word before after lines lines2 was is = (was, (word, (refl, is)))
+taken (Err why) path word before after lines lines2 was is = tt
 
-pub untaken : {T E : Type 0} (r : Result T E) (path : Paths) (word : List ℕ) → OnErr r (IsUntaken path word)
-    → OnErr r (MachineDoes (unsaid path (word_of word)))
-untaken (Ok done) path word is = tt
-untaken (Err why) path word is = (word, (refl, inl is))
+pub untaken : {M L T E : Type 0} (r : Result T E) (path : Paths) (word : List ℕ) (before after : M) (lines lines2 : L)
+    → OnErr r (WasDone before (unsaid path (word_of word)) after) → OnErr r (IsUntaken path word lines lines2)
+    → OnErr r (MachineDoes before lines (unsaid path (word_of word)) after lines2)
+untaken (Ok done) path word before after lines lines2 was is = tt
+untaken (Err why) path word before after lines lines2 was is = (was, (word, (refl, inl is)))
 
 -- it was answered, or no answer came
-pub answered : {E : Type 0} (r : Result ℕ E) (path : Paths) (word room : List ℕ) → IfOk r (λ count. IsAnsweredBy path word (take count room))
-    → IfOk r (λ count. MachineDoes (asked path (word_of word) (answer_of (take count room))))
-answered (Ok count) path word room is = (word, (refl, (take count room, (refl, is))))
-answered (Err why) path word room is = tt
+pub answered : {M L E : Type 0} (r : Result ℕ E) (path : Paths) (word had : List ℕ) (room : ℕ) (before after : M) (lines lines2 : L) → 4096 ≤ room
+    → IfOk r (λ count. WasDone before (asked path (word_of word) (answer_of (take count had))) after)
+    → IfOk r (λ count. IsAnsweredBy path word room (take count had) lines lines2)
+    → IfOk r (λ count. MachineDoes before lines (asked path (word_of word) (answer_of (take count had))) after lines2)
+answered (Ok count) path word had room before after lines lines2 least was is = (was, (word, (refl, (take count had, (refl, (room, (least, is)))))))
+answered (Err why) path word had room before after lines lines2 least was is = tt
 
-pub unanswered : {T E : Type 0} (r : Result T E) (path : Paths) (word : List ℕ) → OnErr r (IsUnanswered path word)
-    → OnErr r (MachineDoes (unsaid path (word_of word)))
-unanswered (Ok done) path word is = tt
-unanswered (Err why) path word is = (word, (refl, inr is))
+pub unanswered : {M L T E : Type 0} (r : Result T E) (path : Paths) (word : List ℕ) (room : ℕ) (before after : M) (lines lines2 : L) → 4096 ≤ room
+    → OnErr r (WasDone before (unsaid path (word_of word)) after) → OnErr r (IsUnanswered path word room lines lines2)
+    → OnErr r (MachineDoes before lines (unsaid path (word_of word)) after lines2)
+unanswered (Ok done) path word room before after lines lines2 least was is = tt
+unanswered (Err why) path word room before after lines lines2 least was is = (was, (word, (refl, inr (room, (least, is)))))

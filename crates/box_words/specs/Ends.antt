@@ -47,11 +47,19 @@ IsAt end (socket.V6 at) = ⊥
 unfoldable pub WasAsked : SocketAddr → Bool → Type 0
 WasAsked address is_refused = Unit {0}
 
+-- Whoever asked it was this before and is this then: he asked for just that. It is such a name, too.
+unfoldable pub WasAskedBy : {B : Type 0} → B → SocketAddr → Bool → B → Type 0
+WasAskedBy before address is_refused after = Unit {0}
+
 -- so it answered when it was asked at the address and the port of this end
 abbrev pub WasAskedAt : End → Bool → Type 0
 WasAskedAt end is_refused = (address : SocketAddr) × (IsAt end address × WasAsked address is_refused)
 
--- so the system may answer
+-- and so who asked it was, and is: it was asked at one address, and for nothing else
+abbrev pub AsksSystem : {B : Type 0} → B → End → Bool → B → Type 0
+AsksSystem before end is_refused after = (address : SocketAddr) × (IsAt end address × (WasAsked address is_refused × WasAskedBy before address is_refused after))
+
+-- so the system may answer, whoever asks
 abbrev pub by_system : {B : Type 0} → B → End → Bool → B → Type 0
 by_system before end is_refused after = WasAskedAt end is_refused
 

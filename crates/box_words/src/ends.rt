@@ -1,10 +1,11 @@
 //! The end of its own that a box can't have.
 ghost use Rattle.std.specs.Prelude.{◌≡◌, ◌∷◌, [], Some};
-ghost use Rattle.box_words.specs.Ends.{IsAsked, IsAt, IsFirstRefused, WasAsked, WasAskedAt, own_end, own_ends, refused_text};
+ghost use Rattle.box_words.specs.Ends.{AsksSystem, IsAsked, IsAt, IsFirstRefused, own_end, own_ends, refused_text};
 
+use crate::machine::Machine;
 use sockets::{End, Ends, Ports, Way, Ways};
 use std::fmt;
-use std::net::{Ipv4Addr, Net, SocketAddr, SocketAddrV4, UdpSocket};
+use std::net::{Ipv4Addr, Net, SocketAddr, SocketAddrV4};
 
 /// Who says which ends a box can have.
 pub trait Binder {
@@ -19,24 +20,13 @@ pub trait Binder {
         ensures { answers self.old end result self.new };
 }
 
-/// The system, of whose answers nothing is known but that they came of the call.
-#[derive(Drop)]
-pub struct SystemBinder<'a, R>(pub &'a R);
-
-impl<R: Net> Binder for SystemBinder<'_, R> {
-    ghost answers = { λ _ end refused _. WasAskedAt end refused };
+/// This machine's system, of whose answers nothing is known but that they came of the call.
+impl<R: Net> Binder for Machine<'_, R> {
+    ghost answers = { AsksSystem };
 
     fn is_refused(&mut self, end: End) -> bool {
-        is_refused_at(self.0, address_of(end))
+        self.told_to_bind(address_of(end))
     }
-}
-
-/// Whether the system refuses a socket at this address.
-#[tactic(auto, unfolding(crate::specs::Ends::WasAsked))]
-fn is_refused_at<R: Net>(net: &R, address: SocketAddr) -> bool
-    ensures { WasAsked address result }
-{
-    UdpSocket::bind(net, address).is_err()
 }
 
 /// The first of a box's own ends that is refused, of those that its ways need: the link's, the inside's, the outside's. It

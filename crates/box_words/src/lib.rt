@@ -3,12 +3,14 @@
 
 mod asking;
 mod ends;
+mod machine;
 mod refusals;
 mod saying;
 mod sites;
 
 pub use asking::{Form, await_synced, pairs, status};
-pub use ends::{Binder, Refused, SystemBinder, refused_end};
+pub use ends::{Binder, Refused, refused_end};
+pub use machine::Machine;
 pub use refusals::{BoxFault, Explained};
 pub use saying::{peer_off, side, stop};
-pub use sites::{Machine, Site};
+pub use sites::Site;

@@ -6,9 +6,10 @@ ghost use Rattle.faults.specs.Faults.{IsUnread, status_of};
 ghost use Rattle.box_words.specs.Deeds.{Deed, asked, made, read, said, unmade, unread, unsaid};
 ghost use Rattle.box_words.specs.Machines.{MachineDoes};
 
+use crate::machine::Machine;
 use boot_file::{Blocks, FileFault};
 use control::{ControlPath, NoSocket};
-use faults::{Fault, text_of};
+use faults::Fault;
 use std::fs::Files;
 use std::net::Net;
 
@@ -48,41 +49,26 @@ pub trait Site {
             (does self.old (unsaid path.now (word_of word.now)) self.new) };
 }
 
-/// This machine: of its files nothing is known but that it was asked for them, and what it answered; boxes are spoken to at
-/// their control sockets.
-#[derive(Drop)]
-pub struct Machine<'a, R> {
-    rt: &'a R,
-}
-
-impl<'a, R> Machine<'a, R> {
-    pub fn new(rt: &'a R) -> Machine<'a, R> {
-        Machine { rt }
-    }
-}
-
+/// This machine: each deed is one call of it.
 impl<R: Files + Net + AllocGlobal> Site for Machine<'_, R>
 where
     R::File: Blocks,
 {
-    ghost does = { λ _ deed _. MachineDoes deed };
+    ghost does = { λ before deed after. MachineDoes before before.lines deed after after.lines };
 
-    #[tactic(auto, unfolding(crate::specs::Machines::WasDone))]
     fn text(&mut self, path: &str) -> Result<String, Fault> {
-        text_of(self.rt, path)
+        self.told_to_read(path)
     }
 
-    #[tactic(auto, unfolding(crate::specs::Machines::WasDone))]
     fn make(&mut self, path: &str) -> Result<(), FileFault> {
-        boot_file::create(self.rt, path)?;
-        Ok(())
+        self.told_to_make(path)
     }
 
     fn say(&mut self, path: &ControlPath, word: &[u8]) -> Result<(), NoSocket> {
-        control::say(self.rt, path, word)
+        self.told_to_say(path, word)
     }
 
     fn ask(&mut self, path: &ControlPath, word: &[u8], room: &mut [u8]) -> Result<usize, NoSocket> {
-        control::ask(self.rt, path, word, room)
+        self.told_to_ask(path, word, room)
     }
 }
