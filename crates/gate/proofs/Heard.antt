@@ -1,20 +1,30 @@
 -- What the manager hears of a start that is refused.
-use Rattle.std.proofs.Common.{◌≡◌, ◌⊎◌, inl, inr, ℕ, List, Option, Some, Result, Ok, Err, IfErr}
+use Rattle.std.proofs.Common.{◌≡◌, ◌⊎◌, inl, inr, ℕ, List, Option, Some, Result, Ok, Err, IfErr, OnOk, codes}
+use Rattle.std.specs.Io.KnownBytes.{Appends}
 use Rattle.box_words.specs.declared.refusals.BoxFault.{BoxFault}
+use Rattle.supervision.specs.Hearing.{Hears}
+use Rattle.gate.specs.Boots.{boot_line}
 use Rattle.gate.specs.Failing.{IsUnbegun, LacksOutput}
 use Rattle.gate.specs.Named.{WasLetGo}
-use Rattle.gate.specs.Told.{IsUnheard}
+use Rattle.gate.specs.Told.{HearsOne, HearsSome, IsUnheard}
 
--- behind a run it is output that is refused
-pub unheard_behind : {T S : Type 0} (r : Result T BoxFault) (text : List ℕ) (before after : Option (List ℕ)) (s s2 : S)
-    → IfErr r (LacksOutput text before after) → IfErr r (IsUnheard s s2)
-unheard_behind (Ok x) text before after s s2 is = tt
-unheard_behind (Err why) text before after s s2 is = λ other. absurd (other is.is)
+-- behind a run, whose boot's line was printed, it is its end that output refused
+pub unheard_behind : {T S : Type 0} (r : Result T BoxFault) (hears : Hears S) (boot : ℕ) (before between after : Option (List ℕ)) (s s2 : S)
+    → Appends before between (boot_line boot) → HearsOne hears boot s s2
+    → IfErr r (LacksOutput (codes "end\n") between after) → IfErr r (IsUnheard hears before after s s2)
+unheard_behind (Ok x) hears boot before between after s s2 printed heard is = tt
+unheard_behind (Err why) hears boot before between after s s2 printed heard is = inr (boot, ((between, (printed, is)), heard))
 
 -- and where no capture is begun, the manager is as it was
-pub unheard_tapped : {T S W : Type 0} (r : Result T BoxFault) (text : List ℕ) (before after : Option (List ℕ)) (path : List ℕ) (wire : W) (A C D : Type 0) (s s2 : S)
-    → IfErr r (λ why. (LacksOutput text before after why × A) ⊎ ((IsUnbegun (Some path) why × WasLetGo wire) × (C × ((s2 ≡ s) × D))))
-    → IfErr r (IsUnheard s s2)
-unheard_tapped (Ok x) text before after path wire A C D s s2 is = tt
-unheard_tapped (Err why) text before after path wire A C D s s2 (inl lacks) = λ other. absurd (other lacks.0.is)
-unheard_tapped (Err why) text before after path wire A C D s s2 (inr unbegun) = λ other. unbegun.1.1.0
+pub unheard_tapped : {T S W : Type 0} (r : Result T BoxFault) (hears : Hears S) (boot : ℕ) (before between after : Option (List ℕ)) (path : List ℕ) (wire : W) (A C D : Type 0) (s s2 : S)
+    → Appends before between (boot_line boot)
+    → IfErr r (λ why. (LacksOutput (codes "end\n") between after why × (A × HearsOne hears boot s s2)) ⊎ ((IsUnbegun (Some path) why × WasLetGo wire) × (C × ((s2 ≡ s) × D))))
+    → IfErr r (IsUnheard hears before after s s2)
+unheard_tapped (Ok x) hears boot before between after path wire A C D s s2 printed is = tt
+unheard_tapped (Err why) hears boot before between after path wire A C D s s2 printed (inl lacks) = inr (boot, ((between, (printed, lacks.0)), lacks.1.1))
+unheard_tapped (Err why) hears boot before between after path wire A C D s s2 printed (inr unbegun) = inl unbegun.1.1.0
+
+-- what is told of a run in a boot is told of one in some boot
+pub heard_in_some : {T E S : Type 0} (r : Result T E) (hears : Hears S) (boot : ℕ) (s s2 : S) → OnOk r (HearsOne hears boot s s2) → OnOk r (HearsSome hears s s2)
+heard_in_some (Ok x) hears boot s s2 heard = (boot, heard)
+heard_in_some (Err e) hears boot s s2 heard = tt

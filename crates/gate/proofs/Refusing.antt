@@ -5,13 +5,12 @@ use Rattle.boot_store.specs.Crash.{Decides}
 use Rattle.boot_store.specs.Moment.{Moment}
 use Rattle.sockets.specs.declared.ends.End.{End}
 use Rattle.sockets.specs.declared.places.Ports.{Ports}
-use Rattle.sockets.specs.declared.ways.Ways.{Ways}
-use Rattle.box_words.specs.Ends.{IsAsked, IsFirstOf, IsFirstRefused, by_system}
+use Rattle.box_words.specs.Ends.{AsksSystem, IsAsked, IsFirstRefused, by_system}
 use Rattle.box_words.specs.Faults.{IsBeforeBoot, IsOfRun}
 use Rattle.box_words.specs.declared.refusals.BoxFault.{BoxFault}
 use Rattle.box_words.specs.declared.refusals.BoxFault.TheVariants as fault
 use Rattle.gate.specs.Boots.{boot_line}
-use Rattle.gate.specs.Failing.{IsUnbegun, IsUnrun, IsUnstarted, LacksBootFile, LacksControl, LacksOutput}
+use Rattle.gate.specs.Failing.{IsUnbegun, IsUnrun, IsUnstarted, LacksOutput}
 use Rattle.gate.specs.Named.{WasGiven, boot_number}
 use Rattle.gate.specs.Orders.{IsInOrder, IsInSomeOrder, IsSilentOrTaken}
 
@@ -129,14 +128,6 @@ pub unstarted_unrun : {T : Type 0} (capture : Option (List ℕ)) (r : Result T B
 unstarted_unrun capture (Ok x) is = tt
 unstarted_unrun capture (Err why) is = inr is
 
--- the control socket beside a boot file, which is this one
-pub control_of : (path boot_file : List ℕ) (why : BoxFault) → path ≡ boot_file → LacksControl path why → LacksControl boot_file why
-control_of path boot_file why same lacks = subst (λ (p : List ℕ). LacksControl p why) same lacks
-
--- and a boot file
-pub boot_file_at : (path boot_file : List ℕ) (why : BoxFault) → path ≡ boot_file → LacksBootFile path why → LacksBootFile boot_file why
-boot_file_at path boot_file why same lacks = subst (λ (p : List ℕ). LacksBootFile p why) same lacks
-
 -- what fails behind a part fails from that part on, with what was had of it
 pub behind_it : {T : Type 0} (r : Result T BoxFault) (P Q : BoxFault → Type 0) (A : Type 0) → A → IfErr r Q → IfErr r (λ why. P why ⊎ (A × Q why))
 behind_it (Ok x) P Q A had is = tt
@@ -207,13 +198,13 @@ silent_or_taken contents capture honest now found why output output2 (inr taken)
 
 -- ---- which end is refused
 
-asked_of_it : {B : Type 0} (end found : Option End) (before after : B) → IsAsked (by_system {B = B}) end before found after → IsAsked (by_system {B = Unit {0}}) end tt found tt
+asked_of_it : {B : Type 0} (end found : Option End) (before after : B) → IsAsked AsksSystem end before found after → IsAsked (by_system {B = Unit {0}}) end tt found tt
 asked_of_it None found before after asked = (asked.0, refl)
-asked_of_it (Some end) None before after asked = asked
-asked_of_it (Some end) (Some found) before after asked = asked
+asked_of_it (Some end) None before after asked = (asked.0, (asked.1.0, asked.1.1.0))
+asked_of_it (Some end) (Some found) before after asked = (asked.0, (asked.1.0, (asked.1.1.0, asked.1.1.1.0)))
 
 -- the first end that is refused is so whoever is asked for the system
-pub by_the_system : {B : Type 0} (ends : List (Option End)) (found : Option End) (before after : B) → IsFirstRefused (by_system {B = B}) ends before found after
+pub by_the_system : {B : Type 0} (ends : List (Option End)) (found : Option End) (before after : B) → IsFirstRefused AsksSystem ends before found after
     → IsFirstRefused (by_system {B = Unit {0}}) ends tt found tt
 by_the_system [] found before after none = (none.0, refl)
 by_the_system (end ∷ ends) found before after (inl (asked, is)) = inl (asked_of_it end found before after asked, is)
@@ -223,10 +214,10 @@ by_the_system (end ∷ ends) found before after (inr (between, (asked, rest))) =
 abbrev ports_at : ℕ × ℕ → ℕ × ℕ → ℕ × ℕ → Ports
 ports_at link inside outside = record { link = link; inside = inside; outside = outside }
 
--- it is that of a box whose ports these are
-pub first_at : (ways : Ways) (ports : Ports) (link inside outside : ℕ × ℕ) (found : Option End) → ports.link ≡ link → ports.inside ≡ inside → ports.outside ≡ outside
-    → IsFirstOf ways ports found → IsFirstOf ways (ports_at link inside outside) found
-first_at ways ports link inside outside found links insides outsides first =
-    subst (λ (p : ℕ × ℕ). IsFirstOf ways (ports_at p inside outside) found) links
-    (subst (λ (p : ℕ × ℕ). IsFirstOf ways (ports_at ports.link p outside) found) insides
-    (subst (λ (p : ℕ × ℕ). IsFirstOf ways (ports_at ports.link ports.inside p) found) outsides first))
+-- what holds of ports holds of those of a box, which they are
+pub of_ports : (P : Ports → Type 0) (ports : Ports) (link inside outside : ℕ × ℕ) → ports.link ≡ link → ports.inside ≡ inside → ports.outside ≡ outside
+    → P ports → P (ports_at link inside outside)
+of_ports P ports link inside outside links insides outsides holds =
+    subst (λ (p : ℕ × ℕ). P (ports_at p inside outside)) links
+    (subst (λ (p : ℕ × ℕ). P (ports_at ports.link p outside)) insides
+    (subst (λ (p : ℕ × ℕ). P (ports_at ports.link ports.inside p)) outsides holds))

@@ -1,5 +1,5 @@
 -- A start that is served.
-use Rattle.std.proofs.Common.{◌≡◌, ◌⊎◌, ◌<◌, ◌∷◌, inl, inr, ap, ℕ, Bool, true, false, IsTrue, is_some, length, List, [], Option, Some, None, Result, Ok, Err, OnOk, IfErr, codes, subst, sym, true≢false}
+use Rattle.std.proofs.Common.{◌≡◌, ◌⊎◌, ◌<◌, ◌∷◌, ◌++◌, inl, inr, ap, ℕ, Bool, true, false, IsTrue, is_some, length, List, [], Option, Some, None, Result, Ok, Err, OnOk, IfErr, codes, subst, sym, true≢false}
 use Rattle.std.specs.Borrow.{Bor}
 use Rattle.std.specs.Io.KnownBytes.{Appends}
 use Rattle.settings.specs.declared.whole.Settings.{Settings}
@@ -9,18 +9,21 @@ use Rattle.sockets.specs.Letters.{Call, Polled, ReceivedDatagram, came, failed, 
 use Rattle.box_words.specs.declared.refusals.BoxFault.{BoxFault}
 use Rattle.rounds.specs.Clocks.{HasRead, Watch, WasNow}
 use Rattle.rounds.specs.Inputs.{InputEnds}
-use Rattle.rounds.specs.Rounds.{AnswersOwed, AreMade, AreRounds, Box, Calls, IsAnswered, IsRound, IsRun, Reads, Replies, Takes, TakesAll, TakesAnswer, TakesAny, TakesBy, TakesLetter, Waits, all_sent, box, most_rounds}
+use Rattle.rounds.specs.Rounds.{AnswersOwed, AreMade, AreRounds, Box, Calls, IsAnswered, IsRound, IsRun, Reads, Replies, Takes, TakesAll, TakesAnswer, TakesAny, TakesBy, TakesLetter, Waits, all_sent, begun, most_rounds, on_wire}
 use Rattle.rounds.specs.declared.desk.Identity.{Identity}
 use Rattle.rounds.specs.declared.judging.Question.{Question}
 use Rattle.rounds.specs.declared.judging.Reply.{Reply}
 use Rattle.rounds.specs.declared.judging.Reply.TheVariants.{Heard, Later, Refused}
 use Rattle.sockets.specs.declared.ways.Ways.{Ways}
-use Rattle.gate.specs.Asked.{IsFilter, IsWatched, boot_file_of, path_in}
-use Rattle.gate.specs.Boots.{HasStarted, IsIdentity}
+use Rattle.supervision.specs.Hearing.{gets, hears_inside}
+use Rattle.supervision.specs.declared.managers.Manager.{Manager}
+use Rattle.gate.specs.Asked.{IsFilter, IsNotified, IsWatched, boot_file_of, path_in}
+use Rattle.gate.specs.Boots.{HasStarted, IsIdentity, boot_line}
 use Rattle.gate.specs.Failing.{IsUnbegun, LacksOutput}
 use Rattle.gate.specs.Named.{IsCaptured, WasGiven, WasHad, WasLetGo, begun_capture, number_of, tapped_wire}
 use Rattle.gate.specs.Served.{HasRun, HasServed, RunsOpened}
 use Rattle.gate.specs.Starts.{CanOpen}
+use Rattle.gate.specs.Told.{HearsSome}
 use Rattle.gate.specs.Wires.{IsOfSockets, IsOwnWire, IsSpared, MayGoOn, RanOn, RunsOn}
 use Rattle.gate.specs.declared.running.Start.{Start}
 
@@ -36,7 +39,7 @@ waits_over f waits t limit t2 = waits (f t) limit (f t2)
 
 -- the box on the wire below
 abbrev below : {T W : Type 0} → (T → W) → Box T → Box W
-below f b = box b.shown (f b.wire) b.left_out b.ending b.owed
+below f b = on_wire b (f b.wire)
 
 made : {T W : Type 0} (f : T → W) (does : Calls W) (xs : List Call) (t t2 : T) → AreMade (over f does) xs t t2 → AreMade does xs (f t) (f t2)
 made f does [] t t2 h = ap f h
@@ -71,7 +74,7 @@ replies f does (Some Heard) false b b2 h = is_answered f does [] b b2 h
 answers_owed : {T W : Type 0} (f : T → W) (does : Calls W) (who : Identity) (owed : Option Question) (b b2 : Box T) → AnswersOwed (over f does) who owed b b2
     → AnswersOwed does who owed (below f b) (below f b2)
 answers_owed f does who None b b2 h = ap (below f) h
-answers_owed f does who (Some question) b b2 h = (h.0, (h.1.0, is_answered f does h.0 (record b { owed = None }) b2 h.1.1))
+answers_owed f does who (Some question) b b2 h = (h.0, (h.1.0, (h.1.1.0, is_answered f does h.0 (record b { owed = None; told = h.1.0 ++ b.told }) b2 h.1.1.1)))
 
 takes_letter : {T W : Type 0} (f : T → W) (does : Calls W) (track : Bool) (b : Box T) (letter : ReceivedDatagram) (b2 : Box T) → TakesLetter (over f does) track b letter b2
     → TakesLetter does track (below f b) letter (below f b2)
@@ -117,7 +120,9 @@ is_round f does waits track who reads b c b2 c2 r = record {
   is_done = r.is_done;
   ticked = below f r.ticked;
   tick = takes f does r.is_done r.between _ r.ticked r.tick;
-  answered = answers_owed f does who r.ticked.owed r.ticked b2 r.answered;
+  replied = below f r.replied;
+  answered = answers_owed f does who r.ticked.owed r.ticked r.replied r.answered;
+  told = (r.told.0, (r.told.1.0, ap (below f) r.told.1.1));
 }
 
 are_rounds : {T W C : Type 0} (f : T → W) (does : Calls W) (waits : Waits W) (track : Bool) (who : Identity) (reads : Reads C) (moments : List ℕ) (b : Box T) (c : C) (b2 : Box T) (c2 : C)
@@ -151,7 +156,9 @@ runs_below f does waits who rounds track until_eof g g2 t t2 r = record {
       over = r.had.all.over;
     };
     is_done = r.had.is_done;
-    stop = takes f does r.had.is_done r.had.last _ r.last r.had.stop;
+    stopped = below f r.had.stopped;
+    stop = takes f does r.had.is_done r.had.last _ r.had.stopped r.had.stop;
+    ended = ap (below f) r.had.ended;
   };
   went_on = r.went_on;
   shows = r.shows;
@@ -175,7 +182,7 @@ ran_below {W = W} f does waits who start g g2 t t2 t3 wire first same gone runs 
 
 pub runs_on : {W : Type 0} (does : Calls W) (waits : Waits W) (track until_eof : Bool) (who : Identity) (rounds : Option ℕ) (otherwise : Type 0) (g : Shown) (w : W) (clock : Watch)
     (g2 : Shown) (w2 : W) (last : Box W) (clock2 : Watch) → WasNow clock.start → clock.read ≡ 0 → (otherwise → IsTrue until_eof × InputEnds)
-    → (h : IsRun does waits track who HasRead (most_rounds rounds) otherwise (box g w 0 false None) clock last clock2) → (0 < length h.all.moments → MayGoOn until_eof)
+    → (h : IsRun does waits track who HasRead (most_rounds rounds) otherwise (begun g w) clock last clock2) → (0 < length h.all.moments → MayGoOn until_eof)
     → last.shown ≡ g2 → last.wire ≡ w2 → (Holds : List ℕ → Type 0) → Holds h.all.moments
     → (run : RunsOn does waits who rounds track until_eof g g2 w w2) × Holds run.had.all.moments
 runs_on does waits track until_eof who rounds otherwise g w clock g2 w2 last clock2 start at_start only h went_on shows wire_is Holds told = (
@@ -189,7 +196,9 @@ runs_on does waits track until_eof who rounds otherwise g w clock g2 w2 last clo
       last = h.last;
       all = record { moments = h.all.moments; within = h.all.within; rounds = h.all.rounds; over = by h.all.over };
       is_done = h.is_done;
+      stopped = h.stopped;
       stop = h.stop;
+      ended = h.ended;
     };
     went_on = went_on;
     shows = shows;
@@ -219,21 +228,22 @@ on_tapped capture path settings start wire captured tapped = subst (λ p. IsOwnW
 
 -- where output is refused at the end, there was a run
 pub spared_behind : {T W : Type 0} (r : Result T BoxFault) (does : Calls W) (waits : Waits W) (settings : Settings) (start : Start) (wire : W) (who : Identity) (first last : Shown)
-    (between after : Option (List ℕ)) → IsIdentity settings start.id who first → RanOn does waits who start first last wire
-    → IfErr r (LacksOutput (codes "end\n") between after) → IfErr r (IsSpared does waits settings start wire)
-spared_behind (Ok x) does waits settings start wire who first last between after identity ran is = tt
-spared_behind (Err why) does waits settings start wire who first last between after identity ran is =
-    inr ((between, (after, is)), (who, (first, (last, (identity, ran)))))
+    (before between after : Option (List ℕ)) → IsIdentity settings start.id who first → RanOn does waits who start first last wire
+    → Appends before between (boot_line who.boot)
+    → IfErr r (LacksOutput (codes "end\n") between after) → IfErr r (IsSpared does waits settings start before after wire)
+spared_behind (Ok x) does waits settings start wire who first last before between after identity ran printed is = tt
+spared_behind (Err why) does waits settings start wire who first last before between after identity ran printed is =
+    inr (who, ((between, (printed, is)), (first, (last, (identity, ran)))))
 
 -- and else the wire was let go as it was
 pub spared_tapped : {T W : Type 0} (r : Result T BoxFault) (does : Calls W) (waits : Waits W) (settings : Settings) (start : Start) (wire : W) (who : Identity) (first last : Shown)
-    (between after : Option (List ℕ)) (path : List ℕ) (A : Type 0) → IsIdentity settings start.id who first
-    → IfErr r (λ why. (LacksOutput (codes "end\n") between after why × RanOn does waits who start first last wire) ⊎ ((IsUnbegun (Some path) why × WasLetGo wire) × A))
-    → IfErr r (IsSpared does waits settings start wire)
-spared_tapped (Ok x) does waits settings start wire who first last between after path A identity is = tt
-spared_tapped (Err why) does waits settings start wire who first last between after path A identity (inl lacks) =
-    inr ((between, (after, lacks.0)), (who, (first, (last, (identity, lacks.1)))))
-spared_tapped (Err why) does waits settings start wire who first last between after path A identity (inr unbegun) = inl unbegun.0.1
+    (before between after : Option (List ℕ)) (path : List ℕ) (A B : Type 0) → IsIdentity settings start.id who first → Appends before between (boot_line who.boot)
+    → IfErr r (λ why. (LacksOutput (codes "end\n") between after why × (RanOn does waits who start first last wire × B)) ⊎ ((IsUnbegun (Some path) why × WasLetGo wire) × A))
+    → IfErr r (IsSpared does waits settings start before after wire)
+spared_tapped (Ok x) does waits settings start wire who first last before between after path A B identity printed is = tt
+spared_tapped (Err why) does waits settings start wire who first last before between after path A B identity printed (inl lacks) =
+    inr (who, ((between, (printed, lacks.0)), (first, (last, (identity, lacks.1.0)))))
+spared_tapped (Err why) does waits settings start wire who first last before between after path A B identity printed (inr unbegun) = inl unbegun.0.1
 
 -- ---- a start, rounds, and the end
 
@@ -286,9 +296,9 @@ on_some (Ok y) P x p = (x, p)
 on_some (Err e) P x p = tt
 
 -- with settings and ways by which its boot file can be opened
-pub has_served : {T E : Type 0} (r : Result T E) (start : Start) (settings : Settings) (ways : Ways) (before after : Option (List ℕ))
-    → CanOpen start settings ways → OnOk r (RunsOpened start settings ways before after)
-    → OnOk r (HasServed start before after)
-has_served (Ok x) start settings ways before after can run =
-    record { settings = settings; ways = ways; fits = can; run = run }
-has_served (Err e) start settings ways before after can run = tt
+pub has_served : {T E : Type 0} (r : Result T E) (start : Start) (settings : Settings) (ways : Ways) (before after : Option (List ℕ)) (manager manager2 : Option Manager)
+    → OnOk r (CanOpen start settings ways × RunsOpened start settings ways before after) → IsNotified start.notify manager
+    → OnOk r (HearsSome (hears_inside gets) manager manager2) → WasLetGo manager2 → OnOk r (HasServed start before after)
+has_served (Ok x) start settings ways before after manager manager2 run notified heard gone =
+    record { settings = settings; ways = ways; fits = run.0; run = run.1; told = (manager, (manager2, (notified, (heard, gone)))) }
+has_served (Err e) start settings ways before after manager manager2 run notified heard gone = tt

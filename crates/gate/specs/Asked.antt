@@ -18,7 +18,7 @@ use Rattle.supervision.specs.declared.managers.Manager.{Manager}
 
 -- the service manager whose descriptor a text writes, which was told nothing yet, where there is a text
 abbrev pub IsManagerOf : Option (Bor (List ℕ)) → Option Manager → Type 0
-IsManagerOf (Some text) (Some manager) = IsManagerText text.now manager × (manager ≡ manager_at manager.descriptor)
+IsManagerOf (Some text) (Some manager) = IsManagerText text.now manager.descriptor × (manager ≡ manager_at manager.descriptor)
 IsManagerOf (Some text) None = ⊥
 IsManagerOf None found = found ≡ None
 

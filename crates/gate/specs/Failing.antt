@@ -15,7 +15,6 @@ use Rattle.sockets.specs.Inheriting.{AreUnblocked}
 use Rattle.sockets.specs.declared.ways.Ways.{Ways}
 use Rattle.supervision.specs.Descriptors.{IsRefused}
 use Rattle.supervision.specs.Managers.{IsManagerText, IsNoManagerText}
-use Rattle.supervision.specs.declared.managers.Manager.{Manager}
 use Rattle.journal.specs.Filters.{IsNoText}
 use Rattle.journal.specs.declared.filters.TheConstants.{VARIABLE}
 use Rattle.outlets.specs.Printed.{IsBegun}
@@ -47,7 +46,7 @@ LacksDescriptor ways other = ⊥
 abbrev pub LacksManager : Option (Bor (List ℕ)) → BoxFault → Type 0
 LacksManager notify fault.NoManager = IsSomeAnd notify (λ text. IsNoManagerText text.now)
 LacksManager notify (fault.NotOpen why) = IsSomeAnd notify (λ text.
-    (manager : Manager) × (IsManagerText text.now manager × ((why.0 ≡ manager.descriptor) × IsRefused manager.descriptor)))
+    (number : ℕ) × (IsManagerText text.now number × ((why.0 ≡ number) × IsRefused number)))
 LacksManager notify other = ⊥
 
 -- ports on loopback can't be had together: that of this key is the first that stands twice

@@ -1,4 +1,5 @@
 pub mod Asked
+pub mod Asking
 pub mod Boots
 pub mod Failing
 pub mod Named

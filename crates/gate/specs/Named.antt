@@ -5,11 +5,12 @@ use Rattle.sockets.specs.declared.places.Ports.{Ports}
 use Rattle.sockets.specs.declared.ways.Ways.{Ways}
 use Rattle.box_words.specs.declared.refusals.BoxFault.{BoxFault}
 
--- what a start asks the system for: the text of a file of settings, a locked boot file, a control socket, the sockets of the places, all that it
+-- what a start asks the system for: the text of a file of settings, the service manager whose descriptor a text writes, a locked boot file, a control socket, the sockets of the places, all that it
 -- needs, the file of a capture, that a capture begins in it, a wire whose packets go there, at the interfaces of a gateway, a boot number, that of
 -- the boot file at a path, output
 pub data Need : Type 0 where
   settings_text : List ℕ → Need
+  service_manager : List ℕ → Need
   locked_file : List ℕ → Need
   control_socket : List ℕ → Need
   own_sockets : Ways → Ports → Need
@@ -42,9 +43,13 @@ WasRead path text = Unit {0}
 unfoldable pub WasRefused : List ℕ → Option (List ℕ) → Option (List ℕ) → Type 0
 WasRefused text before after = Unit {0}
 
--- a wire was this when it was let go: nothing was asked of it behind that
-unfoldable pub WasLetGo : {W : Type 0} → W → Type 0
-WasLetGo wire = Unit {0}
+-- a log that was this was handed the record of this boot, once, and is this since
+unfoldable pub WasRecorded : {L : Type 0} → L → ℕ → L → Type 0
+WasRecorded before boot after = Unit {0}
+
+-- a wire or a service manager was this when it was let go: nothing was asked of it, or told it, behind that
+unfoldable pub WasLetGo : {A : Type 0} → A → Type 0
+WasLetGo it = Unit {0}
 
 -- the file at a path was opened for a capture, where there is a path
 abbrev pub IsOpened : Option (List ℕ) → Type 0

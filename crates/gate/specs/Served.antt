@@ -9,11 +9,14 @@ use Rattle.sockets.specs.Doing.{DoesAt}
 use Rattle.sockets.specs.Receiving.{WaitsAt}
 use Rattle.sockets.specs.declared.sockets.Sockets.{Sockets}
 use Rattle.sockets.specs.declared.ways.Ways.{Ways}
-use Rattle.gate.specs.Asked.{IsFilter, IsWatched, boot_file_of, box_ports, path_in}
+use Rattle.supervision.specs.Hearing.{gets, hears_inside}
+use Rattle.supervision.specs.declared.managers.Manager.{Manager}
+use Rattle.gate.specs.Asked.{IsFilter, IsNotified, IsWatched, boot_file_of, box_ports, path_in}
 use Rattle.gate.specs.Boots.{HasStarted, IsIdentity}
 use Rattle.control.specs.Paths.{socket_of}
-use Rattle.gate.specs.Named.{IsCaptured, WasGiven, control_socket, locked_file, number_of, own_sockets}
+use Rattle.gate.specs.Named.{IsCaptured, WasGiven, WasLetGo, control_socket, locked_file, number_of, own_sockets}
 use Rattle.gate.specs.Starts.{CanOpen}
+use Rattle.gate.specs.Told.{HearsSome}
 use Rattle.gate.specs.Wires.{IsOfSockets, RanOn}
 use Rattle.gate.specs.declared.running.Start.{Start}
 
@@ -51,6 +54,11 @@ abbrev pub RunsOpened : Start → Settings → Ways → Option (List ℕ) → Op
 RunsOpened start settings ways before after =
     WasGiven (locked_file (boot_file_of settings start.id)) × RunsLocked start settings ways before after
 
+-- the service manager that it took over was told just such a run until it was let go, where there is one
+abbrev pub IsToldRun : Start → Type 0
+IsToldRun start = (manager : Option Manager) × ((manager2 : Option Manager)
+    × (IsNotified start.notify manager × (HearsSome (hears_inside gets) manager manager2 × WasLetGo manager2)))
+
 -- The settings of a text that was read at the start's path were run so, by ways that its texts write. By what settings and ways say, its
 -- boot file can be opened, and it was had, and so were its sockets. There are such a text, settings and ways: nothing says which.
 pub record HasServed (start : Start) (before after : Option (List ℕ)) : Type 0 where
@@ -58,3 +66,4 @@ pub record HasServed (start : Start) (before after : Option (List ℕ)) : Type 0
   pub ways : Ways
   pub fits : CanOpen start settings ways
   pub run : RunsOpened start settings ways before after
+  pub told : IsToldRun start

@@ -1,8 +1,7 @@
 -- What a service manager is told of a start and its run.
-use Rattle.std.specs.Prelude.{◌≡◌, ◌≢◌, ◌⊎◌, ℕ, List}
-use Rattle.faults.specs.declared.faults.Fault.TheVariants as run
+use Rattle.std.specs.Prelude.{◌≡◌, ◌⊎◌, ℕ, List, Option}
 use Rattle.box_words.specs.declared.refusals.BoxFault.{BoxFault}
-use Rattle.box_words.specs.declared.refusals.BoxFault.TheVariants as fault
+use Rattle.gate.specs.Orders.{EndIsRefused}
 use Rattle.rounds.specs.Told.{HearsRun}
 use Rattle.supervision.specs.Hearing.{Hears}
 use Rattle.supervision.specs.declared.notices.Notice.TheVariants.{Ready}
@@ -11,10 +10,14 @@ use Rattle.supervision.specs.declared.notices.Notice.TheVariants.{Ready}
 abbrev pub HearsAll : {S : Type 0} → Hears S → ℕ → List ℕ → S → S → Type 0
 HearsAll {S = S} hears boot moments s s2 = (middle : S) × (hears s (Ready boot) middle × HearsRun hears moments middle s2)
 
--- it is told nothing, or just that of a run in some boot
-abbrev pub HearsAny : {S : Type 0} → Hears S → S → S → Type 0
-HearsAny hears s s2 = (s2 ≡ s) ⊎ ((boot : ℕ) × ((moments : List ℕ) × HearsAll hears boot moments s s2))
+-- it is told just that of some run in this boot
+abbrev pub HearsOne : {S : Type 0} → Hears S → ℕ → S → S → Type 0
+HearsOne hears boot s s2 = (moments : List ℕ) × HearsAll hears boot moments s s2
 
--- it is told nothing at this refusal, unless output was refused: only then may there have been a run
-abbrev pub IsUnheard : {S : Type 0} → S → S → BoxFault → Type 0
-IsUnheard s s2 why = why ≢ fault.Run run.NotWritten → s2 ≡ s
+-- in some boot
+abbrev pub HearsSome : {S : Type 0} → Hears S → S → S → Type 0
+HearsSome hears s s2 = (boot : ℕ) × HearsOne hears boot s s2
+
+-- it is told nothing at this refusal; or there was a run, whose boot's line was printed, and then output refused its end
+abbrev pub IsUnheard : {S : Type 0} → Hears S → Option (List ℕ) → Option (List ℕ) → S → S → BoxFault → Type 0
+IsUnheard hears before after s s2 why = (s2 ≡ s) ⊎ ((boot : ℕ) × (EndIsRefused before after boot why × HearsOne hears boot s s2))

@@ -1,28 +1,19 @@
 -- The wire that a box is run on.
-use Rattle.std.specs.Prelude.{◌≡◌, ◌⊎◌, ◌<◌, ℕ, Bool, false, List, length, Option, Some, None, IsTrue, codes}
+use Rattle.std.specs.Prelude.{◌≡◌, ◌⊎◌, ◌<◌, ℕ, Bool, false, List, length, Option, Some, None, IsTrue}
 use Rattle.settings.specs.declared.whole.Settings.{Settings}
 use Rattle.spec_step.specs.Shown.{Shown}
-use Rattle.control.specs.Attending.{Attending}
-use Rattle.control.specs.Paths.{socket_of}
 use Rattle.box_words.specs.declared.refusals.BoxFault.{BoxFault}
 use Rattle.rounds.specs.Clocks.{HasRead, Watch, WasNow}
 use Rattle.rounds.specs.Inputs.{InputEnds, InputGoesOn}
-use Rattle.rounds.specs.Rounds.{Box, Calls, IsRun, Waits, box, most_rounds}
+use Rattle.rounds.specs.Rounds.{Box, Calls, IsRun, Waits, begun, most_rounds}
 use Rattle.rounds.specs.declared.desk.Identity.{Identity}
-use Rattle.sockets.specs.Boards.{Opens}
-use Rattle.sockets.specs.declared.sockets.Board.{Board}
 use Rattle.sockets.specs.declared.ways.Ways.{Ways}
-use Rattle.gate.specs.Asked.{boot_file_of, box_ports}
+use Rattle.gate.specs.Asked.{box_ports}
 use Rattle.gate.specs.Boots.{IsIdentity}
-use Rattle.gate.specs.Failing.{LacksOutput}
-use Rattle.gate.specs.Named.{WasHad, WasLetGo, control_socket, own_sockets, tapped_wire}
+use Rattle.gate.specs.Named.{WasHad, WasLetGo, own_sockets, tapped_wire}
+use Rattle.gate.specs.Orders.{EndIsRefused}
 use Rattle.gate.specs.Starts.{AreWays}
 use Rattle.gate.specs.declared.running.Start.{Start}
-
--- the sockets have these ways, and the ports of a start's box, and the control socket that was opened beside its boot file
-abbrev pub AreOpened : Settings → Start → Ways → Board → Type 0
-AreOpened settings start ways board = (control : Attending)
-    × (WasHad (control_socket (socket_of (boot_file_of settings start.id))) control × Opens ways (box_ports settings start.id) control board)
 
 -- it is that of the sockets which were had for a start's box, by the ways that its texts write
 abbrev pub IsOfSockets : {W : Type 0} → Settings → Start → W → Type 0
@@ -48,7 +39,7 @@ pub record RunsOn {W : Type 0} (does : Calls W) (waits : Waits W) (who : Identit
     pub at_start : clock.read ≡ 0
     pub clock2 : Watch
     pub last : Box W
-    pub had : IsRun does waits track who HasRead (most_rounds rounds) (IsTrue until_eof × InputEnds) (box g wire 0 false None) clock last clock2
+    pub had : IsRun does waits track who HasRead (most_rounds rounds) (IsTrue until_eof × InputEnds) (begun g wire) clock last clock2
     pub went_on : 0 < length had.all.moments → MayGoOn until_eof
     pub shows : last.shown ≡ g2
     pub wire_is : last.wire ≡ wire2
@@ -58,16 +49,12 @@ abbrev pub RanOn : {W : Type 0} → Calls W → Waits W → Identity → Start �
 RanOn {W = W} does waits who start g g2 wire =
     (wire2 : W) × (RunsOn does waits who start.rounds start.track start.until_eof g g2 wire wire2 × WasLetGo wire2)
 
--- the same, of some gateway in the boot of these settings' box
-abbrev pub HasRunOn : {W : Type 0} → Calls W → Waits W → Settings → Start → W → Type 0
-HasRunOn does waits settings start wire = (who : Identity) × ((first : Shown) × ((last : Shown)
-    × (IsIdentity settings start.id who first × RanOn does waits who start first last wire)))
+-- the same, of some gateway of these settings' box, whose boot's line was printed; and then output refused its end
+abbrev pub HasRunUnended : {W : Type 0} → Calls W → Waits W → Settings → Start → Option (List ℕ) → Option (List ℕ) → W → BoxFault → Type 0
+HasRunUnended does waits settings start before after wire why = (who : Identity) × (EndIsRefused before after who.boot why
+    × ((first : Shown) × ((last : Shown) × (IsIdentity settings start.id who first × RanOn does waits who start first last wire))))
 
--- output refused the line that tells of an end
-abbrev pub EndWasRefused : BoxFault → Type 0
-EndWasRefused why = (before : Option (List ℕ)) × ((after : Option (List ℕ)) × LacksOutput (codes "end\n") before after why)
-
--- What became of a wire, where a start is refused: it was let go as it was. Only where output refused the line of its end there was a run before.
-abbrev pub IsSpared : {W : Type 0} → Calls W → Waits W → Settings → Start → W → BoxFault → Type 0
-IsSpared does waits settings start wire why =
-    WasLetGo wire ⊎ (EndWasRefused why × HasRunOn does waits settings start wire)
+-- What became of a wire, where a start is refused: it was let go as it was; or there was such a run before, of the boot that is printed.
+abbrev pub IsSpared : {W : Type 0} → Calls W → Waits W → Settings → Start → Option (List ℕ) → Option (List ℕ) → W → BoxFault → Type 0
+IsSpared does waits settings start before after wire why =
+    WasLetGo wire ⊎ HasRunUnended does waits settings start before after wire why

@@ -1,9 +1,11 @@
 //! The file of a capture.
 ghost use Rattle.std.specs.Prelude.{◌≡◌, IfErr, IfOk, IfSome, OnErr, OnOk, Some, is_some, option_map};
 ghost use Rattle.gate.specs.Asked.{IsFilter, path_in};
+ghost use Rattle.gate.specs.Asking.{AsksUpTo, captures};
 ghost use Rattle.gate.specs.Failing.{IsUnbegun, LacksCapture};
 ghost use Rattle.gate.specs.Named.{IsOpened, WasGiven, WasHad, WasLetGo, all_sockets, begun_capture, boot_number, capture_file, tapped_wire};
 
+use crate::machine::Machine;
 use crate::running::Start;
 use crate::wires::let_go;
 use box_words::BoxFault;
@@ -14,6 +16,7 @@ use sockets::Wire;
 use std::alloc::Global;
 use std::fs::{Files, OpenFile};
 use std::io::{Read, Seek, Write};
+use std::net::Net;
 use std::os::fd::AsRawFd;
 use tap::{CaptureFile, Moments, Tapped, Vacant};
 
@@ -25,12 +28,13 @@ pub(crate) struct CaptureAt<'a, F> {
 }
 
 /// The file of a start's capture, opened, where there is to be one. It has what it had.
-pub(crate) fn capture_at<'a, R: Files + AllocGlobal>(
-    rt: &R,
+pub(crate) fn capture_at<'a, R: Files + Net + AllocGlobal>(
+    machine: &mut Machine<'_, R>,
     start: &Start<'a>,
 ) -> Result<Option<CaptureAt<'a, R::File>>, BoxFault>
     requires wired { WasGiven all_sockets }
     requires valid { IsFilter start.now.log }
+    ensures asks { AsksUpTo machine.old (captures (path_in start.now.capture)) machine.new }
     ensures asked { IfOk result (λ capture. is_some capture ≡ is_some start.now.capture) }
     ensures path { IfOk result (λ capture. option_map (λ c. c.path.now) capture
         ≡ path_in start.now.capture) }
@@ -42,30 +46,9 @@ pub(crate) fn capture_at<'a, R: Files + AllocGlobal>(
     let Some(path) = start.capture else {
         return Ok(None);
     };
-    match opened_at(rt, start, path) {
-        Ok(capture) => Ok(Some(capture)),
+    match machine.told_to_make(start, path) {
+        Ok(file) => Ok(Some(CaptureAt { path, file })),
         Err(fault) => Err(fault),
-    }
-}
-
-/// The file at a path, opened for a capture once the sockets were had, and the start's filter is one: a start that is refused before makes
-/// none.
-#[tactic(auto, unfolding(crate::specs::Named::WasGiven, crate::specs::Named::WasHad, crate::specs::Named::WasDenied))]
-fn opened_at<'a, R: Files + AllocGlobal>(
-    rt: &R,
-    start: &Start<'_>,
-    path: &'a str,
-) -> Result<CaptureAt<'a, R::File>, BoxFault>
-    requires wired { WasGiven all_sockets }
-    requires valid { IsFilter start.now.log }
-    ensures path { IfOk result (λ capture. capture.path.now ≡ path.now) }
-    ensures given { OnOk result (WasGiven (capture_file path.now)) }
-    ensures had { IfOk result (λ capture. WasHad (capture_file capture.path.now) capture.file) }
-    ensures err { IfErr result (LacksCapture (Some path.now)) }
-{
-    match tap::open(rt, path) {
-        Ok(file) => Ok(CaptureAt { path, file }),
-        Err(error) => Err(BoxFault::no_capture(rt.alloc(), path, &error)),
     }
 }
 

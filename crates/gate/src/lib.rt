@@ -2,8 +2,9 @@
 #![tactic(auto)]
 
 mod capturing;
-mod opening;
+mod machine;
 mod reading;
+mod recording;
 mod records;
 mod running;
 mod starting;

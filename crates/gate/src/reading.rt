@@ -1,45 +1,41 @@
 //! What a start says is read and looked at, before anything of the box's own is opened.
-ghost use Rattle.std.specs.Prelude.{◌≡◌, ◌≤◌, IfErr, IfOk, None, OnOk, length, string_bytes};
+ghost use Rattle.std.specs.Prelude.{◌≡◌, ◌≤◌, IfErr, IfOk, None, OnOk, length};
 ghost use Rattle.control.specs.Paths.{IsBeside, socket_of};
 ghost use Rattle.sockets.specs.Inheriting.{AreUnblocked};
-ghost use Rattle.faults.specs.Faults.{IsUnread};
 ghost use Rattle.settings_file.specs.Clashes.{clash_of_one};
 ghost use Rattle.box_words.specs.Faults.{TellsNoPath};
 ghost use Rattle.gate.specs.Asked.{IsNotified, boot_file_of, is_loopback, on_loopback};
-ghost use Rattle.box_words.specs.declared.refusals.BoxFault.TheVariants as faults;
 ghost use Rattle.gate.specs.Failing.{Clashes, LacksDescriptor, LacksManager, LacksSettings};
-ghost use Rattle.gate.specs.Named.{WasDenied, WasRead, settings_text};
+ghost use Rattle.gate.specs.Asking.{AsksManager, WasAsked};
+ghost use Rattle.gate.specs.Named.{settings_text};
 ghost use Rattle.gate.specs.Starts.{AreHeld};
 
+use crate::machine::Machine;
 use box_words::BoxFault;
 use control::ControlPath;
-use faults::{Fault, text_of};
+use faults::Fault;
 use nat_types::GatewayId;
 use settings::Settings;
 use settings_file::{OnLoopback, SettingFault, port_clash};
 use sockets::{Way, Ways};
 use std::alloc::Global;
 use std::fs::Files;
+use std::net::Net;
 use supervision::Manager;
 
 /// The settings in the file at a path.
-pub(crate) fn settings_at<R: Files + AllocGlobal>(rt: &R, path: &str) -> Result<Settings, BoxFault>
+pub(crate) fn settings_at<R: Files + Net + AllocGlobal>(
+    machine: &mut Machine<'_, R>,
+    alloc: Global,
+    path: &str,
+) -> Result<Settings, BoxFault>
+    ensures asked { WasAsked machine.old (settings_text path.now) machine.new }
     ensures held { IfOk result (AreHeld path.now) }
     ensures err { IfErr result (LacksSettings path.now) }
 {
-    let text = text_at(rt, path)?;
-    let settings = settings_file::read(rt.alloc(), text.as_str())?;
+    let text = machine.told_to_read(path)?;
+    let settings = settings_file::read(alloc, text.as_str())?;
     Ok(settings)
-}
-
-/// The text of the file at a path.
-#[tactic(auto, unfolding(crate::specs::Named::WasRead, crate::specs::Named::WasDenied))]
-fn text_at<R: Files + AllocGlobal>(rt: &R, path: &str) -> Result<String, Fault>
-    ensures read { IfOk result (λ text. WasRead path.now (string_bytes text)) }
-    ensures err { IfErr result (λ why. WasDenied (settings_text path.now) (faults.Run why)
-        × IsUnread path.now why) }
-{
-    text_of(rt, path)
 }
 
 /// Makes the descriptors of ways ones that never wait.
@@ -52,18 +48,21 @@ pub(crate) fn inherited(ways: &Ways) -> Result<(), BoxFault>
 }
 
 /// The service manager whose descriptor a text writes, if there is one.
-pub(crate) fn manager_of(text: Option<&str>) -> Result<Option<Manager>, BoxFault>
+pub(crate) fn manager_of<R: Files + Net + AllocGlobal>(
+    machine: &mut Machine<'_, R>,
+    text: Option<&str>,
+) -> Result<Option<Manager>, BoxFault>
+    ensures asked { AsksManager machine.old text.entry machine.new }
     ensures ok { IfOk result (IsNotified text.entry) }
     ensures err { IfErr result (LacksManager text.entry) }
 {
     let Some(text) = text else {
         return Ok(None);
     };
-    let Some(manager) = Manager::read(text) else {
-        return Err(BoxFault::NoManager);
-    };
-    manager.inherit()?;
-    Ok(Some(manager))
+    match machine.told_to_take_over(text) {
+        Ok(manager) => Ok(Some(manager)),
+        Err(fault) => Err(fault),
+    }
 }
 
 /// Looks whether the ports of the places that are on loopback can be had together.

@@ -7,13 +7,33 @@ ghost use Rattle.gate.specs.Asked.{IsChosenBy, IsFilter};
 ghost use Rattle.gate.specs.Failing.{LacksFilter};
 ghost use Rattle.gate.specs.Named.{WasGiven, all_sockets};
 
+use crate::recording::{Records, records_in};
 use box_words::BoxFault;
 use journal::{FilterFault, Format, StandardError, Unhindered, environment, filter_of};
 use log::filter::FilteredLog;
 use std::rt::Env;
 
 /// The box's records, by the option's filter, or else by the environment's. They are had once its sockets are.
-pub(crate) fn log_of<'a, R: Eprint + Env + AllocGlobal>(
+pub(crate) fn records_of<'a, R: Eprint + Env + AllocGlobal>(
+    rt: &'a R,
+    option: Option<&str>,
+    format: Format,
+) -> Result<Records<FilteredLog<Unhindered<StandardError<&'a R>>>>, BoxFault>
+    requires wired { WasGiven all_sockets }
+    ensures chosen { IfOk result
+        (λ records. IsChosenBy option.entry (filtered_rules records.log)) }
+    ensures format { IfOk result (λ records. format_of (filtered_inner records.log) ≡ format) }
+    ensures valid { OnOk result (IsFilter option.entry) }
+    ensures err { IfErr result (LacksFilter option.entry) }
+{
+    match log_of(rt, option, format) {
+        Ok(log) => Ok(records_in(log)),
+        Err(fault) => Err(fault),
+    }
+}
+
+/// Their log.
+fn log_of<'a, R: Eprint + Env + AllocGlobal>(
     rt: &'a R,
     option: Option<&str>,
     format: Format,

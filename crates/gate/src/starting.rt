@@ -1,5 +1,5 @@
 //! A gateway begins in the next boot of its box.
-ghost use Rattle.std.specs.Prelude.{◌≡◌, ◌<◌, ◌↔◌, IfErr, IfOk, IsTrue, None, Ok, OnOk, true};
+ghost use Rattle.std.specs.Prelude.{◌≡◌, ◌<◌, ◌↔◌, IfErr, IfOk, IsTrue, None, Ok, OnErr, OnOk, true};
 ghost use Rattle.std.specs.Io.KnownBytes.{Appends};
 ghost use Rattle.nat_types.specs.declared.gateways.GatewayId.TheVariants.{Zero};
 ghost use Rattle.slots.specs.Hashers.{is_drawn};
@@ -15,12 +15,12 @@ ghost use Rattle.gate.specs.Failing.{LacksOutput};
 ghost use Rattle.gate.specs.Named.{IsNumberOf, WasGiven, boot_number};
 ghost use Rattle.gate.specs.Orders.{IsInOrder};
 
+use crate::recording::Records;
 use boot_store::{Disk, next_boot};
 use box_words::BoxFault;
 use checks::digest;
 use gateway::{Gateway, Hashers};
 use itoa::Buffer;
-use journal::{Entry, tell};
 use log::Log;
 use nat_types::{GatewayId, NoMemory};
 use outlets::put_all;
@@ -55,7 +55,7 @@ pub(crate) fn started<R: RandomSource + AllocGlobal, D: Disk, O: Write, L: Log>(
     id: GatewayId,
     found: bool,
     output: &mut O,
-    log: &L,
+    records: &mut Records<L>,
 ) -> Result<(Identity, Gateway), BoxFault>
     requires found { IsTrue found → id ≡ Zero }
     ensures start { IfOk result (λ begun. HasStarted settings.now id found
@@ -63,7 +63,9 @@ pub(crate) fn started<R: RandomSource + AllocGlobal, D: Disk, O: Write, L: Log>(
     ensures identity { IfOk result (λ begun. IsIdentity settings.now id begun.0 begun.1) }
     ensures decided { D.honest disk.old → IfOk result (λ begun. Decides found
         (D.now disk.old) (D.now disk.new) (Ok begun.0.boot)) }
-    ensures record { IfOk result (λ begun. IsTold L.enables log.now 0 (Boot begun.0.boot)) }
+    ensures record { IfOk result (λ begun. IsTold L.enables records.old.log 0
+        (Boot begun.0.boot)) }
+    ensures unrecorded { OnErr result (records.new ≡ records.old) }
     ensures given { OnOk result (WasGiven boot_number) }
     ensures own_number { OnOk result (IsNumberOf disk.old) }
     ensures err { IfErr result IsUnstarted }
@@ -77,7 +79,7 @@ pub(crate) fn started<R: RandomSource + AllocGlobal, D: Disk, O: Write, L: Log>(
     let (boot, gateway) = booted(rt.alloc(), disk, settings, id, found, hashers)?;
     match announced(output, boot) {
         Ok(()) => {
-            tell(log, 0, Entry::Boot(boot));
+            records.told_of_boot(boot);
             Ok((Identity { id, boot, digest }, gateway))
         }
         Err(fault) => {
@@ -139,7 +141,7 @@ fn booted<D: Disk>(
 }
 
 /// The next boot number of a disk.
-#[tactic(auto, unfolding(crate::specs::Named::WasGiven))]
+#[tactic(auto, unfolding(crate::specs::Named::WasGiven, crate::specs::Named::WasDenied))]
 fn numbered<D: Disk>(disk: &mut D, found: bool) -> Result<u64, BoxFault>
     ensures given { OnOk result (WasGiven boot_number) }
     ensures own_number { OnOk result (IsNumberOf disk.old) }

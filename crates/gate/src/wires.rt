@@ -1,15 +1,15 @@
-//! A wire is let go.
+//! What a start has is let go.
 ghost use Rattle.gate.specs.Named.{WasLetGo};
 
 use sockets::Wire;
 use tap::Tapped;
 
-/// Lets a wire go, as it is.
+/// Lets a wire or a service manager go, as it is.
 #[tactic(auto, unfolding(crate::specs::Named::WasLetGo))]
-pub(crate) fn let_go<W: Wire + Drop>(wire: W)
-    ensures { WasLetGo wire }
+pub(crate) fn let_go<A: Drop>(it: A)
+    ensures { WasLetGo it }
 {
-    drop(wire);
+    drop(it);
 }
 
 /// Lets a wire go whose packets were captured.

@@ -61,3 +61,9 @@ returns-in-Ok-Some-clause-unheard g c = c.tapped.ensures.unheard
 
 pub returns-in-Ok-None-clause-unheard : goal.returns-in-Ok-None-clause-unheard
 returns-in-Ok-None-clause-unheard g c = c.run.ensures.unheard
+
+pub returns-in-Ok-Some-clause-unrecorded : goal.returns-in-Ok-Some-clause-unrecorded
+returns-in-Ok-Some-clause-unrecorded g c = c.tapped.ensures.unrecorded
+
+pub returns-in-Ok-None-clause-unrecorded : goal.returns-in-Ok-None-clause-unrecorded
+returns-in-Ok-None-clause-unrecorded g c = c.run.ensures.unrecorded

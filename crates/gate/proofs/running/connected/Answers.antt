@@ -1,4 +1,4 @@
-use Rattle.std.proofs.Common.{inl, subst, ℕ, List}
+use Rattle.std.proofs.Common.{inl, inr, refl}
 use Rattle.control.specs.Paths.{socket_of}
 use Rattle.gate.specs.Asked.{boot_file_of}
 use Rattle.gate.specs.Failing.{FailsHeard, FailsLocked, LacksControl}
@@ -6,23 +6,28 @@ use Rattle.gate.specs.Named.{WasGiven, control_socket}
 use Rattle.gate.specs.Served.{RunsWired}
 use Rattle.gate.specs.Sparing.{SparesHeard, SparesLocked}
 use Rattle.gate.proofs.Failing.{handed_on}
-use Rattle.gate.proofs.Refusing.{behind_it, control_of}
+use Rattle.gate.proofs.Refusing.{behind_it}
 use Rattle.gate.proofs.Serving.{also}
 use Rattle.gate.proofs.Sparing.{or_else}
 use Rattle.gate.proofs.running.connected.Goals as goal
 
 pub returns-clause-ok : goal.returns-clause-ok
 returns-clause-ok g c =
-    let given = subst (λ (path : List ℕ). WasGiven (control_socket (socket_of path))) c.requires.own_file c.in_ok-control.ensures.given in
     also c.wired.result (WasGiven (control_socket (socket_of (boot_file_of c.args.settings.now c.args.start.now.id))))
     (RunsWired c.args.start.now c.args.settings.now c.args.ways.now (g.O.Write.contents c.args.output.now) (g.O.Write.contents c.wired.new.output))
-    given c.wired.ensures.ok
+    c.in_ok-control.ensures.given c.wired.ensures.ok
 
 pub returns-clause-err : goal.returns-clause-err
 returns-clause-err g c =
-    let given = subst (λ (path : List ℕ). WasGiven (control_socket (socket_of path))) c.requires.own_file c.in_ok-control.ensures.given in
     behind_it c.wired.result (LacksControl (boot_file_of c.args.settings.now c.args.start.now.id))
-    (FailsHeard c.args.start.now c.args.settings.now c.args.ways.now) _ given c.wired.ensures.err
+    (FailsHeard c.args.start.now c.args.settings.now c.args.ways.now)
+    (WasGiven (control_socket (socket_of (boot_file_of c.args.settings.now c.args.start.now.id)))) c.in_ok-control.ensures.given c.wired.ensures.err
+
+pub returns-clause-asks : goal.returns-clause-asks
+returns-clause-asks g c = inr (_, (c.in_ok-control.ensures.asked, c.wired.ensures.asks))
+
+pub returns-in_err-control-clause-asks : goal.returns-in_err-control-clause-asks
+returns-in_err-control-clause-asks g c = inr (_, (c.in_err-control.ensures.asked, inl refl))
 
 pub returns-clause-untouched : goal.returns-clause-untouched
 returns-clause-untouched g c = c.wired.ensures.untouched
@@ -33,7 +38,7 @@ returns-clause-order g c = c.wired.ensures.order
 pub returns-in_err-control-clause-err : goal.returns-in_err-control-clause-err
 returns-in_err-control-clause-err g c =
     handed_on c.from_residual.result (FailsLocked c.args.start.now c.args.settings.now c.args.ways.now) _ c.from_residual.ensures.1
-    (inl (control_of _ _ _ c.requires.own_file c.in_err-control.ensures.err))
+    (inl c.in_err-control.ensures.err)
 
 pub returns-clause-decided : goal.returns-clause-decided
 returns-clause-decided g c = c.wired.ensures.decided
@@ -47,9 +52,9 @@ returns-clause-unheard g c = c.wired.ensures.unheard
 pub returns-clause-spared : goal.returns-clause-spared
 returns-clause-spared g c =
     or_else c.wired.result (LacksControl (boot_file_of c.args.settings.now c.args.start.now.id))
-    (SparesHeard c.args.start.now c.args.settings.now c.args.ways.now) c.wired.ensures.spared
+    (SparesHeard c.args.start.now c.args.settings.now c.args.ways.now _ _) c.wired.ensures.spared
 
 pub returns-in_err-control-clause-spared : goal.returns-in_err-control-clause-spared
 returns-in_err-control-clause-spared g c =
-    handed_on c.from_residual.result (SparesLocked c.args.start.now c.args.settings.now c.args.ways.now) _ c.from_residual.ensures.1
-    (inl (control_of _ _ _ c.requires.own_file c.in_err-control.ensures.err))
+    handed_on c.from_residual.result (SparesLocked c.args.start.now c.args.settings.now c.args.ways.now _ _) _ c.from_residual.ensures.1
+    (inl c.in_err-control.ensures.err)

@@ -1,4 +1,4 @@
-use Rattle.std.proofs.Common.{inl}
+use Rattle.std.proofs.Common.{inl, inr, refl}
 use Rattle.gate.specs.Asked.{boot_file_of}
 use Rattle.gate.specs.Failing.{FailsLocked, LacksBootFile}
 use Rattle.gate.specs.Sparing.{SparesLocked}
@@ -17,7 +17,7 @@ returns-in-Ok-clause-err g c =
 
 pub returns-in-Ok-clause-order : goal.returns-in-Ok-clause-order
 returns-in-Ok-clause-order g c =
-    of_some_disk c.connected.result g.O.Write.contents _ _ _ _ c.in-Ok.file.disk c.connected.new.file.disk _ _ c.connected.ensures.order
+    of_some_disk c.connected.result g.O.Write.contents _ _ _ _ c.in-Ok.disk c.connected.new.disk _ _ c.connected.ensures.order
 
 pub returns-in-Err-clause-err : goal.returns-in-Err-clause-err
 returns-in-Err-clause-err g c = inl c.in-Err.ensures.err
@@ -31,7 +31,13 @@ returns-in-Ok-clause-unheard g c = c.connected.ensures.unheard
 pub returns-in-Ok-clause-spared : goal.returns-in-Ok-clause-spared
 returns-in-Ok-clause-spared g c =
     or_else c.connected.result (LacksBootFile (boot_file_of c.args.settings.now c.args.start.now.id))
-    (SparesLocked c.args.start.now c.args.settings.now c.args.ways.now) c.connected.ensures.spared
+    (SparesLocked c.args.start.now c.args.settings.now c.args.ways.now _ _) c.connected.ensures.spared
 
 pub returns-in-Err-clause-spared : goal.returns-in-Err-clause-spared
 returns-in-Err-clause-spared g c = inl c.in-Err.ensures.err
+
+pub returns-in-Ok-clause-asks : goal.returns-in-Ok-clause-asks
+returns-in-Ok-clause-asks g c = inr (_, (c.in-Ok.ensures.asked, c.connected.ensures.asks))
+
+pub returns-in-Err-clause-asks : goal.returns-in-Err-clause-asks
+returns-in-Err-clause-asks g c = inr (_, (c.in-Err.ensures.asked, inl refl))

@@ -1,6 +1,7 @@
 use Rattle.std.proofs.Common.{inl}
 use Rattle.gate.specs.Asked.{IsFilter}
 use Rattle.gate.specs.Failing.{FailsLogged, LacksFilter}
+use Rattle.gate.proofs.Asking.{none_asked}
 use Rattle.gate.proofs.Refusing.{behind_it}
 use Rattle.gate.proofs.running.logged.Goals as goal
 
@@ -23,3 +24,9 @@ returns-in-Err-clause-spared g c = inl c.let_go.ensures
 
 pub returns-in-Ok-clause-unheard : goal.returns-in-Ok-clause-unheard
 returns-in-Ok-clause-unheard g c = c.captured-ended.ensures.unheard
+
+pub returns-in-Ok-clause-asks : goal.returns-in-Ok-clause-asks
+returns-in-Ok-clause-asks g c = c.captured-ended.ensures.asks
+
+pub returns-in-Err-clause-asks : goal.returns-in-Err-clause-asks
+returns-in-Err-clause-asks g c = none_asked _ _

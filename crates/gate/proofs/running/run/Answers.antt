@@ -1,5 +1,6 @@
-use Rattle.std.proofs.Common.{inl, inr}
+use Rattle.std.proofs.Common.{inl}
 use Rattle.gate.proofs.Heard.{unheard_behind}
+use Rattle.gate.proofs.Recorded.{recorded_behind}
 use Rattle.gate.proofs.Refusing.{in_order, unwritten_unstarted, with_capture}
 use Rattle.gate.proofs.Serving.{always, has_run, on_sockets, spared_behind, uncaptured}
 use Rattle.gate.proofs.running.run.Goals as goal
@@ -18,13 +19,13 @@ returns-in-Ok-clause-err g c = unwritten_unstarted c.rounds_of-ended.result _ _ 
 pub returns-in-Ok-clause-spared : goal.returns-in-Ok-clause-spared
 returns-in-Ok-clause-spared g c =
     spared_behind c.rounds_of-ended.result g.W.Wire.does g.W.Wire.waits c.args.settings.now c.args.start.now c.args.wire _ _ _ _ _
-    c.in-Ok.ensures.identity (_, (c.rounds_of-ended.ensures.runs.0, c.let_go.ensures)) c.rounds_of-ended.ensures.err
+    _ c.in-Ok.ensures.identity (_, (c.rounds_of-ended.ensures.runs.0, c.let_go.ensures)) c.in-Ok.ensures.printed c.rounds_of-ended.ensures.err
 
 pub returns-in-Ok-clause-decided : goal.returns-in-Ok-clause-decided
 returns-in-Ok-clause-decided g c h = always c.rounds_of-ended.result _ (_, c.in-Ok.ensures.decided h)
 
 pub returns-in-Ok-clause-heard : goal.returns-in-Ok-clause-heard
-returns-in-Ok-clause-heard g c = inr (_, (_, c.rounds_of-ended.ensures.runs.1))
+returns-in-Ok-clause-heard g c = always c.rounds_of-ended.result _ (_, (_, c.rounds_of-ended.ensures.runs.1))
 
 pub returns-in-Ok-clause-order : goal.returns-in-Ok-clause-order
 returns-in-Ok-clause-order g c =
@@ -41,4 +42,11 @@ rounds_of-ended-requires-clause-own g c =
     on_sockets c.args.start.now.capture c.args.settings.now c.args.start.now c.args.wire c.requires.uncaptured c.requires.own
 
 pub returns-in-Ok-clause-unheard : goal.returns-in-Ok-clause-unheard
-returns-in-Ok-clause-unheard g c = unheard_behind c.rounds_of-ended.result _ _ _ _ _ c.rounds_of-ended.ensures.err
+returns-in-Ok-clause-unheard g c =
+    unheard_behind c.rounds_of-ended.result _ _ _ _ _ _ _ c.in-Ok.ensures.printed (_, c.rounds_of-ended.ensures.runs.1) c.rounds_of-ended.ensures.err
+
+pub returns-in-Ok-clause-unrecorded : goal.returns-in-Ok-clause-unrecorded
+returns-in-Ok-clause-unrecorded g c = recorded_behind c.rounds_of-ended.result _ _ _ _ _ _ _ c.in-Ok.ensures.printed c.rounds_of-ended.ensures.err
+
+pub returns-in-Err-clause-unrecorded : goal.returns-in-Err-clause-unrecorded
+returns-in-Err-clause-unrecorded g c = inl c.in-Err.ensures.unrecorded

@@ -1,5 +1,7 @@
 use Rattle.std.proofs.Common.{inl, inr}
-use Rattle.gate.proofs.Heard.{unheard_tapped}
+use Rattle.supervision.specs.Hearing.{gets, hears_inside}
+use Rattle.gate.proofs.Heard.{heard_in_some, unheard_tapped}
+use Rattle.gate.proofs.Recorded.{recorded_tapped}
 use Rattle.gate.proofs.Refusing.{ends_in_order, unrun_so, with_capture}
 use Rattle.gate.proofs.Serving.{always, captured_at, has_run, spared_tapped}
 use Rattle.gate.proofs.running.tapped.Goals as goal
@@ -17,14 +19,15 @@ returns-in-Ok-clause-err g c =
 
 pub returns-in-Ok-clause-spared : goal.returns-in-Ok-clause-spared
 returns-in-Ok-clause-spared g c =
-    spared_tapped c.tapped_rounds-ended.result g.W.Wire.does g.W.Wire.waits c.args.settings.now c.args.start.now c.args.wire _ _ _ _ _ _ _
-    c.in-Ok.ensures.identity c.tapped_rounds-ended.ensures.unrun
+    spared_tapped c.tapped_rounds-ended.result g.W.Wire.does g.W.Wire.waits c.args.settings.now c.args.start.now c.args.wire _ _ _ _ _ _ _ _ _
+    c.in-Ok.ensures.identity c.in-Ok.ensures.printed c.tapped_rounds-ended.ensures.unrun
 
 pub returns-in-Ok-clause-decided : goal.returns-in-Ok-clause-decided
 returns-in-Ok-clause-decided g c h = always c.tapped_rounds-ended.result _ (_, c.in-Ok.ensures.decided h)
 
 pub returns-in-Ok-clause-heard : goal.returns-in-Ok-clause-heard
-returns-in-Ok-clause-heard g c = c.tapped_rounds-ended.ensures.heard
+returns-in-Ok-clause-heard g c =
+    heard_in_some c.tapped_rounds-ended.result (hears_inside gets) _ c.args.manager.now c.tapped_rounds-ended.new.manager c.tapped_rounds-ended.ensures.heard
 
 pub returns-in-Ok-clause-order : goal.returns-in-Ok-clause-order
 returns-in-Ok-clause-order g c =
@@ -42,4 +45,12 @@ returns-in-Err-clause-order g c = with_capture g.O.Write.contents _ _ _ _ _ _ _ 
 
 pub returns-in-Ok-clause-unheard : goal.returns-in-Ok-clause-unheard
 returns-in-Ok-clause-unheard g c =
-    unheard_tapped c.tapped_rounds-ended.result _ _ _ c.args.capture.path.now c.args.wire _ _ _ _ _ c.tapped_rounds-ended.ensures.unrun
+    unheard_tapped c.tapped_rounds-ended.result (hears_inside gets) _ _ _ _ c.args.capture.path.now c.args.wire _ _ _ _ _ c.in-Ok.ensures.printed c.tapped_rounds-ended.ensures.unrun
+
+pub returns-in-Ok-clause-unrecorded : goal.returns-in-Ok-clause-unrecorded
+returns-in-Ok-clause-unrecorded g c =
+    recorded_tapped c.tapped_rounds-ended.result g.O.Write.contents c.args.capture.path.now _ _ _ _ _ _ _ _ _ _ c.requires.captured
+    c.in-Ok.ensures.printed c.tapped_rounds-ended.ensures.unrun
+
+pub returns-in-Err-clause-unrecorded : goal.returns-in-Err-clause-unrecorded
+returns-in-Err-clause-unrecorded g c = inl c.in-Err.ensures.unrecorded

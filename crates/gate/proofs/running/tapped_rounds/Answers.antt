@@ -14,13 +14,15 @@ pub returns-clause-begun : goal.returns-clause-begun
 returns-clause-begun g c = always c.rounds_of-ended.result _ c.in_ok-wire.ensures.begun
 
 pub returns-clause-heard : goal.returns-clause-heard
-returns-clause-heard g c = inr (_, (_, c.rounds_of-ended.ensures.runs.1))
+returns-clause-heard g c = always c.rounds_of-ended.result _ (_, c.rounds_of-ended.ensures.runs.1)
 
 pub returns-clause-unrun : goal.returns-clause-unrun
 returns-clause-unrun g c =
-    only_this c.rounds_of-ended.result _ _ _
-    (ran_below (λ tapped. tapped.wire) g.W.Wire.does g.W.Wire.waits c.args.identity c.args.start.now _ _ _ _ c.end.new.self c.args.wire
-    c.in_ok-wire.ensures.tapped.0 c.end.ensures.wire c.let_go_tapped.ensures c.rounds_of-ended.ensures.runs.0)
+    only_this c.rounds_of-ended.result _ _ _ (
+      ran_below (λ tapped. tapped.wire) g.W.Wire.does g.W.Wire.waits c.args.identity c.args.start.now _ _ _ _ c.end.new.self c.args.wire
+          c.in_ok-wire.ensures.tapped.0 c.end.ensures.wire c.let_go_tapped.ensures c.rounds_of-ended.ensures.runs.0,
+      (_, c.rounds_of-ended.ensures.runs.1),
+    )
     c.rounds_of-ended.ensures.err
 
 pub returns-in_err-wire-clause-unrun : goal.returns-in_err-wire-clause-unrun

@@ -1,6 +1,7 @@
-use Rattle.std.proofs.Common.{inl}
+use Rattle.std.proofs.Common.{inl, inr}
 use Rattle.gate.specs.Failing.{FailsHeard, FailsWired, LacksPlace}
 use Rattle.gate.specs.Sparing.{SparesHeard}
+use Rattle.gate.proofs.Asking.{none_asked}
 use Rattle.gate.proofs.Failing.{handed_on}
 use Rattle.gate.proofs.Refusing.{behind_it}
 use Rattle.gate.proofs.Serving.{also, on_some}
@@ -38,9 +39,15 @@ returns-clause-unheard g c = c.logged.ensures.unheard
 
 pub returns-clause-spared : goal.returns-clause-spared
 returns-clause-spared g c =
-    spared_if_had c.logged.result c.args.start.now c.args.settings.now c.args.ways.now c.in_ok-wire.wire c.in_ok-wire.ensures.had c.logged.ensures.spared
+    spared_if_had c.logged.result c.args.start.now c.args.settings.now c.args.ways.now c.in_ok-wire.wire _ _ c.in_ok-wire.ensures.had c.logged.ensures.spared
 
 pub returns-in_err-wire-clause-spared : goal.returns-in_err-wire-clause-spared
 returns-in_err-wire-clause-spared g c =
-    handed_on c.from_residual.result (SparesHeard c.args.start.now c.args.settings.now c.args.ways.now) _ c.from_residual.ensures.1
+    handed_on c.from_residual.result (SparesHeard c.args.start.now c.args.settings.now c.args.ways.now _ _) _ c.from_residual.ensures.1
     (inl c.in_err-wire.ensures.err)
+
+pub returns-clause-asks : goal.returns-clause-asks
+returns-clause-asks g c = inr (_, (c.in_ok-wire.ensures.asked, c.logged.ensures.asks))
+
+pub returns-in_err-wire-clause-asks : goal.returns-in_err-wire-clause-asks
+returns-in_err-wire-clause-asks g c = inr (_, (c.in_err-wire.ensures.asked, none_asked _ _))

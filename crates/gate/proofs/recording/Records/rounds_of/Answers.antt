@@ -1,5 +1,5 @@
 use Rattle.gate.proofs.Serving.{runs_on}
-use Rattle.gate.proofs.running.rounds_of.Goals as goal
+use Rattle.gate.proofs.recording.Records.rounds_of.Goals as goal
 
 pub returns-clause-runs : goal.returns-clause-runs
 returns-clause-runs g c =

@@ -1,0 +1,24 @@
+use Rattle.sockets.specs.Boards.{Opens}
+use Rattle.sockets.specs.declared.places.Ports.{Ports}
+use Rattle.box_words.specs.Ends.{IsFirstOf}
+use Rattle.gate.specs.Asked.{box_ports}
+use Rattle.gate.specs.Named.{WasDenied}
+use Rattle.gate.proofs.Refusing.{of_ports}
+use Rattle.gate.proofs.machine.Machine.told_to_wire.Goals as goal
+
+pub returns-in-Err-NoSocket-clause-err : goal.returns-in-Err-NoSocket-clause-err
+unfolding WasDenied
+returns-in-Err-NoSocket-clause-err g c =
+    let ports = c.ports_of-ports in
+    let own = box_ports c.args.settings.now c.args.id in (
+      tt,
+      of_ports (λ (p : Ports). IsFirstOf c.args.ways.now p c.first_refused-end.result.0) ports.result own.link own.inside own.outside ports.ensures.link
+          ports.ensures.inside ports.ensures.outside c.first_refused-end.ensures,
+    )
+
+pub returns-in-Ok-clause-opened : goal.returns-in-Ok-clause-opened
+returns-in-Ok-clause-opened g c =
+    let ports = c.ports_of-ports in
+    let own = box_ports c.args.settings.now c.args.id in
+    of_ports (λ (p : Ports). Opens c.args.self.now.places c.args.ways.now p c.args.control c.in-Ok.sockets.board c.open.new.machine) ports.result own.link own.inside
+    own.outside ports.ensures.link ports.ensures.inside ports.ensures.outside c.in-Ok.ensures.opened

@@ -1,0 +1,56 @@
+-- What a start asks the system to open, in which order.
+use Rattle.std.specs.Prelude.{◌≡◌, ◌⊎◌, ℕ, List, [], ◌∷◌, Option, Some, None}
+use Rattle.std.specs.Borrow.{Bor}
+use Rattle.settings.specs.declared.whole.Settings.{Settings}
+use Rattle.control.specs.Paths.{socket_of}
+use Rattle.sockets.specs.declared.ways.Ways.{Ways}
+use Rattle.gate.specs.Asked.{boot_file_of, box_ports, path_in}
+use Rattle.gate.specs.Named.{Need, capture_file, control_socket, locked_file, own_sockets, service_manager, settings_text}
+use Rattle.gate.specs.Starts.{AreHeld, AreWays}
+use Rattle.gate.specs.declared.running.Start.{Start}
+
+-- The system, which was this, was asked for this, once, and is this since. It says nothing of such a call, so this is no more than a name for it:
+-- only what `Machine` does looks what stands here.
+unfoldable pub WasAsked : {M : Type 0} → M → Need → M → Type 0
+WasAsked before need after = Unit {0}
+
+-- it was asked for these, each once, in this order, up to one of them or to the last, and for nothing else
+abbrev pub AsksUpTo : {M : Type 0} → M → List Need → M → Type 0
+AsksUpTo m [] m2 = m2 ≡ m
+AsksUpTo {M = M} m (need ∷ needs) m2 = (m2 ≡ m) ⊎ ((between : M) × (WasAsked m need between × AsksUpTo between needs m2))
+
+-- the file of a capture, where there is to be one
+abbrev pub captures : Option (List ℕ) → List Need
+captures (Some path) = capture_file path ∷ []
+captures None = []
+
+-- the sockets of the places, and then that
+abbrev pub places : Start → Settings → Ways → List Need
+places start settings ways = own_sockets ways (box_ports settings start.id) ∷ captures (path_in start.capture)
+
+-- the control socket, and then those
+abbrev pub listeners : Start → Settings → Ways → List Need
+listeners start settings ways = control_socket (socket_of (boot_file_of settings start.id)) ∷ places start settings ways
+
+-- the boot file, and then those
+abbrev pub openings : Start → Settings → Ways → List Need
+openings start settings ways = locked_file (boot_file_of settings start.id) ∷ listeners start settings ways
+
+-- the service manager whose descriptor a text writes, where there is a text
+abbrev pub AsksManager : {M : Type 0} → M → Option (Bor (List ℕ)) → M → Type 0
+AsksManager m (Some text) m2 = WasAsked m (service_manager text.now) m2
+AsksManager m None m2 = m2 ≡ m
+
+-- that one, once, and then those
+abbrev pub AsksWatched : {M : Type 0} → M → Start → Settings → Ways → M → Type 0
+AsksWatched {M = M} m start settings ways m2 =
+    (between : M) × (AsksManager m start.notify between × AsksUpTo between (openings start settings ways) m2)
+
+-- by settings it is asked for nothing, or for those of the ways that the start's texts write
+abbrev pub AsksBy : {M : Type 0} → M → Start → Settings → M → Type 0
+AsksBy m start settings m2 = (m2 ≡ m) ⊎ ((ways : Ways) × (AreWays start.ways ways × AsksWatched m start settings ways m2))
+
+-- The text at the start's path is asked for, once; then nothing; or it holds settings, and then just what these and the ways need.
+abbrev pub AsksFor : {M : Type 0} → M → Start → M → Type 0
+AsksFor {M = M} m start m2 = (between : M) × (WasAsked m (settings_text start.settings.now) between
+    × ((m2 ≡ between) ⊎ ((settings : Settings) × (AreHeld start.settings.now settings × AsksBy between start settings m2))))

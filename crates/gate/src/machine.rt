@@ -1,0 +1,187 @@
+//! The system, as who opens what a start needs. What it is asked has names, and no more is known of it.
+ghost use Rattle.std.specs.Prelude.{IfErr, IfOk, OnOk, Some, string_bytes};
+ghost use Rattle.control.specs.Paths.{IsBeside, socket_of};
+ghost use Rattle.faults.specs.Faults.{IsUnread};
+ghost use Rattle.sockets.specs.Boards.{Opens};
+ghost use Rattle.box_words.specs.Ends.{IsFirstOf};
+ghost use Rattle.box_words.specs.declared.refusals.BoxFault.TheVariants as faults;
+ghost use Rattle.gate.specs.Asked.{IsFilter, IsNotified, boot_file_of, box_ports};
+ghost use Rattle.gate.specs.Asking.{WasAsked};
+ghost use Rattle.gate.specs.Failing.{LacksBootFile, LacksCapture, LacksControl, LacksManager, LacksPlace};
+ghost use Rattle.gate.specs.Named.{WasDenied, WasGiven, WasHad, WasRead, all_sockets, capture_file, control_socket, locked_file, own_sockets, service_manager, settings_text};
+ghost use Rattle.gate.specs.Starts.{CanOpen};
+
+use crate::running::Start;
+use boot_file::{Blocks, FileDisk, Lockable};
+use box_words::{BoxFault, Machine as Ends, Refused, refused_end};
+use control::{Control, ControlPath, Machine as Listeners};
+use faults::{Fault, text_of};
+use nat_types::{GatewayId, NoMemory};
+use settings::Settings;
+use sockets::{Machine as Places, Ports, SocketFault, Sockets, Ways, ports_of};
+use std::fs::Files;
+use std::net::Net;
+use supervision::{Machine as Descriptors, Manager};
+use tap::Vacant;
+
+/// The system, whose files and network nobody else of a start has at hand.
+#[derive(Drop)]
+pub(crate) struct Machine<'a, R> {
+    rt: &'a R,
+    descriptors: Descriptors<'a, R>,
+    listeners: Listeners<'a, R>,
+    places: Places<'a, R>,
+}
+
+/// This system.
+pub(crate) fn machine_of<R: Files + Net>(rt: &R) -> Machine<'_, R> {
+    Machine {
+        rt,
+        descriptors: Descriptors::new(rt),
+        listeners: Listeners::new(rt),
+        places: Places::new(rt),
+    }
+}
+
+impl<R: Files + Net + AllocGlobal> Machine<'_, R> {
+    /// Has it read the text of the file at a path.
+    #[tactic(auto, unfolding(crate::specs::Asking::WasAsked, crate::specs::Named::WasRead, crate::specs::Named::WasDenied))]
+    pub(crate) fn told_to_read(&mut self, path: &str) -> Result<String, Fault>
+        ensures asked { WasAsked self.old (settings_text path.now) self.new }
+        ensures read { IfOk result (λ text. WasRead path.now (string_bytes text)) }
+        ensures err { IfErr result (λ why. WasDenied (settings_text path.now) (faults.Run why)
+            × IsUnread path.now why) }
+    {
+        text_of(self.rt, path)
+    }
+
+    /// Has it give a start the service manager whose descriptor a text writes, which is told nothing yet.
+    #[tactic(auto, unfolding(crate::specs::Asking::WasAsked))]
+    pub(crate) fn told_to_take_over(&mut self, text: &str) -> Result<Manager, BoxFault>
+        ensures asked { WasAsked self.old (service_manager text.now) self.new }
+        ensures ok { IfOk result (λ manager. IsNotified (Some text.entry) (Some manager)) }
+        ensures err { IfErr result (LacksManager (Some text.entry)) }
+    {
+        let Some(descriptor) = Manager::read(text) else {
+            return Err(BoxFault::NoManager);
+        };
+        let manager = Manager::inherit(&mut self.descriptors, descriptor)?;
+        Ok(manager)
+    }
+
+    /// Has it open and lock the boot file of a start's box, once all that the start says was looked at, and its descriptors were
+    /// taken over: the file could be taken for one of them.
+    #[tactic(auto, unfolding(crate::specs::Asking::WasAsked, crate::specs::Named::WasGiven, crate::specs::Named::WasHad, crate::specs::Named::WasDenied))]
+    pub(crate) fn told_to_lock(
+        &mut self,
+        start: &Start<'_>,
+        settings: &Settings,
+        ways: &Ways,
+    ) -> Result<FileDisk<R::File>, BoxFault>
+    where
+        R::File: Blocks + Lockable,
+        requires can { CanOpen start.now settings.now ways.now }
+        ensures asked { WasAsked self.old
+            (locked_file (boot_file_of settings.now start.now.id)) self.new }
+        ensures given { OnOk result
+            (WasGiven (locked_file (boot_file_of settings.now start.now.id))) }
+        ensures had { IfOk result
+            (WasHad (locked_file (boot_file_of settings.now start.now.id))) }
+        ensures locked { IfOk result (λ disk. ⟦<R::File as Lockable>⟧.locked disk.file) }
+        ensures err { IfErr result (LacksBootFile (boot_file_of settings.now start.now.id)) }
+    {
+        let path = settings.gateway(start.id).boot_file.as_str();
+        match boot_file::open(self.rt, path) {
+            Ok(disk) => Ok(disk),
+            Err(fault) => Err(BoxFault::of_boot_file(self.rt.alloc(), path, fault)),
+        }
+    }
+
+    /// Has it open the control socket beside a box's boot file.
+    #[tactic(auto, unfolding(crate::specs::Asking::WasAsked, crate::specs::Named::WasGiven, crate::specs::Named::WasHad, crate::specs::Named::WasDenied))]
+    pub(crate) fn told_to_hear(
+        &mut self,
+        settings: &Settings,
+        id: GatewayId,
+        path: &ControlPath,
+    ) -> Result<Control, BoxFault>
+        requires beside { IsBeside (boot_file_of settings.now id) path.now }
+        requires locked { WasGiven (locked_file (boot_file_of settings.now id)) }
+        ensures asked { WasAsked self.old
+            (control_socket (socket_of (boot_file_of settings.now id))) self.new }
+        ensures given { OnOk result
+            (WasGiven (control_socket (socket_of (boot_file_of settings.now id)))) }
+        ensures had { IfOk result
+            (WasHad (control_socket (socket_of (boot_file_of settings.now id)))) }
+        ensures err { IfErr result (LacksControl (boot_file_of settings.now id)) }
+    {
+        match Control::open(&mut self.listeners, path, self.rt.alloc()) {
+            Ok(control) => Ok(control),
+            Err(_) => {
+                let boot_file = settings.gateway(id).boot_file.as_str();
+                Err(BoxFault::no_control(self.rt.alloc(), boot_file))
+            }
+        }
+    }
+
+    /// Has it open the sockets that the ways of a box need, beside its control socket. Where they aren't had, the first of the
+    /// box's own ends that is refused is told, where one is.
+    #[tactic(auto, unfolding(crate::specs::Asking::WasAsked, crate::specs::Named::WasGiven, crate::specs::Named::WasHad, crate::specs::Named::WasDenied))]
+    pub(crate) fn told_to_wire(
+        &mut self,
+        settings: &Settings,
+        id: GatewayId,
+        ways: &Ways,
+        control: Control,
+    ) -> Result<Sockets, BoxFault>
+        requires heard { WasHad (control_socket (socket_of (boot_file_of settings.now id)))
+            control }
+        ensures asked { WasAsked self.old
+            (own_sockets ways.now (box_ports settings.now id)) self.new }
+        ensures given { OnOk result (WasGiven (own_sockets ways.now (box_ports settings.now id))) }
+        ensures wired { OnOk result (WasGiven all_sockets) }
+        ensures had { IfOk result (WasHad (own_sockets ways.now (box_ports settings.now id))) }
+        ensures opened { IfOk result
+            (λ wire. Opens self.old.places ways.now (box_ports settings.now id) control wire.board
+            self.new.places) }
+        ensures err { IfErr result (LacksPlace settings.now id ways.now) }
+    {
+        let ports = ports_of(settings, id);
+        match Sockets::open(&mut self.places, self.rt.alloc(), ways, ports, control) {
+            Ok(sockets) => Ok(sockets),
+            Err(SocketFault::NoMemory) => Err(BoxFault::from(NoMemory)),
+            Err(SocketFault::NoSocket) => {
+                let end = self.first_refused(ways, ports);
+                Err(BoxFault::NoSocket(end))
+            }
+        }
+    }
+
+    /// The first of a box's own ends that it refuses, if it refuses one by itself.
+    fn first_refused(&mut self, ways: &Ways, ports: Ports) -> Refused
+        ensures { IsFirstOf ways.now ports result.0 }
+    {
+        refused_end(&mut Ends::new(self.rt), ways, ports)
+    }
+
+    /// Has it open the file at a path for a capture, once the sockets were had, and the start's filter is one: a start that is
+    /// refused before makes none.
+    #[tactic(auto, unfolding(crate::specs::Asking::WasAsked, crate::specs::Named::WasGiven, crate::specs::Named::WasHad, crate::specs::Named::WasDenied))]
+    pub(crate) fn told_to_make(
+        &mut self,
+        start: &Start<'_>,
+        path: &str,
+    ) -> Result<Vacant<R::File>, BoxFault>
+        requires wired { WasGiven all_sockets }
+        requires valid { IsFilter start.now.log }
+        ensures asked { WasAsked self.old (capture_file path.now) self.new }
+        ensures given { OnOk result (WasGiven (capture_file path.now)) }
+        ensures had { IfOk result (WasHad (capture_file path.now)) }
+        ensures err { IfErr result (LacksCapture (Some path.now)) }
+    {
+        match tap::open(self.rt, path) {
+            Ok(file) => Ok(file),
+            Err(error) => Err(BoxFault::no_capture(self.rt.alloc(), path, &error)),
+        }
+    }
+}
