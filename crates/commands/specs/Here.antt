@@ -12,7 +12,7 @@ use Rattle.box_words.specs.declared.refusals.BoxFault.{BoxFault}
 use Rattle.gate.specs.Asked.{path_in}
 use Rattle.gate.specs.Orders.{IsBehind}
 use Rattle.gate.specs.Served.{HasServed}
-use Rattle.gate.specs.Starts.{Refuses}
+use Rattle.gate.specs.Sparing.{IsRefusal}
 use Rattle.gate.specs.declared.running.Start.{Start}
 use Rattle.simulation.specs.Clocks.{Moments, founding_moments}
 use Rattle.commands.specs.Hosts.{Work, Works, Written, compared, looked, plan_in, scope_in, served, text_in}
@@ -28,9 +28,17 @@ IsSilentOrBehind start printed why = (printed.after ≡ printed.before)
 
 -- What comes of a start that this machine runs: at 0 a gateway was served so, and nothing is told; at 1 just one fault's line is, for which
 -- that start may be refused, and so much is printed before it.
-abbrev pub ServesHere : Start → Written → List (List ℕ) → ℕ → Type 0
-ServesHere start printed lines status = (status ≡ 0 → (lines ≡ []) × HasServed start printed.before printed.after)
-    × (status ≡ 1 → IsToldOf lists fault_text (λ why. Refuses start why × IsSilentOrBehind start printed why) [] lines)
+abbrev pub ServesHere : {G : Type 0} → Works Start G
+ServesHere before start printed lines status after = (status ≡ 0 → (lines ≡ []) × HasServed start printed.before printed.after)
+    × (status ≡ 1 → IsToldOf lists fault_text (λ why. IsRefusal start printed.before printed.after why × IsSilentOrBehind start printed why) [] lines)
+
+-- Who runs gateways here was asked to run just this one, by what he was before and is then, and it ended with this status. It is no more
+-- than a name for the call, as are those below it: who makes the call has it, and nobody else.
+unfoldable pub WasServed : {G : Type 0} → G → Start → ℕ → G → Type 0
+WasServed before start status after = Unit {0}
+
+abbrev pub HasServedHere : {G : Type 0} → Works Start G
+HasServedHere before start printed lines status after = WasServed before start status after × ServesHere before start printed lines status after
 
 -- Of a text `checks` says just what it finds of it, and tells just that the output or memory was refused, with the status that it says; in
 -- what two differ so too, and of each that holds no settings why. Who runs gateways is handed just one start, which has the plan.
@@ -43,23 +51,22 @@ WorksHere finds takes serves before (compared one other) printed lines status af
 WorksHere finds takes serves before (served plan) printed lines status after = (start : Start)
     × (plan_in start ≡ plan) × serves before start printed lines status after
 
--- A capture was begun in the file at this path. It is no more than a name for the call, as are those below it: who makes the call has it,
--- and nobody else.
-unfoldable pub WasBegun : {T : Type 0} → List ℕ → T → Type 0
-WasBegun path capture = Unit {0}
+-- just a capture in the file at this path was begun, by what begins them before and then
+unfoldable pub WasBegun : {C T : Type 0} → C → List ℕ → T → C → Type 0
+WasBegun before path capture after = Unit {0}
 
 -- it was to be, and couldn't, for this cause
-unfoldable pub WasUnbegun : List ℕ → ErrorKind → Type 0
-WasUnbegun path cause = Unit {0}
+unfoldable pub WasUnbegun : {C : Type 0} → C → List ℕ → ErrorKind → C → Type 0
+WasUnbegun before path cause after = Unit {0}
 
 -- it was to be ended, and this was answered
 unfoldable pub WasEnded : {T : Type 0} → T → Result (Unit {0}) ErrorKind → Type 0
 WasEnded capture answer = Unit {0}
 
 -- how a capture is begun in the file at a path
-abbrev pub IsBegunAt : {T : Type 0} → List ℕ → Result T ErrorKind → Type 0
-IsBegunAt path (Ok capture) = WasBegun path capture
-IsBegunAt path (Err cause) = WasUnbegun path cause
+abbrev pub IsBegunAt : {C T : Type 0} → C → List ℕ → Result T ErrorKind → C → Type 0
+IsBegunAt before path (Ok capture) after = WasBegun before path capture after
+IsBegunAt before path (Err cause) after = WasUnbegun before path cause after
 
 -- a capture is as it is begun: its clocks are those of a beginning, and nothing was refused yet
 abbrev pub IsFresh : Moments → Bool → Type 0

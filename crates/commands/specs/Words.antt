@@ -38,8 +38,8 @@ HasActed tells acts first last words status before after =
     ((asked : Task) × (IsAnswer words asked × (IsSpared asked first last × acts first last asked status before after)))
     ⊎ ((last ≡ first) × IsRefusal tells words status before after)
 
--- the same at some site, by some host and through some new passage, where who watches hears by some clock
-pub record HasActedSomewhere {S H P C O E : Type 0} (tells : Telling E) (is_new : P → Type 0) (acts : C → ActsBy S H P O E) (words : List (List ℕ)) (status : ℕ)
+-- the same at some site, by some host and through some passage, each of them new, where who watches hears by some clock
+pub record HasActedSomewhere {S H P C O E : Type 0} (tells : Telling E) (is_new_site : S → Type 0) (is_new_host : H → Type 0) (is_new : P → Type 0) (acts : C → ActsBy S H P O E) (words : List (List ℕ)) (status : ℕ)
     (output printed : O) (before after : E) : Type 0 where
   pub site : S
   pub left : S
@@ -47,6 +47,8 @@ pub record HasActedSomewhere {S H P C O E : Type 0} (tells : Telling E) (is_new 
   pub behind : H
   pub first : P
   pub last : P
+  pub site_is : is_new_site site
+  pub host_is : is_new_host host
   pub first_is : is_new first
   pub clock : C
   pub acted : HasActed tells (acts clock) first last words status (scene site host output before) (scene left behind printed after)

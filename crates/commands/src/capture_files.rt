@@ -5,35 +5,13 @@ ghost use Rattle.faults.specs.Faults.{status_of};
 ghost use Rattle.faults.specs.Texts.{fault_text};
 ghost use Rattle.outlets.specs.Telling.{IsToldOf};
 ghost use Rattle.commands.specs.Captures.{IsOfCapture, IsOfEnd};
-ghost use Rattle.commands.specs.Here.{IsFresh, WasBegun, WasEnded, WasUnbegun};
+ghost use Rattle.commands.specs.Here.{WasEnded};
 
-use captures::{Reader, open};
-use faults::{Fault, Job};
+use faults::Fault;
 use outlets::Tells;
 use simulation::Capture;
 use std::alloc::Global;
-use std::fs::Files;
-use std::io::{self, BufWriter, Write};
-
-/// Begins a capture of a job in the file at a path: the job's texts are read by then. One that is there loses what it has,
-/// where that is a capture. The reader of a named pipe is waited for.
-///
-/// # Errors
-///
-/// `AlreadyExists` where it is a regular file that has something else, and keeps it; where it can't be made or written.
-#[tactic(auto, unfolding(crate::specs::Here::WasBegun, crate::specs::Here::WasUnbegun))]
-pub(crate) fn capture_at<R: Files + AllocGlobal>(
-    rt: &R,
-    path: &str,
-    _job: &Job,
-) -> io::Result<Capture<BufWriter<R::File>>>
-    ensures fresh { IfOk result (λ capture. IsFresh capture.clocks capture.is_refused) }
-    ensures begun { IfOk result (WasBegun path.now) }
-    ensures unbegun { IfErr result (λ error. WasUnbegun path.now (error_kind error)) }
-{
-    let file = open(rt, path, Reader::Awaited)?.clear()?;
-    Capture::begin(BufWriter::new(rt.alloc(), file)?)
-}
+use std::io::{self, Write};
 
 /// Ends a capture: all of it is handed on.
 ///

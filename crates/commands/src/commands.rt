@@ -2,96 +2,30 @@
 ghost use Rattle.std.specs.Prelude.{◌≡◌, ◌⊎◌, ◌≤◌, false, map, option_map, string_bytes};
 ghost use Rattle.command_line.specs.Line.{AskVersion, MayAskVersion};
 ghost use Rattle.command_line.specs.Tasks.{FoundsAtZero};
-ghost use Rattle.commands.specs.Words.{AreRefused, HasActed, HasActedSomewhere, IsRefusalTold};
+ghost use Rattle.commands.specs.Words.{AreRefused, HasActed, IsRefusalTold};
 ghost use Rattle.commands.specs.Asked.{format_of};
-ghost use Rattle.loopback_run.specs.Standings.{IsUnasked};
 ghost use Rattle.commands.specs.Acts.{Acts, IsSpared};
-ghost use Rattle.commands.specs.Ends.{AreDone, AreDoneAnew, Ends};
+ghost use Rattle.commands.specs.Ends.{AreDone, Ends};
 ghost use Rattle.commands.specs.Hosts.{scene};
 ghost use Rattle.commands.specs.Meters.{Overhears, Watches};
 
 use crate::asking::{look_at, pairs_of, state_of};
-use crate::hosts::{Host, ThisHost};
+use crate::hosts::Host;
 use crate::runs::{repeat, sim};
-use crate::serving::SystemServes;
 use crate::versions::tell_version;
-use boot_file::{Blocks, Lockable};
-use box_words::{Machine, Site, peer_off, side, stop};
+use box_words::{Site, peer_off, side, stop};
 use command_line::{GateWords, Task, WayWords, command};
-use frame_sim::Tape;
 use gate::{Start, WayTexts, init};
 use journal::Format;
-use loopback_run::{Channel, Loopback};
+use loopback_run::Channel;
 use outlets::Tells;
-use rounds::{Clockwork, Stopwatch};
-use simulation::Capture;
-use std::fs::Files;
-use std::io::{BufWriter, Write};
-use std::net::Net;
-use std::os::fd::AsRawFd;
-use std::random::RandomSource;
-use std::rt::{Clock, Env};
+use rounds::Clockwork;
+use std::io::Write;
+use std::rt::Clock;
 
-/// All that the program does with its words, its name first. The answer is the exit status. Where somebody watches
-/// `errors` at a terminal, a long script of `sim` says there every few seconds how far it is.
-///
-/// | Status | |
-/// |---|---|
-/// | 0 | done |
-/// | 1 | a fault, told on `errors` as `natpair: AREA NUMBER NAME` |
-/// | 2 | the words are refused: why stands on `errors` |
-/// | 3 | an event of the script was refused |
-pub fn act<
-    R: Files + Net + Clock + RandomSource + Eprint + Env + Input + AllocGlobal,
-    O: Write,
-    E: Tells,
->(rt: &R, words: &[String], is_watched: bool, output: &mut O, errors: &mut E) -> u8
-where
-    R::File: Blocks + Lockable + AsRawFd,
-    ensures usage { result ≡ 2 → AreRefused (map string_bytes words.now) }
-    ensures unprinted { result ≡ 2 → output.new ≡ output.old }
-    ensures told { result ≡ 2
-        → IsRefusalTold E.tells (map string_bytes words.now) errors.old errors.new }
-    ensures refused { AreRefused (map string_bytes words.now)
-        → ¬ (MayAskVersion (map string_bytes words.now)) → (result ≡ 1) ⊎ (result ≡ 2) }
-    ensures version { AskVersion (map string_bytes words.now)
-        → (result ≡ 0) ⊎ (result ≡ 1) }
-    ensures done { (result ≡ 0) ⊎ (result ≡ 3) → AreDoneAnew IsUnasked
-        ⟦<Loopback<'static, R> as Channel>⟧.opens ⟦<Loopback<'static, R> as Channel>⟧.passes
-        (map string_bytes words.now) (O.contents output.old) (O.contents output.new) result }
-    ensures quiet { is_watched ≡ false → (result ≡ 0) ⊎ (result ≡ 3) → errors.new ≡ errors.old }
-    ensures most { result ≤ 3 }
-    ensures acts { HasActedSomewhere E.tells IsUnasked
-        (λ clock. Acts ⟦<Machine<'static, R> as Site>⟧.does
-        ⟦<ThisHost<'static, R, SystemServes<'static, R>> as Host>⟧.works
-        ⟦<Capture<BufWriter<R::File>> as Tape>⟧.takes
-        ⟦<Capture<BufWriter<R::File>> as Tape>⟧.refuses
-        ⟦<ThisHost<'static, R, SystemServes<'static, R>> as Host>⟧.begins
-        ⟦<ThisHost<'static, R, SystemServes<'static, R>> as Host>⟧.ends
-        ⟦<Loopback<'static, R> as Channel>⟧.opens ⟦<Loopback<'static, R> as Channel>⟧.refuses
-        ⟦<Loopback<'static, R> as Channel>⟧.passes O.contents E.tells
-        (Watches is_watched ⟦<Stopwatch<'static, R> as Clockwork>⟧.reads E.tells clock)
-        (Overhears is_watched ⟦<Stopwatch<'static, R> as Clockwork>⟧.reads E.tells clock))
-        (map string_bytes words.now) result output.old output.new errors.old errors.new }
-{
-    let (mut site, mut host, clock) = (Machine::new(rt), ThisHost::new(rt), Stopwatch::start(rt));
-    let mut passage = Loopback::new(rt);
-    act_at(
-        rt,
-        &mut site,
-        &mut host,
-        &mut passage,
-        clock,
-        words,
-        is_watched,
-        output,
-        errors,
-    )
-}
-
-/// The same at a site, by a host and through a passage, where who watches a script hears by a clock how far it is: the task of the words is
-/// done; or just why they ask for none is told.
-fn act_at<
+/// All that is done for the words at a site, by a host and through a passage, where who watches a script hears by a clock how
+/// far it is: the task of the words is done; or just why they ask for none is told.
+pub(crate) fn act_at<
     R: Clock + AllocGlobal,
     S: Site,
     H: Host,

@@ -2,13 +2,15 @@
 ghost use Rattle.std.specs.IoError.{error_kind};
 ghost use Rattle.std.specs.Prelude.{◌≡◌, ◌⊎◌, Err, IfErr, IfOk, IsErr, IsTrue, Ok, true};
 ghost use Rattle.nat_types.specs.declared.gateways.GatewayId.TheVariants.{Zero};
+ghost use Rattle.box_words.specs.Machines.{IsUntouched};
 ghost use Rattle.checks.specs.Counts.{AreAlike, IsCleanText, IsGoodText};
 ghost use Rattle.gate.specs.Served.{HasServed};
 ghost use Rattle.commands.specs.Here.{IsBegunAt, IsFresh, WasEnded, WorksHere};
 ghost use Rattle.commands.specs.Hosts.{HasWorked, compared, looked, plan_in, scope_in, served, text_in, written};
 
-use crate::capture_files::{capture_at, end_of};
-use crate::serving::{Serves, SystemServes};
+use crate::capture_files::end_of;
+use crate::machine::{SystemCaptures, SystemServes};
+use crate::serving::Serves;
 use boot_file::Lockable;
 use checks::{Request, Source, Surroundings, ThisMachine, check, compare};
 use faults::Job;
@@ -16,6 +18,7 @@ use frame_sim::Tape;
 use gate::Start;
 use outlets::Tells;
 use simulation::Capture;
+use std::alloc::Global;
 use std::fs::Files;
 use std::io::{self, BufWriter, Write};
 
@@ -92,13 +95,28 @@ pub(crate) trait Host {
             → HasServed start.now (O.contents output.old) (O.contents output.new) };
 }
 
-/// This machine, and who runs gateways here: of what it finds, and of files, nothing is known.
+/// This machine as a host: where captures are begun, what is found around it, and who runs gateways here. Of what it finds, and
+/// of files, nothing is known.
 #[derive(Drop)]
-pub(crate) struct ThisHost<'a, R, G>(&'a R, G);
+pub(crate) struct ThisHost<'a, R, G> {
+    captures: SystemCaptures<'a, R>,
+    around: ThisMachine<'a, R>,
+    gateways: G,
+    alloc: Global,
+}
 
-impl<'a, R> ThisHost<'a, R, SystemServes<'a, R>> {
-    pub(crate) fn new(rt: &'a R) -> Self {
-        ThisHost(rt, SystemServes(rt))
+impl<'a, R: AllocGlobal> ThisHost<'a, R, SystemServes<'a, R>> {
+    /// It was asked for nothing yet.
+    #[tactic(auto, unfolding(box_words::specs::Machines::IsUntouched))]
+    pub(crate) fn new(rt: &'a R) -> Self
+        ensures { IsUntouched result }
+    {
+        ThisHost {
+            captures: SystemCaptures::new(rt),
+            around: ThisMachine::new(rt),
+            gateways: SystemServes::new(rt),
+            alloc: rt.alloc(),
+        }
     }
 }
 
@@ -107,20 +125,22 @@ where
     R::File: Lockable,
 {
     ghost works = { λ host work printed lines status host2.
-        WorksHere ⟦<ThisMachine<'static, R> as Surroundings>⟧.finds
+        (host2.captures ≡ host.captures)
+        × WorksHere ⟦<ThisMachine<'static, R> as Surroundings>⟧.finds
         ⟦<ThisMachine<'static, R> as Surroundings>⟧.takes
-        G.serves host.1 work printed lines status host2.1 };
+        G.serves host.gateways work printed lines status host2.gateways };
 
     type Record = Capture<BufWriter<R::File>>;
 
-    ghost begins = { λ host path answer host2. (host2.1 ≡ host.1) × IsBegunAt path answer
+    ghost begins = { λ host path answer host2. (host2.gateways ≡ host.gateways)
+        × IsBegunAt host.captures path answer host2.captures
         × IfOk answer (λ tape. IsFresh tape.clocks tape.is_refused) };
 
     ghost ends = { λ _ tape answer. WasEnded tape answer
         × (tape.is_refused ≡ true → IsErr answer) };
 
-    fn begin(&mut self, path: &str, job: &Job) -> io::Result<Capture<BufWriter<R::File>>> {
-        capture_at(self.0, path, job)
+    fn begin(&mut self, path: &str, _job: &Job) -> io::Result<Capture<BufWriter<R::File>>> {
+        self.captures.told_to_begin(path)
     }
 
     fn end(&self, tape: Capture<BufWriter<R::File>>) -> io::Result<()> {
@@ -134,8 +154,7 @@ where
         output: &mut O,
         errors: &mut E,
     ) -> u8 {
-        let around = ThisMachine::new(self.0);
-        check(self.0.alloc(), &around, text, request, output, errors)
+        check(self.alloc, &self.around, text, request, output, errors)
     }
 
     fn compare<O: Write, E: Tells>(
@@ -145,7 +164,7 @@ where
         output: &mut O,
         errors: &mut E,
     ) -> u8 {
-        compare(self.0.alloc(), one, other, output, errors)
+        compare(self.alloc, one, other, output, errors)
     }
 
     fn serve<O: Write, E: Tells>(
@@ -154,6 +173,6 @@ where
         output: &mut O,
         errors: &mut E,
     ) -> u8 {
-        self.1.serve(start, output, errors)
+        self.gateways.serve(start, output, errors)
     }
 }

@@ -5,9 +5,10 @@ mod asking;
 mod capture_files;
 mod commands;
 mod hosts;
+mod machine;
 mod meters;
 mod runs;
 mod serving;
 mod versions;
 
-pub use commands::act;
+pub use machine::act;

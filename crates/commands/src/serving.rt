@@ -2,11 +2,12 @@
 ghost use Rattle.std.specs.Prelude.{◌≡◌, ◌⊎◌, IsTrue};
 ghost use Rattle.nat_types.specs.declared.gateways.GatewayId.TheVariants.{Zero};
 ghost use Rattle.gate.specs.Served.{HasServed};
-ghost use Rattle.commands.specs.Here.{ServesHere};
+ghost use Rattle.commands.specs.Here.{HasServedHere};
 ghost use Rattle.commands.specs.Hosts.{HasWorked, written};
 
+use crate::machine::SystemServes;
 use boot_file::{Blocks, Lockable};
-use gate::{Start, gate};
+use gate::Start;
 use outlets::Tells;
 use std::fs::Files;
 use std::io::Write;
@@ -36,16 +37,13 @@ pub(crate) trait Serves {
             → HasServed start.now (O.contents output.old) (O.contents output.new) };
 }
 
-/// This machine.
-#[derive(Drop)]
-pub(crate) struct SystemServes<'a, R>(pub(crate) &'a R);
-
+/// This machine: one start is one call of it.
 impl<R: Files + Net + Clock + RandomSource + Eprint + Env + Input + AllocGlobal> Serves
     for SystemServes<'_, R>
 where
     R::File: Blocks + Lockable + AsRawFd,
 {
-    ghost serves = { λ _ start printed lines status _. ServesHere start printed lines status };
+    ghost serves = { HasServedHere };
 
     fn serve<O: Write, E: Tells>(
         &mut self,
@@ -53,6 +51,6 @@ where
         output: &mut O,
         errors: &mut E,
     ) -> u8 {
-        gate(self.0, start, output, errors)
+        self.told_to_serve(start, output, errors)
     }
 }

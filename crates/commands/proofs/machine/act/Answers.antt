@@ -1,4 +1,4 @@
-use Rattle.commands.proofs.commands.act.Goals as goal
+use Rattle.commands.proofs.machine.act.Goals as goal
 
 pub returns-clause-acts : goal.returns-clause-acts
 returns-clause-acts g c = record {
@@ -8,6 +8,8 @@ returns-clause-acts g c = record {
   behind = _;
   first = _;
   last = _;
+  site_is = c.new-site.ensures;
+  host_is = c.new-host.ensures;
   first_is = c.new-passage.ensures;
   clock = _;
   acted = c.act_at.ensures.acts;

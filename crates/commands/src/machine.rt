@@ -1,0 +1,161 @@
+//! This machine, as the commands have it: all that has the system at hand. What it is asked has names, and no more is known
+//! of it.
+ghost use Rattle.std.specs.IoError.{error_kind};
+ghost use Rattle.std.specs.Prelude.{◌≡◌, ◌⊎◌, ◌≤◌, IfErr, IfOk, IsTrue, false, map, string_bytes};
+ghost use Rattle.nat_types.specs.declared.gateways.GatewayId.TheVariants.{Zero};
+ghost use Rattle.command_line.specs.Line.{AskVersion, MayAskVersion};
+ghost use Rattle.box_words.specs.Machines.{IsUntouched};
+ghost use Rattle.gate.specs.Served.{HasServed};
+ghost use Rattle.loopback_run.specs.Standings.{IsUnasked};
+ghost use Rattle.commands.specs.Acts.{Acts};
+ghost use Rattle.commands.specs.Ends.{AreDoneAnew};
+ghost use Rattle.commands.specs.Here.{IsFresh, ServesHere, WasBegun, WasServed, WasUnbegun};
+ghost use Rattle.commands.specs.Hosts.{HasWorked, written};
+ghost use Rattle.commands.specs.Meters.{Overhears, Watches};
+ghost use Rattle.commands.specs.Words.{AreRefused, HasActedSomewhere, IsRefusalTold};
+
+use crate::commands::act_at;
+use crate::hosts::{Host, ThisHost};
+use boot_file::{Blocks, Lockable};
+use box_words::{Machine, Site};
+use captures::{Reader, open};
+use frame_sim::Tape;
+use gate::{Start, gate};
+use loopback_run::{Channel, Loopback};
+use outlets::Tells;
+use rounds::{Clockwork, Stopwatch};
+use simulation::Capture;
+use std::fs::Files;
+use std::io::{self, BufWriter, Write};
+use std::net::Net;
+use std::os::fd::AsRawFd;
+use std::random::RandomSource;
+use std::rt::{Clock, Env};
+
+/// All that the program does with its words, its name first. The answer is the exit status. Where somebody watches
+/// `errors` at a terminal, a long script of `sim` says there every few seconds how far it is.
+///
+/// | Status | |
+/// |---|---|
+/// | 0 | done |
+/// | 1 | a fault, told on `errors` as `natpair: AREA NUMBER NAME` |
+/// | 2 | the words are refused: why stands on `errors` |
+/// | 3 | an event of the script was refused |
+pub fn act<
+    R: Files + Net + Clock + RandomSource + Eprint + Env + Input + AllocGlobal,
+    O: Write,
+    E: Tells,
+>(rt: &R, words: &[String], is_watched: bool, output: &mut O, errors: &mut E) -> u8
+where
+    R::File: Blocks + Lockable + AsRawFd,
+    ensures usage { result ≡ 2 → AreRefused (map string_bytes words.now) }
+    ensures unprinted { result ≡ 2 → output.new ≡ output.old }
+    ensures told { result ≡ 2
+        → IsRefusalTold E.tells (map string_bytes words.now) errors.old errors.new }
+    ensures refused { AreRefused (map string_bytes words.now)
+        → ¬ (MayAskVersion (map string_bytes words.now)) → (result ≡ 1) ⊎ (result ≡ 2) }
+    ensures version { AskVersion (map string_bytes words.now)
+        → (result ≡ 0) ⊎ (result ≡ 1) }
+    ensures done { (result ≡ 0) ⊎ (result ≡ 3) → AreDoneAnew IsUnasked
+        ⟦<Loopback<'static, R> as Channel>⟧.opens ⟦<Loopback<'static, R> as Channel>⟧.passes
+        (map string_bytes words.now) (O.contents output.old) (O.contents output.new) result }
+    ensures quiet { is_watched ≡ false → (result ≡ 0) ⊎ (result ≡ 3) → errors.new ≡ errors.old }
+    ensures most { result ≤ 3 }
+    ensures acts { HasActedSomewhere E.tells IsUntouched IsUntouched IsUnasked
+        (λ clock. Acts ⟦<Machine<'static, R> as Site>⟧.does
+        ⟦<ThisHost<'static, R, SystemServes<'static, R>> as Host>⟧.works
+        ⟦<Capture<BufWriter<R::File>> as Tape>⟧.takes
+        ⟦<Capture<BufWriter<R::File>> as Tape>⟧.refuses
+        ⟦<ThisHost<'static, R, SystemServes<'static, R>> as Host>⟧.begins
+        ⟦<ThisHost<'static, R, SystemServes<'static, R>> as Host>⟧.ends
+        ⟦<Loopback<'static, R> as Channel>⟧.opens ⟦<Loopback<'static, R> as Channel>⟧.refuses
+        ⟦<Loopback<'static, R> as Channel>⟧.passes O.contents E.tells
+        (Watches is_watched ⟦<Stopwatch<'static, R> as Clockwork>⟧.reads E.tells clock)
+        (Overhears is_watched ⟦<Stopwatch<'static, R> as Clockwork>⟧.reads E.tells clock))
+        (map string_bytes words.now) result output.old output.new errors.old errors.new }
+{
+    let mut site = Machine::new(rt);
+    let mut host = ThisHost::new(rt);
+    let mut passage = Loopback::new(rt);
+    let clock = Stopwatch::start(rt);
+    act_at(
+        rt,
+        &mut site,
+        &mut host,
+        &mut passage,
+        clock,
+        words,
+        is_watched,
+        output,
+        errors,
+    )
+}
+
+/// Where captures are begun on this machine.
+#[derive(Drop)]
+pub(crate) struct SystemCaptures<'a, R> {
+    rt: &'a R,
+}
+
+impl<'a, R> SystemCaptures<'a, R> {
+    pub(crate) fn new(rt: &'a R) -> Self {
+        SystemCaptures { rt }
+    }
+}
+
+impl<R: Files + AllocGlobal> SystemCaptures<'_, R> {
+    /// Has the system open the file at a path, and begins a capture there. One that is there loses what it has, where that is
+    /// a capture. The reader of a named pipe is waited for.
+    ///
+    /// # Errors
+    ///
+    /// `AlreadyExists` where it is a regular file that has something else, and keeps it; where it can't be made or written.
+    #[tactic(auto, unfolding(crate::specs::Here::WasBegun, crate::specs::Here::WasUnbegun))]
+    pub(crate) fn told_to_begin(&mut self, path: &str) -> io::Result<Capture<BufWriter<R::File>>>
+        ensures fresh { IfOk result (λ capture. IsFresh capture.clocks capture.is_refused) }
+        ensures begun { IfOk result (λ capture. WasBegun self.old path.now capture self.new) }
+        ensures unbegun { IfErr result
+            (λ error. WasUnbegun self.old path.now (error_kind error) self.new) }
+    {
+        let file = open(self.rt, path, Reader::Awaited)?.clear()?;
+        Capture::begin(BufWriter::new(self.rt.alloc(), file)?)
+    }
+}
+
+/// Who runs gateways on this machine.
+#[derive(Drop)]
+pub(crate) struct SystemServes<'a, R> {
+    rt: &'a R,
+}
+
+impl<'a, R> SystemServes<'a, R> {
+    pub(crate) fn new(rt: &'a R) -> Self {
+        SystemServes { rt }
+    }
+}
+
+impl<R: Files + Net + Clock + RandomSource + Eprint + Env + Input + AllocGlobal> SystemServes<'_, R>
+where
+    R::File: Blocks + Lockable + AsRawFd,
+{
+    /// Runs a gateway.
+    #[tactic(auto, unfolding(crate::specs::Here::WasServed))]
+    pub(crate) fn told_to_serve<O: Write, E: Tells>(
+        &mut self,
+        start: &Start<'_>,
+        output: &mut O,
+        errors: &mut E,
+    ) -> u8
+        requires found { IsTrue start.now.found → start.now.id ≡ Zero }
+        ensures asked { WasServed self.old start.now result self.new }
+        ensures tells { HasWorked E.tells ServesHere start.now
+            (written O.contents output.old output.new) result self.old self.new
+            errors.old errors.new }
+        ensures status { (result ≡ 0) ⊎ (result ≡ 1) }
+        ensures quiet { result ≡ 0 → errors.new ≡ errors.old }
+        ensures served { result ≡ 0
+            → HasServed start.now (O.contents output.old) (O.contents output.new) }
+    {
+        gate(self.rt, start, output, errors)
+    }
+}
