@@ -10,6 +10,7 @@ stand in proofs/Offered.antt, the one file that proofs/Lib.antt shows (`pub mod`
 proof files. Each folder of crates/ has its line in crates.txt and in crates/README.md.
 """
 import argparse
+import functools
 import pathlib
 import re
 import shutil
@@ -46,8 +47,13 @@ def sources_of(folder):
                 yield path
 
 
+@functools.cache
+def code_in(suffix, text):
+    return NO_CODE[suffix].sub(" ", text)
+
+
 def code_of(path):
-    return NO_CODE[path.suffix].sub(" ", path.read_text(encoding="utf-8"))
+    return code_in(path.suffix, path.read_text(encoding="utf-8"))
 
 
 def names_in(text):
@@ -79,6 +85,30 @@ def past_the_door(top, crates):
                     yield f"{path.relative_to(top)}: cites {owner}'s {module}, and not its Offered"
 
 
+def names_of_calls(top, crates):
+    for name in crates:
+        for path in sorted((top / "crates" / name / "specs").rglob("*.antt")):
+            yield from re.findall(r"(?m)^unfoldable pub (\w+) :[^\n]*\n\1 [^\n]*= Unit \{0\}$", code_of(path))
+
+
+def has_name(folder, proof, call):
+    """Whether the function of this file of answers says in its attribute that it looks into a name."""
+    source = folder / "src" / f"{proof.relative_to(folder).parts[1]}.rt"
+    attribute = rf"#\[tactic\([^\]]*\b{call}\b[^\]]*\]\s*(?:pub(?:\(crate\))? )?fn {proof.parent.name}\b"
+    return source.exists() and re.search(attribute, code_of(source)) is not None
+
+
+def looked_into(top, crates):
+    calls = set(names_of_calls(top, crates))
+    for name in crates:
+        folder = top / "crates" / name
+        for path in sorted((folder / "proofs").rglob("*.antt")):
+            looks = re.findall(r"\bunfold[^\n]*", code_of(path))
+            for call in sorted(calls & {word for look in looks for word in re.findall(r"\w+", look)}):
+                if not has_name(folder, path, call):
+                    yield f"{path.relative_to(top)}: looks into {call}, the name of a call"
+
+
 def without_a_sign(top, crates):
     plan = (top / "crates" / "README.md").read_text(encoding="utf-8")
     for folder in sorted((top / "crates").iterdir()):
@@ -106,7 +136,8 @@ def other_versions(top):
 
 def faults(top):
     crates = crates_of(top)
-    return [*unused(top, crates), *past_the_door(top, crates), *without_a_sign(top, crates), *other_versions(top)]
+    looks = (unused, past_the_door, looked_into, without_a_sign)
+    return [line for look in looks for line in look(top, crates)] + list(other_versions(top))
 
 
 def copy_of(top, room):
@@ -131,6 +162,10 @@ def plant(top, fault):
         path = top / "crates" / "sums" / "proofs" / "Lib.antt"
         path.write_text(path.read_text() + "\npub mod Planted\n")
         return "crates/sums/proofs/Lib.antt: shows Planted"
+    if fault == "name":
+        path = top / "crates" / "control" / "proofs" / "Planted.antt"
+        path.write_text("planted = unfolding WasDone in tt\n")
+        return "crates/control/proofs/Planted.antt: looks into WasDone"
     if fault == "version":
         path = top / "crates" / "command_line" / "src" / "versions.rt"
         path.write_text(re.sub(r'KIT: &str = ".*"', 'KIT: &str = "another"', path.read_text()))
@@ -141,7 +176,7 @@ def plant(top, fault):
 
 def self_test(top):
     """Each planted fault gives its own line and no other, also where the repository isn't in order yet."""
-    for fault in ("dependency", "lemma", "door", "version", "folder"):
+    for fault in ("dependency", "lemma", "door", "name", "version", "folder"):
         with tempfile.TemporaryDirectory(prefix="house-") as room:
             copy = copy_of(top, pathlib.Path(room))
             before = set(faults(copy))
