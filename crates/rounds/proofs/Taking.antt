@@ -2,14 +2,18 @@
 use Rattle.std.proofs.Common.{◌≡◌, ◌∙◌, ◌+◌, ◌<◌, ◌++◌, min, ℕ, zero, suc, Bool, true, false, not, List, [], ◌∷◌, take, Option, Some, None, Ok, length, refl, sym, ap, subst, inl, inr, add-one, length-append}
 use Rattle.std.proofs.lemmas.List.{append-nil, append_assoc, get_or-set_other, take_at}
 use Rattle.std.proofs.lemmas.List.Folds.{list_any-append}
+use Rattle.journal.specs.Origins.{origin_of as side_origin}
 use Rattle.journal.specs.declared.origins.Origin.{Origin}
+use Rattle.journal.specs.declared.origins.Origin.TheVariants.{Own}
+use Rattle.nat_types.specs.declared.gateways.Side.{Side}
+use Rattle.nat_types.specs.declared.gateways.Side.TheVariants.{Inside, Outside}
 use Rattle.reports.specs.Counts.{count_at, counted, key_of, most}
 use Rattle.reports.specs.declared.counters.Count.{Count}
-use Rattle.reports.specs.declared.counters.Count.TheVariants.{Lost, Sent}
+use Rattle.reports.specs.declared.counters.Count.TheVariants.{Sent}
 use Rattle.sockets.specs.Letters.{Call, Polled, answer_of, asked, came, failed, is_nothing, nothing}
 use Rattle.sockets.specs.declared.places.Place.{Place}
 use Rattle.sockets.specs.declared.wire.WireFault.{WireFault}
-use Rattle.rounds.specs.Losing.{LosesNone}
+use Rattle.rounds.specs.Losing.{CountsOnlySent}
 use Rattle.rounds.specs.Rounds.{AreMade, Box, Calls, HasLimit, TakesAll, TakesLetter, Waits}
 use Rattle.rounds.specs.Polls.{Asks, HasAsked, HasPolled}
 
@@ -45,12 +49,18 @@ made_all does calls rest a b had is =
 abbrev pub KeysApart : Type 0
 KeysApart = (origin other : Origin) → (what that : Count) → key_of other that ≡ key_of origin what → (other ≡ origin) × (that ≡ what)
 
--- one that is sent is no other loss
-pub none_lost : (first before after : List ℕ) (origin : Origin) → KeysApart → LosesNone first before → after ≡ counted origin Sent 1 before → LosesNone first after
-none_lost first before after origin apart none is = λ other cause.
-    ap (λ (xs : List ℕ). count_at xs other (Lost cause)) is
-    ∙ (get_or-set_other before (key_of origin Sent) (key_of other (Lost cause)) (min (count_at before origin Sent + 1) most) 0
-    (λ same. absurd (let that = (apart origin other Sent (Lost cause) same).1 in cc)) ∙ none other cause)
+-- a side isn't the box itself
+pub of_side : (side : Side) → side_origin side ≡ Own → ⊥
+of_side Inside is = cc
+of_side Outside is = cc
+
+-- one more that is sent there is no other count
+pub one_sent : (first before after : List ℕ) (origin : Origin) → KeysApart → (origin ≡ Own → ⊥) → CountsOnlySent first before → after ≡ counted origin Sent 1 before
+    → CountsOnlySent first after
+one_sent first before after origin apart outer only is = λ other what sent.
+    ap (λ (xs : List ℕ). count_at xs other what) is
+    ∙ (get_or-set_other before (key_of origin Sent) (key_of other what) (min (count_at before origin Sent + 1) most) 0
+    (λ same. let at = apart origin other Sent what same in outer (sym at.0 ∙ sent at.1)) ∙ only other what sent)
 
 -- ---- what is answered
 

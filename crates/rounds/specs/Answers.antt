@@ -6,18 +6,17 @@ use Rattle.addresses.specs.declared.transport.Protocol.TheVariants.{Icmp, Tcp, U
 use Rattle.control.specs.Answers.{answer_of, page, report}
 use Rattle.gateway.specs.Entries.{behind}
 use Rattle.interfaces.specs.Cables.{is_in}
-use Rattle.interfaces.specs.Stations.{Interface}
 use Rattle.journal.specs.declared.origins.Origin.{Origin}
 use Rattle.journal.specs.declared.origins.Origin.TheVariants as origin
 use Rattle.reports.specs.Counts.{counted}
 use Rattle.reports.specs.Formats.{spelling}
 use Rattle.reports.specs.Pages.{Page, listing}
 use Rattle.reports.specs.Reports.{page as page_format, report as report_format}
+use Rattle.reports.specs.Sides.{seen_again, seen_first}
 use Rattle.reports.specs.declared.counters.Count.TheVariants.{SendFailed, TooLong}
 use Rattle.reports.specs.declared.gateways.GatewayReport.{GatewayReport}
 use Rattle.reports.specs.declared.pages.TheConstants.{MOST_ENTRIES}
 use Rattle.reports.specs.declared.reports.Report.{Report}
-use Rattle.reports.specs.declared.sides.SideReport.{SideReport}
 use Rattle.reports.specs.declared.sides.Sides.{Sides}
 use Rattle.sockets.specs.declared.losses.Losses.{Losses}
 use Rattle.sockets.specs.declared.places.Place.{Place}
@@ -47,41 +46,6 @@ pub record SaysOf (g : Shown) (r : GatewayReport) : Type 0 where
   pub waiting_pair : r.waiting.pair ≡ pair_count g.kept
   pub waiting_hop : r.waiting.next_hop ≡ hop_count g.kept
 
--- a side is said to be as a gateway shows it: the state of its router, and whether its cable is in
-pub record ShowsSide (station : Interface) (side : SideReport) : Type 0 where
-  pub role : side.role ≡ station.router.state
-  pub up : side.up ≡ is_in station.cable
-
-pub record ShowsSides (g : Shown) (sides : Sides) : Type 0 where
-  pub inside : ShowsSide g.inside sides.inside
-  pub outside : ShowsSide g.outside sides.outside
-
--- a report is that of a box: it says whose it is, by the gateway's number, its boot and the digest of its settings, how the gateway stands, and its
--- sides
-pub record IsReportOf (who : Identity) (g : Shown) (r : Report) : Type 0 where
-  pub id : r.id ≡ who.id
-  pub boot : r.boot ≡ who.boot
-  pub digest : r.digest ≡ who.digest
-  pub stands : SaysOf g r.gateway
-  pub sides : ShowsSides g r.sides
-
--- the page behind a key: the first 128 entries there, and whether others follow
-abbrev pub page_at : Shown → Option Key → Page
-page_at g last =
-    let entries = behind last g.ledger.book.entries in
-    listing (take MOST_ENTRIES entries) (nat_lt MOST_ENTRIES (length entries))
-
--- the whole answer to a question, for which the log is asked this: a report of whose box it is and how its gateway stands, which says how many
--- lines the log has left out, as it answered; or the page behind the key
-abbrev pub IsAnswerTo : Identity → Shown → Question → List Telling → List ℕ → Type 0
-IsAnswerTo who g Status asked bytes = (r : Report) × (IsReportOf who g r
-    × ((asked ≡ Asked r.lines_left_out ∷ []) × (answer_of bytes ≡ Some (report (spelling report_format r)))))
-IsAnswerTo who g (Pairs last) asked bytes = (asked ≡ []) × (answer_of bytes ≡ Some (page (spelling page_format (page_at g last))))
-
--- this is the answer to a question, and what was told before is told with what the log is asked for it
-abbrev pub Answers : Identity → Shown → Question → List Telling → List Telling → List ℕ → Type 0
-Answers who g question told told2 bytes = (asked : List Telling) × ((told2 ≡ asked ++ told) × IsAnswerTo who g question asked bytes)
-
 -- ---- what is counted
 
 -- with what a wire lost of one place
@@ -99,3 +63,52 @@ pub record CountsLosses {W : Type 0} (lost : W → Place → Losses → Type 0) 
   pub own : Losses
   pub own_lost : lost wire place.Operator own
   pub all : after ≡ with_losses origin.Own own (with_losses origin.Link link (with_losses origin.Outside outside (with_losses origin.Inside inside before)))
+
+-- with what some wire lost of each place
+abbrev pub CountsSomeLosses : List ℕ → List ℕ → Type 0
+CountsSomeLosses before after = CountsLosses {W = Unit {0}} (λ _ _ _. Unit {0}) tt before after
+
+-- ---- its sides
+
+-- both sides as a gateway shows them when its box begins
+abbrev pub first_sides : Shown → Sides
+first_sides g = record {
+  inside = seen_first g.inside.router.state (is_in g.inside.cable);
+  outside = seen_first g.outside.router.state (is_in g.outside.cable);
+}
+
+-- and as it shows them then, where they were seen so before
+abbrev pub sides_again : Shown → Sides → Sides
+sides_again g sides = record {
+  inside = seen_again g.inside.router.state (is_in g.inside.cable) g.moment sides.inside;
+  outside = seen_again g.outside.router.state (is_in g.outside.cable) g.moment sides.outside;
+}
+
+-- ---- an answer
+
+-- a report is that of a box, which counted so much and saw its sides so: it says whose it is, by the gateway's number, its boot and the digest of
+-- its settings, how the gateway stands, its sides, and these counts
+pub record IsReportOf (who : Identity) (g : Shown) (counts : List ℕ) (sides : Sides) (r : Report) : Type 0 where
+  pub id : r.id ≡ who.id
+  pub boot : r.boot ≡ who.boot
+  pub digest : r.digest ≡ who.digest
+  pub stands : SaysOf g r.gateway
+  pub seen : r.sides ≡ sides
+  pub counted : CountsSomeLosses counts r.counters
+
+-- the page behind a key: the first 128 entries there, and whether others follow
+abbrev pub page_at : Shown → Option Key → Page
+page_at g last =
+    let entries = behind last g.ledger.book.entries in
+    listing (take MOST_ENTRIES entries) (nat_lt MOST_ENTRIES (length entries))
+
+-- the whole answer to a question, for which the log is asked this: a report of whose box it is and how its gateway stands, which says how many
+-- lines the log has left out, as it answered; or the page behind the key
+abbrev pub IsAnswerTo : Identity → Shown → List ℕ → Sides → Question → List Telling → List ℕ → Type 0
+IsAnswerTo who g counts sides Status asked bytes = (r : Report) × (IsReportOf who g counts sides r
+    × ((asked ≡ Asked r.lines_left_out ∷ []) × (answer_of bytes ≡ Some (report (spelling report_format r)))))
+IsAnswerTo who g counts sides (Pairs last) asked bytes = (asked ≡ []) × (answer_of bytes ≡ Some (page (spelling page_format (page_at g last))))
+
+-- this is the answer to a question, and what was told before is told with what the log is asked for it
+abbrev pub Answers : Identity → Shown → List ℕ → Sides → Question → List Telling → List Telling → List ℕ → Type 0
+Answers who g counts sides question told told2 bytes = (asked : List Telling) × ((told2 ≡ asked ++ told) × IsAnswerTo who g counts sides question asked bytes)

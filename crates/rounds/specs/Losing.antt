@@ -6,7 +6,8 @@ use Rattle.journal.specs.declared.causes.Cause.TheVariants.{Dropped, NoMemory}
 use Rattle.journal.specs.declared.origins.Origin.{Origin}
 use Rattle.journal.specs.declared.origins.Origin.TheVariants as origin
 use Rattle.reports.specs.Counts.{count_at, counted}
-use Rattle.reports.specs.declared.counters.Count.TheVariants.{Lost}
+use Rattle.reports.specs.declared.counters.Count.{Count}
+use Rattle.reports.specs.declared.counters.Count.TheVariants.{Lost, Sent}
 use Rattle.sockets.specs.declared.places.Place.{Place}
 use Rattle.sockets.specs.declared.places.Place.TheVariants as place
 use Rattle.spec_step.specs.Shown.{Shown}
@@ -47,12 +48,12 @@ abbrev pub with_lost : Origin → Option Cause → List ℕ → List ℕ
 with_lost origin (Some cause) counts = counted origin (Lost cause) 1 counts
 with_lost origin None counts = counts
 
--- no other is counted as lost
-abbrev pub LosesNone : List ℕ → List ℕ → Type 0
-LosesNone before after = (origin : Origin) → (cause : Cause) → count_at after origin (Lost cause) ≡ count_at before origin (Lost cause)
+-- what is sent to a side or by the link may count as sent there, and every other count is as it was
+abbrev pub CountsOnlySent : List ℕ → List ℕ → Type 0
+CountsOnlySent before after = (from : Origin) → (what : Count) → (what ≡ Sent → from ≡ origin.Own) → count_at after from what ≡ count_at before from what
 
--- with what was sent an event is counted as lost, if it is, and no other
+-- with what was sent an event is counted as lost, if it is, and nothing else is
 pub record CountsLoss (origin : Origin) (cause : Option Cause) (before after : List ℕ) : Type 0 where
   pub sent : List ℕ
-  pub none : LosesNone before sent
+  pub only : CountsOnlySent before sent
   pub lost : after ≡ with_lost origin cause sent

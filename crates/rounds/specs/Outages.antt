@@ -1,6 +1,5 @@
 -- When a box's log is told that a place fails, or works again, or takes too little.
-use Rattle.std.specs.Prelude.{◌≡◌, ℕ, Bool, true, false, ◌&&◌, ◌++◌, ◌-◌, nat_le, nat_lt, not, List, [], ◌∷◌, Some, None, unwrap_or, if◌then◌else◌}
-use Rattle.std.specs.List.{AllByRecursion}
+use Rattle.std.specs.Prelude.{◌≡◌, ℕ, Bool, true, false, ◌&&◌, ◌||◌, ◌++◌, ◌-◌, nat_le, nat_lt, not, List, [], ◌∷◌, Some, None, unwrap_or, if◌then◌else◌}
 use Rattle.journal.specs.declared.entries.Entry.{Entry}
 use Rattle.journal.specs.declared.entries.Entry.TheVariants.{Fails, TooLong, Works}
 use Rattle.journal.specs.declared.origins.Origin.{Origin}
@@ -48,7 +47,7 @@ short_told origin is_long moment is_short = if not is_short && is_long then Chan
 abbrev pub Says : Type 0 → Type 0 → Type 1
 Says W T = W → Place → T → Type 0
 
--- a place is told of, by what its wire says of it
+-- a place is told of, by what its wire says of it; and that it takes too little was told then, if it does
 pub record TellsPlace {W : Type 0} (failing : Says W Bool) (lost : Says W Losses) (wire : W) (place : Place) (origin : Origin) (moment : ℕ)
     (watched watched2 : Watched) (told told2 : List Telling) : Type 0
   where
@@ -57,6 +56,7 @@ pub record TellsPlace {W : Type 0} (failing : Says W Bool) (lost : Says W Losses
     pub losses : Losses
     pub loses : lost wire place losses
     pub mark : watched2.mark ≡ looked fails moment watched.mark
+    pub short : watched2.is_short ≡ (watched.is_short || nat_lt 0 losses.too_long)
     pub is : told2 ≡ short_told origin (nat_lt 0 losses.too_long) moment watched.is_short ++ (turn_told origin fails moment watched.mark ++ told)
 
 -- each place is told of, in this order
@@ -69,17 +69,16 @@ pub record TellsPlaces {W : Type 0} (failing : Says W Bool) (lost : Says W Losse
     pub outside : TellsPlace failing lost wire (place.Side Outside) origin.Outside moment all.outside all2.outside one two
     pub link : TellsPlace failing lost wire place.Link origin.Link moment all.link all2.link two told2
 
-abbrev pub is_of_place : Entry → Bool
-is_of_place (Fails origin) = true
-is_of_place (Works origin) = true
-is_of_place (TooLong origin) = true
-is_of_place other = false
+-- the same, whatever a wire says of them
+abbrev pub TellsSome : ℕ → Outages → Outages → List Telling → List Telling → Type 0
+TellsSome moment all all2 told told2 = TellsPlaces {W = Unit {0}} (λ _ _ _. Unit {0}) (λ _ _ _. Unit {0}) tt moment all all2 told told2
 
--- it tells of a place: that it fails, or works again, or takes less than was to be sent there
-abbrev pub IsOfPlace : ℕ → Telling → Type 0
-IsOfPlace moment (Change at entry) = (at ≡ moment) × (is_of_place entry ≡ true)
-IsOfPlace moment other = ⊥
+-- one that works, of which nothing was told
+abbrev pub unmarked : Mark
+unmarked = record { fails = false; since = None }
 
--- some is told of places, and nothing else
-abbrev pub AreOfPlaces : ℕ → List Telling → List Telling → Type 0
-AreOfPlaces moment told told2 = (more : List Telling) × ((told2 ≡ more ++ told) × AllByRecursion (IsOfPlace moment) more)
+abbrev pub untold : Watched
+untold = record { mark = unmarked; is_short = false }
+
+abbrev pub none_told_of : Outages
+none_told_of = record { inside = untold; outside = untold; link = untold }

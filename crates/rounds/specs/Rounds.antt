@@ -1,5 +1,6 @@
 -- The rounds of a box, by what its gateway shows, what its wire was called, how many events were left out, whether its control
--- socket said that it is to end, the question that it still owes an answer, what it counted, and what its log was told.
+-- socket said that it is to end, the question that it still owes an answer, what it counted, how its sides were seen last, what was told of its
+-- places, and what its log was told.
 use Rattle.std.specs.Prelude.{◌≡◌, ◌<◌, ◌≤◌, ◌⊎◌, ◌+◌, ◌++◌, ◌||◌, ℕ, Bool, false, true, List, [], ◌∷◌, length, map, replicate, Option, Some, None, Result, Ok, IfOk}
 use Rattle.std.specs.Borrow.{Bor}
 use Rattle.std.specs.Duration.{as_nanos}
@@ -10,6 +11,7 @@ use Rattle.journal.specs.declared.origins.Origin.TheVariants.{Own}
 use Rattle.reports.specs.Counts.{counted}
 use Rattle.reports.specs.declared.counters.Count.TheVariants.{Received, Sent as SentOne}
 use Rattle.reports.specs.declared.counters.TheConstants.{COUNTS}
+use Rattle.reports.specs.declared.sides.Sides.{Sides}
 use Rattle.sockets.specs.Letters.{Call, Polled, ReceivedDatagram, answered, asked, came, failed, is_nothing, nothing, sent}
 use Rattle.sockets.specs.declared.places.Place.{Place}
 use Rattle.sockets.specs.declared.places.Place.TheVariants as place
@@ -19,16 +21,17 @@ use Rattle.spec_step.specs.declared.events.Event.TheVariants.{Stop, Tick}
 use Rattle.spec_step.specs.Shown.{Shown, scene}
 use Rattle.spec_step.specs.Steps.{IsStepOn}
 use Rattle.supervision.specs.Hearing.{Hears}
-use Rattle.rounds.specs.Answers.{IsAnswerTo}
+use Rattle.rounds.specs.Answers.{IsAnswerTo, first_sides, sides_again}
 use Rattle.rounds.specs.Letters.{event_of, is_end, reply_at}
 use Rattle.rounds.specs.Losing.{CountsLoss, cause_on, origin_at, origin_of}
 use Rattle.rounds.specs.Memory.{MayLack, WasLeftOut}
-use Rattle.rounds.specs.Outages.{AreOfPlaces}
+use Rattle.rounds.specs.Outages.{TellsSome, none_told_of}
 use Rattle.rounds.specs.Records.{with_step}
 use Rattle.rounds.specs.Told.{HearsRounds, HearsRun}
 use Rattle.rounds.specs.Views.{seen}
 use Rattle.rounds.specs.declared.desk.Desk.{Desk}
 use Rattle.rounds.specs.declared.desk.Identity.{Identity}
+use Rattle.rounds.specs.declared.outages.Outages.{Outages}
 use Rattle.rounds.specs.declared.teller.Telling.{Telling}
 use Rattle.rounds.specs.declared.teller.Telling.TheVariants.{End, Turn}
 use Rattle.rounds.specs.declared.judging.Question.{Question}
@@ -44,21 +47,51 @@ pub record Box (W : Type 0) : Type 0 where
   pub ending : Bool
   pub owed : Option Question
   pub counts : List ℕ
+  pub sides : Sides
+  pub outages : Outages
   pub told : List Telling
 
 -- one that has had no round yet
 abbrev pub begun : {W : Type 0} → Shown → W → Box W
-begun g wire = record { shown = g; wire = wire; left_out = 0; ending = false; owed = None; counts = replicate COUNTS 0; told = [] }
+begun g wire = record {
+  shown = g;
+  wire = wire;
+  left_out = 0;
+  ending = false;
+  owed = None;
+  counts = replicate COUNTS 0;
+  sides = first_sides g;
+  outages = none_told_of;
+  told = [];
+}
 
 -- one with this on its desk
 abbrev pub box : {W : Type 0} → Shown → W → Desk → List Telling → Box W
-box g wire desk told =
-    record { shown = g; wire = wire; left_out = desk.left; ending = desk.ending; owed = desk.question; counts = desk.counters; told = told }
+box g wire desk told = record {
+  shown = g;
+  wire = wire;
+  left_out = desk.left;
+  ending = desk.ending;
+  owed = desk.question;
+  counts = desk.counters;
+  sides = desk.sides;
+  outages = desk.outages;
+  told = told;
+}
 
 -- the same on another wire
 abbrev pub on_wire : {W V : Type 0} → Box W → V → Box V
-on_wire b wire =
-    record { shown = b.shown; wire = wire; left_out = b.left_out; ending = b.ending; owed = b.owed; counts = b.counts; told = b.told }
+on_wire b wire = record {
+  shown = b.shown;
+  wire = wire;
+  left_out = b.left_out;
+  ending = b.ending;
+  owed = b.owed;
+  counts = b.counts;
+  sides = b.sides;
+  outages = b.outages;
+  told = b.told;
+}
 
 -- what a call is to a wire, and what the wire is then
 abbrev pub Calls : Type 0 → Type 1
@@ -106,7 +139,8 @@ IsRecorded is_done b event b2 = (b2.told ≡ with_step event (cause_on b.shown e
     × CountsLoss (origin_of event) (cause_on b.shown event is_done) b.counts b2.counts
 
 abbrev pub Takes : {W : Type 0} → Calls W → Bool → Box W → Event → Box W → Type 0
-Takes does is_done b event b2 = TakesBy does is_done b event b2 × ((b2.ending ≡ b.ending) × ((b2.owed ≡ b.owed) × IsRecorded is_done b event b2))
+Takes does is_done b event b2 = TakesBy does is_done b event b2
+    × ((b2.ending ≡ b.ending) × ((b2.owed ≡ b.owed) × ((b2.sides ≡ b.sides) × ((b2.outages ≡ b.outages) × IsRecorded is_done b event b2))))
 
 -- what is no event changes nothing
 abbrev pub TakesAny : {W : Type 0} → Calls W → Bool → Box W → Option Event → Box W → Type 0
@@ -135,7 +169,7 @@ abbrev pub AnswersOwed : {W : Type 0} → Calls W → Identity → Option Questi
 AnswersOwed does who None b b2 = b2 ≡ b
 AnswersOwed does who (Some question) b b2 =
     (bytes : List ℕ) × ((asked : List Telling)
-    × (((((bytes ≡ []) × (asked ≡ [])) × MayLack b.shown question) ⊎ IsAnswerTo who b.shown question asked bytes)
+    × (((((bytes ≡ []) × (asked ≡ [])) × MayLack b.shown question) ⊎ IsAnswerTo who b.shown b.counts b.sides question asked bytes)
     × IsAnswered does bytes (record b { owed = None; told = asked ++ b.told }) b2))
 
 -- the event that a letter is to a gateway that stands so, or that it is none; carriers are tracked or not
@@ -182,12 +216,18 @@ pub record IsPoll (most : ℕ) (answers : List Polled) : Type 0 where
 abbrev pub Reads : Type 0 → Type 1
 Reads C = C → ℕ → C → Type 0
 
--- its log is told which places fail, or work again, or take too little, and nothing else; and then that a round ends, at the gateway's moment
+-- its sides are seen again, as the gateway shows them
+abbrev pub looked : {W : Type 0} → Box W → Box W
+looked b = record b { sides = sides_again b.shown b.sides }
+
+-- its log is told which places fail, or work again, or take too little, just where that is due by what was told before, and nothing else; and then
+-- that a round ends, at the gateway's moment
 abbrev pub TellsRound : {W : Type 0} → Box W → Box W → Type 0
-TellsRound b b2 = (told : List Telling) × (AreOfPlaces b.shown.moment b.told told × (b2 ≡ record b { told = Turn b.shown.moment ∷ told }))
+TellsRound b b2 = (told : List Telling) × ((outages : Outages) × (TellsSome b.shown.moment b.outages outages b.told told
+    × (b2 ≡ record b { outages = outages; told = Turn b.shown.moment ∷ told })))
 
 -- a round, of a box that says it is this one and isn't to end yet: a poll of its wire, which waits for at most 10 ms; then one tick, with the
--- moment that the clock reads; then the answer that is owed; and what its log is told
+-- moment that the clock reads; then its sides are seen again, and the answer is given that is owed; and what its log is told
 pub record IsRound {W C : Type 0} (does : Calls W) (waits : Waits W) (track : Bool) (who : Identity) (reads : Reads C)
     (b : Box W) (c : C) (b2 : Box W) (c2 : C) : Type 0
   where
@@ -202,7 +242,7 @@ pub record IsRound {W C : Type 0} (does : Calls W) (waits : Waits W) (track : Bo
     pub ticked : Box W
     pub tick : Takes does is_done between (Tick moment) ticked
     pub replied : Box W
-    pub answered : AnswersOwed does who ticked.owed ticked replied
+    pub answered : AnswersOwed does who ticked.owed (looked ticked) replied
     pub told : TellsRound replied b2
 
 -- rounds, at whose ends the gateway shows these moments, the last one first
@@ -249,12 +289,15 @@ pub record IsRun {W C : Type 0} (does : Calls W) (waits : Waits W) (track : Bool
     pub stop : Takes does is_done last Stop stopped
     pub ended : TellsEnd stopped b2
 
--- these rounds, of a gateway that isn't stopped: it shows this behind them, and its wire is this; so many events were left out
+-- these rounds, of a gateway that isn't stopped, and then the log is told that they end: the gateway shows this then, and its wire is this; so many
+-- events were left out
 pub record RoundsTo {W C S : Type 0} (does : Calls W) (waits : Waits W) (track : Bool) (who : Identity) (reads : Reads C) (hears : Hears S)
     (most : ℕ) (otherwise goes_on : Type 0) (b : Box W) (c : C) (s : S) (g : Shown) (wire : W) (c2 : C) (s2 : S) (left : ℕ) : Type 0
   where
+    pub between : Box W
+    pub rounds : AreRoundsHeard does waits track who reads hears most otherwise goes_on b c s between c2 s2
     pub last : Box W
-    pub rounds : AreRoundsHeard does waits track who reads hears most otherwise goes_on b c s last c2 s2
+    pub ended : TellsEnd between last
     pub shown : last.shown ≡ g
     pub wire_is : last.wire ≡ wire
     pub left_out : last.left_out ≡ left

@@ -3,8 +3,10 @@ ghost use Rattle.std.specs.Prelude.{◌≡◌, ◌||◌, false, None, replicate}
 ghost use Rattle.reports.specs.Counts.{counted};
 ghost use Rattle.reports.specs.declared.counters.Count.TheVariants.{Received};
 ghost use Rattle.reports.specs.declared.counters.TheConstants.{COUNTS};
+ghost use Rattle.rounds.specs.Answers.{first_sides};
 ghost use Rattle.rounds.specs.Letters.{is_end};
 ghost use Rattle.rounds.specs.Losing.{origin_at as origin_in, origin_of as event_origin, with_lost};
+ghost use Rattle.rounds.specs.Outages.{none_told_of};
 
 use crate::judging::Question;
 use crate::left::LeftOut;
@@ -50,6 +52,8 @@ impl Desk {
         ensures left { result.left ≡ 0 }
         ensures ending { result.ending ≡ false }
         ensures question { result.question ≡ None }
+        ensures sides { result.sides ≡ first_sides gateway.now }
+        ensures outages { result.outages ≡ none_told_of }
     {
         Desk {
             alloc,
@@ -70,6 +74,8 @@ impl Desk {
         ensures left { self.new.left ≡ self.old.left }
         ensures ending { self.new.ending ≡ (self.old.ending || is_end place bytes.now) }
         ensures question { self.new.question ≡ self.old.question }
+        ensures sides { self.new.sides ≡ self.old.sides }
+        ensures outages { self.new.outages ≡ self.old.outages }
     {
         self.counters.count(origin_at(place), Count::Received);
         self.ending = self.ending || is_end(place, bytes);
@@ -82,6 +88,8 @@ impl Desk {
         ensures left { self.new.left ≡ self.old.left }
         ensures ending { self.new.ending ≡ self.old.ending }
         ensures question { self.new.question ≡ self.old.question }
+        ensures sides { self.new.sides ≡ self.old.sides }
+        ensures outages { self.new.outages ≡ self.old.outages }
     {
         if let Some(cause) = cause {
             self.counters.count(origin_of(event), Count::Lost(cause));

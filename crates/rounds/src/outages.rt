@@ -1,6 +1,6 @@
 //! How long a place fails, or works again, before its operator is told.
 ghost use Rattle.std.specs.Prelude.{◌≡◌};
-ghost use Rattle.rounds.specs.Outages.{TellsPlace, TellsPlaces, is_turn, looked, turn_of};
+ghost use Rattle.rounds.specs.Outages.{TellsPlace, TellsPlaces, is_turn, looked, none_told_of, turn_of, unmarked, untold};
 
 use crate::teller::Teller;
 use journal::{Entry, Journal, Origin};
@@ -22,7 +22,9 @@ pub(crate) struct Mark {
 
 impl Mark {
     /// It works, and nothing was told.
-    fn new() -> Mark {
+    fn new() -> Mark
+        ensures { result ≡ unmarked }
+    {
         Mark {
             fails: false,
             since: None,
@@ -58,7 +60,9 @@ struct Watched {
 
 impl Watched {
     /// It works, and nothing was told.
-    fn new() -> Watched {
+    fn new() -> Watched
+        ensures { result ≡ untold }
+    {
         Watched {
             mark: Mark::new(),
             is_short: false,
@@ -84,9 +88,9 @@ impl Watched {
             log.change(moment, turn_of(origin, fails));
         }
         if !self.is_short && is_long {
-            self.is_short = true;
             log.change(moment, Entry::TooLong(origin));
         }
+        self.is_short = self.is_short || is_long;
     }
 }
 
@@ -111,7 +115,9 @@ pub(crate) struct Outages {
 
 impl Outages {
     /// Each works.
-    pub(crate) fn none() -> Outages {
+    pub(crate) fn none() -> Outages
+        ensures { result ≡ none_told_of }
+    {
         Outages {
             inside: Watched::new(),
             outside: Watched::new(),

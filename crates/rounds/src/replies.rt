@@ -5,7 +5,7 @@ ghost use Rattle.reports.specs.Counts.{counted as counted_one};
 ghost use Rattle.reports.specs.declared.counters.Count.TheVariants.{Sent};
 ghost use Rattle.sockets.specs.Letters.{answered};
 ghost use Rattle.spec_step.specs.Shown.{Shown};
-ghost use Rattle.rounds.specs.Answers.{Answers, CountsLosses, SaysOf, ShowsSides, with_losses};
+ghost use Rattle.rounds.specs.Answers.{Answers, CountsLosses, SaysOf, with_losses};
 ghost use Rattle.rounds.specs.Memory.{MayLack};
 ghost use Rattle.rounds.specs.Rounds.{AnswersOwed, Replies, box};
 ghost use Rattle.rounds.specs.declared.judging.Question.TheVariants.{Status};
@@ -45,6 +45,8 @@ fn answer<W: Wire>(bytes: &[u8], wire: &mut W, desk: &mut Desk)
     ensures left { desk.new.left ≡ desk.old.left }
     ensures ending { desk.new.ending ≡ desk.old.ending }
     ensures question { desk.new.question ≡ desk.old.question }
+    ensures sides { desk.new.sides ≡ desk.old.sides }
+    ensures outages { desk.new.outages ≡ desk.old.outages }
 {
     wire.answer(bytes);
     desk.counters.count(Origin::Own, Count::Sent);
@@ -59,7 +61,6 @@ pub(crate) fn answer_question<W: Wire, L: Journal>(
     desk: &mut Desk,
     log: &mut Teller<'_, L>,
 )
-    requires sides { ShowsSides gateway.now desk.old.sides }
     ensures { AnswersOwed W.does identity desk.old.question
         (box gateway.now wire.old desk.old log.old.told)
         (box gateway.now wire.new desk.new log.new.told) }
@@ -88,9 +89,9 @@ fn answer_to<W: Wire, L: Journal>(
     desk: &Desk,
     log: &mut Teller<'_, L>,
 ) -> Result<usize, NoMemory>
-    requires sides { ShowsSides gateway.now desk.now.sides }
     ensures within { IfOk result (λ count. count ≤ 4096) }
-    ensures answers { IfOk result (λ count. Answers identity gateway.now question
+    ensures answers { IfOk result (λ count. Answers identity gateway.now
+        desk.now.counters desk.now.sides question
         log.old.told log.new.told (take count room.new)) }
     ensures refused { OnErr result (MayLack gateway.now question) }
     ensures unasked { OnErr result (log.new.told ≡ log.old.told) }

@@ -6,7 +6,7 @@ ghost use Rattle.spec_step.specs.Shown.{scene};
 ghost use Rattle.spec_step.specs.Steps.{IsStepOn};
 ghost use Rattle.spec_step.specs.declared.events.Event.TheVariants.{Stop};
 ghost use Rattle.supervision.specs.declared.notices.Notice.TheVariants.{Ending};
-ghost use Rattle.rounds.specs.Losing.{LosesNone, cause_of as cause_in, cause_on};
+ghost use Rattle.rounds.specs.Losing.{CountsOnlySent, cause_of as cause_in, cause_on};
 ghost use Rattle.rounds.specs.Memory.{WasLeftOut};
 ghost use Rattle.rounds.specs.Rounds.{AreMade, AreRoundsHeard, IsRound, IsRun, RoundsTo, RunsTo, Takes};
 ghost use Rattle.rounds.specs.Rounds.{TakesAny, TakesLetter, TellsRound, all_left, all_sent, begun, box, most_rounds};
@@ -425,7 +425,7 @@ fn stepped(gateway: &mut Gateway, event: Event<'_>, out: &mut Out) -> Result<Out
 /// Sends what was told: the frames by the wires of their sides, the datagrams by the link. What was sent is counted.
 fn send_all<W: Wire>(wire: &mut W, out: &Out, counters: &mut Counters)
     ensures made { AreMade W.does (all_sent out.now) wire.old wire.new }
-    ensures counted { LosesNone counters.old counters.new }
+    ensures counted { CountsOnlySent counters.old counters.new }
 {
     counters_law();
     for frame in out.frames() {

@@ -1,8 +1,6 @@
 //! A box's sides, as its gateway has them.
 ghost use Rattle.std.specs.Prelude.{◌≡◌};
-ghost use Rattle.interfaces.specs.Cables.{is_in};
-ghost use Rattle.nat_types.specs.declared.gateways.Side.TheVariants.{Inside, Outside};
-ghost use Rattle.reports.specs.Sides.{seen_again, seen_first};
+ghost use Rattle.rounds.specs.Answers.{first_sides, sides_again};
 
 use gateway::Gateway;
 use nat_types::Side;
@@ -10,10 +8,7 @@ use reports::{SideReport, Sides};
 
 /// Both sides as a gateway has them when its box begins.
 pub fn sides_of(gateway: &Gateway) -> Sides
-    ensures inside { let station = gateway.now.inside in
-        result.inside ≡ seen_first station.router.state (is_in station.cable) }
-    ensures outside { let station = gateway.now.outside in
-        result.outside ≡ seen_first station.router.state (is_in station.cable) }
+    ensures { result ≡ first_sides gateway.now }
 {
     let (inside, outside) = (Side::Inside, Side::Outside);
     Sides {
@@ -24,10 +19,7 @@ pub fn sides_of(gateway: &Gateway) -> Sides
 
 /// Looks at them again, at the gateway's moment: after each of its steps, or once a round.
 pub fn look_again(sides: &mut Sides, gateway: &Gateway)
-    ensures inside { let station = gateway.now.inside in sides.new.inside
-        ≡ seen_again station.router.state (is_in station.cable) gateway.now.moment sides.old.inside }
-    ensures outside { let station = gateway.now.outside in sides.new.outside
-        ≡ seen_again station.router.state (is_in station.cable) gateway.now.moment sides.old.outside }
+    ensures { sides.new ≡ sides_again gateway.now sides.old }
 {
     let moment = gateway.moment();
     let (inside, outside) = (Side::Inside, Side::Outside);

@@ -16,6 +16,6 @@ returns-clause-round g c = record {
   ticked = _;
   tick = c.tick.ensures.tick;
   replied = _;
-  answered = c.answer_question.ensures;
+  answered = rw c.look_again.ensures at c.answer_question.ensures;
   told = c.tell_round.ensures;
 }
