@@ -121,8 +121,8 @@ is_round f does waits track who reads b c b2 c2 r = record {
   ticked = below f r.ticked;
   tick = takes f does r.is_done r.between _ r.ticked r.tick;
   replied = below f r.replied;
-  answered = answers_owed f does who r.ticked.owed r.ticked r.replied r.answered;
-  told = (r.told.0, (r.told.1.0, ap (below f) r.told.1.1));
+  answered = answers_owed f does who r.ticked.owed _ r.replied r.answered;
+  told = (r.told.0, (r.told.1.0, (r.told.1.1.0, ap (below f) r.told.1.1.1)));
 }
 
 are_rounds : {T W C : Type 0} (f : T → W) (does : Calls W) (waits : Waits W) (track : Bool) (who : Identity) (reads : Reads C) (moments : List ℕ) (b : Box T) (c : C) (b2 : Box T) (c2 : C)
