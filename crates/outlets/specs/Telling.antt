@@ -18,11 +18,16 @@ Telling E = E → List ℕ → Result (Unit {0}) Error → E → Type 0
 abbrev pub HasTold : {E : Type 0} → Telling E → E → List ℕ → E → Type 0
 HasTold tells before line after = (result : Result (Unit {0}) Error) × tells before line result after
 
--- just the line of this text was told; or, where there was no memory for it, the one that says so
-abbrev pub IsTold : {E : Type 0} → Telling E → E → List ℕ → E → Type 0
-IsTold tells before text after = HasTold tells before (line_of text) after ⊎ HasTold tells before no_memory_line after
+-- Memory for this line was refused. No clause can say when that is, so this is no more than a name: who asks for it has it, and nobody else.
+unfoldable pub WasShort : List ℕ → Type 0
+WasShort line = Unit {0}
 
--- of such a fault just the line of its text was told, or, where there was no memory for it, the one that says so
+-- just the line of this text was told; or memory for it was refused, and the one was that says so
+abbrev pub IsTold : {E : Type 0} → Telling E → E → List ℕ → E → Type 0
+IsTold tells before text after =
+    HasTold tells before (line_of text) after ⊎ (WasShort (line_of text) × HasTold tells before no_memory_line after)
+
+-- of such a fault just the line of its text was told; or, where memory for it was refused, the one that says so
 abbrev pub IsToldOf : {E F : Type 0} → Telling E → (F → List ℕ) → (F → Type 0) → E → E → Type 0
 IsToldOf {F = F} tells text is_such before after = (fault : F) × (is_such fault × IsTold tells before (text fault) after)
 

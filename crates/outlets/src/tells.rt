@@ -1,6 +1,6 @@
 //! Tells of faults, a line each.
-ghost use Rattle.std.specs.Prelude.{◌≡◌, ℕ, List, IfOk, Some, string_bytes};
-ghost use Rattle.outlets.specs.Telling.{HasTold, IsTold, line_of};
+ghost use Rattle.std.specs.Prelude.{◌≡◌, ℕ, List, IfOk, OnErr, Some, string_bytes};
+ghost use Rattle.outlets.specs.Telling.{HasTold, IsTold, WasShort, line_of};
 
 use crate::puts::{Puts, put_by};
 use std::alloc::{AllocError, Global};
@@ -38,7 +38,7 @@ impl<P: Puts> Tells for P {
     }
 }
 
-/// Tells of a fault, by its text on a line behind `natpair: `; where there is no memory for the line, of that. Where it
+/// Tells of a fault, by its text on a line behind `natpair: `; where memory for the line is refused, of that. Where it
 /// can't be told, nothing is done about it.
 pub fn tell<T: Display, E: Tells>(alloc: Global, fault: &T, errors: &mut E)
     ensures { (text : List ℕ) → T.output fault.now ≡ Some text
@@ -58,9 +58,12 @@ fn told<E: Tells>(errors: &mut E, line: &str)
 }
 
 /// The line that tells of a fault.
+#[tactic(auto, unfolding(crate::specs::Telling::WasShort))]
 fn line_of<T: Display>(alloc: Global, fault: &T) -> Result<String, AllocError>
-    ensures { (text : List ℕ) → T.output fault.now ≡ Some text
+    ensures made { (text : List ℕ) → T.output fault.now ≡ Some text
         → IfOk result (λ line. string_bytes line ≡ line_of text) }
+    ensures short { (text : List ℕ) → T.output fault.now ≡ Some text
+        → OnErr result (WasShort (line_of text)) }
 {
     format!(in alloc; "natpair: {fault}\n")
 }
