@@ -1,5 +1,5 @@
 -- Whom a box attends to at its control socket.
-use Rattle.std.specs.Prelude.{ℕ, suc, Bool, true, false, not, ◌&&◌, ◌≡◌, ◌≤◌, ◌⊎◌, ◌+◌, ◌-◌, ◌^◌, ◌==◌, min, nat_le, List, length, drop, Option, Some, None, is_some, Result, Ok, Err, if◌then◌else◌}
+use Rattle.std.specs.Prelude.{ℕ, suc, Bool, true, false, not, ◌&&◌, ◌≡◌, ◌≤◌, ◌⊎◌, ◌+◌, ◌-◌, ◌^◌, ◌==◌, min, nat_le, List, length, drop, Option, Some, None, Result, Ok, Err, if◌then◌else◌}
 use Rattle.std.specs.Io.KnownBytes.{WriteAppends}
 use Rattle.std.specs.declared.io.Error.{Error}
 use Rattle.outlets.specs.Writes.{Asks}
@@ -9,8 +9,7 @@ use Rattle.control.specs.declared.words.Word.{Word}
 
 -- somebody whose word was handed on waits for its answer; somebody may have called, or said something; how many called so far, with those
 -- whom it failed to hear; how many callers are waited for, how many were refused, and how many went unanswered; the token under which waits
--- report it and its callers, once it is registered; which word was handed on last; with how many bytes of room those who are waited for were
--- asked last
+-- report it and its callers; which word was handed on last; with how many bytes of room those who are waited for were asked last
 pub record Attending : Type 0 where
   pub awaits : Bool
   pub ready : Bool
@@ -18,35 +17,31 @@ pub record Attending : Type 0 where
   pub callers : ℕ
   pub refused : ℕ
   pub unanswered : ℕ
-  pub token : Option Token
+  pub token : Token
   pub word : Option Word
   pub asked : ℕ
 
--- at first nobody has called that is known of, and somebody may have; it isn't registered
-abbrev pub nobody_yet : Attending
-nobody_yet = record {
+-- once waits report it under this token nobody has called that is known of, and somebody may have
+abbrev pub nobody_yet : Token → Attending
+nobody_yet token = record {
   awaits = false;
   ready = true;
   called = 0;
   callers = 0;
   refused = 0;
   unanswered = 0;
-  token = None;
+  token = token;
   word = None;
   asked = 0;
 }
-
--- waits report it under this token, and those who call from then on; all else stays
-abbrev pub registered : Token → Attending → Attending
-registered token a = record a { token = Some token }
 
 -- somebody may have called, or said something; all else stays
 abbrev pub woken : Attending → Attending
 woken a = record a { ready = true }
 
--- there may be somebody to hear, no answer is awaited, and waits report it
+-- there may be somebody to hear, and no answer is awaited
 abbrev pub is_ready : Attending → Bool
-is_ready a = a.ready && not a.awaits && is_some a.token
+is_ready a = a.ready && not a.awaits
 
 -- a count stays at its greatest number
 abbrev pub with_more : ℕ → ℕ → ℕ

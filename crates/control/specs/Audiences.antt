@@ -1,15 +1,26 @@
 -- Who is heard at a control socket, caller by caller.
-use Rattle.std.specs.Prelude.{ℕ, true, ◌≡◌, ◌≤◌, List, length, vec_len, vec_capacity, Option, Some, None, is_some}
+use Rattle.std.specs.Prelude.{ℕ, true, ◌≡◌, ◌≤◌, List, length, vec_len, vec_capacity, Option, Some, None, is_some, Result, Ok, Err}
+use Rattle.std.specs.declared.io.Error.{Error}
 use Rattle.control.specs.Asking.{AreLeft, IsSpeaker}
 use Rattle.control.specs.Attending.{Attending}
-use Rattle.control.specs.Calling.{Calls, LetsIn, Reports}
+use Rattle.control.specs.Calling.{Calls, LetsIn, Reporting}
 use Rattle.control.specs.Reads.{Reads}
 use Rattle.mio.specs.declared.token.Token.{Token}
 use Rattle.control.specs.declared.audience.Audience.{Audience}
+use Rattle.control.specs.declared.audience.Doorway.{Doorway}
 
 -- at most eight are waited for, and there is room for eight
 abbrev pub HasRoom : {L S : Type 0} → Audience L S → Type 0
 HasRoom a = (vec_len a.callers ≤ 8) × (8 ≤ vec_capacity a.callers)
+
+-- nobody is waited for yet, and there is room for eight
+abbrev pub HasNobody : {L S : Type 0} → Doorway L S → Type 0
+HasNobody d = (vec_len d.callers ≡ 0) × (8 ≤ vec_capacity d.callers)
+
+-- waits were to report this listener under this token, once, and an audience has it as it is then; or they refused to, and it is gone
+abbrev pub IsRegistered : {W L S : Type 0} → Reporting W L → L → Token → Result (Audience L S) Error → W → W → Type 0
+IsRegistered reports listener token (Ok audience) before after = reports before listener token (Ok tt) audience.listener after
+IsRegistered {L = L} reports listener token (Err error) before after = (told : L) × reports before listener token (Err error) told after
 
 -- what a box shows of them
 abbrev pub attending_of : {L S : Type 0} → Audience L S → Attending
@@ -24,10 +35,6 @@ attending_of a = record {
   word = a.word;
   asked = a.asked;
 }
-
--- waits report the listener under this token, as it is then, and those who call from then on; all else stays
-abbrev pub registered : {L S : Type 0} → Token → L → Audience L S → Audience L S
-registered token listener a = record a { listener = listener; token = Some token }
 
 -- one of them may have said something, or somebody may have called; all else stays
 abbrev pub woken : {L S : Type 0} → Audience L S → Audience L S
@@ -45,11 +52,12 @@ IsHeard {S = S} reads before (Some count) after room =
 IsHeard reads before None after room =
     (after.speaker ≡ before.speaker) × AreLeft reads (length room) before.callers.items after.callers.items
 
--- They are asked so. Where none says a word, who calls next is let in beside those who are left, and registered under this token; there may
--- be more where somebody did.
-abbrev pub Looks : {L S : Type 0} → Reads S → Calls L S → Reports S → Token → Audience L S → Option ℕ → Audience L S → List ℕ → Type 0
-Looks reads calls reports token before (Some count) after room =
-    IsHeard reads before (Some count) after room × (after.listener ≡ before.listener)
-Looks {S = S} reads calls reports token before None after room =
+-- They are asked so. Where none says a word, who calls next is let in beside those who are left, and waits are to report him under the token; there
+-- may be more where somebody did.
+abbrev pub Looks : {W L S : Type 0} → Reads S → Calls L S → Reporting W S → W → Audience L S → Option ℕ → W → Audience L S → List ℕ → Type 0
+Looks reads calls reports waits before (Some count) waits2 after room =
+    IsHeard reads before (Some count) after room × ((after.listener ≡ before.listener) × (waits2 ≡ waits))
+Looks {S = S} reads calls reports waits before None waits2 after room =
     (left : List S) × (AreLeft reads (length room) before.callers.items left
-    × (LetsIn calls reports token before.listener left after.ready after.listener after.callers.items × (after.speaker ≡ before.speaker)))
+    × (LetsIn calls reports before.token waits before.listener left after.ready waits2 after.listener after.callers.items
+    × (after.speaker ≡ before.speaker)))

@@ -1,9 +1,10 @@
 -- Who calls at a listener, and is let in.
-use Rattle.std.specs.Prelude.{Bool, true, false, ◌≡◌, ◌≢◌, ◌⊎◌, List, [], ◌∷◌, ◌++◌, Result, Ok, Err}
+use Rattle.std.specs.Prelude.{Bool, true, false, ◌≡◌, ◌≢◌, ◌⊎◌, List, [], ◌∷◌, ◌++◌, Option, Some, None, Result, Ok, Err}
 use Rattle.std.specs.IoError.{error_kind}
 use Rattle.std.specs.declared.io.Error.{Error}
 use Rattle.std.specs.declared.io.ErrorKind.TheVariants.{WouldBlock}
 use Rattle.mio.specs.declared.net.uds.listener.UnixListener.{UnixListener}
+use Rattle.mio.specs.declared.net.uds.stream.UnixStream.{UnixStream}
 use Rattle.mio.specs.declared.token.Token.{Token}
 use Rattle.control.specs.Attending.{with_room}
 
@@ -11,31 +12,50 @@ use Rattle.control.specs.Attending.{with_room}
 abbrev pub Calls : Type 0 → Type 0 → Type 1
 Calls L S = L → Result S Error → L → Type 0
 
--- what is answered where a wait is to report somebody under a token, and what he is then
-abbrev pub Reports : Type 0 → Type 1
-Reports S = S → Token → Result (Unit {0}) Error → S → Type 0
+-- what is answered where waits are to report somebody under a token, what he is then, and what they are then
+abbrev pub Reporting : Type 0 → Type 0 → Type 1
+Reporting W S = W → S → Token → Result (Unit {0}) Error → S → W → Type 0
 
--- A wait was to report this under a token, and it was answered so. It is no more than a name for the call, by what it was before and is then:
+-- Waits were to report this under a token, and it was answered so. It is no more than a name for the call, by what both were before and are then:
 -- who makes the call has it, and nobody else.
-unfoldable pub WasReported : {S : Type 0} → Reports S
-WasReported before token answer after = Unit {0}
+unfoldable pub WasReported : {W S : Type 0} → Reporting W S
+WasReported before source token answer told after = Unit {0}
 
--- a wait was to report a listener of the system's under this token, and it was answered so
-abbrev pub WasListenedTo : Token → Result (Unit {0}) Error → Type 0
-WasListenedTo token answer = (before : UnixListener) × ((after : UnixListener) × WasReported before token answer after)
+-- waits were to report this listener under this token, once, and it was answered so; they were asked for nothing else
+abbrev pub IsListenedTo : {W L T : Type 0} → Reporting W L → L → Token → Result T Error → W → W → Type 0
+IsListenedTo {L = L} reports listener token (Ok had) before after = (told : L) × reports before listener token (Ok tt) told after
+IsListenedTo {L = L} reports listener token (Err error) before after = (told : L) × reports before listener token (Err error) told after
+
+-- waits were to report one who calls under this token, once; they were asked for nothing else
+abbrev pub AsksForOne : {W S : Type 0} → Reporting W S → Token → W → W → Type 0
+AsksForOne {S = S} reports token before after =
+    (caller : S) × ((answer : Result (Unit {0}) Error) × ((told : S) × reports before caller token answer told after))
+
+-- by whether somebody is heard: waits are asked for nothing then; else at most to report one who calls
+abbrev pub AsksFor : {W S T : Type 0} → Reporting W S → Token → Option T → W → W → Type 0
+AsksFor reports token (Some word) before after = after ≡ before
+AsksFor reports token None before after = (after ≡ before) ⊎ AsksForOne reports token before after
+
+-- so the system's waits were, of the system's streams
+abbrev pub WereAskedFor : {W T : Type 0} → Token → Option T → W → W → Type 0
+WereAskedFor token word before after = AsksFor {S = UnixStream} WasReported token word before after
+
+-- and so they were, of a listener of the system's
+abbrev pub WasListenedTo : {W T : Type 0} → UnixListener → Token → Result T Error → W → W → Type 0
+WasListenedTo listener token answer before after = IsListenedTo WasReported listener token answer before after
 
 -- once he is registered he is waited for, behind the others; one who can't be registered is let go
 abbrev pub IsKept : {S : Type 0} → Result (Unit {0}) Error → List S → S → List S → Type 0
 IsKept (Ok done) callers caller callers2 = callers2 ≡ callers ++ caller ∷ []
 IsKept (Err error) callers caller callers2 = callers2 ≡ callers
 
--- Somebody calls, and is registered, once, under this token. Where eight are waited for, the one that was waited for longest makes room for him.
-pub record HasCalled {L S : Type 0} (calls : Calls L S) (reports : Reports S) (token : Token) (before : L) (callers : List S) (after : L) (callers2 : List S) : Type 0 where
+-- Somebody calls, and waits are to report him, once, under this token. Where eight are waited for, the one that was waited for longest makes room for him.
+pub record HasCalled {W L S : Type 0} (calls : Calls L S) (reports : Reporting W S) (token : Token) (waits : W) (before : L) (callers : List S) (waits2 : W) (after : L) (callers2 : List S) : Type 0 where
   pub caller : S
   pub called : calls before (Ok caller) after
   pub answer : Result (Unit {0}) Error
   pub registered : S
-  pub asked : reports caller token answer registered
+  pub asked : reports waits caller token answer registered waits2
   pub kept : IsKept answer (with_room callers) registered callers2
 
 -- by whether somebody may call still, behind a call that failed so: just not where it would block
@@ -47,8 +67,9 @@ MayCall false error = error_kind error ≡ WouldBlock
 abbrev pub CallFails : {L S : Type 0} → Calls L S → L → List S → Bool → L → List S → Type 0
 CallFails calls before callers more after callers2 = ((error : Error) × (calls before (Err error) after × MayCall more error)) × (callers2 ≡ callers)
 
--- by whether there may be more who call: somebody calls, or it fails to hear who does; there aren't any more just where that would block
-abbrev pub LetsIn : {L S : Type 0} → Calls L S → Reports S → Token → L → List S → Bool → L → List S → Type 0
-LetsIn calls reports token before callers true after callers2 =
-    HasCalled calls reports token before callers after callers2 ⊎ CallFails calls before callers true after callers2
-LetsIn calls reports token before callers false after callers2 = CallFails calls before callers false after callers2
+-- by whether there may be more who call: somebody calls, or it fails to hear who does, and then waits are asked for nothing; there aren't any more
+-- just where that would block
+abbrev pub LetsIn : {W L S : Type 0} → Calls L S → Reporting W S → Token → W → L → List S → Bool → W → L → List S → Type 0
+LetsIn calls reports token waits before callers true waits2 after callers2 =
+    HasCalled calls reports token waits before callers waits2 after callers2 ⊎ (CallFails calls before callers true after callers2 × (waits2 ≡ waits))
+LetsIn calls reports token waits before callers false waits2 after callers2 = CallFails calls before callers false after callers2 × (waits2 ≡ waits)

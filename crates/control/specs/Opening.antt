@@ -37,9 +37,9 @@ abbrev pub IsUnopened : {F L : Type 0} → Does F → Binding F L → Paths → 
 IsUnopened does binds path before after =
     (WasRefused 8 × (after ≡ before)) ⊎ (IsRefused does path before after ⊎ IsUnbound does binds path before after)
 
--- so it was by this machine
-abbrev pub WasOpened : {M : Type 0} → Paths → M → M → Type 0
-WasOpened path before after = (listener : UnixListener) × IsOpened WasDone WasBound path before listener after
+-- so this listener was by this machine
+abbrev pub WasOpened : {M : Type 0} → Paths → M → UnixListener → M → Type 0
+WasOpened path before listener after = IsOpened WasDone WasBound path before listener after
 
 -- or wasn't
 abbrev pub WasNotOpened : {M : Type 0} → Paths → M → M → Type 0

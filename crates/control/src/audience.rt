@@ -1,17 +1,59 @@
 //! Who is heard at a control socket, and answered.
-ghost use Rattle.std.specs.Prelude.{◌≡◌, ◌≤◌, ◌⊎◌, ◌||◌, false, true, length, take, vec_len, vec_capacity, is_some, IfSome, IsNone, OnErr, OnOk};
+ghost use Rattle.std.specs.Prelude.{◌≡◌, ◌≤◌, ◌⊎◌, ◌||◌, false, true, length, take, vec_capacity, vec_len, is_some, IfOk, IfSome, IsNone};
 ghost use Rattle.control.specs.Attending.{AreCounted, HasLooked, IsAnsweredIf, SaysWord, is_ready};
 ghost use Rattle.control.specs.Attending.{nobody_yet, speakers, with_more};
-ghost use Rattle.control.specs.Audiences.{HasRoom, IsHeard, Looks, answered, attending_of, registered, woken};
+ghost use Rattle.control.specs.Audiences.{HasNobody, HasRoom, IsHeard, IsRegistered, Looks};
+ghost use Rattle.control.specs.Audiences.{answered, attending_of, woken};
+ghost use Rattle.control.specs.Calling.{AsksFor};
 
 use crate::awaiting::Awaits;
 use crate::callers::{answered, speaker_among};
-use crate::listeners::{Listens, Reported, let_in};
+use crate::listeners::{Listens, Reports, let_in};
 use crate::newcomers::Newcomers;
 use crate::speakers::Speaks;
 use crate::{Word, word_of};
-use mio::{Registry, Token};
+use mio::Token;
 use std::io;
+
+/// Where somebody may call, and room for callers, before waits report who does. Nothing here can call it, so nobody is
+/// let in.
+#[derive(Drop)]
+pub(crate) struct Doorway<L, S> {
+    listener: L,
+    callers: Vec<S>,
+}
+
+impl<L: Drop, S: Drop> Doorway<L, S> {
+    pub(crate) fn new(listener: L, callers: Vec<S>) -> Doorway<L, S>
+        ensures listener { result.listener ≡ listener }
+        ensures callers { result.callers ≡ callers }
+    {
+        Doorway { listener, callers }
+    }
+
+    /// Has waits report the listener under a token, and who calls from then on. It is let go where they refuse to.
+    pub(crate) fn register<W: Reports<L>>(
+        self,
+        waits: &mut W,
+        token: Token,
+    ) -> io::Result<Audience<L, S>>
+        requires nobody { HasNobody self }
+        ensures reported { IsRegistered W.reports self.listener token result
+            waits.old waits.new }
+        ensures nobody { IfOk result
+            (λ audience. attending_of audience ≡ nobody_yet token) }
+        ensures room { IfOk result (λ audience. HasRoom audience) }
+    {
+        let Doorway {
+            mut listener,
+            callers,
+        } = self;
+        match waits.report(&mut listener, token) {
+            Ok(()) => Ok(Audience::nobody(listener, callers, token)),
+            Err(error) => Err(error),
+        }
+    }
+}
 
 /// Who is heard at a control socket.
 #[derive(Drop)]
@@ -28,8 +70,8 @@ pub(crate) struct Audience<L, S> {
     called: Newcomers,
     refused: u64,
     unanswered: u64,
-    /// Under which waits report the listener and who called, once it is registered.
-    token: Option<Token>,
+    /// Under which waits report the listener and who called.
+    token: Token,
     /// Which word was handed on last, for clauses alone.
     word: Option<Word>,
     /// With how many bytes of room they were asked last, for clauses alone.
@@ -37,10 +79,10 @@ pub(crate) struct Audience<L, S> {
 }
 
 impl<L, S> Audience<L, S> {
-    /// Nobody yet: there is this room for callers.
-    pub(crate) fn nobody(listener: L, callers: Vec<S>) -> Audience<L, S>
+    /// Nobody yet: there is this room for callers, and waits report the listener under this token.
+    fn nobody(listener: L, callers: Vec<S>, token: Token) -> Audience<L, S>
         requires none { vec_len callers ≡ 0 }
-        ensures nobody { attending_of result ≡ nobody_yet }
+        ensures nobody { attending_of result ≡ nobody_yet token }
         ensures listener { result.listener ≡ listener }
         ensures callers { result.callers ≡ callers }
     {
@@ -52,7 +94,7 @@ impl<L, S> Audience<L, S> {
             called: Newcomers::none(),
             refused: 0,
             unanswered: 0,
-            token: None,
+            token,
             word: None,
             asked: 0,
         }
@@ -65,12 +107,11 @@ impl<L, S> Audience<L, S> {
         self.ready = true;
     }
 
-    /// Whether there may be somebody to hear, as far as is known: nobody is while an answer is awaited, and before waits
-    /// report the listener.
+    /// Whether there may be somebody to hear, as far as is known: nobody is while an answer is awaited.
     pub(crate) fn is_ready(&self) -> bool
         ensures { result ≡ is_ready (attending_of self.now) }
     {
-        self.ready && self.speaker.is_none() && self.token.is_some()
+        self.ready && self.speaker.is_none()
     }
 
     /// How many were refused.
@@ -88,28 +129,10 @@ impl<L, S> Audience<L, S> {
     }
 }
 
-impl<L: Reported, S> Audience<L, S> {
-    /// Has waits report the listener under a token, and who calls from then on.
-    pub(crate) fn register(&mut self, registry: &Registry, token: Token) -> io::Result<()>
-        ensures reported { L.reports self.old.listener token result self.new.listener }
-        ensures ok { OnOk result (self.new ≡ registered token self.new.listener self.old) }
-        ensures err { OnErr result (attending_of self.new ≡ attending_of self.old) }
-        ensures callers { self.new.callers ≡ self.old.callers }
-    {
-        match self.listener.report(registry, token) {
-            Ok(()) => {
-                self.token = Some(token);
-                Ok(())
-            }
-            Err(error) => Err(error),
-        }
-    }
-}
-
-impl<L: Listens<S>, S: Speaks + Awaits + Reported + Drop> Audience<L, S> {
+impl<L: Listens<S>, S: Speaks + Drop> Audience<L, S> {
     /// A word that somebody says, if one is there: how many bytes of the room it has. Where nobody says one, who calls
-    /// next is let in.
-    pub(crate) fn take(&mut self, registry: &Registry, room: &mut [u8]) -> Option<usize>
+    /// next is let in, and waits are to report him.
+    pub(crate) fn take<W: Reports<S>>(&mut self, waits: &mut W, room: &mut [u8]) -> Option<usize>
         requires room { HasRoom self.old }
         ensures within { IfSome result (λ count. count ≤ length room.new) }
         ensures words { IfSome result
@@ -117,8 +140,8 @@ impl<L: Listens<S>, S: Speaks + Awaits + Reported + Drop> Audience<L, S> {
         ensures deaf { is_ready (attending_of self.old) ≡ false
             → IsNone result × (self.new ≡ self.old) }
         ensures looks { is_ready (attending_of self.old) ≡ true
-            → IfSome self.old.token (λ token. Looks S.answers L.calls S.reports token
-            self.old result self.new room.new) }
+            → Looks S.answers L.calls W.reports waits.old self.old
+            result waits.new self.new room.new }
         ensures looked { is_ready (attending_of self.old) ≡ true
             → HasLooked result (attending_of self.old) (attending_of self.new) }
         ensures asked { is_ready (attending_of self.old) ≡ true
@@ -126,19 +149,19 @@ impl<L: Listens<S>, S: Speaks + Awaits + Reported + Drop> Audience<L, S> {
         ensures refused { self.old.refused ≤ self.new.refused }
         ensures unanswered { self.new.unanswered ≡ self.old.unanswered }
         ensures room { HasRoom self.new }
+        ensures waits { AsksFor W.reports self.old.token result waits.old waits.new }
+        ensures spared { is_ready (attending_of self.old) ≡ false → waits.new ≡ waits.old }
     {
-        let Some(token) = self.token else {
-            return None;
-        };
         if !self.is_ready() {
             return None;
         }
+        let token = self.token;
         if let Some(count) = self.hear(room) {
             return Some(count);
         }
         self.ready = let_in(
             &mut self.listener,
-            registry,
+            waits,
             token,
             &mut self.callers,
             &mut self.refused,
@@ -177,7 +200,9 @@ impl<L: Listens<S>, S: Speaks + Awaits + Reported + Drop> Audience<L, S> {
             None => None,
         }
     }
+}
 
+impl<L, S: Awaits + Drop> Audience<L, S> {
     /// Answers who awaits it, by one write, and lets him go.
     pub(crate) fn answer(&mut self, bytes: &[u8])
         ensures told { IsAnsweredIf S.tells self.old.speaker bytes.now self.old.unanswered

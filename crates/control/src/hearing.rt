@@ -1,24 +1,76 @@
 //! The end at which words are heard.
-ghost use Rattle.std.specs.Prelude.{◌≡◌, ◌≤◌, ◌||◌, ◌⊎◌, true, false, length, take, is_some, IfOk, IfSome, IsNone, OnErr, OnOk};
+ghost use Rattle.std.specs.Prelude.{◌≡◌, ◌≤◌, ◌||◌, ◌⊎◌, true, false, length, take, is_some, IfOk, IfSome, IsNone, OnErr};
 ghost use Rattle.control.specs.Attending.{HasLooked, SaysWord, answered, is_ready, nobody_yet};
-ghost use Rattle.control.specs.Attending.{registered, with_more, woken};
-ghost use Rattle.control.specs.Calling.{WasListenedTo};
+ghost use Rattle.control.specs.Attending.{with_more, woken};
+ghost use Rattle.control.specs.Calling.{WasListenedTo, WereAskedFor};
 ghost use Rattle.control.specs.Opening.{WasNotOpened, WasOpened};
 ghost use Rattle.control.specs.Telling.{IsTold};
 
-use crate::audience::Audience;
-use crate::machine::Machine;
+use crate::audience::{Audience, Doorway};
+use crate::machine::{Machine, Waits};
 use crate::opening::opened;
 use crate::{ControlPath, NoSocket};
+use mio::Token;
 use mio::net::{UnixListener, UnixStream};
-use mio::{Registry, Token};
 use std::alloc::Global;
 use std::fs::Files;
 use std::io;
 use std::marker::Model;
 use std::net::Net;
 
-/// The control socket of a box, in a folder that only the box's own user may enter.
+/// A control socket that is bound, in a folder that only the box's own user may enter, before waits report who calls
+/// there: nobody is let in, and nobody heard.
+#[derive(Drop)]
+pub struct Bound {
+    doorway: Doorway<UnixListener, UnixStream>,
+}
+
+impl Model for Bound {
+    ghost use Rattle.mio.specs.declared.net.uds.listener.UnixListener.{UnixListener};
+
+    ghost Value = { UnixListener };
+
+    ghost use Rattle.control.specs.Audiences.{HasNobody};
+
+    ghost view = { λ b. b.doorway.listener };
+
+    ghost invariant = { λ b. HasNobody b.doorway };
+}
+
+impl Bound {
+    /// Makes the folder, where it isn't there, and the socket, with room for as many callers as are waited for. One that
+    /// was left there is removed: the caller holds the lock of the boot file beside it, so no other box listens at it.
+    ///
+    /// # Errors
+    ///
+    /// `NoSocket` where one of these can't be had.
+    pub fn open<R: Files + Net>(
+        machine: &mut Machine<'_, R>,
+        path: &ControlPath,
+        alloc: Global,
+    ) -> Result<Bound, NoSocket>
+        ensures opened { IfOk result
+            (λ bound. WasOpened path.now machine.old bound machine.new) }
+        ensures unopened { OnErr result (WasNotOpened path.now machine.old machine.new) }
+    {
+        Ok(Bound {
+            doorway: opened(machine, path, alloc)?,
+        })
+    }
+
+    /// Has waits report who calls, and who says something, under a token. It is let go where they refuse to.
+    pub fn register(self, waits: &mut Waits<'_>, token: Token) -> io::Result<Control>
+        ensures asked { WasListenedTo self token result waits.old waits.new }
+        ensures nobody { IfOk result (λ control. control ≡ nobody_yet token) }
+    {
+        match self.doorway.register(waits, token) {
+            Ok(audience) => Ok(Control { audience }),
+            Err(error) => Err(error),
+        }
+    }
+}
+
+/// The control socket of a box: waits report who calls there, and who says something.
 #[derive(Drop)]
 pub struct Control {
     audience: Audience<UnixListener, UnixStream>,
@@ -37,35 +89,6 @@ impl Model for Control {
 }
 
 impl Control {
-    /// Makes the folder, where it isn't there, and the socket, with room for as many callers as are waited for. One that
-    /// was left there is removed: the caller holds the lock of the boot file beside it, so no other box listens at it.
-    ///
-    /// # Errors
-    ///
-    /// `NoSocket` where one of these can't be had.
-    pub fn open<R: Files + Net>(
-        machine: &mut Machine<'_, R>,
-        path: &ControlPath,
-        alloc: Global,
-    ) -> Result<Control, NoSocket>
-        ensures nobody { IfOk result (λ c. c ≡ nobody_yet) }
-        ensures opened { OnOk result (WasOpened path.now machine.old machine.new) }
-        ensures unopened { OnErr result (WasNotOpened path.now machine.old machine.new) }
-    {
-        Ok(Control {
-            audience: opened(machine, path, alloc)?,
-        })
-    }
-
-    /// Has a wait report who calls, and who says something, under a token. Nobody is heard before.
-    pub fn register(&mut self, registry: &Registry, token: Token) -> io::Result<()>
-        ensures asked { WasListenedTo token result }
-        ensures ok { OnOk result (self.new ≡ registered token self.old) }
-        ensures err { OnErr result (self.new ≡ self.old) }
-    {
-        self.audience.register(registry, token)
-    }
-
     /// A wait has reported its token.
     pub fn wake(&mut self)
         ensures { self.new ≡ woken self.old }
@@ -73,8 +96,7 @@ impl Control {
         self.audience.wake();
     }
 
-    /// Whether there may be somebody to hear, as far as is known: nobody is while an answer is awaited, and before it is
-    /// registered.
+    /// Whether there may be somebody to hear, as far as is known: nobody is while an answer is awaited.
     pub fn is_ready(&self) -> bool
         ensures { result ≡ is_ready self.now }
     {
@@ -97,10 +119,10 @@ impl Control {
 
     /// A word that somebody says, if one is there: how many bytes of the room it has. Who said it awaits its answer, and
     /// nobody else is heard before that. Who is asked is asked with all of the room. Before None everybody was looked at
-    /// who is waited for, unless an answer is awaited, and one who calls was let in: no more of them a call, so that a
-    /// flood of callers holds up nothing else.
+    /// who is waited for, unless an answer is awaited, and one who calls was let in, whom waits are to report: no more of
+    /// them a call, so that a flood of callers holds up nothing else.
     /// While somebody was let in, or it failed to hear who calls, `is_ready` says that there may be more.
-    pub fn take(&mut self, registry: &Registry, room: &mut [u8]) -> Option<usize>
+    pub fn take(&mut self, waits: &mut Waits<'_>, room: &mut [u8]) -> Option<usize>
         ensures within { IfSome result (λ count. count ≤ length room.new) }
         ensures words { IfSome result (λ count. SaysWord (take count room.new) self.new) }
         ensures one_by_one { self.old.awaits ≡ true → IsNone result }
@@ -111,8 +133,10 @@ impl Control {
         ensures looked { is_ready self.old ≡ true → HasLooked result self.old self.new }
         ensures asked { is_ready self.old ≡ true → self.new.asked ≡ length room.new }
         ensures most { self.new.callers ≤ 8 }
+        ensures waits { WereAskedFor self.old.token result waits.old waits.new }
+        ensures spared { is_ready self.old ≡ false → waits.new ≡ waits.old }
     {
-        self.audience.take(registry, room)
+        self.audience.take(waits, room)
     }
 
     /// Answers who awaits it, by one write that doesn't wait, and lets him go. One who isn't there any more, or has no

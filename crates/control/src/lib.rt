@@ -21,8 +21,8 @@ mod words;
 pub use answers::{
     Answer, PeerOffRefusal, begun_page, begun_report, spelled_heard, spelled_refusal,
 };
-pub use hearing::Control;
-pub use machine::Machine;
+pub use hearing::{Bound, Control};
+pub use machine::{Machine, Waits};
 pub use paths::{ControlPath, LONGEST_PATH, PathFault};
 pub use saying::{NoSocket, ask, say};
 pub use words::{

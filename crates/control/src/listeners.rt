@@ -1,37 +1,24 @@
 //! Who calls, and is let in.
 ghost use Rattle.std.specs.Prelude.{◌≡◌, ◌+◌, ◌<◌, ◌≤◌, ◌⊎◌, suc, vec_len, vec_capacity};
 ghost use Rattle.control.specs.Attending.{AreJoined, one_if};
-ghost use Rattle.control.specs.Calling.{IsKept, LetsIn, WasReported};
+ghost use Rattle.control.specs.Calling.{AsksForOne, IsKept, LetsIn};
 
 use crate::callers::make_room;
 use crate::newcomers::Newcomers;
-use mio::event::Source;
+use mio::Token;
 use mio::net::{UnixListener, UnixStream};
-use mio::{Interest, Registry, Token};
 use std::io::{self, ErrorKind};
 
-/// What a wait reports, once it is registered.
-pub(crate) trait Reported {
-    ghost use Rattle.std.specs.Prelude.{Result};
-    ghost use Rattle.std.specs.declared.io.Error.{Error};
-    ghost use Rattle.mio.specs.declared.token.Token.{Token};
+/// Waits, which report who calls, or says something.
+pub(crate) trait Reports<S> {
+    ghost use Rattle.control.specs.Calling.{Reporting};
 
-    /// What is answered where it is to be registered under a token, and what it is then.
-    ghost reports: { Self → Token → Result (Unit {0}) Error → Self → Type 0 };
+    /// What is answered where they are to report somebody under a token, what he is then, and what they are then.
+    ghost reports: { Reporting Self S };
 
-    /// Registers it under a token.
-    fn report(&mut self, registry: &Registry, token: Token) -> io::Result<()>
-        ensures { reports self.old token result self.new };
-}
-
-/// What a source answers has a name, and no more is known of it.
-impl<S: Source> Reported for S {
-    ghost reports = { WasReported };
-
-    #[tactic(auto, unfolding(crate::specs::Calling::WasReported))]
-    fn report(&mut self, registry: &Registry, token: Token) -> io::Result<()> {
-        registry.register(self, token, Interest::READABLE)
-    }
+    /// Has them report somebody under a token from then on.
+    fn report(&mut self, source: &mut S, token: Token) -> io::Result<()>
+        ensures { reports self.old source.old token result source.new self.new };
 }
 
 /// Where somebody calls.
@@ -57,14 +44,14 @@ impl Listens<UnixStream> for UnixListener {
     }
 }
 
-/// Lets in who calls next, registered under a token, and says whether there may be more: just not where the call would
-/// block. A wait reports the listener once for all who call, so behind any other failure, as where a process has as many
-/// descriptors as it may, those who call would wait until yet another one does. Who called is counted, and so is a call
-/// that failed otherwise. Where too many are waited for, who was waited for longest is refused, so there is always room
-/// for who calls. He is let go where he can't be registered.
-pub(crate) fn let_in<S: Reported + Drop, L: Listens<S>>(
+/// Lets in who calls next, has waits report him under a token, and says whether there may be more: just not where the call
+/// would block. A wait reports the listener once for all who call, so behind any other failure, as where a process has as
+/// many descriptors as it may, those who call would wait until yet another one does. Who called is counted, and so is a
+/// call that failed otherwise. Where too many are waited for, who was waited for longest is refused, so there is always
+/// room for who calls. He is let go where they refuse to report him.
+pub(crate) fn let_in<S: Drop, L: Listens<S>, W: Reports<S>>(
     listener: &mut L,
-    registry: &Registry,
+    waits: &mut W,
     token: Token,
     callers: &mut Vec<S>,
     refused: &mut u64,
@@ -72,8 +59,9 @@ pub(crate) fn let_in<S: Reported + Drop, L: Listens<S>>(
 ) -> bool
     requires most { vec_len callers.old ≤ 8 }
     requires room { 8 ≤ vec_capacity callers.old }
-    ensures let_in { LetsIn L.calls S.reports token listener.old callers.old.items
-        result listener.new callers.new.items }
+    ensures let_in { LetsIn L.calls W.reports token waits.old listener.old callers.old.items
+        result waits.new listener.new callers.new.items }
+    ensures waits { (waits.new ≡ waits.old) ⊎ AsksForOne W.reports token waits.old waits.new }
     ensures joined { AreJoined result (vec_len callers.old) (vec_len callers.new)
         refused.old refused.new }
     ensures called { called.new ≡ called.old + one_if result }
@@ -85,7 +73,7 @@ pub(crate) fn let_in<S: Reported + Drop, L: Listens<S>>(
         Ok(mut caller) => {
             called.count();
             make_room(callers, refused);
-            let registered = caller.report(registry, token);
+            let registered = waits.report(&mut caller, token);
             keep(callers, caller, registered);
             true
         }

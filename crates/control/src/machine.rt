@@ -1,13 +1,17 @@
-//! This machine, and the lines that it makes. What they are asked has names, and no more is known of them.
+//! This machine, the lines that it makes, and what waits. What they are asked has names, and no more is known of them.
+ghost use Rattle.control.specs.Calling.{WasReported};
 ghost use Rattle.control.specs.Folders.{Deed, WasDone};
 ghost use Rattle.control.specs.Opening.{WasBound};
 ghost use Rattle.control.specs.Speaking.{WasDialled, WasLetGo, WasLimited, WasRead, WasWritten};
 
 use crate::folders::Folders;
 use crate::lines::{Dials, Limits};
+use crate::listeners::Reports;
 use crate::opening::Binds;
 use crate::speakers::Speaks;
+use mio::event::Source;
 use mio::net::UnixListener;
+use mio::{Interest, Registry, Token};
 use outlets::Takes;
 use std::fs::{Files, Permissions};
 use std::io::{self, Read, Write};
@@ -65,6 +69,26 @@ impl<R: Net> Dials<SystemLine> for Machine<'_, R> {
     fn dial(&mut self, socket: &str) -> io::Result<SystemLine> {
         let stream = UnixStream::connect(self.rt, socket)?;
         Ok(SystemLine { stream })
+    }
+}
+
+/// What waits for a box, as who is to report who calls at its control socket, and who says something there. It can be
+/// asked for nothing else.
+#[derive(Drop)]
+pub struct Waits<'a>(&'a Registry);
+
+impl<'a> Waits<'a> {
+    pub fn new(registry: &'a Registry) -> Waits<'a> {
+        Waits(registry)
+    }
+}
+
+impl<S: Source> Reports<S> for Waits<'_> {
+    ghost reports = { WasReported };
+
+    #[tactic(auto, unfolding(crate::specs::Calling::WasReported))]
+    fn report(&mut self, source: &mut S, token: Token) -> io::Result<()> {
+        self.0.register(source, token, Interest::READABLE)
     }
 }
 

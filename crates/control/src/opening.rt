@@ -1,10 +1,9 @@
 //! A control socket is opened.
 ghost use Rattle.std.specs.Prelude.{◌≡◌, ◌≤◌, IfOk, OnErr, vec_capacity, vec_len};
-ghost use Rattle.control.specs.Attending.{nobody_yet};
-ghost use Rattle.control.specs.Audiences.{HasRoom, attending_of};
+ghost use Rattle.control.specs.Audiences.{HasNobody};
 ghost use Rattle.control.specs.Opening.{IsOpened, IsUnopened, WasRefused};
 
-use crate::audience::Audience;
+use crate::audience::Doorway;
 use crate::callers::CALLERS;
 use crate::folders::{Folders, ready};
 use crate::{ControlPath, NoSocket};
@@ -24,21 +23,20 @@ pub(crate) trait Binds<L> {
 }
 
 /// Readies the folder of a control socket, and has one bound there, at which nobody has called yet.
-pub(crate) fn opened<F: Folders + Binds<L>, L, S: Drop>(
+pub(crate) fn opened<F: Folders + Binds<L>, L: Drop, S: Drop>(
     folders: &mut F,
     path: &ControlPath,
     alloc: Global,
-) -> Result<Audience<L, S>, NoSocket>
-    ensures opened { IfOk result (λ audience. IsOpened F.does F.binds path.now
-        folders.old audience.listener folders.new) }
-    ensures nobody { IfOk result (λ audience. attending_of audience ≡ nobody_yet) }
-    ensures room { IfOk result (λ audience. HasRoom audience) }
+) -> Result<Doorway<L, S>, NoSocket>
+    ensures opened { IfOk result (λ doorway. IsOpened F.does F.binds path.now
+        folders.old doorway.listener folders.new) }
+    ensures nobody { IfOk result (λ doorway. HasNobody doorway) }
     ensures unopened { OnErr result (IsUnopened F.does F.binds path.now folders.old folders.new) }
 {
     let callers = room_for_callers(alloc)?;
     ready(folders, path)?;
     let listener = folders.bind(path.socket())?;
-    Ok(Audience::nobody(listener, callers))
+    Ok(Doorway::new(listener, callers))
 }
 
 /// Room for as many callers as are waited for.
