@@ -3,7 +3,7 @@
 use crate::callers::Callers;
 use anyhow::{Context, Result};
 use cases_words::Case;
-use control::{Control, ControlPath};
+use control::{Bound, ControlPath};
 use nat_types::Side;
 use sockets::{Machine, Place, Ports, Sockets, Way, Ways};
 use std::net::UdpSocket;
@@ -77,7 +77,7 @@ impl Boxes {
     }
 
     fn add(&mut self, rt: &HostRuntime, ways: &Ways) -> Result<()> {
-        ways.inherit()?;
+        ways.inherit(&mut Machine::new(rt))?;
         self.sockets.push(opened(rt, 3, "other", ways)?)?;
         Ok(())
     }
@@ -151,10 +151,10 @@ fn opened(rt: &HostRuntime, number: usize, control: &str, ways: &Ways) -> Result
     Ok(Sockets::open(&mut machine, rt.alloc(), ways, ports, control)?)
 }
 
-pub(crate) fn controlled(rt: &HostRuntime, name: &str) -> Result<Control> {
+pub(crate) fn controlled(rt: &HostRuntime, name: &str) -> Result<Bound> {
     let path = ControlPath::beside(rt.alloc(), name)?;
     let mut machine = control::Machine::new(rt);
-    Ok(Control::open(&mut machine, &path, rt.alloc())?)
+    Ok(Bound::open(&mut machine, &path, rt.alloc())?)
 }
 
 /// The place that the next word names.

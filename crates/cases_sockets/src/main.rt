@@ -18,7 +18,7 @@ use speaking::Speakers;
 use texts::Texts;
 
 fn try_all(rt: &HostRuntime, case: &mut Case) -> Result<()> {
-    play(rt, "texts.cases", Texts, case)?;
+    play(rt, "texts.cases", Texts::new(*rt), case)?;
     play(rt, "hearing.cases", Ear::new(rt.alloc()), case)?;
     play(rt, "sockets.cases", Speakers::open(*rt)?, case)
 }

@@ -7,12 +7,20 @@ use control::{
     Answer, ControlPath, PathFault, PeerOffRefusal, spelled_known_off, spelled_off, spelled_pairs,
     spelled_pairs_after, spelled_refusal, spelled_side, spelled_status, word_of,
 };
-use sockets::{End, Ends, Way};
+use sockets::{End, Ends, Machine, Way};
 use std::alloc::Global;
 
 /// Answers lines about texts.
 #[derive(Drop)]
-pub(crate) struct Texts;
+pub(crate) struct Texts {
+    rt: HostRuntime,
+}
+
+impl Texts {
+    pub(crate) fn new(rt: HostRuntime) -> Texts {
+        Texts { rt }
+    }
+}
 
 impl Actor for Texts {
     /// - `way TEXT`: the way that a text writes
@@ -27,7 +35,7 @@ impl Actor for Texts {
         case.title("", "\n");
         match case.word() {
             "way" => way(case),
-            "inherit" => inherit(case),
+            "inherit" => inherit(&self.rt, case),
             "path" => path(case),
             "word" => word(case),
             "off" => off(case),
@@ -65,8 +73,8 @@ fn tell_end(case: &mut Case, text: &str, end: End) {
     case.say(":", end.port);
 }
 
-fn inherit(case: &mut Case) {
-    let inherited = ways_in(case, None).inherit();
+fn inherit(rt: &HostRuntime, case: &mut Case) {
+    let inherited = ways_in(case, None).inherit(&mut Machine::new(rt));
     case.done(inherited, "inherited");
 }
 

@@ -1,10 +1,11 @@
 -- That a box's sockets are opened, one call after another, and what it is told where one is refused.
-use Rattle.std.proofs.Common.{◌≡◌, ◌∙◌, Result, Ok, Err, IfErr, IfOk, IsErrAnd, inl, inr, ap, sym, subst}
+use Rattle.std.proofs.Common.{◌≡◌, ◌∙◌, ℕ, Result, Ok, Err, IfErr, IfOk, IsErrAnd, inl, inr, ap, sym, subst}
 use Rattle.std.specs.declared.io.Error.{Error}
 use Rattle.std.specs.declared.net.socket_addr.SocketAddr.{SocketAddr}
 use Rattle.control.specs.Attending.{Attending}
+use Rattle.mio.specs.declared.net.uds.listener.UnixListener.{UnixListener}
 use Rattle.sockets.specs.declared.machine.Waiting.{Waiting}
-use Rattle.sockets.specs.Asking.{WasRegistered}
+use Rattle.sockets.specs.Asking.{WasControlRegistered, WasRegistered}
 use Rattle.sockets.specs.Boards.{IsHad, IsRefused, OpensPlaces, control_token}
 use Rattle.sockets.specs.Opening.{IsAttached, IsJoined, IsOpened, RefusesOne, Wanted, WasBound, WasConnected, WasPollMade, places_of, wanted}
 use Rattle.sockets.specs.Ends.{IsSocketOf}
@@ -84,48 +85,54 @@ polled : {M : Type 0} (before after : M) (answer : Result Waiting Error) (poll :
     → WasPollMade before (Ok poll) after
 polled before after answer poll made is = subst (λ (a : Result Waiting Error). WasPollMade before a after) is made
 
--- the control socket that was handed in was to be reported
-asked : {M : Type 0} (before after : M) (handed_in held control : Attending) (answer answer2 : Result (Unit {0}) Error) → held ≡ handed_in
-    → WasRegistered before held control_token.0 answer control after → answer ≡ answer2
-    → WasRegistered before handed_in control_token.0 answer2 control after
-asked before after handed_in held control answer answer2 same had is =
-    subst (λ (a : Result (Unit {0}) Error). WasRegistered before handed_in control_token.0 a control after) is
-    (subst (λ (h : Attending). WasRegistered before h control_token.0 answer control after) same had)
-
--- it can't be
-pub control_refused : {M : Type 0} (before between after : M) (ways : Ways) (ports : Ports) (handed_in held control : Attending) (answer : Result Waiting Error)
-    (poll : Waiting) (reported : Result (Unit {0}) Error) (error : Error) → WasPollMade before answer between → answer ≡ Ok poll
-    → held ≡ handed_in → WasRegistered between held control_token.0 reported control after → reported ≡ Err error
-    → IsRefused before ways ports handed_in NoSocket after
-control_refused before between after ways ports handed_in held control answer poll reported error made is same had refused =
-    let had = asked between after handed_in held control reported (Err error) same had refused in
-    (error, inr (poll, (between, (polled before between answer poll made is, inl (control, had)))))
-
 -- a place is refused
-pub place_refused : {M : Type 0} (before between behind after : M) (ways : Ways) (ports : Ports) (handed_in held control : Attending)
-    (answer : Result Waiting Error) (poll : Waiting) (reported : Result (Unit {0}) Error) (error : Error) → WasPollMade before answer between
-    → answer ≡ Ok poll → held ≡ handed_in → WasRegistered between held control_token.0 reported control behind → reported ≡ Ok tt
-    → RefusesOne behind (places_of ways ports) error after → IsRefused before ways ports handed_in NoSocket after
-place_refused before between behind after ways ports handed_in held control answer poll reported error made is same had done one =
-    let had = asked between behind handed_in held control reported (Ok tt) same had done in
-    (error, inr (poll, (between, (polled before between answer poll made is, inr (control, (behind, (had, one)))))))
+pub place_refused : {M : Type 0} (before between after : M) (ways : Ways) (ports : Ports) (handed_in : UnixListener) (answer : Result Waiting Error)
+    (poll : Waiting) (error : Error) → WasPollMade before answer between → answer ≡ Ok poll → RefusesOne between (places_of ways ports) error after
+    → IsRefused before ways ports handed_in NoSocket after
+place_refused before between after ways ports handed_in answer poll error made is one =
+    (error, inl (inr (poll, (between, (polled before between answer poll made is, one)))))
 
 -- none is
-pub all_had : {M : Type 0} (before between behind after : M) (ways : Ways) (ports : Ports) (handed_in held control : Attending) (answer : Result Waiting Error)
-    (poll : Waiting) (reported : Result (Unit {0}) Error) (places : Result Places Error) (p : Places) → WasPollMade before answer between
-    → answer ≡ Ok poll → held ≡ handed_in → WasRegistered between held control_token.0 reported control behind → reported ≡ Ok tt
-    → IfOk places (λ x. OpensPlaces behind ways ports x after) → places ≡ Ok p → IsHad before ways ports handed_in poll control p after
-all_had before between behind after ways ports handed_in held control answer poll reported places p made is same had done all are = record {
+pub all_had : {M : Type 0} (before between after : M) (ways : Ways) (ports : Ports) (answer : Result Waiting Error) (poll : Waiting)
+    (places : Result Places Error) (p : Places) → WasPollMade before answer between → answer ≡ Ok poll
+    → IfOk places (λ x. OpensPlaces between ways ports x after) → places ≡ Ok p → IsHad before ways ports poll p after
+all_had before between after ways ports answer poll places p made is all are = record {
   between = between;
-  behind = behind;
   polled = polled before between answer poll made is;
-  asked = asked between behind handed_in held control reported (Ok tt) same had done;
-  places = at_ok places (λ x. OpensPlaces behind ways ports x after) p all are;
+  places = at_ok places (λ x. OpensPlaces between ways ports x after) p all are;
 }
 
 -- so it is held
-pub still_had : {M : Type 0} (before after : M) (ways : Ways) (ports : Ports) (handed_in : Attending) (held : Attending × Waiting) (places : Places)
-    (poll : Waiting) (control : Attending) (p : Places) → ◌≡◌ {A = (Attending × Waiting) × Places} (held, places) ((control, poll), p)
-    → IsHad before ways ports handed_in poll control p after → IsHad before ways ports handed_in held.1 held.0 places after
-still_had before after ways ports handed_in held places poll control p is had =
-    subst (λ (x : (Attending × Waiting) × Places). IsHad before ways ports handed_in x.0.1 x.0.0 x.1 after) (sym is) had
+pub still_had : {M : Type 0} (before after : M) (ways : Ways) (ports : Ports) (poll2 poll : Waiting) (p2 p : Places)
+    → ◌≡◌ {A = Waiting × Places} (poll2, p2) (poll, p) → IsHad before ways ports poll p after → IsHad before ways ports poll2 p2 after
+still_had before after ways ports poll2 poll p2 p is had =
+    subst (λ (x : Waiting × Places). IsHad before ways ports x.0 x.1 after) (sym is) had
+
+-- of what is held, with what was made beside it: two parts that are held first, or the last of both and that; and the first
+pub held_first : {A B C : Type 0} (a a2 : A) (b b2 : B) (c c2 : C) → ◌≡◌ {A = (A × B) × C} ((a, b), c) ((a2, b2), c2) → ◌≡◌ {A = A × B} (a, b) (a2, b2)
+held_first {A} {B} {C} a a2 b b2 c c2 is = ap (λ (x : (A × B) × C). x.0) is
+
+pub held_last : {A B C : Type 0} (h : A × B) (a : A) (b : B) (c c2 : C) → ◌≡◌ {A = (A × B) × C} (h, c) ((a, b), c2) → ◌≡◌ {A = B × C} (h.1, c) (b, c2)
+held_last {A} {B} {C} h a b c c2 is = ap (λ (x : (A × B) × C). (x.0.1, x.1)) is
+
+pub held_of : {A B C : Type 0} (h : A × B) (a : A) (b : B) (c c2 : C) → ◌≡◌ {A = (A × B) × C} (h, c) ((a, b), c2) → h.0 ≡ a
+held_of {A} {B} {C} h a b c c2 is = ap (λ (x : (A × B) × C). x.0.0) is
+
+-- what holds of how large it was that was made beside them holds still
+pub made_still : {A C : Type 0} (size : C → ℕ) (h h2 : A) (c c2 : C) (n : ℕ) → ◌≡◌ {A = A × C} (h, c) (h2, c2) → size c2 ≡ n → size c ≡ n
+made_still {A} {C} size h h2 c c2 n is holds = ap (λ (x : A × C). size x.1) is ∙ holds
+
+-- what was bound for the control socket, and handed in, was to be reported
+pub asked : {M : Type 0} (before after : M) (handed_in held : UnixListener) (answer answer2 : Result Attending Error) → held ≡ handed_in
+    → WasControlRegistered before held control_token.0 answer after → answer ≡ answer2
+    → WasControlRegistered before handed_in control_token.0 answer2 after
+asked before after handed_in held answer answer2 same had is =
+    subst (λ (a : Result Attending Error). WasControlRegistered before handed_in control_token.0 a after) is
+    (subst (λ (h : UnixListener). WasControlRegistered before h control_token.0 answer after) same had)
+
+-- it can't be
+pub control_refused : {M : Type 0} (before between after : M) (ways : Ways) (ports : Ports) (handed_in held : UnixListener) (poll : Waiting) (p : Places)
+    (answer : Result Attending Error) (error : Error) → IsHad before ways ports poll p between → held ≡ handed_in
+    → WasControlRegistered between held control_token.0 answer after → answer ≡ Err error → IsRefused before ways ports handed_in NoSocket after
+control_refused before between after ways ports handed_in held poll p answer error had same heard is =
+    (error, inr (poll, (p, (between, (had, asked between after handed_in held answer (Err error) same heard is)))))

@@ -1,6 +1,7 @@
 -- What is asked of what carries a place's bytes, and when.
 use Rattle.std.specs.Prelude.{ℕ, zero, suc, Bool, true, false, ◌≡◌, ◌≤◌, ◌<◌, ◌⊎◌, List, length, take, Option, Some, None, Result, Ok, Err}
 use Rattle.std.specs.declared.io.Error.{Error}
+use Rattle.control.specs.Attending.{Attending}
 use Rattle.sockets.specs.declared.attachments.Brought.{Brought}
 use Rattle.sockets.specs.declared.attachments.Brought.TheVariants.{Heard, Stranger, Nothing, Failed}
 use Rattle.sockets.specs.declared.conduits.Arrived.{Arrived}
@@ -42,6 +43,10 @@ WasReceived before result room after = Unit {0}
 -- the same where the system was to have waits report a socket under the token of this number: by who asks it, as he was before and is then
 unfoldable pub WasRegistered : {M S : Type 0} → M → S → ℕ → Result (Unit {0}) Error → S → M → Type 0
 WasRegistered before s number answer s2 after = Unit {0}
+
+-- and where it was to have waits report what was bound for a control socket: only then is there one
+unfoldable pub WasControlRegistered : {M B : Type 0} → M → B → ℕ → Result Attending Error → M → Type 0
+WasControlRegistered before bound number answer after = Unit {0}
 
 -- an answer is of these kinds: something of the far end's, or of somebody else's, nothing, or a failure
 pub data Kind : Type 0 where

@@ -1,6 +1,7 @@
 -- What is told of each place of a box: what its own attachment has heard.
 use Rattle.std.specs.Prelude.{ℕ, Bool, true, false, ◌≡◌, List, [], ◌∷◌, ◌++◌, ◌⊎◌, take, Option, Some, None, Result, Ok, Err, is_err}
-use Rattle.control.specs.Attending.{Attending, registered}
+use Rattle.control.specs.Attending.{nobody_yet}
+use Rattle.mio.specs.declared.net.uds.listener.UnixListener.{UnixListener}
 use Rattle.std.specs.declared.io.Error.{Error}
 use Rattle.sockets.specs.declared.machine.Waiting.{Waiting}
 use Rattle.mio.specs.Events.{capacity}
@@ -20,7 +21,7 @@ use Rattle.sockets.specs.declared.sockets.SocketFault.TheVariants.{NoMemory, NoS
 use Rattle.sockets.specs.FarEnds.{Arrival, far_end_of, head_of}
 use Rattle.sockets.specs.Hearing.{Attached, Hears}
 use Rattle.sockets.specs.Traffic.{handed_on}
-use Rattle.sockets.specs.Asking.{HandsOver, Receives, Sends, WasReceived, WasRegistered, WasSent}
+use Rattle.sockets.specs.Asking.{HandsOver, Receives, Sends, WasControlRegistered, WasReceived, WasSent}
 use Rattle.sockets.specs.Losses.{none_lost, with_loss}
 use Rattle.sockets.specs.Opening.{IsAttached, RefusesOne, WasHandedOut, WasPollMade, places_of, wanted}
 use Rattle.sockets.specs.declared.losses.SendFault.{SendFault}
@@ -133,15 +134,11 @@ pub record OpensPlaces {M : Type 0} (before : M) (ways : Ways) (ports : Ports) (
 abbrev pub control_token : Token
 control_token = record { 0 = 3 }
 
--- the system was asked for what waits, to report the control socket under its token, and for the places, and refused none
-pub record IsHad {M : Type 0} (before : M) (ways : Ways) (ports : Ports) (handed_in : Attending) (poll : Waiting) (control : Attending) (p : Places)
-    (after : M) : Type 0
-  where
-    pub between : M
-    pub behind : M
-    pub polled : WasPollMade before (Ok poll) between
-    pub asked : WasRegistered between handed_in control_token.0 (Ok tt) control behind
-    pub places : OpensPlaces behind ways ports p after
+-- the system was asked for what waits, and then for the places, and refused none
+pub record IsHad {M : Type 0} (before : M) (ways : Ways) (ports : Ports) (poll : Waiting) (p : Places) (after : M) : Type 0 where
+  pub between : M
+  pub polled : WasPollMade before (Ok poll) between
+  pub places : OpensPlaces between ways ports p after
 
 -- and then all three were handed out
 pub record HandsOut {M : Type 0} (before : M) (ways : Ways) (ports : Ports) (p : Places) (b : Board) (after : M) : Type 0 where
@@ -151,31 +148,33 @@ pub record HandsOut {M : Type 0} (before : M) (ways : Ways) (ports : Ports) (p :
   pub inside : IsNew second p.inside ways.inside ports.inside b.inside third
   pub outside : IsNew third p.outside ways.outside ports.outside b.outside after
 
--- so a box has them; the control socket is as it was handed in, but that waits report it; the link is asked first; there is room for eight events
-pub record Opens {M : Type 0} (before : M) (ways : Ways) (ports : Ports) (handed_in : Attending) (b : Board) (after : M) : Type 0 where
+-- So a box has them: last of all waits were to report the control socket under its token, and who calls there is heard from then on; nobody has
+-- called yet. The link is asked first; there is room for eight events.
+pub record Opens {M : Type 0} (before : M) (ways : Ways) (ports : Ports) (handed_in : UnixListener) (b : Board) (after : M) : Type 0 where
   pub places : Places
   pub between : M
-  pub had : IsHad before ways ports handed_in b.poll b.control places between
-  pub handed_out : HandsOut between ways ports places b after
-  pub control : b.control ≡ registered control_token handed_in
+  pub behind : M
+  pub had : IsHad before ways ports b.poll places between
+  pub heard : WasControlRegistered between handed_in control_token.0 (Ok b.control) behind
+  pub handed_out : HandsOut behind ways ports places b after
+  pub control : b.control ≡ nobody_yet control_token
   pub first : b.first ≡ Link
   pub room : capacity b.events ≡ 8
 
--- behind what waits to report the control socket was refused; or it wasn't, and one of the places is
-abbrev pub RefusesBehindPoll : {M : Type 0} → M → Ways → Ports → Attending → Error → M → Type 0
-RefusesBehindPoll {M} before ways ports handed_in error after =
-    ((control : Attending) × WasRegistered before handed_in control_token.0 (Err error) control after)
-    ⊎ ((control : Attending) × ((between : M) × (WasRegistered before handed_in control_token.0 (Ok tt) control between
-    × RefusesOne between (places_of ways ports) error after)))
+-- what waits is refused; or it isn't, and one of the places is
+abbrev pub RefusesPlaces : {M : Type 0} → M → Ways → Ports → Error → M → Type 0
+RefusesPlaces {M} before ways ports error after = WasPollMade before (Err error) after
+    ⊎ ((poll : Waiting) × ((between : M) × (WasPollMade before (Ok poll) between × RefusesOne between (places_of ways ports) error after)))
 
--- what waits is refused; or it isn't, and what is asked behind it is
-abbrev pub RefusesSocket : {M : Type 0} → M → Ways → Ports → Attending → Error → M → Type 0
-RefusesSocket {M} before ways ports handed_in error after = WasPollMade before (Err error) after
-    ⊎ ((poll : Waiting) × ((between : M) × (WasPollMade before (Ok poll) between × RefusesBehindPoll between ways ports handed_in error after)))
+-- none is, and then waits can't report the control socket
+abbrev pub RefusesControl : {M : Type 0} → M → Ways → Ports → UnixListener → Error → M → Type 0
+RefusesControl {M} before ways ports handed_in error after =
+    (poll : Waiting) × ((p : Places) × ((between : M) × (IsHad before ways ports poll p between
+    × WasControlRegistered between handed_in control_token.0 (Err error) after)))
 
--- A box's sockets aren't had: the system refused what it was asked, and wasn't asked for more behind that. Or it refused nothing, and there is no
--- memory for events.
-abbrev pub IsRefused : {M : Type 0} → M → Ways → Ports → Attending → SocketFault → M → Type 0
-IsRefused before ways ports handed_in NoSocket after = (error : Error) × RefusesSocket before ways ports handed_in error after
-IsRefused before ways ports handed_in NoMemory after =
-    (poll : Waiting) × ((control : Attending) × ((p : Places) × IsHad before ways ports handed_in poll control p after))
+-- A box's sockets aren't had: the system refused what it was asked, and wasn't asked for more behind that. Or there is no memory for events,
+-- and it refused nothing: then it wasn't asked to report the control socket. Nobody was heard there in any case.
+abbrev pub IsRefused : {M : Type 0} → M → Ways → Ports → UnixListener → SocketFault → M → Type 0
+IsRefused before ways ports handed_in NoSocket after =
+    (error : Error) × (RefusesPlaces before ways ports error after ⊎ RefusesControl before ways ports handed_in error after)
+IsRefused before ways ports handed_in NoMemory after = (poll : Waiting) × ((p : Places) × IsHad before ways ports poll p after)

@@ -39,10 +39,22 @@ AreInherited {D} unblocks (one ∷ others) named before after =
 unfoldable pub WasUnblocked : ℕ → Bool → Type 0
 WasUnblocked number answer = Unit {0}
 
--- the same, of descriptors of which nothing is known
+-- Whoever asked it was this before and is this then: he asked for just that. It is such a name, too.
+unfoldable pub WasUnblockedBy : {M : Type 0} → M → ℕ → Bool → M → Type 0
+WasUnblockedBy before number answer after = Unit {0}
+
+-- so it answered, and so who asked it was, and is
+abbrev pub AsksSystem : {M : Type 0} → M → ℕ → Bool → M → Type 0
+AsksSystem before number answer after = WasUnblocked number answer × WasUnblockedBy before number answer after
+
+-- so it may answer, whoever asks
 abbrev pub by_system : {D : Type 0} → D → ℕ → Bool → D → Type 0
 by_system before number answer after = WasUnblocked number answer
 
 -- the descriptors of a box's ways were made so by the system, up to the first that couldn't be: it is named
 abbrev pub AreUnblocked : Ways → Option ℕ → Type 0
 AreUnblocked ways named = AreInherited (by_system {D = Unit {0}}) (descriptors_of ways) named tt tt
+
+-- just they were, and whoever asked for it was this before and is this then: he asked for nothing else
+abbrev pub AreUnblockedBy : {M : Type 0} → Ways → Option ℕ → M → M → Type 0
+AreUnblockedBy ways named before after = AreInherited AsksSystem (descriptors_of ways) named before after

@@ -1,14 +1,15 @@
 //! The system: its sockets, and descriptors that were inherited. What it is asked has names, and no more is known of it.
-ghost use Rattle.std.specs.Prelude.{◌≡◌, ◌≤◌, [], IfOk, IfSome, IsNone, OnErr, OnOk, false, is_err, length, true};
-ghost use Rattle.control.specs.Attending.{HasLooked, SaysWord, is_ready, registered};
+ghost use Rattle.std.specs.Prelude.{◌≡◌, ◌≤◌, [], IfOk, IfSome, IsNone, OnErr, false, is_err, length, true};
+ghost use Rattle.control.specs.Attending.{HasLooked, SaysWord, is_ready, nobody_yet};
 ghost use Rattle.mio.specs.Events.{capacity, items};
-ghost use Rattle.sockets.specs.Asking.{WasReceived, WasRegistered, WasSent};
+ghost use Rattle.sockets.specs.Asking.{WasControlRegistered, WasReceived, WasRegistered, WasSent};
+ghost use Rattle.sockets.specs.Inheriting.{WasUnblocked, WasUnblockedBy};
 ghost use Rattle.sockets.specs.Opening.{WasBound, WasConnected, WasHandedOut, WasInherited, WasPollMade};
 ghost use Rattle.sockets.specs.Polling.{WasPolled};
 
 use crate::channels::{counted, fault_of, settled, taken_whole};
 use crate::{Arrived, End, LONGEST, SendFault, Sender, WireFault};
-use control::Control;
+use control::{Bound, Control, Waits};
 use mio::net::UdpSocket;
 use mio::unix::SourceFd;
 use mio::{Events, Interest, Poll, Token};
@@ -52,6 +53,15 @@ impl<'a, R: Net> Machine<'a, R> {
         socket.0.connect(other)
     }
 
+    /// Asks the system to make a descriptor one that never waits, and says whether it did.
+    #[tactic(auto, unfolding(crate::specs::Inheriting::WasUnblocked, crate::specs::Inheriting::WasUnblockedBy))]
+    pub(crate) fn told_to_unblock(&mut self, number: u16) -> bool
+        ensures asked { WasUnblocked number result }
+        ensures alone { WasUnblockedBy self.old number result self.new }
+    {
+        os::set_nonblocking(RawFd::from(number), true) >= 0
+    }
+
     /// Takes over an inherited descriptor.
     #[tactic(auto, unfolding(crate::specs::Opening::WasInherited))]
     pub(crate) fn told_to_inherit(&mut self, number: u16) -> Inherited
@@ -81,19 +91,18 @@ impl<'a, R: Net> Machine<'a, R> {
         Socket(opened)
     }
 
-    /// Has waits report a control socket and who calls there under a token.
-    #[tactic(auto, unfolding(crate::specs::Asking::WasRegistered))]
+    /// Has waits report what was bound for a control socket, and who calls there, under a token.
+    #[tactic(auto, unfolding(crate::specs::Asking::WasControlRegistered))]
     pub(crate) fn told_to_register_control(
         &mut self,
-        control: &mut Control,
+        bound: Bound,
         waits: &Waiting,
         token: Token,
-    ) -> io::Result<()>
-        ensures asked { WasRegistered self.old control.old token.0 result control.new self.new }
-        ensures ok { OnOk result (control.new ≡ registered token control.old) }
-        ensures err { OnErr result (control.new ≡ control.old) }
+    ) -> io::Result<Control>
+        ensures asked { WasControlRegistered self.old bound token.0 result self.new }
+        ensures ok { IfOk result (λ control. control ≡ nobody_yet token) }
     {
-        control.register(waits.0.registry(), token)
+        bound.register(&mut Waits::new(waits.0.registry()), token)
     }
 }
 
@@ -132,7 +141,7 @@ impl Waiting {
             → HasLooked result control.old control.new }
         ensures asked { is_ready control.old ≡ true → control.new.asked ≡ length room.new }
     {
-        control.take(self.0.registry(), room)
+        control.take(&mut Waits::new(self.0.registry()), room)
     }
 
     fn register(&self, opened: &mut Opened, token: Token) -> io::Result<()> {

@@ -16,7 +16,7 @@ use crate::channels::{Channel, attached};
 use crate::machine::{Machine, Opened, Waiting};
 use crate::wire::{LONGEST, Wire, WireFault};
 use crate::{Attachment, Losses, Place, Ports, SendFault, Way, Ways};
-use control::Control;
+use control::{Bound, Control};
 use mio::{Events, Token};
 use nat_types::Side;
 use std::alloc::{AllocError, Global};
@@ -74,39 +74,6 @@ struct Board {
 }
 
 impl Board {
-    fn open<R: Net>(
-        machine: &mut Machine<'_, R>,
-        alloc: Global,
-        ways: &Ways,
-        ports: Ports,
-        control: Control,
-    ) -> Result<Board, SocketFault>
-        ensures opened { IfOk result (λ b. Opens machine.old ways.now ports control b machine.new) }
-        ensures refused { IfErr result
-            (λ fault. IsRefused machine.old ways.now ports control fault machine.new) }
-    {
-        let (mut control, poll) = beside(control, machine.told_to_make_poll())?;
-        let registered = machine.told_to_register_control(&mut control, &poll, CONTROL);
-        let (held, ()) = beside((control, poll), registered)?;
-        let places = open_places(machine, &held.1, ways, ports);
-        let (held, places) = beside(held, places)?;
-        let events = Events::with_capacity(alloc, 8);
-        let ((held, places), events) = beside((held, places), events)?;
-        let (control, poll) = held;
-        let link = place(machine, places.link, ways.link, ports.link);
-        let inside = place(machine, places.inside, ways.inside, ports.inside);
-        let outside = place(machine, places.outside, ways.outside, ports.outside);
-        Ok(Board {
-            poll,
-            events,
-            link,
-            inside,
-            outside,
-            control,
-            first: Place::Link,
-        })
-    }
-
     fn attachment(&self, place: Place) -> Option<&Attachment<Channel>>
         ensures { option_map (λ a. a.now) result ≡ attached_at self.now place }
     {
@@ -397,8 +364,9 @@ pub struct Sockets {
 }
 
 impl Sockets {
-    /// Opens what the ways of a box need, and takes its control socket. Where a way is the loopback address it has
-    /// these ports. Descriptors were inherited before ([`Ways::inherit`]).
+    /// Opens what the ways of a box need, and has waits report its control socket last of all: nobody is heard there
+    /// before. Where a way is the loopback address it has these ports. Descriptors were inherited before
+    /// ([`Ways::inherit`]).
     ///
     /// # Errors
     ///
@@ -408,16 +376,34 @@ impl Sockets {
         alloc: Global,
         ways: &Ways,
         ports: Ports,
-        control: Control,
+        control: Bound,
     ) -> Result<Sockets, SocketFault>
         ensures opened { IfOk result
             (λ s. Opens machine.old ways.now ports control s.board machine.new) }
         ensures refused { IfErr result
             (λ fault. IsRefused machine.old ways.now ports control fault machine.new) }
     {
-        Ok(Sockets {
-            board: Board::open(machine, alloc, ways, ports, control)?,
-        })
+        let (control, poll) = beside(control, machine.told_to_make_poll())?;
+        let places = open_places(machine, &poll, ways, ports);
+        let (held, places) = beside((control, poll), places)?;
+        let events = Events::with_capacity(alloc, 8);
+        let ((held, places), events) = beside((held, places), events)?;
+        let (control, poll) = held;
+        let control = machine.told_to_register_control(control, &poll, CONTROL);
+        let (((poll, places), events), control) = beside(((poll, places), events), control)?;
+        let link = place(machine, places.link, ways.link, ports.link);
+        let inside = place(machine, places.inside, ways.inside, ports.inside);
+        let outside = place(machine, places.outside, ways.outside, ports.outside);
+        let board = Board {
+            poll,
+            events,
+            link,
+            inside,
+            outside,
+            control,
+            first: Place::Link,
+        };
+        Ok(Sockets { board })
     }
 
     /// How much came to a place from others than those it hears, or was no frame of its network; of the operator's

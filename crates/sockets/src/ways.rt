@@ -1,11 +1,11 @@
 //! By what way each place of a box is reached.
 ghost use Rattle.std.specs.Prelude.{◌≡◌, MatchOption, IfErr};
-ghost use Rattle.sockets.specs.Inheriting.{AreInherited, AreUnblocked, IsInherited, descriptor_of, descriptors_of, named_by};
+ghost use Rattle.sockets.specs.Inheriting.{AreInherited, AreUnblocked, AreUnblockedBy, IsInherited, descriptor_of, descriptors_of, named_by};
 ghost use Rattle.sockets.specs.Ways.{IsWayText, IsNoWayText, IsVxlanText, IsNoVxlanText, IsDescriptorText, IsNoDescriptorText, IsDescriptor, Names};
 
-use crate::{End, Ends, FarEnd, Network};
+use crate::{End, Ends, FarEnd, Machine, Network};
 use std::fmt;
-use std::os::fd::RawFd;
+use std::net::Net;
 use thiserror::Error;
 
 /// By what way the datagrams of the link, or the frames of a side, come to a box and leave it.
@@ -115,11 +115,12 @@ impl Ways {
     /// # Errors
     ///
     /// The first that isn't open, of the inside, the outside and the link.
-    pub fn inherit(&self) -> Result<(), NoDescriptor>
+    pub fn inherit<R: Net>(&self, machine: &mut Machine<'_, R>) -> Result<(), NoDescriptor>
         ensures named { IfErr result (λ fault. Names self.now fault.0) }
         ensures first { AreUnblocked self.now (named_by result) }
+        ensures alone { AreUnblockedBy self.now (named_by result) machine.old machine.new }
     {
-        inherit_all(&mut SystemDescriptors, self)
+        inherit_all(machine, self)
     }
 }
 
@@ -136,17 +137,13 @@ trait Descriptors {
 }
 
 /// The system's, of which nothing is known.
-#[derive(Drop)]
-struct SystemDescriptors;
+impl<R: Net> Descriptors for Machine<'_, R> {
+    ghost use Rattle.sockets.specs.Inheriting.{AsksSystem};
 
-impl Descriptors for SystemDescriptors {
-    ghost use Rattle.sockets.specs.Inheriting.{by_system};
+    ghost unblocks = { AsksSystem };
 
-    ghost unblocks = { by_system };
-
-    #[tactic(auto, unfolding(crate::specs::Inheriting::WasUnblocked))]
     fn unblock(&mut self, number: u16) -> bool {
-        os::set_nonblocking(RawFd::from(number), true) >= 0
+        self.told_to_unblock(number)
     }
 }
 
