@@ -1,3 +1,4 @@
 mod Accounts
 mod Each
 mod Pairs
+mod Owing

@@ -1,9 +1,11 @@
 //! The calls by which a box writes its records.
-ghost use Rattle.std.specs.Prelude.{◌≡◌};
+ghost use Rattle.std.specs.Prelude.{◌≡◌, IfSome};
 ghost use Rattle.log.specs.Record.{metadata_level, metadata_target};
-ghost use Rattle.journal.specs.Handed.{IsTold, WasHanded};
+ghost use Rattle.journal.specs.Handed.{AreToldOthers, IsTold, IsToldOthers, WasHanded};
 ghost use Rattle.journal.specs.Owed.{owed};
-ghost use Rattle.journal.specs.Tally.{noted, turned};
+ghost use Rattle.journal.specs.Tally.{count_at, ended, noted, turned};
+ghost use Rattle.journal.specs.declared.causes.Cause.{Cause as Why};
+ghost use Rattle.journal.specs.declared.entries.Entry.TheVariants.{First};
 
 use crate::causes::CAUSES;
 use crate::entries::Entry;
@@ -34,7 +36,10 @@ fn hand<L: Log>(log: &L, metadata: Metadata<'_>, note: Note)
 /// Counts an event of which nothing came, and writes a record if it is the first of its second there for that cause;
 /// before it those that are owed of a second that has ended.
 pub fn tell_loss<L: Log>(log: &L, tally: &mut Tally, moment: u64, origin: Origin, cause: Cause)
-    ensures { tally.new ≡ noted origin cause (turned moment tally.old) }
+    ensures tally { tally.new ≡ noted origin cause (turned moment tally.old) }
+    ensures others { IfSome (ended moment tally.old) (AreToldOthers L.enables log.now moment) }
+    ensures first { count_at (turned moment tally.old) origin cause ≡ 0
+        → IsTold L.enables log.now moment (First origin cause) }
 {
     tell_turn(log, tally, moment);
     if tally.note(origin, cause) {
@@ -45,7 +50,8 @@ pub fn tell_loss<L: Log>(log: &L, tally: &mut Tally, moment: u64, origin: Origin
 /// Where a later second has begun, writes the records that are owed of the one that has ended, and how many lines were
 /// left out, if there is room.
 pub fn tell_turn<L: Log>(log: &L, tally: &mut Tally, moment: u64)
-    ensures { tally.new ≡ turned moment tally.old }
+    ensures tally { tally.new ≡ turned moment tally.old }
+    ensures others { IfSome (ended moment tally.old) (AreToldOthers L.enables log.now moment) }
 {
     if let Some(ended) = tally.turn(moment) {
         tell_all_others(log, moment, &ended);
@@ -55,24 +61,37 @@ pub fn tell_turn<L: Log>(log: &L, tally: &mut Tally, moment: u64)
 
 /// Writes at a box's end what is owed of the second that hasn't ended, and how many lines were left out, if there is
 /// room.
-pub fn tell_end<L: Log>(log: &L, tally: &Tally, moment: u64) {
+pub fn tell_end<L: Log>(log: &L, tally: &Tally, moment: u64)
+    ensures { AreToldOthers L.enables log.now moment tally.now }
+{
     tell_all_others(log, moment, tally);
     log.flush();
 }
 
 /// Writes how many others there were of a second, for each origin and cause where there were any.
-fn tell_all_others<L: Log>(log: &L, moment: u64, ended: &Tally) {
+fn tell_all_others<L: Log>(log: &L, moment: u64, ended: &Tally)
+    ensures { AreToldOthers L.enables log.now moment ended.now }
+{
     for origin in ORIGINS {
         tell_others(log, moment, origin, ended);
     }
 }
 
 /// Writes how many others there were of a second, for each cause where there were any.
-fn tell_others<L: Log>(log: &L, moment: u64, origin: Origin, ended: &Tally) {
+fn tell_others<L: Log>(log: &L, moment: u64, origin: Origin, ended: &Tally)
+    ensures { (cause : Why) → IsToldOthers L.enables log.now moment ended.now origin cause }
+{
     for cause in CAUSES {
-        if let Some(entry) = owed(ended, origin, cause) {
-            tell(log, moment, entry);
-        }
+        tell_some(log, moment, owed(ended, origin, cause));
+    }
+}
+
+/// Writes a record, where there is one and it passes.
+fn tell_some<L: Log>(log: &L, moment: u64, entry: Option<Entry>)
+    ensures { IfSome entry (IsTold L.enables log.now moment) }
+{
+    if let Some(entry) = entry {
+        tell(log, moment, entry);
     }
 }
 
