@@ -7,7 +7,7 @@ use crate::supervisors::Alive;
 use gateway::{Gateway, Hashers};
 use journal::Journal;
 use nat_types::GatewayId;
-use rounds::{Identity, run_rounds};
+use rounds::{Identity, Teller, run_rounds};
 use settings::Settings;
 use sockets::Wire;
 use std::alloc::Global;
@@ -78,10 +78,19 @@ impl Gate for Gateway {
         alive: &mut Alive,
         log: &L,
     ) {
-        let until = Patience::new(None);
-        let rounds = Some(rounds);
+        let mut until = Patience::new(None);
+        let mut log = Teller::new(log, self.moment());
         run_rounds(
-            wire.alloc, self, wire, clock, &until, rounds, track, identity, alive, log,
+            wire.alloc,
+            self,
+            wire,
+            clock,
+            &mut until,
+            Some(rounds),
+            track,
+            identity,
+            alive,
+            &mut log,
         );
     }
 
@@ -96,10 +105,20 @@ impl Gate for Gateway {
         output: &mut O,
         log: &L,
     ) -> io::Result<()> {
-        let until = Patience::new(orders.told);
-        let rounds = orders.rounds;
+        let mut until = Patience::new(orders.told);
+        let mut log = Teller::new(log, self.moment());
         rounds::serve(
-            alloc, self, wire, clock, &until, rounds, true, identity, alive, output, log,
+            alloc,
+            self,
+            wire,
+            clock,
+            &mut until,
+            orders.rounds,
+            true,
+            identity,
+            alive,
+            output,
+            &mut log,
         )?;
         Ok(())
     }

@@ -3,7 +3,7 @@ ghost use Rattle.std.specs.Prelude.{⊤};
 
 use journal::Outlet;
 use rounds::Told;
-use std::cell::{Cell, RefCell};
+use std::cell::RefCell;
 use std::fmt::Display;
 use std::io::{self, ErrorKind, Write};
 
@@ -32,28 +32,23 @@ impl<'a> Outlet for Page<'a> {
 /// Tells a box to end once it has asked so often and was told to go on; or never.
 #[derive(Drop)]
 pub(crate) struct Patience {
-    left: Cell<Option<u32>>,
+    left: Option<u32>,
 }
 
 impl Patience {
     pub(crate) fn new(asked: Option<u32>) -> Patience {
-        Patience {
-            left: Cell::new(asked),
-        }
+        Patience { left: asked }
     }
 }
 
 impl Told for Patience {
-    ghost tells = { λ _. ⊤ };
+    ghost tells = { λ _ _. ⊤ };
 
-    fn is_told(&self) -> bool {
-        match self.left.get() {
-            None => false,
-            Some(0) => true,
-            Some(left) => {
-                self.left.set(Some(left.saturating_sub(1)));
-                false
-            }
-        }
+    fn is_told(&mut self) -> bool {
+        let Some(left) = self.left else {
+            return false;
+        };
+        self.left = Some(left.saturating_sub(1));
+        left == 0
     }
 }

@@ -4,7 +4,7 @@ use Rattle.nat_types.specs.declared.pairs.Key.{Key}
 use Rattle.spec_binding.specs.Books.{is_synced}
 use Rattle.spec_step.specs.Shown.{Shown}
 use Rattle.rounds.specs.Memory.{MayLack, WasRefused}
-use Rattle.rounds.specs.Rounds.{AnswersOwed, Box, Calls, IsAnswered}
+use Rattle.rounds.specs.Rounds.{AnswersOwed, Box, Calls, IsAnswered, WireSays}
 use Rattle.rounds.specs.declared.desk.Identity.{Identity}
 use Rattle.rounds.specs.declared.judging.Question.{Question}
 use Rattle.rounds.specs.declared.judging.Question.TheVariants.{Status, Pairs}
@@ -24,7 +24,7 @@ pub lacks_page : (g : Shown) (question : Question) (last : Option Key) → quest
 lacks_page g question last is refused = subst (λ (q : Question). MayLack g q) (sym is) (record { takes = refl; refused = refused })
 
 -- it is owed still, and then nothing is answered
-pub owed_lacking : {W : Type 0} (does : Calls W) (who : Identity) (owed : Option Question) (question : Question) (b b2 : Box W) → owed ≡ Some question → MayLack b.shown question
-    → IsAnswered does [] (record b { owed = None }) b2 → AnswersOwed does who owed b b2
-owed_lacking does who owed question b b2 is lacks answered =
-    subst (λ (o : Option Question). AnswersOwed does who o b b2) (sym is) ([], ([], (inl ((refl, refl), lacks), answered)))
+pub owed_lacking : {W : Type 0} (does : Calls W) (says : WireSays W) (who : Identity) (owed : Option Question) (question : Question) (b b2 : Box W) → owed ≡ Some question → MayLack b.shown question
+    → IsAnswered does [] (record b { owed = None }) b2 → AnswersOwed does says who owed b b2
+owed_lacking does says who owed question b b2 is lacks answered =
+    subst (λ (o : Option Question). AnswersOwed does says who o b b2) (sym is) ([], ([], (inl ((refl, refl), lacks), answered)))

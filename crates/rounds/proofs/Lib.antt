@@ -1,6 +1,6 @@
 mod Ending
 mod Hearing
 mod Lacking
-mod Taking
+mod Takings
 mod Tellings
 mod Walks

@@ -19,12 +19,12 @@ use Rattle.reports.specs.declared.pages.TheConstants.{MOST_ENTRIES}
 use Rattle.reports.specs.declared.reports.Report.{Report}
 use Rattle.reports.specs.declared.sides.Sides.{Sides}
 use Rattle.sockets.specs.declared.losses.Losses.{Losses}
-use Rattle.sockets.specs.declared.places.Place.{Place}
 use Rattle.sockets.specs.declared.places.Place.TheVariants as place
 use Rattle.spec_binding.specs.Books.{is_synced}
 use Rattle.spec_step.specs.Shown.{Shown}
 use Rattle.waiting.specs.Packets.{hop_count, pair_count}
 use Rattle.rounds.specs.Gateways.{CountsEntries, free_among, owned_by, peer_seen}
+use Rattle.rounds.specs.Outages.{Says}
 use Rattle.rounds.specs.declared.desk.Identity.{Identity}
 use Rattle.rounds.specs.declared.judging.Question.{Question}
 use Rattle.rounds.specs.declared.judging.Question.TheVariants.{Status, Pairs}
@@ -53,7 +53,7 @@ abbrev pub with_losses : Origin → Losses → List ℕ → List ℕ
 with_losses of losses counts = counted of SendFailed losses.failed (counted of TooLong losses.too_long counts)
 
 -- with what it lost of each place, by what it says itself
-pub record CountsLosses {W : Type 0} (lost : W → Place → Losses → Type 0) (wire : W) (before after : List ℕ) : Type 0 where
+pub record CountsLosses {W : Type 0} (lost : Says W Losses) (wire : W) (before after : List ℕ) : Type 0 where
   pub inside : Losses
   pub inside_lost : lost wire (place.Side Inside) inside
   pub outside : Losses
@@ -63,10 +63,6 @@ pub record CountsLosses {W : Type 0} (lost : W → Place → Losses → Type 0) 
   pub own : Losses
   pub own_lost : lost wire place.Operator own
   pub all : after ≡ with_losses origin.Own own (with_losses origin.Link link (with_losses origin.Outside outside (with_losses origin.Inside inside before)))
-
--- with what some wire lost of each place
-abbrev pub CountsSomeLosses : List ℕ → List ℕ → Type 0
-CountsSomeLosses before after = CountsLosses {W = Unit {0}} (λ _ _ _. Unit {0}) tt before after
 
 -- ---- its sides
 
@@ -86,15 +82,17 @@ sides_again g sides = record {
 
 -- ---- an answer
 
--- a report is that of a box, which counted so much and saw its sides so: it says whose it is, by the gateway's number, its boot and the digest of
--- its settings, how the gateway stands, its sides, and these counts
-pub record IsReportOf (who : Identity) (g : Shown) (counts : List ℕ) (sides : Sides) (r : Report) : Type 0 where
-  pub id : r.id ≡ who.id
-  pub boot : r.boot ≡ who.boot
-  pub digest : r.digest ≡ who.digest
-  pub stands : SaysOf g r.gateway
-  pub seen : r.sides ≡ sides
-  pub counted : CountsSomeLosses counts r.counters
+-- a report is that of a box on this wire, which counted so much and saw its sides so: it says whose it is, by the gateway's number, its boot and
+-- the digest of its settings, how the gateway stands, its sides, and these counts, with what the wire says that it lost
+pub record IsReportOf {W : Type 0} (lost : Says W Losses) (wire : W) (who : Identity) (g : Shown) (counts : List ℕ) (sides : Sides)
+    (r : Report) : Type 0
+  where
+    pub id : r.id ≡ who.id
+    pub boot : r.boot ≡ who.boot
+    pub digest : r.digest ≡ who.digest
+    pub stands : SaysOf g r.gateway
+    pub seen : r.sides ≡ sides
+    pub counted : CountsLosses lost wire counts r.counters
 
 -- the page behind a key: the first 128 entries there, and whether others follow
 abbrev pub page_at : Shown → Option Key → Page
@@ -104,11 +102,12 @@ page_at g last =
 
 -- the whole answer to a question, for which the log is asked this: a report of whose box it is and how its gateway stands, which says how many
 -- lines the log has left out, as it answered; or the page behind the key
-abbrev pub IsAnswerTo : Identity → Shown → List ℕ → Sides → Question → List Telling → List ℕ → Type 0
-IsAnswerTo who g counts sides Status asked bytes = (r : Report) × (IsReportOf who g counts sides r
+abbrev pub IsAnswerTo : {W : Type 0} → Says W Losses → W → Identity → Shown → List ℕ → Sides → Question → List Telling → List ℕ → Type 0
+IsAnswerTo lost wire who g counts sides Status asked bytes = (r : Report) × (IsReportOf lost wire who g counts sides r
     × ((asked ≡ Asked r.lines_left_out ∷ []) × (answer_of bytes ≡ Some (report (spelling report_format r)))))
-IsAnswerTo who g counts sides (Pairs last) asked bytes = (asked ≡ []) × (answer_of bytes ≡ Some (page (spelling page_format (page_at g last))))
+IsAnswerTo lost wire who g counts sides (Pairs last) asked bytes = (asked ≡ []) × (answer_of bytes ≡ Some (page (spelling page_format (page_at g last))))
 
 -- this is the answer to a question, and what was told before is told with what the log is asked for it
-abbrev pub Answers : Identity → Shown → List ℕ → Sides → Question → List Telling → List Telling → List ℕ → Type 0
-Answers who g counts sides question told told2 bytes = (asked : List Telling) × ((told2 ≡ asked ++ told) × IsAnswerTo who g counts sides question asked bytes)
+abbrev pub Answers : {W : Type 0} → Says W Losses → W → Identity → Shown → List ℕ → Sides → Question → List Telling → List Telling → List ℕ → Type 0
+Answers lost wire who g counts sides question told told2 bytes =
+    (asked : List Telling) × ((told2 ≡ asked ++ told) × IsAnswerTo lost wire who g counts sides question asked bytes)

@@ -10,7 +10,6 @@ pub mod Answers
 pub mod Gateways
 pub mod Told
 pub mod Clocks
-pub mod Inputs
 pub mod Records
 pub mod Losing
 pub mod Tellings

@@ -69,10 +69,6 @@ pub record TellsPlaces {W : Type 0} (failing : Says W Bool) (lost : Says W Losse
     pub outside : TellsPlace failing lost wire (place.Side Outside) origin.Outside moment all.outside all2.outside one two
     pub link : TellsPlace failing lost wire place.Link origin.Link moment all.link all2.link two told2
 
--- the same, whatever a wire says of them
-abbrev pub TellsSome : ℕ → Outages → Outages → List Telling → List Telling → Type 0
-TellsSome moment all all2 told told2 = TellsPlaces {W = Unit {0}} (λ _ _ _. Unit {0}) (λ _ _ _. Unit {0}) tt moment all all2 told told2
-
 -- one that works, of which nothing was told
 abbrev pub unmarked : Mark
 unmarked = record { fails = false; since = None }

@@ -13,6 +13,7 @@ use Rattle.reports.specs.declared.counters.Count.TheVariants.{Received, Sent as 
 use Rattle.reports.specs.declared.counters.TheConstants.{COUNTS}
 use Rattle.reports.specs.declared.sides.Sides.{Sides}
 use Rattle.sockets.specs.Letters.{Call, Polled, ReceivedDatagram, answered, asked, came, failed, is_nothing, nothing, sent}
+use Rattle.sockets.specs.declared.losses.Losses.{Losses}
 use Rattle.sockets.specs.declared.places.Place.{Place}
 use Rattle.sockets.specs.declared.places.Place.TheVariants as place
 use Rattle.output.specs.Output.{Output, Sent, none_told}
@@ -25,9 +26,9 @@ use Rattle.rounds.specs.Answers.{IsAnswerTo, first_sides, sides_again}
 use Rattle.rounds.specs.Letters.{event_of, is_end, reply_at}
 use Rattle.rounds.specs.Losing.{CountsLoss, cause_on, origin_at, origin_of}
 use Rattle.rounds.specs.Memory.{MayLack, WasLeftOut}
-use Rattle.rounds.specs.Outages.{TellsSome, none_told_of}
+use Rattle.rounds.specs.Outages.{TellsPlaces, none_told_of}
 use Rattle.rounds.specs.Records.{with_step}
-use Rattle.rounds.specs.Told.{HearsRounds, HearsRun}
+use Rattle.rounds.specs.Told.{AsksRounds, HearsRounds, HearsRun, IsOver}
 use Rattle.rounds.specs.Views.{seen}
 use Rattle.rounds.specs.declared.desk.Desk.{Desk}
 use Rattle.rounds.specs.declared.desk.Identity.{Identity}
@@ -51,9 +52,9 @@ pub record Box (W : Type 0) : Type 0 where
   pub outages : Outages
   pub told : List Telling
 
--- one that has had no round yet
-abbrev pub begun : {W : Type 0} → Shown → W → Box W
-begun g wire = record {
+-- one that has had no round yet, whose log was told this before
+abbrev pub begun : {W : Type 0} → Shown → W → List Telling → Box W
+begun g wire told = record {
   shown = g;
   wire = wire;
   left_out = 0;
@@ -62,7 +63,7 @@ begun g wire = record {
   counts = replicate COUNTS 0;
   sides = first_sides g;
   outages = none_told_of;
-  told = [];
+  told = told;
 }
 
 -- one with this on its desk
@@ -100,6 +101,15 @@ Calls W = W → Call → W → Type 0
 -- how long a wire that is asked waits at most, and what it is then
 abbrev pub Waits : Type 0 → Type 1
 Waits W = W → Duration → W → Type 0
+
+-- what a wire says: how long it waits at most; whether a place fails; and what it lost there
+pub record WireSays (W : Type 0) : Type 1 where
+  pub waits : Waits W
+  pub failing : W → Place → Bool → Type 0
+  pub lost : W → Place → Losses → Type 0
+
+abbrev pub wire_says : {W : Type 0} → Waits W → (W → Place → Bool → Type 0) → (W → Place → Losses → Type 0) → WireSays W
+wire_says waits failing lost = record { waits = waits; failing = failing; lost = lost }
 
 -- it is asked to wait for at most so many nanoseconds
 abbrev pub HasLimit : {W : Type 0} → Waits W → ℕ → W → W → Type 0
@@ -164,12 +174,13 @@ Replies does (Some (Refused refusal)) is_done b b2 = Says does (refused refusal)
 Replies does (Some Heard) true b b2 = Says does heard b b2
 Replies does (Some Heard) false b b2 = IsAnswered does [] b b2
 
--- what is owed is answered, by who the box says it is, and of the gateway as it stands; or with nothing, only where memory was refused for it
-abbrev pub AnswersOwed : {W : Type 0} → Calls W → Identity → Option Question → Box W → Box W → Type 0
-AnswersOwed does who None b b2 = b2 ≡ b
-AnswersOwed does who (Some question) b b2 =
+-- what is owed is answered, by who the box says it is, of the gateway as it stands, and by what the wire says that it lost; or with nothing, only
+-- where memory was refused for it
+abbrev pub AnswersOwed : {W : Type 0} → Calls W → WireSays W → Identity → Option Question → Box W → Box W → Type 0
+AnswersOwed does says who None b b2 = b2 ≡ b
+AnswersOwed does says who (Some question) b b2 =
     (bytes : List ℕ) × ((asked : List Telling)
-    × (((((bytes ≡ []) × (asked ≡ [])) × MayLack b.shown question) ⊎ IsAnswerTo who b.shown b.counts b.sides question asked bytes)
+    × (((((bytes ≡ []) × (asked ≡ [])) × MayLack b.shown question) ⊎ IsAnswerTo says.lost b.wire who b.shown b.counts b.sides question asked bytes)
     × IsAnswered does bytes (record b { owed = None; told = asked ++ b.told }) b2))
 
 -- the event that a letter is to a gateway that stands so, or that it is none; carriers are tracked or not
@@ -220,58 +231,61 @@ Reads C = C → ℕ → C → Type 0
 abbrev pub looked : {W : Type 0} → Box W → Box W
 looked b = record b { sides = sides_again b.shown b.sides }
 
--- its log is told which places fail, or work again, or take too little, just where that is due by what was told before, and nothing else; and then
--- that a round ends, at the gateway's moment
-abbrev pub TellsRound : {W : Type 0} → Box W → Box W → Type 0
-TellsRound b b2 = (told : List Telling) × ((outages : Outages) × (TellsSome b.shown.moment b.outages outages b.told told
+-- its log is told which places fail, or work again, or take too little, just where that is due by what its wire says of them and what was told
+-- before, and nothing else; and then that a round ends, at the gateway's moment
+abbrev pub TellsRound : {W : Type 0} → WireSays W → Box W → Box W → Type 0
+TellsRound says b b2 = (told : List Telling) × ((outages : Outages)
+    × (TellsPlaces says.failing says.lost b.wire b.shown.moment b.outages outages b.told told
     × (b2 ≡ record b { outages = outages; told = Turn b.shown.moment ∷ told })))
 
 -- a round, of a box that says it is this one and isn't to end yet: a poll of its wire, which waits for at most 10 ms; then one tick, with the
 -- moment that the clock reads; then its sides are seen again, and the answer is given that is owed; and what its log is told
-pub record IsRound {W C : Type 0} (does : Calls W) (waits : Waits W) (track : Bool) (who : Identity) (reads : Reads C)
+pub record IsRound {W C : Type 0} (does : Calls W) (says : WireSays W) (track : Bool) (who : Identity) (reads : Reads C)
     (b : Box W) (c : C) (b2 : Box W) (c2 : C) : Type 0
   where
     pub goes_on : b.ending ≡ false
     pub answers : List Polled
     pub poll : IsPoll 256 answers
     pub between : Box W
-    pub letters : TakesAll does waits track 10_000_000 b answers between
+    pub letters : TakesAll does says.waits track 10_000_000 b answers between
     pub moment : ℕ
     pub read : reads c moment c2
     pub is_done : Bool
     pub ticked : Box W
     pub tick : Takes does is_done between (Tick moment) ticked
     pub replied : Box W
-    pub answered : AnswersOwed does who ticked.owed (looked ticked) replied
-    pub told : TellsRound replied b2
+    pub answered : AnswersOwed does says who ticked.owed (looked ticked) replied
+    pub told : TellsRound says replied b2
 
 -- rounds, at whose ends the gateway shows these moments, the last one first
-abbrev pub AreRounds : {W C : Type 0} → Calls W → Waits W → Bool → Identity → Reads C → List ℕ → Box W → C → Box W → C → Type 0
-AreRounds does waits track who reads [] b c b2 c2 = (b2 ≡ b) × (c2 ≡ c)
-AreRounds {W = W} {C = C} does waits track who reads (moment ∷ earlier) b c b2 c2 =
-    (middle : Box W) × ((then : C) × (AreRounds does waits track who reads earlier b c middle then
-    × (IsRound does waits track who reads middle then b2 c2 × (b2.shown.moment ≡ moment))))
+abbrev pub AreRounds : {W C : Type 0} → Calls W → WireSays W → Bool → Identity → Reads C → List ℕ → Box W → C → Box W → C → Type 0
+AreRounds does says track who reads [] b c b2 c2 = (b2 ≡ b) × (c2 ≡ c)
+AreRounds {W = W} {C = C} does says track who reads (moment ∷ earlier) b c b2 c2 =
+    (middle : Box W) × ((then : C) × (AreRounds does says track who reads earlier b c middle then
+    × (IsRound does says track who reads middle then b2 c2 × (b2.shown.moment ≡ moment))))
 
 -- how many rounds there are at most: so many, or what is as good as no end
 abbrev pub most_rounds : Option ℕ → ℕ
 most_rounds (Some count) = count
 most_rounds None = 18446744073709551615
 
--- rounds, until the control socket says that the box is to end, or it is told so otherwise, or has had the most
-pub record AreAllRounds {W C : Type 0} (does : Calls W) (waits : Waits W) (track : Bool) (who : Identity) (reads : Reads C) (most : ℕ)
-    (otherwise : Type 0) (b : Box W) (c : C) (b2 : Box W) (c2 : C) : Type 0
+-- rounds, before each of which it was asked once whether the box is to end, and told to go on; until the control socket says that it is to end, or
+-- it is asked once more and told so, or it has had the most
+pub record AreAllRounds {W C U : Type 0} (does : Calls W) (says : WireSays W) (track : Bool) (who : Identity) (reads : Reads C) (most : ℕ)
+    (tells goes_on : U → U → Type 0) (b : Box W) (c : C) (u : U) (b2 : Box W) (c2 : C) (u2 : U) : Type 0
   where
     pub moments : List ℕ
     pub within : length moments ≤ most
-    pub rounds : AreRounds does waits track who reads moments b c b2 c2
-    pub over : (b2.ending ≡ true) ⊎ (otherwise ⊎ (length moments ≡ most))
+    pub rounds : AreRounds does says track who reads moments b c b2 c2
+    pub between : U
+    pub asked : AsksRounds goes_on (length moments) u between
+    pub over : IsOver tells (b2.ending ≡ true) (length moments ≡ most) between u2
 
--- the same, of a box that asked before each round whether it was told otherwise, and wasn't; who sees to it hears of them
-pub record AreRoundsHeard {W C S : Type 0} (does : Calls W) (waits : Waits W) (track : Bool) (who : Identity) (reads : Reads C) (hears : Hears S)
-    (most : ℕ) (otherwise goes_on : Type 0) (b : Box W) (c : C) (s : S) (b2 : Box W) (c2 : C) (s2 : S) : Type 0
+-- the same, and who sees to the box hears of them
+pub record AreRoundsHeard {W C U S : Type 0} (does : Calls W) (says : WireSays W) (track : Bool) (who : Identity) (reads : Reads C)
+    (hears : Hears S) (most : ℕ) (tells goes_on : U → U → Type 0) (b : Box W) (c : C) (u : U) (s : S) (b2 : Box W) (c2 : C) (u2 : U) (s2 : S) : Type 0
   where
-    pub all : AreAllRounds does waits track who reads most otherwise b c b2 c2
-    pub asked : 0 < length all.moments → goes_on
+    pub all : AreAllRounds does says track who reads most tells goes_on b c u b2 c2 u2
     pub told : HearsRounds hears all.moments s s2
 
 -- the log is told that the run ends, at the gateway's moment
@@ -279,42 +293,45 @@ abbrev pub TellsEnd : {W : Type 0} → Box W → Box W → Type 0
 TellsEnd b b2 = b2 ≡ record b { told = End b.shown.moment ∷ b.told }
 
 -- all rounds, and then one Stop, which the log is told of, and nothing more
-pub record IsRun {W C : Type 0} (does : Calls W) (waits : Waits W) (track : Bool) (who : Identity) (reads : Reads C) (most : ℕ)
-    (otherwise : Type 0) (b : Box W) (c : C) (b2 : Box W) (c2 : C) : Type 0
+pub record IsRun {W C U : Type 0} (does : Calls W) (says : WireSays W) (track : Bool) (who : Identity) (reads : Reads C) (most : ℕ)
+    (tells goes_on : U → U → Type 0) (b : Box W) (c : C) (u : U) (b2 : Box W) (c2 : C) (u2 : U) : Type 0
   where
     pub last : Box W
-    pub all : AreAllRounds does waits track who reads most otherwise b c last c2
+    pub all : AreAllRounds does says track who reads most tells goes_on b c u last c2 u2
     pub is_done : Bool
     pub stopped : Box W
     pub stop : Takes does is_done last Stop stopped
     pub ended : TellsEnd stopped b2
 
--- these rounds, of a gateway that isn't stopped, and then the log is told that they end: the gateway shows this then, and its wire is this; so many
--- events were left out
-pub record RoundsTo {W C S : Type 0} (does : Calls W) (waits : Waits W) (track : Bool) (who : Identity) (reads : Reads C) (hears : Hears S)
-    (most : ℕ) (otherwise goes_on : Type 0) (b : Box W) (c : C) (s : S) (g : Shown) (wire : W) (c2 : C) (s2 : S) (left : ℕ) : Type 0
+-- these rounds, of a gateway that isn't stopped, and then the log is told that they end: the gateway shows this then, its wire is this, and all this
+-- was told; so many events were left out
+pub record RoundsTo {W C U S : Type 0} (does : Calls W) (says : WireSays W) (track : Bool) (who : Identity) (reads : Reads C) (hears : Hears S)
+    (most : ℕ) (tells goes_on : U → U → Type 0) (b : Box W) (c : C) (u : U) (s : S) (g : Shown) (wire : W) (tellings : List Telling)
+    (c2 : C) (u2 : U) (s2 : S) (left : ℕ) : Type 0
   where
     pub between : Box W
-    pub rounds : AreRoundsHeard does waits track who reads hears most otherwise goes_on b c s between c2 s2
+    pub rounds : AreRoundsHeard does says track who reads hears most tells goes_on b c u s between c2 u2 s2
     pub last : Box W
     pub ended : TellsEnd between last
     pub shown : last.shown ≡ g
     pub wire_is : last.wire ≡ wire
+    pub told_is : last.told ≡ tellings
     pub left_out : last.left_out ≡ left
 
 -- how many events were left out is answered
 abbrev pub all_left : ℕ → Result ℕ (Unit {0})
 all_left left = Ok left
 
--- a whole run, whatever is answered: a gateway shows this at its end, and its wire is this; it had a round only where nothing
--- told it otherwise; who sees to it hears of it; and Ok answers how many events were left out
-pub record RunsTo {W C S E : Type 0} (does : Calls W) (waits : Waits W) (track : Bool) (who : Identity) (reads : Reads C) (hears : Hears S)
-    (most : ℕ) (otherwise goes_on : Type 0) (b : Box W) (c : C) (s : S) (g : Shown) (wire : W) (c2 : C) (s2 : S) (result : Result ℕ E) : Type 0
+-- a whole run, whatever is answered: a gateway shows this at its end, its wire is this, and all this was told to the log; who sees to it hears of
+-- it; and Ok answers how many events were left out
+pub record RunsTo {W C U S E : Type 0} (does : Calls W) (says : WireSays W) (track : Bool) (who : Identity) (reads : Reads C) (hears : Hears S)
+    (most : ℕ) (tells goes_on : U → U → Type 0) (b : Box W) (c : C) (u : U) (s : S) (g : Shown) (wire : W) (tellings : List Telling)
+    (c2 : C) (u2 : U) (s2 : S) (result : Result ℕ E) : Type 0
   where
     pub last : Box W
-    pub run : IsRun does waits track who reads most otherwise b c last c2
-    pub asked : 0 < length run.all.moments → goes_on
+    pub run : IsRun does says track who reads most tells goes_on b c u last c2 u2
     pub told : HearsRun hears run.all.moments s s2
     pub shown : last.shown ≡ g
     pub wire_is : last.wire ≡ wire
+    pub told_is : last.told ≡ tellings
     pub answered : IfOk result (λ left. left ≡ last.left_out)

@@ -1,5 +1,5 @@
--- What who sees to a box is told of its rounds.
-use Rattle.std.specs.Prelude.{◌≡◌, ◌<◌, ◌≤◌, ◌/◌, ℕ, List, [], ◌∷◌}
+-- What who sees to a box is told of its rounds, and how often it is asked whether the box is to end.
+use Rattle.std.specs.Prelude.{◌≡◌, ◌<◌, ◌≤◌, ◌⊎◌, ◌/◌, ℕ, zero, suc, List, [], ◌∷◌}
 use Rattle.supervision.specs.Hearing.{Hears}
 use Rattle.supervision.specs.declared.notices.Notice.{Notice}
 use Rattle.supervision.specs.declared.notices.Notice.TheVariants.{Alive, Ending}
@@ -27,3 +27,15 @@ HearsRun {S = S} hears moments s s2 = (middle : S) × (HearsRounds hears moments
 -- this was the last that it was told
 abbrev pub HasHeard : {S : Type 0} → Hears S → Notice → S → Type 0
 HasHeard {S = S} hears notice s = (before : S) × hears before notice s
+
+-- ---- what may tell a box that it is to end
+
+-- it was asked so often, one time after the other, and told each time to go on
+abbrev pub AsksRounds : {U : Type 0} → (U → U → Type 0) → ℕ → U → U → Type 0
+AsksRounds goes_on zero u u2 = u2 ≡ u
+AsksRounds {U = U} goes_on (suc n) u u2 = (middle : U) × (AsksRounds goes_on n u middle × goes_on middle u2)
+
+-- how rounds are over: it was said otherwise, and nothing was asked then; or it was asked once more, and told so; or the most were had, and nothing
+-- was asked
+abbrev pub IsOver : {U : Type 0} → (U → U → Type 0) → Type 0 → Type 0 → U → U → Type 0
+IsOver tells said most u u2 = (said × (u2 ≡ u)) ⊎ (tells u u2 ⊎ (most × (u2 ≡ u)))

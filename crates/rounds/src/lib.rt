@@ -4,7 +4,7 @@
 
 mod clocks;
 mod desk;
-mod inputs;
+mod ends;
 mod judging;
 mod left;
 mod letters;
@@ -15,12 +15,14 @@ mod replies;
 mod rounds;
 mod sides;
 mod standing;
+mod taking;
 mod teller;
-mod told;
 mod views;
 
 pub use clocks::{Clockwork, Stopwatch};
 pub use desk::Identity;
+pub use ends::EndLine;
+pub use inputs::{InputEnd, StandardInput, Told};
 pub use judging::{Question, Reply, judged, reply_of};
 pub use left::LeftOut;
 pub use letters::{event_of, is_end, reply_at};
@@ -29,6 +31,5 @@ pub use pages::page_behind;
 pub use rounds::{MOST, WAIT, run_rounds, serve};
 pub use sides::{look_again, sides_of};
 pub use standing::gateway_report;
-pub use teller::Telling;
-pub use told::{InputEnd, Told};
+pub use teller::{Teller, Telling};
 pub use views::{View, view_of};

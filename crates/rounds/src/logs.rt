@@ -18,8 +18,9 @@ pub(crate) fn tell_step<L: Journal>(
     before: &View,
     after: &View,
 )
-    ensures { log.new.told
+    ensures told { log.new.told
         ≡ with_step event.now cause is_done before.now after.now log.old.told }
+    ensures same_log { log.new.log ≡ log.old.log }
 {
     let moment = after.moment;
     let has_stopped = stops(event, is_done);
@@ -74,7 +75,8 @@ pub(crate) fn origin_of(event: &Event<'_>) -> Origin
 }
 
 fn tell_loss<L: Journal>(log: &mut Teller<'_, L>, moment: u64, origin: Origin, cause: Option<Cause>)
-    ensures { log.new.told ≡ loss_told moment origin cause ++ log.old.told }
+    ensures told { log.new.told ≡ loss_told moment origin cause ++ log.old.told }
+    ensures same_log { log.new.log ≡ log.old.log }
 {
     if let Some(cause) = cause {
         log.lose(moment, origin, cause);
@@ -89,8 +91,9 @@ fn tell_turn<L: Journal>(
     before: bool,
     after: bool,
 )
-    ensures { log.new.told
+    ensures told { log.new.told
         ≡ turn moment entries.0 entries.1 before after ++ log.old.told }
+    ensures same_log { log.new.log ≡ log.old.log }
 {
     match (before, after) {
         (false, true) => log.change(moment, entries.0),
@@ -134,8 +137,9 @@ fn tell_role<L: Journal>(
     side: Side,
     has_stopped: bool,
 )
-    ensures { log.new.told
+    ensures told { log.new.told
         ≡ role_told has_stopped before.now after.now side ++ log.old.told }
+    ensures same_log { log.new.log ≡ log.old.log }
 {
     let role = role_of(after, side, has_stopped);
     if !is_same(role_of(before, side, false), role) {
@@ -144,7 +148,8 @@ fn tell_role<L: Journal>(
 }
 
 fn tell_peer<L: Journal>(log: &mut Teller<'_, L>, before: &View, after: &View)
-    ensures { log.new.told ≡ peer_told before.now after.now ++ log.old.told }
+    ensures told { log.new.told ≡ peer_told before.now after.now ++ log.old.told }
+    ensures same_log { log.new.log ≡ log.old.log }
 {
     if before.peer != after.peer {
         log.change(after.moment, Entry::PeerBoot(after.peer));
@@ -152,7 +157,8 @@ fn tell_peer<L: Journal>(log: &mut Teller<'_, L>, before: &View, after: &View)
 }
 
 fn tell_stop<L: Journal>(log: &mut Teller<'_, L>, moment: u64, has_stopped: bool)
-    ensures { log.new.told ≡ stopped_told moment has_stopped ++ log.old.told }
+    ensures told { log.new.told ≡ stopped_told moment has_stopped ++ log.old.told }
+    ensures same_log { log.new.log ≡ log.old.log }
 {
     if has_stopped {
         log.change(moment, Entry::Stopped);

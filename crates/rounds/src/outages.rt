@@ -79,8 +79,9 @@ impl Watched {
         moment: u64,
         log: &mut Teller<'_, L>,
     )
-        ensures { TellsPlace W.failing W.lost wire.now place origin moment self.old self.new
+        ensures told { TellsPlace W.failing W.lost wire.now place origin moment self.old self.new
             log.old.told log.new.told }
+        ensures same_log { log.new.log ≡ log.old.log }
     {
         let fails = wire.is_failing(place);
         let is_long = 0 < wire.losses(place).too_long;
@@ -133,8 +134,9 @@ impl Outages {
         moment: u64,
         log: &mut Teller<'_, L>,
     )
-        ensures { TellsPlaces W.failing W.lost wire.now moment self.old self.new
+        ensures told { TellsPlaces W.failing W.lost wire.now moment self.old self.new
             log.old.told log.new.told }
+        ensures same_log { log.new.log ≡ log.old.log }
     {
         let inside = Place::Side(Side::Inside);
         self.inside.tell(wire, inside, Origin::Inside, moment, log);

@@ -7,7 +7,7 @@ ghost use Rattle.sockets.specs.Letters.{answered};
 ghost use Rattle.spec_step.specs.Shown.{Shown};
 ghost use Rattle.rounds.specs.Answers.{Answers, CountsLosses, SaysOf, with_losses};
 ghost use Rattle.rounds.specs.Memory.{MayLack};
-ghost use Rattle.rounds.specs.Rounds.{AnswersOwed, Replies, box};
+ghost use Rattle.rounds.specs.Rounds.{AnswersOwed, Replies, box, wire_says};
 ghost use Rattle.rounds.specs.declared.judging.Question.TheVariants.{Status};
 ghost use Rattle.rounds.specs.declared.teller.Telling.{Telling};
 ghost use Rattle.rounds.specs.declared.teller.Telling.TheVariants.{Asked};
@@ -61,9 +61,11 @@ pub(crate) fn answer_question<W: Wire, L: Journal>(
     desk: &mut Desk,
     log: &mut Teller<'_, L>,
 )
-    ensures { AnswersOwed W.does identity desk.old.question
+    ensures answered { AnswersOwed W.does (wire_says W.waits W.failing W.lost) identity
+        desk.old.question
         (box gateway.now wire.old desk.old log.old.told)
         (box gateway.now wire.new desk.new log.new.told) }
+    ensures same_log { log.new.log ≡ log.old.log }
 {
     let Some(question) = desk.question else {
         return;
@@ -90,11 +92,12 @@ fn answer_to<W: Wire, L: Journal>(
     log: &mut Teller<'_, L>,
 ) -> Result<usize, NoMemory>
     ensures within { IfOk result (λ count. count ≤ 4096) }
-    ensures answers { IfOk result (λ count. Answers identity gateway.now
+    ensures answers { IfOk result (λ count. Answers W.lost wire.now identity gateway.now
         desk.now.counters desk.now.sides question
         log.old.told log.new.told (take count room.new)) }
     ensures refused { OnErr result (MayLack gateway.now question) }
     ensures unasked { OnErr result (log.new.told ≡ log.old.told) }
+    ensures same_log { log.new.log ≡ log.old.log }
 {
     match question {
         Question::Status => {
@@ -127,6 +130,7 @@ fn report_of<W: Wire, L: Journal>(
         log.new.told ≡ Asked r.lines_left_out ∷ log.old.told) }
     ensures refused { OnErr result (MayLack gateway.now Status) }
     ensures unasked { OnErr result (log.new.told ≡ log.old.told) }
+    ensures same_log { log.new.log ≡ log.old.log }
 {
     Ok(Report {
         id: identity.id,

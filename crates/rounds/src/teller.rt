@@ -1,6 +1,8 @@
 //! The log that a box tells of its run. Only here it is at hand, so that what it was told is what stands on the tape.
-ghost use Rattle.std.specs.Prelude.{◌≡◌, ◌∷◌, []};
-ghost use Rattle.journal.specs.Handed.{IsTold};
+ghost use Rattle.std.specs.Prelude.{◌≡◌, ◌∷◌, [], IfSome};
+ghost use Rattle.journal.specs.Handed.{AreToldOthers, IsTold};
+ghost use Rattle.journal.specs.Tally.{count_at, ended, noted, opened, second_of, turned};
+ghost use Rattle.journal.specs.declared.entries.Entry.TheVariants.{First};
 ghost use Rattle.rounds.specs.declared.teller.Telling.TheVariants as telling;
 
 use journal::{Cause, Entry, Journal, Origin, Tally, tell, tell_end, tell_loss, tell_turn};
@@ -57,9 +59,10 @@ impl Tape {
     }
 }
 
-/// A log, how many events of this second were dropped, and what the log was told of the run.
+/// A log, how many events of this second were dropped, and what the log was told of a run. Nobody but a box's run tells it
+/// anything through that.
 #[derive(Drop)]
-pub(crate) struct Teller<'a, L> {
+pub struct Teller<'a, L> {
     log: &'a L,
     tally: Tally,
     tape: Tape,
@@ -70,13 +73,17 @@ impl<'a, L> Model for Teller<'a, L> {
 
     ghost Value = { ToldLog L };
 
-    ghost view = { λ t. record { log = t.log.now; told = t.tape } };
+    ghost view = { λ t. record { log = t.log.now; told = t.tape; tally = t.tally } };
 }
 
 impl<'a, L: Journal> Teller<'a, L> {
-    /// Nothing was told yet.
-    pub(crate) fn new(log: &'a L, moment: u64) -> Teller<'a, L>
-        ensures { result ≡ record { log = log.now; told = [] } }
+    /// Nothing was told yet, in the second of that moment.
+    pub fn new(log: &'a L, moment: u64) -> Teller<'a, L>
+        ensures { result ≡ record {
+          log = log.now;
+          told = [];
+          tally = opened (second_of moment);
+        } }
     {
         Teller {
             log,
@@ -87,9 +94,14 @@ impl<'a, L: Journal> Teller<'a, L> {
 
     /// Tells that nothing came of an event: the first of its second there for that cause is a record.
     pub(crate) fn lose(&mut self, moment: u64, origin: Origin, cause: Cause)
-        ensures { self.new ≡ record self.old {
+        ensures told { self.new ≡ record self.old {
           told = telling.Loss moment origin cause ∷ self.old.told;
+          tally = noted origin cause (turned moment self.old.tally);
         } }
+        ensures others { IfSome (ended moment self.old.tally)
+            (AreToldOthers L.enables self.old.log moment) }
+        ensures first { count_at (turned moment self.old.tally) origin cause ≡ 0
+            → IsTold L.enables self.old.log moment (First origin cause) }
     {
         tell_loss(self.log, &mut self.tally, moment, origin, cause);
         self.tape.add(Telling::Loss(moment, origin, cause));
@@ -108,7 +120,12 @@ impl<'a, L: Journal> Teller<'a, L> {
 
     /// Tells what a second that has ended owes.
     pub(crate) fn turn(&mut self, moment: u64)
-        ensures { self.new ≡ record self.old { told = telling.Turn moment ∷ self.old.told } }
+        ensures told { self.new ≡ record self.old {
+          told = telling.Turn moment ∷ self.old.told;
+          tally = turned moment self.old.tally;
+        } }
+        ensures others { IfSome (ended moment self.old.tally)
+            (AreToldOthers L.enables self.old.log moment) }
     {
         tell_turn(self.log, &mut self.tally, moment);
         self.tape.add(Telling::Turn(moment));
@@ -116,7 +133,10 @@ impl<'a, L: Journal> Teller<'a, L> {
 
     /// Tells what the last second owes.
     pub(crate) fn end(&mut self, moment: u64)
-        ensures { self.new ≡ record self.old { told = telling.End moment ∷ self.old.told } }
+        ensures told { self.new ≡ record self.old {
+          told = telling.End moment ∷ self.old.told;
+        } }
+        ensures others { AreToldOthers L.enables self.old.log moment self.old.tally }
     {
         tell_end(self.log, &self.tally, moment);
         self.tape.add(Telling::End(moment));

@@ -1,5 +1,5 @@
 use Rattle.std.proofs.Common.{rules}
-use Rattle.rounds.proofs.Taking.{laid}
+use Rattle.rounds.proofs.Takings.{laid}
 use Rattle.rounds.proofs.replies.lay.Goals as goal
 
 pub returns-clause-laid : goal.returns-clause-laid

@@ -2,7 +2,7 @@ use Rattle.std.proofs.Common.{◌≡◌}
 use Rattle.std.specs.Duration.{as_nanos}
 use Rattle.rounds.specs.Rounds.{box}
 use Rattle.rounds.specs.Polls.{HasAsked}
-use Rattle.rounds.proofs.Taking.{limit_at}
+use Rattle.rounds.proofs.Takings.{limit_at}
 use Rattle.rounds.proofs.rounds.take_what_comes.Given as goal
 
 abbrev pub invariant-loop : goal.invariant-loop
@@ -11,4 +11,5 @@ invariant-loop g l = record {
   had :
       HasAsked g.W.Wire.does g.W.Wire.waits l.track 10_000_000 l.counter (box l.fn.gateway l.fn.wire l.fn.desk l.fn.log.told)
       (box l.gateway l.wire l.desk l.log.told);
+  same_log : l.log.log ≡ l.fn.log.log;
 }

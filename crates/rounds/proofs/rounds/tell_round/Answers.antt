@@ -1,5 +1,7 @@
-use Rattle.rounds.proofs.Tellings.{of_some, tells_round}
+use Rattle.rounds.specs.Rounds.{wire_says}
+use Rattle.rounds.proofs.Tellings.{tells_round}
 use Rattle.rounds.proofs.rounds.tell_round.Goals as goal
 
-pub returns : goal.returns
-returns g c = tells_round _ _ _ _ _ c.moment-moment.ensures (of_some _ _ _ _ _ _ _ _ c.tell.ensures) c.turn.ensures
+pub returns-clause-told : goal.returns-clause-told
+returns-clause-told g c =
+    tells_round (wire_says g.W.Wire.waits g.W.Wire.failing g.W.Wire.lost) _ _ _ _ _ c.moment-moment.ensures c.tell.ensures.told c.turn.ensures.told

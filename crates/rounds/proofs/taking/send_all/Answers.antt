@@ -2,8 +2,8 @@ use Rattle.std.proofs.Common.{◌++◌, List, ap, map}
 use Rattle.journal.specs.declared.origins.Origin.TheVariants.{Link}
 use Rattle.output.specs.Output.{Sent}
 use Rattle.rounds.specs.Rounds.{datagram_sent, frame_sent}
-use Rattle.rounds.proofs.Taking.{made_more, of_side, one_sent}
-use Rattle.rounds.proofs.rounds.send_all.Goals as goal
+use Rattle.rounds.proofs.Takings.{made_more, of_side, one_sent}
+use Rattle.rounds.proofs.taking.send_all.Goals as goal
 
 pub loop-frame-preserved-then-is_ok : goal.loop-frame-preserved-then-is_ok
 loop-frame-preserved-then-is_ok g c =

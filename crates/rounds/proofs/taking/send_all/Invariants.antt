@@ -1,8 +1,8 @@
 use Rattle.std.proofs.Common.{◌++◌, map}
 use Rattle.rounds.specs.Losing.{CountsOnlySent}
 use Rattle.rounds.specs.Rounds.{all_sent, datagram_sent, frame_sent}
-use Rattle.rounds.proofs.Taking.{HasMade}
-use Rattle.rounds.proofs.rounds.send_all.Given as goal
+use Rattle.rounds.proofs.Takings.{HasMade}
+use Rattle.rounds.proofs.taking.send_all.Given as goal
 
 abbrev pub invariant-loop-frame : goal.invariant-loop-frame
 invariant-loop-frame g l = record {
