@@ -41,8 +41,21 @@ line_text NoMemory = Some (codes "memory 1 NoMemory")
 abbrev pub IsTextTold : {E : Type 0} → Telling E → E → List ℕ → E → Type 0
 IsTextTold tells before text after = HasTold tells before text after ⊎ HasTold tells before no_memory_line after
 
--- of a fault just the line of its text was told; of one of clap's some one text, of which nothing is known
+-- What is written as text was written so. It is no more than a name, as is the one below it: who has it written has this, and nobody else.
+unfoldable pub WasSpelled : {T : Type 0} → T → List ℕ → Type 0
+WasSpelled what text = Unit {0}
+
+-- there was no memory for its text
+unfoldable pub WasUnspelled : {T : Type 0} → T → Type 0
+WasUnspelled what = Unit {0}
+
+-- it was told just as it is written; or, where there was no memory for that, the line that says so
+abbrev pub IsSpelledTold : {E T : Type 0} → Telling E → E → T → E → Type 0
+IsSpelledTold tells before what after = ((text : List ℕ) × (WasSpelled what text × HasTold tells before text after))
+    ⊎ (WasUnspelled what × HasTold tells before no_memory_line after)
+
+-- of a fault just the line of its text was told; of one of clap's just what clap writes, of which no more is known
 abbrev pub IsFaultTold : {E : Type 0} → Telling E → E → LineFault → E → Type 0
-IsFaultTold tells before (Refused error) after = (text : List ℕ) × HasTold tells before text after
+IsFaultTold tells before (Refused error) after = IsSpelledTold tells before error after
 IsFaultTold tells before (Values why) after = IsTold tells before (value_text why) after
 IsFaultTold tells before NoMemory after = IsTold tells before (codes "memory 1 NoMemory") after

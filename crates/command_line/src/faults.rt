@@ -1,6 +1,6 @@
 //! Why words are no command line.
-ghost use Rattle.std.specs.Prelude.{◌≡◌, List, Some, ℕ};
-ghost use Rattle.command_line.specs.Faults.{IsTextTold};
+ghost use Rattle.std.specs.Prelude.{◌≡◌, IfOk, List, OnErr, Some, string_bytes, ℕ};
+ghost use Rattle.command_line.specs.Faults.{IsSpelledTold, IsTextTold, WasSpelled, WasUnspelled};
 ghost use Rattle.outlets.specs.Telling.{HasTold};
 
 use clap::error::ErrorKind;
@@ -120,14 +120,25 @@ impl LineFault {
 
 /// Tells a text as it is; where there is no memory for it, of that.
 fn tell_as_is<T: Display, E: Tells>(alloc: Global, what: &T, errors: &mut E)
-    ensures once { (text : List ℕ) × HasTold E.tells errors.old text errors.new }
+    ensures spelled { IsSpelledTold E.tells errors.old what.now errors.new }
     ensures text { (text : List ℕ) → T.output what.now ≡ Some text
         → IsTextTold E.tells errors.old text errors.new }
 {
-    match format!(in alloc; "{what}") {
+    match spelled(alloc, what) {
         Ok(text) => told(errors, text.as_str()),
         Err(_) => told(errors, "natpair: memory 1 NoMemory\n"),
     }
+}
+
+/// Has the text written.
+#[tactic(auto, unfolding(crate::specs::Faults::WasSpelled, crate::specs::Faults::WasUnspelled))]
+fn spelled<T: Display>(alloc: Global, what: &T) -> Result<String, AllocError>
+    ensures spelled { IfOk result (λ text. WasSpelled what.now (string_bytes text)) }
+    ensures unspelled { OnErr result (WasUnspelled what.now) }
+    ensures text { (text : List ℕ) → T.output what.now ≡ Some text
+        → IfOk result (λ all. string_bytes all ≡ text) }
+{
+    format!(in alloc; "{what}")
 }
 
 /// Tells a text, whatever comes of it.
