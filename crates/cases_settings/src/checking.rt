@@ -70,8 +70,15 @@ fn say_checked<O: Write>(
 ) -> u8 {
     match text_at(rt, EDITED, errors) {
         Some(text) => {
-            let around = ThisMachine::new(rt);
-            check(rt.alloc(), &around, text.as_str(), request, output, errors)
+            let mut around = ThisMachine::new(rt);
+            check(
+                rt.alloc(),
+                &mut around,
+                text.as_str(),
+                request,
+                output,
+                errors,
+            )
         }
         None => 1,
     }

@@ -13,7 +13,7 @@ use Rattle.settings_file.specs.Settings.{IsReadFrom, Tells}
 use Rattle.settings_file.specs.declared.keys.Key.{Key}
 use Rattle.checks.specs.Counts.{must_not, one_if}
 use Rattle.checks.specs.Differences.{differing, word_of}
-use Rattle.checks.specs.Ends.{IsSaid, IsUnsaid}
+use Rattle.checks.specs.Ends.{IsSaid, IsUnsaid, WasShort}
 use Rattle.checks.specs.declared.requests.Source.{Source}
 
 -- as `must not differ: ports.one`
@@ -31,11 +31,11 @@ keys_text keys = flat_map differing_line keys ++ differing_total (length keys) (
 abbrev pub status_of_keys : List Key → ℕ
 status_of_keys keys = one_if (nat_lt 0 (must_not keys))
 
--- two settings were compared: their keys were said; or memory was refused
+-- two settings were compared: their keys were said; or memory for that was refused
 abbrev pub AreCompared : {O E : Type 0} → (O → Option (List ℕ)) → Telling E → Settings → Settings → O → O → E → E → ℕ → Type 0
 AreCompared holds tells one other old new before after answer =
     IsSaid tells (keys_text (differing one other)) (status_of_keys (differing one other)) (holds old) (holds new) before after answer
-    ⊎ IsUnsaid tells old new before after answer
+    ⊎ IsUnsaid (WasShort {T = Settings × Settings} (one, other)) tells old new before after answer
 
 -- so they were where there are two; where there aren't, nothing is said, and nothing told
 abbrev pub AreComparedIf : {O E : Type 0} → (O → Option (List ℕ)) → Telling E → Option Settings → Option Settings → O → O → E → E → ℕ → Type 0

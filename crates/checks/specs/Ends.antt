@@ -24,8 +24,14 @@ abbrev pub IsSaid : {E : Type 0} → Telling E → List ℕ → ℕ → Option (
 IsSaid tells text status old new before after answer =
     IsWhole text status old new before after answer ⊎ IsCut tells text old new before after answer
 
--- memory was refused: nothing was written, and just that was told, once
-pub record IsUnsaid {O E : Type 0} (tells : Telling E) (old new : O) (before after : E) (answer : ℕ) : Type 0 where
+-- Memory for what is to be said of this was refused. No clause can say when that is, so this is no more than a name: who makes the text has it, and
+-- nobody else.
+unfoldable pub WasShort : {T : Type 0} → T → Type 0
+WasShort subject = Unit {0}
+
+-- it was, so: nothing was written, and just that was told, once
+pub record IsUnsaid {O E : Type 0} (short : Type 0) (tells : Telling E) (old new : O) (before after : E) (answer : ℕ) : Type 0 where
+  pub is_short : short
   pub unwritten : new ≡ old
   pub told : HasTold tells before no_memory_line after
   pub is_one : answer ≡ 1

@@ -12,7 +12,7 @@ use Rattle.settings_file.specs.declared.looks.Look.TheVariants.{Held}
 use Rattle.checks.specs.BootFiles.{boot_file_faults, boot_file_text, boot_file_warnings}
 use Rattle.checks.specs.Counts.{capped, fault_count, left, status_of, stopping}
 use Rattle.checks.specs.Doubts.{warnings_of}
-use Rattle.checks.specs.Ends.{IsSaid, IsUnsaid}
+use Rattle.checks.specs.Ends.{IsSaid, IsUnsaid, WasShort}
 use Rattle.checks.specs.Interfaces.{interface_text, interface_warnings, link_faults, link_text, link_warnings}
 use Rattle.checks.specs.Saying.{faults_text, total_line, warning_line}
 use Rattle.checks.specs.Sights.{AreFoundFor, Finds, Takes, inside_of, link_of, outside_of}
@@ -82,31 +82,31 @@ report_text look request sights =
     ++ total_line (faults_in look request sights) (more_warnings look request sights))
 
 -- just this is said of what is seen of a text, and of what was found where the request looks
-pub record IsReportOn {P : Type 0} (finds : Finds P) (takes : Takes P) (around : P) (look : Look) (request : Request) (text : List ℕ) (faults warnings : ℕ) : Type 0 where
+pub record IsReportOn {P : Type 0} (finds : Finds P) (takes : Takes P) (around : P) (look : Look) (request : Request) (behind : P) (text : List ℕ) (faults warnings : ℕ) : Type 0 where
   pub sights : Sights
-  pub are_found : AreFoundFor finds takes around look request sights
+  pub are_found : AreFoundFor finds takes around look request behind sights
   pub is_text : text ≡ report_text look request sights
   pub is_faults : faults ≡ faults_in look request sights
   pub is_warnings : warnings ≡ more_warnings look request sights
 
 -- and it is seen of this document
-pub record IsReport {P : Type 0} (finds : Finds P) (takes : Takes P) (around : P) (document : Option Members) (request : Request) (text : List ℕ) (faults warnings : ℕ) : Type 0 where
+pub record IsReport {P : Type 0} (finds : Finds P) (takes : Takes P) (around : P) (document : Option Members) (request : Request) (behind : P) (text : List ℕ) (faults warnings : ℕ) : Type 0 where
   pub look : Look
   pub is_seen : IsSeen document look
-  pub is_report : IsReportOn finds takes around look request text faults warnings
+  pub is_report : IsReportOn finds takes around look request behind text faults warnings
 
 -- ---- of a check
 
 -- that was said, with the status that it leads to
-pub record HasReported {P E : Type 0} (finds : Finds P) (takes : Takes P) (tells : Telling E) (around : P) (text : List ℕ) (request : Request) (old new : Option (List ℕ)) (before after : E) (answer : ℕ) : Type 0 where
+pub record HasReported {P E : Type 0} (finds : Finds P) (takes : Takes P) (tells : Telling E) (around : P) (text : List ℕ) (request : Request) (behind : P) (old new : Option (List ℕ)) (before after : E) (answer : ℕ) : Type 0 where
   pub faults : ℕ
   pub warnings : ℕ
   pub said : List ℕ
-  pub is_report : IsReport finds takes around (parse_document text) request said faults warnings
+  pub is_report : IsReport finds takes around (parse_document text) request behind said faults warnings
   pub is_said : IsSaid tells said (status_of faults warnings request.strict) old new before after answer
 
--- or memory was refused
-abbrev pub HasChecked : {P O E : Type 0} → Finds P → Takes P → (O → Option (List ℕ)) → Telling E → P → List ℕ → Request → O → O → E → E → ℕ → Type 0
-HasChecked finds takes holds tells around text request old new before after answer =
-    HasReported finds takes tells around text request (holds old) (holds new) before after answer
-    ⊎ IsUnsaid tells old new before after answer
+-- or memory for it was refused, whatever was looked at
+abbrev pub HasChecked : {P O E : Type 0} → Finds P → Takes P → (O → Option (List ℕ)) → Telling E → P → List ℕ → Request → P → O → O → E → E → ℕ → Type 0
+HasChecked finds takes holds tells around text request behind old new before after answer =
+    HasReported finds takes tells around text request behind (holds old) (holds new) before after answer
+    ⊎ IsUnsaid (WasShort text) tells old new before after answer

@@ -13,13 +13,22 @@ use Rattle.checks.specs.declared.requests.Request.{Request}
 use Rattle.checks.specs.declared.sights.Sights.{Sights}
 use Rattle.checks.specs.declared.surroundings.Found.{Found}
 
--- what may be found at the path of a boot file
+-- what may be found at the path of a boot file, and what is asked then
 abbrev pub Finds : Type 0 → Type 1
-Finds P = P → List ℕ → Found → Type 0
+Finds P = P → List ℕ → Found → P → Type 0
 
--- which MTU the interface of a name may have, where there is one
+-- which MTU the interface of a name may have, where there is one, and what is asked then
 abbrev pub Takes : Type 0 → Type 1
-Takes P = P → List ℕ → Option ℕ → Type 0
+Takes P = P → List ℕ → Option ℕ → P → Type 0
+
+-- This was found where it was looked at the path of a boot file. It is no more than a name for the call, by what is asked before
+-- and then, as is the one below it: who makes the call has it, and nobody else.
+unfoldable pub WasFound : {P : Type 0} → Finds P
+WasFound before path found after = Unit {0}
+
+-- the interface of this name had this MTU when it was looked at, or there was none
+unfoldable pub WasTaken : {P : Type 0} → Takes P
+WasTaken before name mtu after = Unit {0}
 
 -- the names and the address that are asked for
 abbrev pub inside_of : Request → Option (List ℕ)
@@ -32,9 +41,9 @@ abbrev pub link_of : Request → Option (List ℕ)
 link_of request = option_map (λ text. text.now) request.link
 
 -- the MTU of the interface of this name, where one is named
-abbrev pub IsMtuOf : {P : Type 0} → Takes P → P → Option (List ℕ) → Option ℕ → Type 0
-IsMtuOf takes around None mtu = mtu ≡ None
-IsMtuOf takes around (Some name) mtu = takes around name mtu
+abbrev pub IsMtuOf : {P : Type 0} → Takes P → P → Option (List ℕ) → P → Option ℕ → Type 0
+IsMtuOf takes before None after mtu = (mtu ≡ None) × (after ≡ before)
+IsMtuOf takes before (Some name) after mtu = takes before name mtu after
 
 -- the text is this address
 abbrev pub IsAddress : List ℕ → Ip → Type 0
@@ -47,19 +56,21 @@ IsAddressIn (Some text) (Some ip) = IsAddress text ip
 IsAddressIn (Some text) None = (a : Ipv4Addr) → ¬ (IsIpv4Text text a)
 
 -- what there is at the path of the box's boot file, where a box is named
-abbrev pub IsBootFileOf : {P : Type 0} → Finds P → P → Settings → Option GatewayId → Option Found → Type 0
-IsBootFileOf finds around settings None found = found ≡ None
-IsBootFileOf finds around settings (Some id) found =
-    IsSomeAnd found (finds around (string_bytes (gateway_of settings id).boot_file))
+abbrev pub IsBootFileOf : {P : Type 0} → Finds P → P → Settings → Option GatewayId → P → Option Found → Type 0
+IsBootFileOf finds before settings None after found = (found ≡ None) × (after ≡ before)
+IsBootFileOf finds before settings (Some id) after found =
+    IsSomeAnd found (λ it. finds before (string_bytes (gateway_of settings id).boot_file) it after)
 
--- what was found just there where the request looks
-pub record AreFound {P : Type 0} (finds : Finds P) (takes : Takes P) (around : P) (settings : Settings) (request : Request) (sights : Sights) : Type 0 where
-  pub inside : IsMtuOf takes around (inside_of request) sights.inside
-  pub outside : IsMtuOf takes around (outside_of request) sights.outside
+-- what was found just there where the request looks, each once, in this order
+pub record AreFound {P : Type 0} (finds : Finds P) (takes : Takes P) (before : P) (settings : Settings) (request : Request) (after : P) (sights : Sights) : Type 0 where
+  pub second : P
+  pub third : P
+  pub inside : IsMtuOf takes before (inside_of request) second sights.inside
+  pub outside : IsMtuOf takes second (outside_of request) third sights.outside
   pub link : IsAddressIn (link_of request) sights.link
-  pub boot_file : IsBootFileOf finds around settings request.id sights.boot_file
+  pub boot_file : IsBootFileOf finds third settings request.id after sights.boot_file
 
 -- it is looked there only for a text that holds settings
-abbrev pub AreFoundFor : {P : Type 0} → Finds P → Takes P → P → Look → Request → Sights → Type 0
-AreFoundFor finds takes around (Held settings keys) request sights = AreFound finds takes around settings request sights
-AreFoundFor finds takes around _ request sights = Unit {0}
+abbrev pub AreFoundFor : {P : Type 0} → Finds P → Takes P → P → Look → Request → P → Sights → Type 0
+AreFoundFor finds takes before (Held settings keys) request after sights = AreFound finds takes before settings request after sights
+AreFoundFor finds takes before _ request after sights = after ≡ before

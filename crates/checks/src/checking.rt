@@ -1,7 +1,8 @@
 //! Says every fault and every warning of settings.
-ghost use Rattle.std.specs.Prelude.{◌≡◌, ◌⊎◌, ◌++◌, IfOk, None, OnOk, string_bytes, true};
+ghost use Rattle.std.specs.Prelude.{◌≡◌, ◌⊎◌, ◌++◌, IfOk, None, OnErr, OnOk, string_bytes, true};
 ghost use Rattle.toml.specs.Parse.{parse_document};
 ghost use Rattle.checks.specs.Counts.{IsCleanText, IsGoodText};
+ghost use Rattle.checks.specs.Ends.{WasShort};
 ghost use Rattle.checks.specs.Reports.{HasChecked, IsReport, IsReportOn, faults_in, held_faults};
 ghost use Rattle.checks.specs.Reports.{held_text, held_warnings, more_faults, more_text};
 ghost use Rattle.checks.specs.Reports.{more_warnings, report_text};
@@ -24,7 +25,7 @@ use std::io::Write;
 /// `output` can't be written, or memory is refused; the last two are told on `errors`.
 pub fn check<P: Surroundings, O: Write, E: Tells>(
     alloc: Global,
-    around: &P,
+    around: &mut P,
     text: &str,
     request: &Request<'_>,
     output: &mut O,
@@ -33,8 +34,8 @@ pub fn check<P: Surroundings, O: Write, E: Tells>(
     ensures status { (result ≡ 0) ⊎ (result ≡ 1) }
     ensures accepts { result ≡ 0 → IsGoodText text.now }
     ensures strict { request.now.strict ≡ true → result ≡ 0 → IsCleanText text.now }
-    ensures said { HasChecked P.finds P.takes O.contents E.tells around.now text.now
-        request.now output.old output.new errors.old errors.new result }
+    ensures said { HasChecked P.finds P.takes O.contents E.tells around.old text.now
+        request.now around.new output.old output.new errors.old errors.new result }
 {
     match report_of(alloc, around, text, request) {
         Ok(report) => {
@@ -53,9 +54,10 @@ struct Report {
 }
 
 /// All that is to be said of a text, and of what the request names.
+#[tactic(auto, unfolding(crate::specs::Ends::WasShort))]
 fn report_of<P: Surroundings>(
     alloc: Global,
-    around: &P,
+    around: &mut P,
     text: &str,
     request: &Request<'_>,
 ) -> Result<Report, AllocError>
@@ -65,9 +67,10 @@ fn report_of<P: Surroundings>(
         (λ report. report.tally.faults ≡ 0 → report.tally.warnings ≡ 0 → IsCleanText text.now) }
     ensures good { request.now.id ≡ None → request.now.link ≡ None → IsGoodText text.now
         → IfOk result (λ report. report.tally.faults ≡ 0) }
-    ensures report { IfOk result (λ report. IsReport P.finds P.takes around.now
-        (parse_document text.now) request.now (string_bytes report.text) report.tally.faults
-        report.tally.warnings) }
+    ensures report { IfOk result (λ report. IsReport P.finds P.takes around.old
+        (parse_document text.now) request.now around.new (string_bytes report.text)
+        report.tally.faults report.tally.warnings) }
+    ensures short { OnErr result (WasShort text.now) }
 {
     let seen = look(alloc, text)?;
     report_on(alloc, around, &seen, request)
@@ -76,12 +79,12 @@ fn report_of<P: Surroundings>(
 /// The same of what is seen of a text.
 fn report_on<P: Surroundings>(
     alloc: Global,
-    around: &P,
+    around: &mut P,
     seen: &Look,
     request: &Request<'_>,
 ) -> Result<Report, AllocError>
-    ensures { IfOk result (λ report. IsReportOn P.finds P.takes around.now seen.now request.now
-        (string_bytes report.text) report.tally.faults report.tally.warnings) }
+    ensures { IfOk result (λ report. IsReportOn P.finds P.takes around.old seen.now request.now
+        around.new (string_bytes report.text) report.tally.faults report.tally.warnings) }
 {
     let sights = sights_for(around, seen, request)?;
     let mut text = String::new(alloc);

@@ -1,10 +1,12 @@
 //! Says in what the settings of two files differ.
-ghost use Rattle.std.specs.Prelude.{◌≡◌, ◌⊎◌, ◌++◌, IfOk, OnOk, flat_map, length, string_bytes};
+ghost use Rattle.std.specs.Prelude.{◌≡◌, ◌⊎◌, ◌++◌, IfOk, OnErr, OnOk, flat_map, length, string_bytes};
 ghost use Rattle.checks.specs.Comparing.{AreCompared, AreComparedIf, HasCompared, IsReadOf};
 ghost use Rattle.checks.specs.Comparing.{differing_line, differing_total, keys_text};
 ghost use Rattle.checks.specs.Comparing.{status_of_keys};
 ghost use Rattle.checks.specs.Differences.{differing, word_of};
 ghost use Rattle.checks.specs.Counts.{AreAlike, AreTwoAlike, must_not};
+ghost use Rattle.checks.specs.Ends.{WasShort};
+ghost use Rattle.settings.specs.declared.whole.Settings.{Settings as Held};
 
 use crate::ends::{refuse, say};
 use crate::{Source, differing_keys, may_differ, tell_of};
@@ -94,6 +96,7 @@ struct Differences {
 }
 
 /// All that is to be said of the keys in which two settings differ.
+#[tactic(auto, unfolding(crate::specs::Ends::WasShort))]
 fn differences_of(
     alloc: Global,
     one: &Settings,
@@ -103,6 +106,7 @@ fn differences_of(
         (λ found. string_bytes found.text ≡ keys_text (differing one.now other.now)) }
     ensures status { IfOk result
         (λ found. found.status ≡ status_of_keys (differing one.now other.now)) }
+    ensures short { OnErr result (WasShort {T = Held × Held} (one.now, other.now)) }
 {
     let keys = differing_keys(alloc, one, other)?;
     differences_in(alloc, keys.as_slice())

@@ -26,12 +26,12 @@ pub struct Sights {
 
 /// Looks at what a request names, where a text holds settings.
 pub(crate) fn sights_for<P: Surroundings>(
-    around: &P,
+    around: &mut P,
     seen: &Look,
     request: &Request<'_>,
 ) -> Result<Sights, AllocError>
     ensures { IfOk result
-        (AreFoundFor P.finds P.takes around.now seen.now request.now) }
+        (AreFoundFor P.finds P.takes around.old seen.now request.now around.new) }
 {
     match seen {
         Look::Held(settings, _) => sights_of(around, settings, request),
@@ -54,12 +54,12 @@ const NOWHERE: Sights = Sights {
 
 /// Looks at what a request names.
 fn sights_of<P: Surroundings>(
-    around: &P,
+    around: &mut P,
     settings: &Settings,
     request: &Request<'_>,
 ) -> Result<Sights, AllocError>
     ensures { IfOk result
-        (AreFound P.finds P.takes around.now settings.now request.now) }
+        (AreFound P.finds P.takes around.old settings.now request.now around.new) }
 {
     let inside = mtu_of(around, request.inside)?;
     let outside = mtu_of(around, request.outside)?;
@@ -74,9 +74,9 @@ fn sights_of<P: Surroundings>(
 }
 
 /// The MTU of an interface, where one is named and there.
-fn mtu_of<P: Surroundings>(around: &P, name: Option<&str>) -> Result<Option<u32>, AllocError>
+fn mtu_of<P: Surroundings>(around: &mut P, name: Option<&str>) -> Result<Option<u32>, AllocError>
     ensures { IfOk result
-        (IsMtuOf P.takes around.now (option_map (λ name. name.now) name.entry)) }
+        (IsMtuOf P.takes around.old (option_map (λ name. name.now) name.entry) around.new) }
 {
     match name {
         Some(name) => around.mtu(name),
@@ -106,11 +106,11 @@ fn address_of(text: &str) -> Option<Ip>
 
 /// What there is of a box's boot file, where a box is named.
 fn boot_file_of<P: Surroundings>(
-    around: &P,
+    around: &mut P,
     settings: &Settings,
     id: Option<GatewayId>,
 ) -> Option<Found>
-    ensures { IsBootFileOf P.finds around.now settings.now id result }
+    ensures { IsBootFileOf P.finds around.old settings.now id around.new result }
 {
     match id {
         Some(id) => Some(around.boot_file(path_of(settings, id))),

@@ -31,28 +31,29 @@ pub enum Found {
     File(Seen),
 }
 
-/// What a box finds where it is to run. It is looked at alone: none of it can be changed so.
+/// What a box finds where it is to run. It is looked at alone: none of it can be
+/// changed so.
 pub trait Surroundings {
     ghost use Rattle.std.specs.Prelude.{List, Option, ℕ};
     ghost use Rattle.checks.specs.declared.surroundings.Found.{Found};
 
-    /// What may be found at the path of a boot file.
-    ghost finds: { Self → List ℕ → Found → Type 0 };
+    /// What may be found at the path of a boot file, and what is asked then.
+    ghost finds: { Self → List ℕ → Found → Self → Type 0 };
 
-    /// Which MTU the interface of a name may have, where there is one.
-    ghost takes: { Self → List ℕ → Option ℕ → Type 0 };
+    /// Which MTU the interface of a name may have, where there is one, and what is asked then.
+    ghost takes: { Self → List ℕ → Option ℕ → Self → Type 0 };
 
     /// What there is at the path of a boot file.
-    fn boot_file(&self, path: &str) -> Found
-        ensures { finds self.now path.now result };
+    fn boot_file(&mut self, path: &str) -> Found
+        ensures { finds self.old path.now result self.new };
 
     /// The MTU of the interface of this name, where there is one.
-    fn mtu(&self, name: &str) -> Result<Option<u32>, AllocError>
-        ensures { IfOk result (takes self.now name.now) };
+    fn mtu(&mut self, name: &str) -> Result<Option<u32>, AllocError>
+        ensures { IfOk result (λ mtu. takes self.old name.now mtu self.new) };
 }
 
-/// This machine: of what is found there nothing is known.
-#[derive(Clone, Copy)]
+/// This machine: what is found there has a name, and no more is known of it.
+#[derive(Drop)]
 pub struct ThisMachine<'a, R> {
     rt: &'a R,
 }
@@ -67,15 +68,19 @@ impl<R: Files + AllocGlobal> Surroundings for ThisMachine<'_, R>
 where
     R::File: Lockable,
 {
-    ghost finds = { λ _ _ _. Unit {0} };
+    ghost use Rattle.checks.specs.Sights.{WasFound, WasTaken};
 
-    ghost takes = { λ _ _ _. Unit {0} };
+    ghost finds = { WasFound };
 
-    fn boot_file(&self, path: &str) -> Found {
+    ghost takes = { WasTaken };
+
+    #[tactic(auto, unfolding(crate::specs::Sights::WasFound))]
+    fn boot_file(&mut self, path: &str) -> Found {
         found_by(opened(self.rt, path))
     }
 
-    fn mtu(&self, name: &str) -> Result<Option<u32>, AllocError> {
+    #[tactic(auto, unfolding(crate::specs::Sights::WasTaken))]
+    fn mtu(&mut self, name: &str) -> Result<Option<u32>, AllocError> {
         mtu_by(self.rt.alloc(), &mut SystemReads(self.rt), name)
     }
 }
