@@ -1,6 +1,7 @@
 -- Deeds, one behind the other, and the faults that they lead to.
-use Rattle.std.proofs.Common.{◌≡◌, ◌∙◌, ◌<◌, ◌≤◌, ◌-◌, ◌^◌, inl, inr, ℕ, suc, List, [], ◌∷◌, length, Option, Some, None, IsSome, is_some, Bool, false, not, Result, Ok, Err, OnOk, IfErr, refl, sym, ap, subst, arith, append-nil, string_bytes}
+use Rattle.std.proofs.Common.{◌≡◌, ◌∙◌, ◌<◌, ◌≤◌, ◌-◌, ◌^◌, ◌⊎◌, inl, inr, ℕ, suc, List, [], ◌∷◌, length, Option, Some, None, IsSome, is_some, Bool, false, true, not, Result, Ok, Err, OnOk, IfErr, refl, sym, ap, subst, arith, string_bytes}
 use Rattle.std.specs.Prelude.{IsErrAnd, IsErrOf}
+use Rattle.std.specs.declared.io.Error.{Error}
 use Rattle.std.specs.Io.KnownBytes.{Appends, Keeps}
 use Rattle.std.proofs.KnownBytes.{Appends-kept, Appends-trans}
 use Rattle.nat_types.specs.declared.gateways.GatewayId.{GatewayId}
@@ -10,6 +11,7 @@ use Rattle.settings.specs.declared.whole.Settings.{Settings}
 use Rattle.settings.specs.Parts.{gateway_of}
 use Rattle.settings_file.specs.Settings.{IsReadFrom, Tells as TellsReason}
 use Rattle.settings_file.specs.declared.faults.SettingFault.{SettingFault}
+use Rattle.settings_file.specs.declared.faults.SettingFault.TheVariants as setting
 use Rattle.control.specs.Answers.{Content, heard}
 use Rattle.control.specs.Paths.{IsBeside, Paths, socket_of}
 use Rattle.control.specs.declared.paths.PathFault.{PathFault}
@@ -21,8 +23,10 @@ use Rattle.faults.specs.declared.faults.Fault.TheVariants.{NotWritten}
 use Rattle.outlets.specs.Printed.{IsBegun}
 use Rattle.reports.specs.declared.reports.Report.{Report}
 use Rattle.report_texts.specs.declared.pairs.Filter.{Filter}
-use Rattle.box_words.specs.Deeds.{Does, Fails, HasFailed, HasListed, HasPage, HasPages, HasReported, HasSynced, HasTaken, HasUnlisted, HasUnreported, IsAwaited, IsAwaitedInVain, IsBoxOf, IsBroken, IsCutShort, IsInVain, IsNotSynced, IsSyncedAt, IsUnpaged, IsUnreached, IsUnreported, IsWaitedFor, Lists, Reports, asked, lines_of, page_lines, read, text_of, unread}
-use Rattle.box_words.specs.Faults.{TellsNoPath, TellsSocket, of_path}
+use Rattle.box_words.specs.Deeds.{Does, Fails, HasFailed, HasListed, HasPage, HasPages, HasReported, HasSynced, HasTaken, HasUnlisted, HasUnreported, IsAskedOnce, IsAwaited, IsAwaitedInVain, IsBoxOf, IsBroken, IsCutShort, IsInVain, IsNotSynced, IsSyncedAt, IsUnpaged, IsUnprinted, IsUnreached, IsUnreported, IsWaitedFor, Lists, Reports, asked, awaits, lines_of, page_lines, past, read, rested, text_of, unread}
+use Rattle.box_words.specs.Faults.{TellsPathless, TellsSocket, of_path}
+use Rattle.box_words.specs.Memory.{WasShort}
+use Rattle.box_words.specs.Outputs.{IsUnflushed, WasFlushed, WasPut}
 use Rattle.box_words.specs.declared.asking.Form.{Form}
 use Rattle.box_words.specs.declared.refusals.BoxFault.{BoxFault}
 use Rattle.box_words.specs.declared.refusals.BoxFault.TheVariants as fault
@@ -45,23 +49,25 @@ file_unread r does settings id reason before after done told is =
 
 -- its text holds no settings
 pub no_settings : {S T : Type 0} (r : Result T BoxFault) (does : Does S) (settings : List ℕ) (id : GatewayId) (text : List ℕ) (reason : SettingFault) (before after : S)
-    → does before (read settings text) after → TellsReason (parse_document text) reason → IsErrAnd r (λ e. e ≡ fault.Run (of_setting reason))
-    → IfErr r (λ why. IsUnreached does settings id why before after)
-no_settings r does settings id text reason before after done told is =
-    handed_on r (λ why. IsUnreached does settings id why before after) (fault.Run (of_setting reason)) is (inr (inl (text, (done, (reason, (told, refl))))))
+    → does before (read settings text) after → TellsReason (parse_document text) reason → (reason ≡ setting.NoMemory → WasShort text)
+    → IsErrAnd r (λ e. e ≡ fault.Run (of_setting reason)) → IfErr r (λ why. IsUnreached does settings id why before after)
+no_settings r does settings id text reason before after done told short is =
+    handed_on r (λ why. IsUnreached does settings id why before after) (fault.Run (of_setting reason)) is
+    (inr (inl (text, (done, (reason, (told, (short, refl)))))))
 
 -- its box has no path
 pub no_path : {S T : Type 0} (r : Result T BoxFault) (does : Does S) (settings : List ℕ) (id : GatewayId) (text : List ℕ) (values : Settings) (why : BoxFault) (before after : S)
-    → does before (read settings text) after → IsReadFrom (parse_document text) values → TellsNoPath (string_bytes (gateway_of values id).boot_file) why
+    → does before (read settings text) after → IsReadFrom (parse_document text) values → TellsPathless (string_bytes (gateway_of values id).boot_file) why
     → IsErrAnd r (λ e. e ≡ why) → IfErr r (λ why. IsUnreached does settings id why before after)
 no_path r does settings id text values why before after done held told is =
     handed_on r (λ why. IsUnreached does settings id why before after) why is
     (inr (inr (string_bytes (gateway_of values id).boot_file, (record { text = text; read_it = done; values = values; held = held; own_file = refl }, told))))
 
 -- why its path can't be had
-pub tells_path : {T : Type 0} (boot_file : List ℕ) (reason : PathFault) → (IsErrOf {T = T} (Err reason) path.LongPath → 107 < length (socket_of boot_file)) → TellsNoPath boot_file (of_path reason)
-tells_path boot_file path.LongPath long = long refl
-tells_path boot_file path.NoMemory long = refl
+pub tells_path : {T : Type 0} (boot_file : List ℕ) (reason : PathFault) → (IsErrOf {T = T} (Err reason) path.LongPath → 107 < length (socket_of boot_file))
+    → (reason ≡ path.NoMemory → WasShort (socket_of boot_file)) → TellsPathless boot_file (of_path reason)
+tells_path boot_file path.LongPath long short = long refl
+tells_path boot_file path.NoMemory long short = (refl, inl (short refl))
 
 -- so the command ends
 pub none_reached : {S T : Type 0} (r : Result T BoxFault) (does : Does S) (settings : List ℕ) (id : GatewayId) (fails : Fails S) (why : BoxFault) (before after : S)
@@ -110,28 +116,60 @@ reached_taken (Err e) does settings id boot_file path word answer content before
 -- ---- whether it is synced
 
 -- it was
-pub reached_synced : {S T E : Type 0} (r : Result T E) (does : Does S) (settings : List ℕ) (id : GatewayId) (boot_file : List ℕ) (path : Paths) (before between after : S)
-    → IsBoxOf does settings id boot_file before between → IsBeside boot_file path → OnOk r (IsAwaited does path between after)
-    → OnOk r (HasSynced does settings id before after)
-reached_synced (Ok x) does settings id boot_file path before between after box beside synced =
+pub reached_synced : {S T E : Type 0} (r : Result T E) (does : Does S) (settings : List ℕ) (id : GatewayId) (seconds : ℕ) (boot_file : List ℕ) (path : Paths) (before between after : S)
+    → IsBoxOf does settings id boot_file before between → IsBeside boot_file path → OnOk r (IsAwaited does path seconds between after)
+    → OnOk r (HasSynced does settings id seconds before after)
+reached_synced (Ok x) does settings id seconds boot_file path before between after box beside synced =
     record { path = path; between = between; reached = record { boot_file = boot_file; box = box; beside = beside }; done_it = synced }
-reached_synced (Err e) does settings id boot_file path before between after box beside synced = tt
+reached_synced (Err e) does settings id seconds boot_file path before between after box beside synced = tt
+
+-- so far it was waited, where there were so many turns
+abbrev pub IsWaited : {S : Type 0} → Does S → Paths → ℕ → ℕ → S → S → Type 0
+IsWaited does path seconds count before after = (times : ℕ) × ((times ≡ count) × IsWaitedFor does path seconds times before after)
+
+-- the wait began
+pub wait_begun : {S : Type 0} (does : Does S) (path : Paths) (seconds : ℕ) (before begun : S) → does before (awaits seconds) begun
+    → IsWaited does path seconds 0 before begun
+wait_begun does path seconds before begun did = (0, (refl, (begun, (did, refl))))
 
 -- it was asked once more in vain
-pub asked_again : {S : Type 0} (does : Does S) (path : Paths) (why : BoxFault) (before between after : S) → IsWaitedFor does path before between
-    → IsNotSynced does path why between after → IsWaitedFor does path before after
-asked_again does path why before between after had once = (suc had.0, (between, (had.1, (why, once))))
+pub asked_again : {S : Type 0} (does : Does S) (path : Paths) (seconds count more : ℕ) (why : BoxFault) (before between early told after : S)
+    → IsWaited does path seconds count before between → does between (past false) early → IsNotSynced does path why early told → does told rested after
+    → more ≡ suc count → IsWaited does path seconds more before after
+asked_again does path seconds count more why before between early told after had in_time vain rest one =
+    let once : IsAskedOnce does path between after = record { early = early; told = told; in_time = in_time; why = why; in_vain = vain; rest = rest } in
+    (suc had.0, (ap suc had.1.0 ∙ sym one, (had.1.1.0, (had.1.1.1.0, (between, (had.1.1.1.1, once))))))
 
--- it was asked a last time
-pub last_synced : {S T E : Type 0} (r : Result T E) (does : Does S) (path : Paths) (before between after : S) → IsWaitedFor does path before between
-    → OnOk r (IsSyncedAt does path between after) → OnOk r (IsAwaited does path before after)
-last_synced (Ok x) does path before between after had synced = record { between = between; waited = had; synced = synced }
-last_synced (Err e) does path before between after had synced = tt
+-- it answered that it is
+pub now_synced : {S T E : Type 0} (r : Result T E) (does : Does S) (path : Paths) (seconds count : ℕ) (is_past : Bool) (before between looked after : S)
+    → IsWaited does path seconds count before between → does between (past is_past) looked → OnOk r (IsSyncedAt does path looked after)
+    → OnOk r (IsAwaited does path seconds before after)
+now_synced (Ok x) does path seconds count is_past before between looked after had looks synced =
+    record { times = had.0; between = between; waited = had.1.1; is_past = is_past; looked = looked; looks = looks; synced = synced }
+now_synced (Err e) does path seconds count is_past before between looked after had looks synced = tt
 
-pub last_unsynced : {S T : Type 0} (r : Result T BoxFault) (does : Does S) (path : Paths) (before between after : S) → IsWaitedFor does path before between
-    → IfErr r (λ why. IsNotSynced does path why between after) → IfErr r (λ why. IsAwaitedInVain does path why before after)
-last_unsynced (Ok x) does path before between after had last = tt
-last_unsynced (Err e) does path before between after had last = record { between = between; waited = had; last = last }
+-- it was asked a last time in vain
+pub still_unsynced : {S : Type 0} (does : Does S) (path : Paths) (seconds count : ℕ) (why : BoxFault) (is_past : Bool) (before between looked after : S)
+    → IsWaited does path seconds count before between → does between (past is_past) looked → (is_past ≡ true) ⊎ (2 ^ 64 - 1 ≤ count)
+    → IsNotSynced does path why looked after → IsAwaitedInVain does path seconds why before after
+still_unsynced does path seconds count why is_past before between looked after had looks over last = record {
+  times = had.0;
+  between = between;
+  waited = had.1.1;
+  is_past = is_past;
+  looked = looked;
+  looks = looks;
+  over = elim over [ inl is ↦ inl is | inr many ↦ inr (subst (λ (n : ℕ). 2 ^ 64 - 1 ≤ n) (sym had.1.0) many) ];
+  last = last;
+}
+
+-- so it was, behind as many turns as there are
+pub last_unsynced : {S T : Type 0} (r : Result T BoxFault) (does : Does S) (path : Paths) (seconds count : ℕ) (is_past : Bool) (before between looked after : S)
+    → IsWaited does path seconds count before between → does between (past is_past) looked → 2 ^ 64 - 1 ≤ count
+    → IfErr r (λ why. IsNotSynced does path why looked after) → IfErr r (λ why. IsAwaitedInVain does path seconds why before after)
+last_unsynced (Ok x) does path seconds count is_past before between looked after had looks many last = tt
+last_unsynced (Err e) does path seconds count is_past before between looked after had looks many last =
+    still_unsynced does path seconds count e is_past before between looked after had looks (inr many) last
 
 -- ---- its pages
 
@@ -223,15 +261,15 @@ next_broken does prints filter old mid new path next why before middle after had
 
 -- all of them came, and couldn't be flushed
 pub last_broken : {S O : Type 0} (does : Does S) (prints : O → Option (List ℕ)) (filter : Filter) (old mid new : O) (path : Paths) (before after : S)
-    → HasPages does path None filter (prints old) (prints mid) before after → Keeps (prints mid) (prints new)
+    → HasPages does path None filter (prints old) (prints mid) before after → Keeps (prints mid) (prints new) → IsUnflushed mid new
     → IsBroken does prints filter old new path (fault.Run NotWritten) before after
-last_broken does prints filter old mid new path before after had kept = record {
+last_broken does prints filter old mid new path before after had kept refused = record {
   pages = had.newest ∷ had.earlier;
   between = after;
   middle = mid;
   listed = had.listed;
   printed = had.written;
-  last = inr (inr (had.goes_on, (kept, (refl, refl))));
+  last = inr (inr (had.goes_on, (kept, (refl, (refl, refused)))));
 }
 
 -- there are too many
@@ -268,17 +306,18 @@ ended_pages r does prints settings id filter old new boot_file path why before b
 -- ---- a text that is there before it is written
 
 -- the output refused it
-pub refused_in : {O : Type 0} (prints : O → Option (List ℕ)) (text bytes : List ℕ) (old new : O) → bytes ≡ text → IsBegun (prints old) (prints new) bytes
-    → IsCutShort prints text (fault.Run NotWritten) old new
-refused_in prints text bytes old new is begun = inr (refl, subst (λ (bs : List ℕ). IsBegun (prints old) (prints new) bs) is begun)
+pub refused_in : {O : Type 0} (prints : O → Option (List ℕ)) (text bytes : List ℕ) (old new : O) (error : Error) → bytes ≡ text
+    → IsBegun (prints old) (prints new) bytes → WasPut old bytes (Err error) new → IsCutShort prints text (fault.Run NotWritten) old new
+refused_in prints text bytes old new error is begun refused =
+    subst (λ (bs : List ℕ). IsCutShort prints bs (fault.Run NotWritten) old new) is (inr (refl, (begun, (error, refused))))
 
 -- it refused to be flushed, and has all of it
-pub refused_behind : {O : Type 0} (prints : O → Option (List ℕ)) (text bytes : List ℕ) (old mid new : O) → bytes ≡ text → Appends (prints old) (prints mid) bytes
-    → Keeps (prints mid) (prints new) → IsCutShort prints text (fault.Run NotWritten) old new
-refused_behind prints text bytes old mid new is written kept = refused_in prints text bytes old new is (record {
-  rest = [];
-  part = record { written = bytes; split = sym (append-nil bytes); appended = Appends-kept (prints old) (prints mid) (prints new) bytes written kept };
-})
+pub refused_behind : {O : Type 0} (prints : O → Option (List ℕ)) (text bytes : List ℕ) (old mid new : O) (error : Error) → bytes ≡ text
+    → Appends (prints old) (prints mid) bytes → WasPut old bytes (Ok tt) mid → Keeps (prints mid) (prints new) → WasFlushed mid (Err error) new
+    → IsUnprinted prints text (fault.Run NotWritten) old new
+refused_behind prints text bytes old mid new error is written put kept refused =
+    subst (λ (bs : List ℕ). IsUnprinted prints bs (fault.Run NotWritten) old new) is
+    (inr (refl, (Appends-kept (prints old) (prints mid) (prints new) bytes written kept, (mid, (put, (error, refused))))))
 
 -- no report of a box that wasn't reached
 pub no_report : {S T O : Type 0} (r : Result T BoxFault) (does : Does S) (prints : O → Option (List ℕ)) (settings : List ℕ) (id : GatewayId) (form : Form) (old : O) (why : BoxFault) (before after : S)
@@ -298,7 +337,7 @@ none_came r does prints settings id form old boot_file path why before between a
 -- it answered by one that was cut short
 pub report_cut : {S T O : Type 0} (r : Result T BoxFault) (does : Does S) (prints : O → Option (List ℕ)) (settings : List ℕ) (id : GatewayId) (form : Form) (old new : O) (boot_file : List ℕ) (path : Paths) (report : Report) (before between after : S)
     → IsBoxOf does settings id boot_file before between → IsBeside boot_file path → Reports does path report between after
-    → IfErr r (λ why. IsCutShort prints (text_of form report) why old new) → IfErr r (λ why. HasUnreported does prints settings id form why old new before after)
+    → IfErr r (λ why. IsUnprinted prints (text_of form report) why old new) → IfErr r (λ why. HasUnreported does prints settings id form why old new before after)
 report_cut (Ok x) does prints settings id form old new boot_file path report before between after box beside came cut = tt
 report_cut (Err e) does prints settings id form old new boot_file path report before between after box beside came cut = inr (record {
   path = path;

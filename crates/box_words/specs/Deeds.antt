@@ -1,5 +1,5 @@
 -- What an operator's command does at a site.
-use Rattle.std.specs.Prelude.{◌≡◌, ◌⊎◌, ◌≤◌, ◌^◌, ◌++◌, ℕ, zero, suc, List, [], ◌∷◌, length, Option, Some, None, IsSome, true, false, Ok, string_bytes, if◌then◌else◌}
+use Rattle.std.specs.Prelude.{◌≡◌, ◌⊎◌, ◌≤◌, ◌-◌, ◌^◌, ◌++◌, ℕ, zero, suc, Bool, List, [], ◌∷◌, length, Option, Some, None, IsSome, true, false, Ok, string_bytes, if◌then◌else◌}
 use Rattle.std.specs.Io.KnownBytes.{Appends, Keeps}
 use Rattle.std.specs.List.{flat_map}
 use Rattle.toml.specs.Parse.{parse_document}
@@ -26,7 +26,9 @@ use Rattle.report_texts.specs.Metrics.{metrics_text}
 use Rattle.report_texts.specs.Pairs.{wanted_line}
 use Rattle.report_texts.specs.People.{people_text}
 use Rattle.report_texts.specs.declared.pairs.Filter.{Filter}
-use Rattle.box_words.specs.Faults.{TellsBootFile, TellsNoPath, TellsSettings, TellsSocket, TellsUnlisted, TellsUnreported, TellsUntaken}
+use Rattle.box_words.specs.Faults.{TellsBootFile, TellsNoSettings, TellsPathless, TellsSocket, TellsUnlisted, TellsUnreported, TellsUntaken}
+use Rattle.box_words.specs.Memory.{WasShort}
+use Rattle.box_words.specs.Outputs.{IsRefused, IsUnflushed, WasPut}
 use Rattle.box_words.specs.Said.{said_status}
 use Rattle.box_words.specs.declared.refusals.BoxFault.{BoxFault}
 use Rattle.box_words.specs.declared.refusals.BoxFault.TheVariants as fault
@@ -35,7 +37,8 @@ use Rattle.box_words.specs.declared.asking.Form.TheVariants as form
 
 -- a file was read, which has this text, or couldn't be, for this fault; a boot file was made, or couldn't be; a box that is reached so
 -- was said this word, and heard it; or was said it, and gave this answer, or wasn't heard from: whether it took the word isn't known
--- then. What was said, or answered, may be none
+-- then. What was said, or answered, may be none. A wait of so many seconds began; whether they have passed was looked up, and is so; or it was
+-- rested, until a box is asked again
 pub data Deed : Type 0 where
   read : List ℕ → List ℕ → Deed
   unread : List ℕ → Fault → Deed
@@ -44,6 +47,9 @@ pub data Deed : Type 0 where
   said : Paths → Option Word → Deed
   asked : Paths → Option Word → Option Content → Deed
   unsaid : Paths → Option Word → Deed
+  awaits : ℕ → Deed
+  past : Bool → Deed
+  rested : Deed
 
 -- what a deed is to a site, and what the site is then
 abbrev pub Does : Type 0 → Type 1
@@ -88,12 +94,12 @@ AreUnread does settings why before after =
 
 -- the settings at a path were read, and the text holds none
 abbrev pub AreNoSettings : {S : Type 0} → Does S → List ℕ → BoxFault → S → S → Type 0
-AreNoSettings does settings why before after = (text : List ℕ) × (does before (read settings text) after × TellsSettings text why)
+AreNoSettings does settings why before after = (text : List ℕ) × (does before (read settings text) after × TellsNoSettings text why)
 
 -- they were read, and the control socket beside their box's boot file has no path
 abbrev pub IsPathless : {S : Type 0} → Does S → List ℕ → GatewayId → BoxFault → S → S → Type 0
 IsPathless does settings id why before after =
-    (boot_file : List ℕ) × (IsBoxOf does settings id boot_file before after × TellsNoPath boot_file why)
+    (boot_file : List ℕ) × (IsBoxOf does settings id boot_file before after × TellsPathless boot_file why)
 
 -- no box was reached, and this is the fault: one of these three; and nothing else was done
 abbrev pub IsUnreached : {S : Type 0} → Does S → List ℕ → GatewayId → BoxFault → S → S → Type 0
@@ -165,15 +171,24 @@ pub record HasReported {S : Type 0} (does : Does S) (settings : List ℕ) (id : 
 abbrev pub IsUnreported : {S : Type 0} → Does S → Paths → BoxFault → S → S → Type 0
 IsUnreported does path why before after = IsInVain does path (Some said_status) TellsUnreported why before after
 
--- there was no memory for a text, and nothing was printed; or the output refused it, and has a beginning of it
+-- memory for a text was refused, and nothing was printed; or the output refused it, and has a beginning of it
 abbrev pub IsCutShort : {O : Type 0} → (O → Option (List ℕ)) → List ℕ → BoxFault → O → O → Type 0
-IsCutShort prints text why old new = ((why ≡ fault.Run NoMemory) × (new ≡ old))
-    ⊎ ((why ≡ fault.Run NotWritten) × IsBegun (prints old) (prints new) text)
+IsCutShort prints text why old new = ((why ≡ fault.Run NoMemory) × ((new ≡ old) × WasShort text))
+    ⊎ ((why ≡ fault.Run NotWritten) × (IsBegun (prints old) (prints new) text × IsRefused old text new))
 
--- a box was asked how it stands, and answered by no report, and nothing was printed; or by one whose text was cut short
+-- the output has all of a text, and refused to be flushed
+abbrev pub IsLeftIn : {O : Type 0} → (O → Option (List ℕ)) → List ℕ → BoxFault → O → O → Type 0
+IsLeftIn {O = O} prints text why old new = (why ≡ fault.Run NotWritten)
+    × (Appends (prints old) (prints new) text × ((middle : O) × (WasPut old text (Ok tt) middle × IsUnflushed middle new)))
+
+-- a text was cut short, or refused to be flushed
+abbrev pub IsUnprinted : {O : Type 0} → (O → Option (List ℕ)) → List ℕ → BoxFault → O → O → Type 0
+IsUnprinted prints text why old new = IsCutShort prints text why old new ⊎ IsLeftIn prints text why old new
+
+-- a box was asked how it stands, and answered by no report, and nothing was printed; or by one whose text was cut short, or not flushed
 abbrev pub IsUnshown : {S O : Type 0} → Does S → (O → Option (List ℕ)) → Form → O → O → Paths → BoxFault → S → S → Type 0
 IsUnshown does prints form old new path why before after = (IsUnreported does path why before after × (new ≡ old))
-    ⊎ ((report : Report) × (Reports does path report before after × IsCutShort prints (text_of form report) why old new))
+    ⊎ ((report : Report) × (Reports does path report before after × IsUnprinted prints (text_of form report) why old new))
 
 -- just that box was asked so; or none was reached, and nothing was printed
 abbrev pub HasUnreported : {S O : Type 0} → Does S → (O → Option (List ℕ)) → List ℕ → GatewayId → Form → BoxFault → O → O → S → S → Type 0
@@ -197,35 +212,53 @@ abbrev pub IsNotSynced : {S : Type 0} → Does S → Paths → BoxFault → S �
 IsNotSynced does path why before after = IsUnreported does path why before after
     ⊎ (IsUnsyncedAt does path before after × (why ≡ fault.NotSynced))
 
--- a box was asked so many times how it stands, each time in vain
+-- the time hadn't passed; a box was asked how it stands, in vain; and then it was rested
+pub record IsAskedOnce {S : Type 0} (does : Does S) (path : Paths) (before after : S) : Type 0 where
+  pub early : S
+  pub told : S
+  pub in_time : does before (past false) early
+  pub why : BoxFault
+  pub in_vain : IsNotSynced does path why early told
+  pub rest : does told rested after
+
+-- so many times
 abbrev pub IsAskedTimes : {S : Type 0} → Does S → Paths → ℕ → S → S → Type 0
 IsAskedTimes does path zero before after = after ≡ before
-IsAskedTimes {S = S} does path (suc times) before after = (middle : S)
-    × (IsAskedTimes does path times before middle × ((why : BoxFault) × IsNotSynced does path why middle after))
+IsAskedTimes {S = S} does path (suc times) before after = (middle : S) × (IsAskedTimes does path times before middle × IsAskedOnce does path middle after)
 
--- the same, some number of times
-abbrev pub IsWaitedFor : {S : Type 0} → Does S → Paths → S → S → Type 0
-IsWaitedFor does path before after = (times : ℕ) × IsAskedTimes does path times before after
+-- a wait of so many seconds began, in which a box was asked so many times so
+abbrev pub IsWaitedFor : {S : Type 0} → Does S → Paths → ℕ → ℕ → S → S → Type 0
+IsWaitedFor {S = S} does path seconds times before after = (begun : S) × (does before (awaits seconds) begun × IsAskedTimes does path times begun after)
 
--- a box was asked how it stands, until it answered that it is synced
-pub record IsAwaited {S : Type 0} (does : Does S) (path : Paths) (before after : S) : Type 0 where
+-- a box was asked how it stands, for at most so many seconds, until it answered that it is synced
+pub record IsAwaited {S : Type 0} (does : Does S) (path : Paths) (seconds : ℕ) (before after : S) : Type 0 where
+  pub times : ℕ
   pub between : S
-  pub waited : IsWaitedFor does path before between
-  pub synced : IsSyncedAt does path between after
+  pub waited : IsWaitedFor does path seconds times before between
+  pub is_past : Bool
+  pub looked : S
+  pub looks : does between (past is_past) looked
+  pub synced : IsSyncedAt does path looked after
 
 -- just that box was asked how it stands, until it answered that it is synced; and nothing else was done
-abbrev pub HasSynced : {S : Type 0} → Does S → List ℕ → GatewayId → S → S → Type 0
-HasSynced does settings id before after = IsDoneAt does settings id (IsAwaited does) before after
+abbrev pub HasSynced : {S : Type 0} → Does S → List ℕ → GatewayId → ℕ → S → S → Type 0
+HasSynced does settings id seconds before after = IsDoneAt does settings id (λ path. IsAwaited does path seconds) before after
 
--- a box was asked how it stands, each time in vain; the fault is that of the last time
-pub record IsAwaitedInVain {S : Type 0} (does : Does S) (path : Paths) (why : BoxFault) (before after : S) : Type 0 where
+-- A box was asked how it stands, each time in vain, until so many seconds had passed; then it was asked a last time, of which the fault is. Or
+-- they hadn't after 18,446,744,073,709,551,615 times
+pub record IsAwaitedInVain {S : Type 0} (does : Does S) (path : Paths) (seconds : ℕ) (why : BoxFault) (before after : S) : Type 0 where
+  pub times : ℕ
   pub between : S
-  pub waited : IsWaitedFor does path before between
-  pub last : IsNotSynced does path why between after
+  pub waited : IsWaitedFor does path seconds times before between
+  pub is_past : Bool
+  pub looked : S
+  pub looks : does between (past is_past) looked
+  pub over : (is_past ≡ true) ⊎ (2 ^ 64 - 1 ≤ times)
+  pub last : IsNotSynced does path why looked after
 
 -- just that box was asked so; or none was reached
-abbrev pub HasUnsynced : {S : Type 0} → Does S → List ℕ → GatewayId → BoxFault → S → S → Type 0
-HasUnsynced does settings id why before after = HasFailed does settings id (IsAwaitedInVain does) why before after
+abbrev pub HasUnsynced : {S : Type 0} → Does S → List ℕ → GatewayId → ℕ → BoxFault → S → S → Type 0
+HasUnsynced does settings id seconds why before after = HasFailed does settings id (λ path. IsAwaitedInVain does path seconds) why before after
 
 -- the key behind which the next page begins, where others follow
 abbrev pub next_of : Page → Option Key
@@ -284,7 +317,7 @@ AreAll (page ∷ earlier) = next_of page ≡ None
 -- none follows these, and nothing more was printed: the output, which has all of their lines, refused to be flushed
 abbrev pub AreUnflushed : {S O : Type 0} → (O → Option (List ℕ)) → List Page → BoxFault → O → O → S → S → Type 0
 AreUnflushed prints pages why old new before after =
-    AreAll pages × (Keeps (prints old) (prints new) × ((after ≡ before) × (why ≡ fault.Run NotWritten)))
+    AreAll pages × (Keeps (prints old) (prints new) × ((after ≡ before) × ((why ≡ fault.Run NotWritten) × IsUnflushed old new)))
 
 -- some pages came, and just their lines were printed; and then no page came, or one whose lines were cut short; or there were too many;
 -- or they were all, and couldn't be flushed

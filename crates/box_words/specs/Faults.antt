@@ -23,7 +23,7 @@ use Rattle.faults.specs.declared.files.Refusal.TheVariants.{Exists, NoFile, NotW
 use Rattle.faults.specs.declared.faults.Fault.TheVariants.{NoMemory, Setting}
 use Rattle.settings_file.specs.Settings.{Tells as TellsReason}
 use Rattle.settings_file.specs.declared.faults.SettingFault.{SettingFault}
-use Rattle.settings_file.specs.declared.faults.SettingFault.TheVariants.{CantWork}
+use Rattle.settings_file.specs.declared.faults.SettingFault.TheVariants as setting
 use Rattle.settings_file.specs.declared.keys.Key.{Key}
 use Rattle.reports.specs.Formats.{reading}
 use Rattle.reports.specs.Reports.{page as page_format, report as report_format}
@@ -33,6 +33,7 @@ use Rattle.reports.specs.declared.faults.ReadFault.TheVariants as read
 use Rattle.sockets.specs.Ways.{no_descriptor_text}
 use Rattle.supervision.specs.Managers.{not_open_text}
 use Rattle.box_words.specs.Ends.{refused_text}
+use Rattle.box_words.specs.Memory.{WasShort}
 use Rattle.box_words.specs.declared.refusals.BoxFault.{BoxFault}
 use Rattle.box_words.specs.declared.refusals.BoxFault.TheVariants as fault
 
@@ -52,11 +53,22 @@ of_boot boot.FoundTwice = fault.FoundTwice
 abbrev pub TellsSettings : List ℕ → BoxFault → Type 0
 TellsSettings text why = (reason : SettingFault) × (TellsReason (parse_document text) reason × (why ≡ fault.Run (of_setting reason)))
 
+-- the same, and memory for them was refused where there is none
+abbrev pub TellsNoSettings : List ℕ → BoxFault → Type 0
+TellsNoSettings text why =
+    (reason : SettingFault) × (TellsReason (parse_document text) reason × ((reason ≡ setting.NoMemory → WasShort text) × (why ≡ fault.Run (of_setting reason))))
+
 -- the control socket beside this boot file has no path: it would have more than 107 bytes, or there is no memory for it
 abbrev pub TellsNoPath : List ℕ → BoxFault → Type 0
 TellsNoPath boot_file fault.LongPath = 107 < length (socket_of boot_file)
 TellsNoPath boot_file (fault.Run why) = why ≡ NoMemory
 TellsNoPath boot_file other = ⊥
+
+-- the same, and memory for it, or for the boot file's own name, was refused where there is none
+abbrev pub TellsPathless : List ℕ → BoxFault → Type 0
+TellsPathless boot_file fault.LongPath = 107 < length (socket_of boot_file)
+TellsPathless boot_file (fault.Run why) = (why ≡ NoMemory) × (WasShort (socket_of boot_file) ⊎ WasShort boot_file)
+TellsPathless boot_file other = ⊥
 
 -- just this is told of the file at this path; or there is no memory to tell it
 abbrev pub TellsFile : Refusal → List ℕ → Option ErrorKind → BoxFault → Type 0
@@ -89,10 +101,10 @@ IsOfSocket (fault.NoControl path) = Unit {0}
 IsOfSocket (fault.Run why) = Unit {0}
 IsOfSocket other = ⊥
 
--- it is of the control socket at this path; or there is no memory to tell it
+-- it is of the control socket at this path; or memory to tell it was refused
 abbrev pub TellsSocket : List ℕ → BoxFault → Type 0
 TellsSocket path (fault.NoControl told) = string_bytes told ≡ path
-TellsSocket path (fault.Run why) = why ≡ NoMemory
+TellsSocket path (fault.Run why) = (why ≡ NoMemory) × WasShort path
 TellsSocket path other = ⊥
 
 -- The next three tell of a box at whose control socket, at this path, there came such an answer: what is none to what was said is
@@ -108,10 +120,10 @@ abbrev pub TellsUnreported : List ℕ → Option Content → BoxFault → Type 0
 TellsUnreported socket (Some (report bytes)) why = (reason : ReadFault) × ((reading report_format bytes ≡ Err reason) × (why ≡ fault.NoReport reason))
 TellsUnreported socket other why = TellsSocket socket why
 
--- its pairs: so does a page, and also one for which there is no memory
+-- its pairs: so does a page, and also one for which memory was refused
 abbrev pub TellsUnlisted : List ℕ → Option Content → BoxFault → Type 0
 TellsUnlisted socket (Some (page bytes)) why =
-    (reason : ReadFault) × (((reason ≡ read.NoMemory) ⊎ (reading page_format bytes ≡ Err reason)) × (why ≡ fault.NoReport reason))
+    (reason : ReadFault) × ((((reason ≡ read.NoMemory) × WasShort bytes) ⊎ (reading page_format bytes ≡ Err reason)) × (why ≡ fault.NoReport reason))
 TellsUnlisted socket other why = TellsSocket socket why
 
 -- it is of settings, of a file, of output or of memory
@@ -125,15 +137,16 @@ IsOfFilter (fault.NoFilter part) = Unit {0}
 IsOfFilter (fault.Run why) = why ≡ NoMemory
 IsOfFilter other = ⊥
 
--- it is of the same part of a filter's text; or there is no memory to tell it
+-- it is of the same part of a filter's text, or memory to tell it was refused; or it is the want of memory that it was
 abbrev pub TellsFilter : FilterFault → BoxFault → Type 0
 TellsFilter (filter.NoFilter part) (fault.NoFilter told) = string_bytes told ≡ part.now
-TellsFilter why (fault.Run reason) = reason ≡ NoMemory
+TellsFilter (filter.NoFilter part) (fault.Run reason) = (reason ≡ NoMemory) × WasShort part.now
+TellsFilter filter.NoMemory (fault.Run reason) = reason ≡ NoMemory
 TellsFilter why other = ⊥
 
 -- the fault of loopback ports that can't be had together: that of this key is the first that stands twice
 abbrev pub of_clash : Key → BoxFault
-of_clash key = fault.Run (Setting (CantWork key))
+of_clash key = fault.Run (Setting (setting.CantWork key))
 
 -- it is of what is opened and read before the boot file's number is: a socket, the filter, the file of a capture
 abbrev pub IsBeforeBoot : BoxFault → Type 0

@@ -1,3 +1,5 @@
+pub mod Memory
+pub mod Outputs
 pub mod Faults
 pub mod Said
 pub mod Deeds

@@ -4,7 +4,7 @@ use Rattle.control.specs.Answers.{Content, answer_of}
 use Rattle.control.specs.Speaking.{IsAnsweredBy, IsTaken, IsUnanswered, IsUntaken}
 use Rattle.control.specs.Words.{word_of}
 use Rattle.control.specs.declared.words.Word.{Word}
-use Rattle.box_words.specs.Deeds.{Deed, asked, made, read, said, unmade, unread, unsaid}
+use Rattle.box_words.specs.Deeds.{Deed, asked, awaits, made, past, read, rested, said, unmade, unread, unsaid}
 
 -- It was asked for nothing yet. It is no more than a name for what it is made as, and so is the one below it for a call.
 unfoldable pub IsUntouched : {M : Type 0} → M → Type 0
@@ -23,7 +23,7 @@ IsSpelled word holds = (bytes : List ℕ) × ((word_of bytes ≡ word) × holds 
 abbrev pub IsAnswer : Option Content → (List ℕ → Type 0) → Type 0
 IsAnswer answer holds = (bytes : List ℕ) × ((answer_of bytes ≡ answer) × holds bytes)
 
--- What comes of a deed, by what makes the machine's lines to boxes before and then. Of files no more is known, and no line is made. A word
+-- What comes of a deed, by what makes the machine's lines to boxes before and then. Of files and of the time no more is known, and no line is made. A word
 -- was said by a line of its own to the socket at that path, and taken, or answered, as far as there was room, which the longest answer has;
 -- or no line was to be had, or it isn't known that it was taken, or answered.
 abbrev pub ComesOf : {L : Type 0} → L → Deed → L → Type 0
@@ -31,6 +31,9 @@ ComesOf lines (read path text) lines2 = lines2 ≡ lines
 ComesOf lines (unread path why) lines2 = lines2 ≡ lines
 ComesOf lines (made path) lines2 = lines2 ≡ lines
 ComesOf lines (unmade path why) lines2 = lines2 ≡ lines
+ComesOf lines (awaits seconds) lines2 = lines2 ≡ lines
+ComesOf lines (past answer) lines2 = lines2 ≡ lines
+ComesOf lines rested lines2 = lines2 ≡ lines
 ComesOf lines (said path word) lines2 = IsSpelled word (λ bytes. IsTaken path bytes lines lines2)
 ComesOf lines (asked path word answer) lines2 =
     IsSpelled word (λ bytes. IsAnswer answer (λ had. (room : ℕ) × ((4096 ≤ room) × IsAnsweredBy path bytes room had lines lines2)))

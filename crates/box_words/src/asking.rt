@@ -1,37 +1,36 @@
 //! What an operator asks of a running box.
-ghost use Rattle.std.specs.Prelude.{◌≡◌, ◌⊎◌, ◌≤◌, ◌*◌, IfErr, IfOk, None, OnOk, Some, string_bytes, take};
+ghost use Rattle.std.specs.Prelude.{◌≡◌, ◌⊎◌, ◌≤◌, Err, IfErr, IfOk, None, Ok, OnOk, OnErr, Some, string_bytes, take};
 ghost use Rattle.std.specs.Io.KnownBytes.{Appends};
-ghost use Rattle.std.specs.Duration.{as_nanos};
 ghost use Rattle.control.specs.Answers.{answer_of};
 ghost use Rattle.control.specs.Paths.{IsBeside};
 ghost use Rattle.control.specs.Words.{word_of};
 ghost use Rattle.outlets.specs.Telling.{IsToldOf};
 ghost use Rattle.box_words.specs.Deeds.{HasListed, HasPage, HasPages, HasReported, HasSynced};
 ghost use Rattle.box_words.specs.Deeds.{HasUnlisted, HasUnreported, HasUnsynced, IsAwaited, IsAwaitedInVain, IsBroken};
-ghost use Rattle.box_words.specs.Deeds.{IsCutShort, IsNotSynced, IsSyncedAt, IsUnheard, IsUnlisted, IsUnpaged, IsUnreported};
+ghost use Rattle.box_words.specs.Deeds.{IsCutShort, IsNotSynced, IsSyncedAt, IsUnheard, IsUnlisted, IsUnpaged, IsUnprinted, IsUnreported};
 ghost use Rattle.box_words.specs.Deeds.{Lists, Reports, asked as deed_asked, next_of, page_lines, text_of};
 ghost use Rattle.box_words.specs.Faults.{fault_text};
+ghost use Rattle.box_words.specs.Memory.{WasShort};
+ghost use Rattle.box_words.specs.Outputs.{IsFlushed};
 ghost use Rattle.box_words.specs.Said.{said_status};
+ghost use Rattle.reports.specs.Formats.{reading};
+ghost use Rattle.reports.specs.Reports.{page as page_format};
+ghost use Rattle.reports.specs.declared.faults.ReadFault.TheVariants as read;
 
+use crate::outputs::{told_to_flush, told_to_put};
 use crate::refusals::BoxFault;
 use crate::saying::{Line, line_to};
 use crate::sites::Site;
 use control::{Answer, spelled_pairs, spelled_pairs_after, spelled_status};
 use nat_types::{GatewayId, Key, NoMemory};
-use outlets::{Tells, put};
+use outlets::Tells;
 use report_texts::{Filter, write_json, write_metrics, write_pairs, write_people};
-use reports::{Page, Report};
+use reports::{Page, ReadFault, Report};
 use std::alloc::Global;
 use std::io::{self, Write};
-use std::rt::Clock;
-use std::thread;
-use std::time::{Duration, Instant};
 
 /// The bytes of the longest answer.
 const ROOM: usize = 4_096;
-
-/// How long it is waited until a box is asked again, in milliseconds.
-const PAUSE: u64 = 100;
 
 /// How a report is written.
 #[derive(Clone, Copy, Debug, PartialEq, Eq)]
@@ -56,6 +55,7 @@ pub fn status<S: Site, O: Write, E: Tells>(
     ensures status { (result ≡ 0) ⊎ (result ≡ 1) }
     ensures reported { result ≡ 0 → HasReported S.does settings.now id form (O.contents output.old)
         (O.contents output.new) site.old site.new }
+    ensures flushed { result ≡ 0 → IsFlushed output.new }
     ensures quiet { result ≡ 0 → errors.new ≡ errors.old }
     ensures failed { result ≡ 1 → IsToldOf E.tells fault_text (λ fault. HasUnreported S.does
         O.contents settings.now id form fault output.old output.new site.old site.new)
@@ -77,6 +77,7 @@ fn written<S: Site, O: Write>(
 ) -> Result<(), BoxFault>
     ensures reported { OnOk result (HasReported S.does settings.now id form
         (O.contents output.old) (O.contents output.new) site.old site.new) }
+    ensures flushed { OnOk result (IsFlushed output.new) }
     ensures failed { IfErr result (λ fault. HasUnreported S.does O.contents settings.now id form
         fault output.old output.new site.old site.new) }
 {
@@ -94,18 +95,21 @@ fn print_report<O: Write>(
 ) -> Result<(), BoxFault>
     ensures written { OnOk result (Appends (O.contents output.old) (O.contents output.new)
         (text_of form report.now)) }
-    ensures cut { IfErr result (λ fault. IsCutShort O.contents (text_of form report.now) fault
+    ensures flushed { OnOk result (IsFlushed output.new) }
+    ensures cut { IfErr result (λ fault. IsUnprinted O.contents (text_of form report.now) fault
         output.old output.new) }
 {
     let text = report_text(alloc, form, report)?;
-    put(output, text.as_slice())?;
-    output.flush()?;
+    told_to_put(output, text.as_slice())?;
+    told_to_flush(output)?;
     Ok(())
 }
 
 /// The text of a report in a form.
+#[tactic(auto, unfolding(crate::specs::Memory::WasShort))]
 fn report_text(alloc: Global, form: Form, report: &Report) -> Result<Vec<u8>, NoMemory>
-    ensures { IfOk result (λ text. text.items ≡ text_of form report.now) }
+    ensures text { IfOk result (λ text. text.items ≡ text_of form report.now) }
+    ensures short { OnErr result (WasShort (text_of form report.now)) }
 {
     let mut text = Vec::new(alloc);
     match write_report(&mut text, form, report) {
@@ -165,8 +169,8 @@ pub(crate) fn asked<S: Site>(
 
 /// Asks a box every 100 ms until it is synced, for so many seconds. The answer is the exit status: 0 once it is, or 1 for a
 /// fault, which is told on `errors`: the last one, where it isn't in time.
-pub fn await_synced<R: Clock + AllocGlobal, S: Site, E: Tells>(
-    rt: &R,
+pub fn await_synced<S: Site, E: Tells>(
+    alloc: Global,
     site: &mut S,
     settings: &str,
     id: GatewayId,
@@ -174,71 +178,57 @@ pub fn await_synced<R: Clock + AllocGlobal, S: Site, E: Tells>(
     errors: &mut E,
 ) -> u8
     ensures status { (result ≡ 0) ⊎ (result ≡ 1) }
-    ensures synced { result ≡ 0 → HasSynced S.does settings.now id site.old site.new }
+    ensures synced { result ≡ 0 → HasSynced S.does settings.now id seconds site.old site.new }
     ensures quiet { result ≡ 0 → errors.new ≡ errors.old }
     ensures failed { result ≡ 1 → IsToldOf E.tells fault_text (λ fault. HasUnsynced S.does
-        settings.now id fault site.old site.new) errors.old errors.new }
+        settings.now id seconds fault site.old site.new) errors.old errors.new }
 {
-    match awaited(rt, site, settings, id, seconds) {
+    match awaited(alloc, site, settings, id, seconds) {
         Ok(()) => 0,
-        Err(fault) => fault.tell(rt.alloc(), errors),
+        Err(fault) => fault.tell(alloc, errors),
     }
 }
 
 /// Asks a box every 100 ms, for so many seconds, until its report says that it is synced.
-fn awaited<R: Clock + AllocGlobal, S: Site>(
-    rt: &R,
+fn awaited<S: Site>(
+    alloc: Global,
     site: &mut S,
     settings: &str,
     id: GatewayId,
     seconds: u32,
 ) -> Result<(), BoxFault>
-    ensures synced { OnOk result (HasSynced S.does settings.now id site.old site.new) }
+    ensures synced { OnOk result
+        (HasSynced S.does settings.now id seconds site.old site.new) }
     ensures failed { IfErr result
-        (λ fault. HasUnsynced S.does settings.now id fault site.old site.new) }
+        (λ fault. HasUnsynced S.does settings.now id seconds fault site.old site.new) }
 {
-    let line = line_to(rt.alloc(), site, settings, id)?;
-    awaited_at(rt, site, &line, seconds)
+    let line = line_to(alloc, site, settings, id)?;
+    awaited_at(alloc, site, &line, seconds)
 }
 
 /// The same of the box at a line's end.
-fn awaited_at<R: Clock + AllocGlobal, S: Site>(
-    rt: &R,
+fn awaited_at<S: Site>(
+    alloc: Global,
     site: &mut S,
     line: &Line,
     seconds: u32,
 ) -> Result<(), BoxFault>
     requires beside { IsBeside (string_bytes line.now.boot_file) line.now.path }
-    ensures synced { OnOk result (IsAwaited S.does line.now.path site.old site.new) }
+    ensures synced { OnOk result (IsAwaited S.does line.now.path seconds site.old site.new) }
     ensures failed { IfErr result
-        (λ fault. IsAwaitedInVain S.does line.now.path fault site.old site.new) }
+        (λ fault. IsAwaitedInVain S.does line.now.path seconds fault site.old site.new) }
 {
-    let limit = limit_of(seconds);
-    let start = Instant::now(rt).ok();
+    site.begin_wait(seconds);
     for _ in 0..u64::MAX {
-        let is_over = has_passed(rt, start, limit);
-        match synced(rt.alloc(), site, line) {
-            Err(fault) if is_over => return Err(fault),
-            Err(_) => thread::sleep(rt, Duration::from_millis(PAUSE)),
+        let is_past = site.has_passed();
+        match synced(alloc, site, line) {
+            Err(fault) if is_past => return Err(fault),
+            Err(_) => site.rest(),
             Ok(()) => return Ok(()),
         }
     }
-    synced(rt.alloc(), site, line)
-}
-
-/// How long a box is waited for.
-fn limit_of(seconds: u32) -> Duration
-    ensures { as_nanos result ≡ seconds * 1_000_000_000 }
-{
-    Duration::from_secs(u64::from(seconds))
-}
-
-/// Whether so much time has passed since then. Where the clock can't be read nobody waits for it.
-fn has_passed<R: Clock>(rt: &R, start: Option<Instant>, limit: Duration) -> bool {
-    match start.map(|start| start.elapsed(rt)) {
-        Some(Ok(passed)) => limit <= passed,
-        _ => true,
-    }
+    let _is_past = site.has_passed();
+    synced(alloc, site, line)
 }
 
 /// Asks the box at a line's end whether it is synced.
@@ -270,6 +260,7 @@ pub fn pairs<S: Site, O: Write, E: Tells>(
     ensures status { (result ≡ 0) ⊎ (result ≡ 1) }
     ensures listed { result ≡ 0 → HasListed S.does settings.now id filter.now
         (O.contents output.old) (O.contents output.new) site.old site.new }
+    ensures flushed { result ≡ 0 → IsFlushed output.new }
     ensures quiet { result ≡ 0 → errors.new ≡ errors.old }
     ensures failed { result ≡ 1 → IsToldOf E.tells fault_text (λ fault. HasUnlisted S.does
         O.contents settings.now id filter.now fault output.old output.new site.old site.new)
@@ -291,12 +282,13 @@ fn listed<S: Site, O: Write>(
 ) -> Result<(), BoxFault>
     ensures listed { OnOk result (HasListed S.does settings.now id filter.now
         (O.contents output.old) (O.contents output.new) site.old site.new) }
+    ensures flushed { OnOk result (IsFlushed output.new) }
     ensures failed { IfErr result (λ fault. HasUnlisted S.does O.contents settings.now id
         filter.now fault output.old output.new site.old site.new) }
 {
     let line = line_to(alloc, site, settings, id)?;
     listed_at(alloc, site, &line, filter, output)?;
-    output.flush()?;
+    told_to_flush(output)?;
     Ok(())
 }
 
@@ -357,13 +349,15 @@ fn print_page<O: Write>(
         fault output.old output.new) }
 {
     let lines = page_text(alloc, page, filter)?;
-    put(output, lines.as_slice())?;
+    told_to_put(output, lines.as_slice())?;
     Ok(())
 }
 
 /// The lines of a page's pairs that pass a filter.
+#[tactic(auto, unfolding(crate::specs::Memory::WasShort))]
 fn page_text(alloc: Global, page: &Page, filter: &Filter) -> Result<Vec<u8>, NoMemory>
-    ensures { IfOk result (λ text. text.items ≡ page_lines filter.now page.now) }
+    ensures text { IfOk result (λ text. text.items ≡ page_lines filter.now page.now) }
+    ensures short { OnErr result (WasShort (page_lines filter.now page.now)) }
 {
     let mut text = Vec::new(alloc);
     match write_pairs(&mut text, page, filter) {
@@ -398,7 +392,17 @@ fn page_behind<S: Site>(
         None => asked(alloc, site, line, &spelled_pairs(), &mut room)?,
     };
     match Answer::read(&room[..count]) {
-        Some(Answer::Page(bytes)) => Ok(Page::read(alloc, bytes)?),
+        Some(Answer::Page(bytes)) => Ok(page_in(alloc, bytes)?),
         _ => Err(line.unheard(alloc)),
     }
+}
+
+/// The page that bytes spell.
+#[tactic(auto, unfolding(crate::specs::Memory::WasShort))]
+fn page_in(alloc: Global, bytes: &[u8]) -> Result<Page, ReadFault>
+    ensures read { IfOk result (λ page. reading page_format bytes.now ≡ Ok page) }
+    ensures unread { IfErr result (λ fault. ((fault ≡ read.NoMemory) × WasShort bytes.now)
+        ⊎ (reading page_format bytes.now ≡ Err fault)) }
+{
+    Page::read(alloc, bytes)
 }

@@ -4,6 +4,7 @@
 mod asking;
 mod ends;
 mod machine;
+mod outputs;
 mod refusals;
 mod saying;
 mod sites;

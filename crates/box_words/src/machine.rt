@@ -1,10 +1,11 @@
 //! This machine, as an operator's commands ask it. What it is asked has names, and no more is known of it.
-ghost use Rattle.std.specs.Prelude.{◌≡◌, ◌≤◌, IfErr, IfOk, OnErr, OnOk, length, string_bytes, take};
+ghost use Rattle.std.specs.Duration.{as_nanos};
+ghost use Rattle.std.specs.Prelude.{◌≡◌, ◌<◌, ◌≤◌, ◌*◌, IfErr, IfOk, IfSome, IsNone, OnErr, OnOk, false, length, string_bytes, take, true};
 ghost use Rattle.control.specs.Answers.{answer_of};
 ghost use Rattle.control.specs.Speaking.{IsAnsweredBy, IsTaken, IsUnanswered, IsUntaken};
 ghost use Rattle.control.specs.Words.{word_of};
 ghost use Rattle.faults.specs.Faults.{IsUnread, status_of};
-ghost use Rattle.box_words.specs.Deeds.{asked, made, read, said, unmade, unread, unsaid};
+ghost use Rattle.box_words.specs.Deeds.{asked, awaits, made, past, read, rested, said, unmade, unread, unsaid};
 ghost use Rattle.box_words.specs.Ends.{WasAsked, WasAskedBy};
 ghost use Rattle.box_words.specs.Machines.{IsUntouched, WasDone};
 
@@ -13,13 +14,22 @@ use control::{ControlPath, NoSocket};
 use faults::{Fault, text_of};
 use std::fs::Files;
 use std::net::{Net, SocketAddr, UdpSocket};
+use std::rt::Clock;
+use std::thread;
+use std::time::{Duration, Instant};
+
+/// How long it is rested until a box is asked again, in milliseconds.
+const PAUSE: u64 = 100;
 
 /// This machine: of its files nothing is known but that it was asked for them, and what it answered; boxes are spoken to at
-/// their control sockets. What it is asked it is asked by the calls below alone.
+/// their control sockets; and it is waited by its clock. What it is asked it is asked by the calls below alone.
 #[derive(Drop)]
 pub struct Machine<'a, R> {
     rt: &'a R,
     lines: control::Machine<'a, R>,
+    /// Since when it is waited, as far as the clock could be read, and for how long.
+    since: Option<Instant>,
+    limit: Duration,
 }
 
 impl<'a, R> Machine<'a, R> {
@@ -29,7 +39,12 @@ impl<'a, R> Machine<'a, R> {
         ensures { IsUntouched result }
     {
         let lines = control::Machine::new(rt);
-        Machine { rt, lines }
+        Machine {
+            rt,
+            lines,
+            since: None,
+            limit: Duration::ZERO,
+        }
     }
 }
 
@@ -94,6 +109,62 @@ where
             self.old.lines self.new.lines) }
     {
         control::ask(&mut self.lines, path, word, room)
+    }
+}
+
+impl<R: Clock> Machine<'_, R> {
+    /// Begins to wait for so many seconds by the system's clock.
+    #[tactic(auto, unfolding(crate::specs::Machines::WasDone))]
+    pub(crate) fn told_to_await(&mut self, seconds: u32)
+        ensures begun { WasDone self.old (awaits seconds) self.new }
+        ensures limit { as_nanos self.new.limit ≡ seconds * 1_000_000_000 }
+        ensures lines { self.new.lines ≡ self.old.lines }
+    {
+        self.since = Instant::now(self.rt).ok();
+        self.limit = limit_of(seconds);
+    }
+
+    /// Whether they have passed by that clock. Where it can't be read nobody waits for it.
+    #[tactic(auto, unfolding(crate::specs::Machines::WasDone))]
+    pub(crate) fn asked_whether_past(&mut self) -> bool
+        ensures past { WasDone self.old (past result) self.new }
+        ensures limit { self.new.limit ≡ self.old.limit }
+        ensures lines { self.new.lines ≡ self.old.lines }
+    {
+        let passed = match self.since {
+            Some(since) => since.elapsed(self.rt).ok(),
+            None => None,
+        };
+        is_past(passed, self.limit)
+    }
+
+    /// Rests for a tenth of a second.
+    #[tactic(auto, unfolding(crate::specs::Machines::WasDone))]
+    pub(crate) fn told_to_rest(&mut self)
+        ensures rested { WasDone self.old rested self.new }
+        ensures limit { self.new.limit ≡ self.old.limit }
+        ensures lines { self.new.lines ≡ self.old.lines }
+    {
+        thread::sleep(self.rt, Duration::from_millis(PAUSE));
+    }
+}
+
+/// How long a box is waited for.
+fn limit_of(seconds: u32) -> Duration
+    ensures { as_nanos result ≡ seconds * 1_000_000_000 }
+{
+    Duration::from_secs(u64::from(seconds))
+}
+
+/// Whether so much time has passed, where that is known; else it counts as passed.
+fn is_past(passed: Option<Duration>, limit: Duration) -> bool
+    ensures early { IfSome passed (λ passed. as_nanos passed < as_nanos limit → result ≡ false) }
+    ensures late { IfSome passed (λ passed. as_nanos limit ≤ as_nanos passed → result ≡ true) }
+    ensures unknown { IsNone passed → result ≡ true }
+{
+    match passed {
+        Some(passed) => limit.as_nanos() <= passed.as_nanos(),
+        None => true,
     }
 }
 

@@ -1,12 +1,15 @@
 //! Why a box ends without its work done.
-ghost use Rattle.std.specs.Prelude.{◌≡◌, ◌≢◌, None, Some};
+ghost use Rattle.std.specs.Prelude.{◌≡◌, ◌≢◌, ◌⊎◌, IfOk, None, OnErr, Some, string_bytes};
 ghost use Rattle.std.specs.IoError.{error_kind};
 ghost use Rattle.std.specs.declared.io.ErrorKind.TheVariants as causes;
 ghost use Rattle.box_words.specs.Faults.{IsOfCapture, IsOfFilter, IsOfSocket};
 ghost use Rattle.box_words.specs.Faults.{TellsBootFile, TellsCapture, TellsFilter, TellsSocket};
 ghost use Rattle.box_words.specs.Faults.{explained_text, fault_text};
+ghost use Rattle.box_words.specs.Memory.{WasShort};
 ghost use Rattle.box_words.specs.declared.refusals.BoxFault.TheVariants as faults;
 ghost use Rattle.control.specs.Paths.{socket_of};
+ghost use Rattle.boot_file.specs.declared.faults.FileFault.TheVariants as files;
+ghost use Rattle.faults.specs.Faults.{IsOfFile, Tells};
 ghost use Rattle.faults.specs.declared.faults.Fault.TheVariants as reasons;
 ghost use Rattle.faults.specs.declared.files.Refusal.TheVariants as refusals;
 ghost use Rattle.outlets.specs.Telling.{IsTold};
@@ -126,7 +129,7 @@ impl BoxFault {
         ensures told { TellsFilter fault.entry result }
     {
         match fault {
-            FilterFault::NoFilter(part) => match String::from_str(alloc, part) {
+            FilterFault::NoFilter(part) => match copied(alloc, part) {
                 Ok(part) => BoxFault::NoFilter(part),
                 Err(_) => BoxFault::Run(Fault::NoMemory),
             },
@@ -139,7 +142,7 @@ impl BoxFault {
         ensures kind { IsOfSocket result }
         ensures told { TellsSocket (socket_of boot_file.now) result }
     {
-        match format!(in alloc; "{boot_file}.control/socket") {
+        match socket_beside(alloc, boot_file) {
             Ok(path) => BoxFault::NoControl(path),
             Err(_) => BoxFault::Run(Fault::NoMemory),
         }
@@ -148,6 +151,8 @@ impl BoxFault {
     /// Of a boot file that can't be had.
     pub fn of_boot_file(alloc: Global, path: &str, fault: FileFault) -> BoxFault
         ensures told { TellsBootFile path.now fault result }
+        ensures short { result ≡ faults.Run reasons.NoMemory
+            → (fault ≡ files.NoMemory) ⊎ WasShort path.now }
     {
         let (refusal, cause) = match fault {
             FileFault::NoFile(cause) => (Refusal::NoFile, Some(cause)),
@@ -157,7 +162,7 @@ impl BoxFault {
             FileFault::NotLocked => return BoxFault::Device,
             FileFault::NoMemory => return BoxFault::Run(Fault::NoMemory),
         };
-        BoxFault::Run(Fault::of_file(alloc, refusal, path, cause))
+        BoxFault::Run(of_file(alloc, refusal, path, cause))
     }
 
     /// Of the file of a capture that can't be opened, or has something that is none.
@@ -170,8 +175,10 @@ impl BoxFault {
         ensures told { error_kind error.now ≢ causes.OutOfMemory
             → error_kind error.now ≢ causes.AlreadyExists
             → TellsCapture refusals.NotWritten path.now (Some (error_kind error.now)) result }
+        ensures short { result ≡ faults.NoCapture reasons.NoMemory
+            → (error_kind error.now ≡ causes.OutOfMemory) ⊎ WasShort path.now }
     {
-        BoxFault::NoCapture(Fault::of_capture(alloc, path, error))
+        BoxFault::NoCapture(of_capture(alloc, path, error))
     }
 
     /// Tells of the fault on a line behind `natpair: `, and gives its exit status. Where even that
@@ -183,6 +190,52 @@ impl BoxFault {
         tell(alloc, self, errors);
         1
     }
+}
+
+/// A text of its own.
+#[tactic(auto, unfolding(crate::specs::Memory::WasShort))]
+pub(crate) fn copied(alloc: Global, text: &str) -> Result<String, AllocError>
+    ensures same { IfOk result (λ copy. string_bytes copy ≡ text.now) }
+    ensures short { OnErr result (WasShort text.now) }
+{
+    String::from_str(alloc, text)
+}
+
+/// The path of the control socket beside a boot file, to be told.
+#[tactic(auto, unfolding(crate::specs::Memory::WasShort))]
+fn socket_beside(alloc: Global, boot_file: &str) -> Result<String, AllocError>
+    ensures beside { IfOk result (λ path. string_bytes path ≡ socket_of boot_file.now) }
+    ensures short { OnErr result (WasShort (socket_of boot_file.now)) }
+{
+    match format!(in alloc; "{boot_file}.control/socket") {
+        Ok(path) => Ok(path),
+        Err(error) => Err(error),
+    }
+}
+
+/// The fault of the file at a path, as [`Fault::of_file`] says.
+#[tactic(auto, unfolding(crate::specs::Memory::WasShort))]
+fn of_file(alloc: Global, refusal: Refusal, path: &str, cause: Option<io::ErrorKind>) -> Fault
+    ensures told { Tells refusal path.now cause result }
+    ensures short { result ≡ reasons.NoMemory → WasShort path.now }
+{
+    Fault::of_file(alloc, refusal, path, cause)
+}
+
+/// The fault of the file of a capture, as [`Fault::of_capture`] says.
+#[tactic(auto, unfolding(crate::specs::Memory::WasShort))]
+fn of_capture(alloc: Global, path: &str, error: &io::Error) -> Fault
+    ensures memory { error_kind error.now ≡ causes.OutOfMemory → result ≡ reasons.NoMemory }
+    ensures exists { error_kind error.now ≡ causes.AlreadyExists
+        → Tells refusals.Exists path.now None result }
+    ensures told { error_kind error.now ≢ causes.OutOfMemory
+        → error_kind error.now ≢ causes.AlreadyExists
+        → Tells refusals.NotWritten path.now (Some (error_kind error.now)) result }
+    ensures file { IsOfFile result }
+    ensures short { result ≡ reasons.NoMemory
+        → (error_kind error.now ≡ causes.OutOfMemory) ⊎ WasShort path.now }
+{
+    Fault::of_capture(alloc, path, error)
 }
 
 impl From<Fault> for BoxFault {

@@ -3,7 +3,7 @@ ghost use Rattle.std.specs.Prelude.{◌≡◌, ◌≤◌, IfErr, IfOk, OnErr, On
 ghost use Rattle.control.specs.Answers.{answer_of};
 ghost use Rattle.control.specs.Words.{word_of};
 ghost use Rattle.faults.specs.Faults.{IsUnread, status_of};
-ghost use Rattle.box_words.specs.Deeds.{Deed, asked, made, read, said, unmade, unread, unsaid};
+ghost use Rattle.box_words.specs.Deeds.{Deed, asked, awaits, made, past, read, rested, said, unmade, unread, unsaid};
 ghost use Rattle.box_words.specs.Machines.{MachineDoes};
 
 use crate::machine::Machine;
@@ -12,8 +12,9 @@ use control::{ControlPath, NoSocket};
 use faults::Fault;
 use std::fs::Files;
 use std::net::Net;
+use std::rt::Clock;
 
-/// Where an operator's commands work: files are read and made there, and boxes are spoken to.
+/// Where an operator's commands work: files are read and made there, boxes are spoken to, and it is waited.
 pub trait Site {
     /// What a deed is to the site, and what the site is then.
     ghost does: { Self → Deed → Self → Type 0 };
@@ -47,10 +48,22 @@ pub trait Site {
             (asked path.now (word_of word.now) (answer_of (take count room.new))) self.new) }
         ensures unsaid { OnErr result
             (does self.old (unsaid path.now (word_of word.now)) self.new) };
+
+    /// A wait of so many seconds begins.
+    fn begin_wait(&mut self, seconds: u32)
+        ensures { does self.old (awaits seconds) self.new };
+
+    /// Whether they have passed.
+    fn has_passed(&mut self) -> bool
+        ensures { does self.old (past result) self.new };
+
+    /// Rests for a while, until a box is asked again.
+    fn rest(&mut self)
+        ensures { does self.old rested self.new };
 }
 
 /// This machine: each deed is one call of it.
-impl<R: Files + Net + AllocGlobal> Site for Machine<'_, R>
+impl<R: Files + Net + Clock + AllocGlobal> Site for Machine<'_, R>
 where
     R::File: Blocks,
 {
@@ -70,5 +83,17 @@ where
 
     fn ask(&mut self, path: &ControlPath, word: &[u8], room: &mut [u8]) -> Result<usize, NoSocket> {
         self.told_to_ask(path, word, room)
+    }
+
+    fn begin_wait(&mut self, seconds: u32) {
+        self.told_to_await(seconds);
+    }
+
+    fn has_passed(&mut self) -> bool {
+        self.asked_whether_past()
+    }
+
+    fn rest(&mut self) {
+        self.told_to_rest();
     }
 }

@@ -7,12 +7,14 @@ use Rattle.box_words.proofs.asking.print_page.Goals as goal
 
 pub returns-clause-written : goal.returns-clause-written
 returns-clause-written g c =
-    subst (λ (bs : List ℕ). Appends (g.O.Write.contents c.args.output.now) (g.O.Write.contents c.put.new.output) bs)
-    (c.as_slice.ensures.value ∙ c.in_ok-lines.ensures) c.in_ok-put.ensures
+    subst (λ (bs : List ℕ). Appends (g.O.Write.contents c.args.output.now) (g.O.Write.contents c.told_to_put.new.output) bs)
+    (c.as_slice.ensures.value ∙ c.in_ok-lines.ensures.text) c.in_ok-told_to_put.ensures.bytes
 
 pub returns-in_err-lines-clause-cut : goal.returns-in_err-lines-clause-cut
-returns-in_err-lines-clause-cut g c = handed_on c.from_residual.result _ (Run NoMemory) c.from_residual.ensures.1 (inl (refl, refl))
+returns-in_err-lines-clause-cut g c = handed_on c.from_residual.result _ (Run NoMemory) c.from_residual.ensures.1
+    (inl (refl, (refl, c.in_err-lines.ensures.short)))
 
-pub returns-in_err-put-clause-cut : goal.returns-in_err-put-clause-cut
-returns-in_err-put-clause-cut g c = handed_on c.from_residual-in_err-put.result _ (Run NotWritten) c.from_residual-in_err-put.ensures.1
-    (refused_in g.O.Write.contents _ _ c.args.output.now c.put.new.output (c.as_slice.ensures.value ∙ c.in_ok-lines.ensures) c.in_err-put.ensures)
+pub returns-in_err-told_to_put-clause-cut : goal.returns-in_err-told_to_put-clause-cut
+returns-in_err-told_to_put-clause-cut g c = handed_on c.from_residual-in_err-told_to_put.result _ (Run NotWritten) c.from_residual-in_err-told_to_put.ensures.1
+    (refused_in g.O.Write.contents _ _ c.args.output.now c.told_to_put.new.output _ (c.as_slice.ensures.value ∙ c.in_ok-lines.ensures.text)
+    c.in_err-told_to_put.ensures.bytes c.in_err-told_to_put.ensures.put)
