@@ -5,3 +5,4 @@ mod Stopping
 mod Taping
 mod Holding
 mod Looking
+mod Opening

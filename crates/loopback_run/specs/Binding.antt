@@ -1,16 +1,17 @@
 -- The ports that a passage through sockets has bound.
-use Rattle.std.specs.Prelude.{◌≡◌, ◌⊎◌, ℕ, List, [], ◌∷◌, Result, Ok, Err}
+use Rattle.std.specs.Prelude.{◌≡◌, ◌⊎◌, ℕ, false, true, List, [], ◌∷◌, Option, Some, None, Result, Ok, Err}
 use Rattle.std.specs.declared.io.Error.{Error}
 use Rattle.std.specs.declared.net.socket_addr.SocketAddr.{SocketAddr}
 use Rattle.std.specs.declared.alloc.Global.{Global}
-use Rattle.mio.specs.Events.{capacity}
 use Rattle.mio.specs.declared.event.events.Events.{Events}
-use Rattle.mio.specs.declared.net.udp.UdpSocket.{UdpSocket}
+use Rattle.mio.specs.declared.interest.Interest.{Interest}
 use Rattle.settings.specs.declared.gateway_settings.GatewaySettings.{GatewaySettings}
 use Rattle.settings.specs.declared.whole.Settings.{Settings}
 use Rattle.sockets.specs.Ends.{IsSocketOf, on_loopback}
 use Rattle.loopback_run.specs.declared.carriers.Unbound.{Unbound}
 use Rattle.loopback_run.specs.declared.carriers.Unbound.TheVariants as unbound
+use Rattle.loopback_run.specs.declared.machine.Socket.{Socket}
+use Rattle.loopback_run.specs.declared.machine.Waits.{Waits}
 use Rattle.loopback_run.specs.declared.loopback.Port.{Port}
 use Rattle.loopback_run.specs.declared.loopback.Ports.{Ports}
 use Rattle.loopback_run.specs.declared.loopback.Both.{Both}
@@ -61,33 +62,62 @@ BindsBoth {B = B} {S = S} binds settings b (Err why) b2 = BindsPorts binds setti
 
 -- ---- by the system
 
--- Who binds ports asked the system for a socket at this address, and it answered so. It is no more than a name for the call, by what he was
--- before and is then: who makes the call has it, and nobody else.
-unfoldable pub WasBound : {B : Type 0} → B → SocketAddr → Result UdpSocket Error → B → Type 0
+-- Who binds ports asked for memory in which a wait reports so many events, and was given this, or none. It is no more than a name for the call, by
+-- what he was before and is then, and so are those below it: who makes the call has it, and nobody else.
+unfoldable pub WasGivenRoom : {B : Type 0} → B → ℕ → Option (Events Global) → B → Type 0
+WasGivenRoom before count room after = Unit {0}
+
+-- he asked the system for a socket at this address, and it answered so
+unfoldable pub WasBound : {B : Type 0} → B → SocketAddr → Result Socket Error → B → Type 0
 WasBound before address answer after = Unit {0}
 
--- the same where he asked the system to report what comes to a socket, in a room for events: this is the port
-unfoldable pub WasWatched : {B S : Type 0} → B → UdpSocket → Events Global → Result S Error → B → Type 0
-WasWatched before socket room answer after = Unit {0}
+-- and for what waits for a socket
+unfoldable pub WasPollMade : {B : Type 0} → B → Result Waits Error → B → Type 0
+WasPollMade before answer after = Unit {0}
 
--- a room for one event
-abbrev pub IsRoom : Events Global → Type 0
-IsRoom room = capacity room ≡ 1
+-- and that waits report of a socket what is of interest, in a room for events: this is the port
+unfoldable pub WasWatched : {B S : Type 0} → B → Socket → Waits → Events Global → Interest → Result S Error → B → Type 0
+WasWatched before socket waits room interest answer after = Unit {0}
 
--- he was given a socket at an address, and asked the system for its reports, which answered so
-abbrev pub IsWatchedAt : {B S : Type 0} → SocketAddr → B → Result S Error → B → Type 0
-IsWatchedAt {B = B} address before answer after = (socket : UdpSocket) × ((next : B) × (WasBound before address (Ok socket) next
-    × ((room : Events Global) × (IsRoom room × WasWatched next socket room answer after))))
+-- that it can be read
+abbrev pub reading : Interest
+reading = record { priority = false; writable = false; readable = true }
 
--- a port at an address isn't had: the system was asked for it once, and refused the socket, or to report of it
-abbrev pub IsUnboundAt : {B : Type 0} → Type 0 → SocketAddr → B → B → Type 0
-IsUnboundAt S address before after = ((error : Error) × WasBound before address (Err error) after)
-    ⊎ ((error : Error) × IsWatchedAt {S = S} address before (Err error) after)
+-- a socket was asked for at the port of a number of the loopback address
+abbrev pub IsBoundAt : {B : Type 0} → ℕ → B → Result Socket Error → B → Type 0
+IsBoundAt number before answer after = (address : SocketAddr) × (IsSocketOf (on_loopback number) address × WasBound before address answer after)
 
--- so the system answers who asks for the port of a number: it is that of the loopback address; or there is no memory, and it isn't asked
+-- it was had, and then what waits for it; and that was to report what comes to it, which the system answered so
+pub record IsWatched {B S : Type 0} (number : ℕ) (room : Events Global) (before : B) (answer : Result S Error) (after : B) : Type 0 where
+  pub socket : Socket
+  pub bound : B
+  pub had : IsBoundAt number before (Ok socket) bound
+  pub waits : Waits
+  pub waiting : B
+  pub made : WasPollMade bound (Ok waits) waiting
+  pub watched : WasWatched waiting socket waits room reading answer after
+
+-- it was had, and nothing waits for it
+pub record IsAwaitedByNone {B : Type 0} (number : ℕ) (before after : B) : Type 0 where
+  pub socket : Socket
+  pub bound : B
+  pub had : IsBoundAt number before (Ok socket) bound
+  pub error : Error
+  pub refused : WasPollMade bound (Err error) after
+
+-- the first of these three that was refused; nothing was asked behind it
+abbrev pub IsUnwatched : {B : Type 0} → Type 0 → ℕ → Events Global → B → B → Type 0
+IsUnwatched S number room before after = ((error : Error) × IsBoundAt number before (Err error) after)
+    ⊎ (IsAwaitedByNone number before after ⊎ ((error : Error) × IsWatched {S = S} number room before (Err error) after))
+
+-- the port of a number is had, with this room; or it isn't, for no want of memory
+abbrev pub Watches : {B S : Type 0} → ℕ → Events Global → B → Result S Unbound → B → Type 0
+Watches number room before (Ok port) after = IsWatched number room before (Ok port) after
+Watches {S = S} number room before (Err unbound.NoSocket) after = IsUnwatched S number room before after
+Watches number room before (Err unbound.NoMemory) after = ⊥
+
+-- Room for one event was had, and then the port, or not. Want of memory is told only where there is no such room, and then the system isn't asked.
 abbrev pub HasBound : {B S : Type 0} → B → ℕ → Result S Unbound → B → Type 0
-HasBound before number (Ok port) after =
-    (address : SocketAddr) × (IsSocketOf (on_loopback number) address × IsWatchedAt address before (Ok port) after)
-HasBound {S = S} before number (Err unbound.NoSocket) after =
-    (address : SocketAddr) × (IsSocketOf (on_loopback number) address × IsUnboundAt S address before after)
-HasBound before number (Err unbound.NoMemory) after = after ≡ before
+HasBound before number (Err unbound.NoMemory) after = WasGivenRoom before 1 None after
+HasBound {B = B} before number answer after =
+    (room : Events Global) × ((next : B) × (WasGivenRoom before 1 (Some room) next × Watches number room next answer after))

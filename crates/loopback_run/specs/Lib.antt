@@ -3,6 +3,7 @@ pub mod Texts
 pub mod Runs
 pub mod Loops
 pub mod Stops
+pub mod Refusals
 pub mod Tapes
 pub mod Parcels
 pub mod Carrying

@@ -24,15 +24,20 @@ pub record Passage (B S : Type 0) : Type 0 where
 abbrev pub IsUnasked : {B S : Type 0} → Passage B S → Type 0
 IsUnasked p = p.standing ≡ unasked
 
--- the ports of these settings were asked for, each once, and these are had
+-- a passage that stood so was let go, and nothing was sent through its ports, if it had some, behind that. It is no more than a name: who lets it
+-- go has it, and nobody else.
+unfoldable pub WasLetGo : {S : Type 0} → Standing S → Type 0
+WasLetGo standing = Unit {0}
+
+-- what was had before was let go as it was; the ports of these settings were asked for, each once, and these are had
 abbrev pub HasPorts : {B S : Type 0} → Binds B S → Passage B S → Settings → Passage B S → Type 0
 HasPorts {S = S} binds before settings after =
-    (both : Both S) × ((after.standing ≡ bound settings both) × BindsBoth binds settings before.system (Ok both) after.system)
+    WasLetGo before.standing × ((both : Both S) × ((after.standing ≡ bound settings both) × BindsBoth binds settings before.system (Ok both) after.system))
 
--- the first of them that isn't had is refused, or memory, and just that is told
+-- the same, but the first of them that isn't had is refused, or memory, and just that is told
 abbrev pub LacksPorts : {B S : Type 0} → Binds B S → Passage B S → Settings → PortFault → Passage B S → Type 0
 LacksPorts binds before settings why after =
-    (after.standing ≡ refused why) × BindsBoth binds settings before.system (Err why) after.system
+    WasLetGo before.standing × ((after.standing ≡ refused why) × BindsBoth binds settings before.system (Err why) after.system)
 
 -- What becomes of a parcel: just the port of its gateway and place, which has the number of those settings, is asked once to send it, and
 -- each other port is what it was; without ports it is lost.

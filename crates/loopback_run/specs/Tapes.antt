@@ -14,7 +14,10 @@ use Rattle.frame_sim.specs.declared.events.Step.{Step}
 use Rattle.frame_sim.specs.Texts.{world_lines}
 use Rattle.frame_sim.specs.World.{World, founding}
 use Rattle.frame_sim.specs.Tapes.{TakesOn}
+use Rattle.faults.specs.declared.prints.PrintFault.{PrintFault}
+use Rattle.faults.specs.declared.prints.PrintFault.TheVariants as prints
 use Rattle.loopback_run.specs.declared.ports.PortFault.TheVariants as ports
+use Rattle.loopback_run.specs.Refusals.{AreUntold, WasUnfounded, WasUnprinted, WasUnread}
 use Rattle.loopback_run.specs.Stops.{Contents, HoldJob, IsRefused, Opens, Refuses, Untouched}
 use Rattle.loopback_run.specs.Texts.{counts_through, turn_lines, turns_lines}
 use Rattle.loopback_run.specs.Turns.{IsTurn, Passes, Turn, step_of}
@@ -72,7 +75,7 @@ pub record TapedTurns {P T : Type 0} (passes : Passes P) (takes : TakesOn T) (w 
 abbrev pub BreaksOff : {T : Type 0} → TakesOn T → TakesOn T → T → World → WorldEvent → Option Step → T → Counts → Option (List ℕ) → Option (List ℕ) → Type 0
 BreaksOff takes refuses t w e step t2 counts output printed =
     (RefusesTurn refuses t w e step t2 × (printed ≡ output))
-    ⊎ (TapesTurn takes t w e step t2 × IsBegun output printed (turn_lines counts e step))
+    ⊎ (TapesTurn takes t w e step t2 × (IsBegun output printed (turn_lines counts e step) × WasUnprinted (turn_lines counts e step) output printed))
 
 -- the first of these events have had their turns so, and at the next one, which had its turn, the run broke off; no more followed
 pub record TapedBroken {P T : Type 0} (passes : Passes P) (takes refuses : TakesOn T) (w : World) (p : P) (t : T) (es : List WorldEvent) (p2 : P) (t2 : T) (output printed : Option (List ℕ)) : Type 0 where
@@ -90,19 +93,20 @@ pub record TapedBroken {P T : Type 0} (passes : Passes P) (takes refuses : Takes
   pub taken : IsTurn passes world passage event turn last p2
   pub broken : BreaksOff takes refuses tape last event (step_of turn) t2 (counts_through no_counts first before.turns) some printed
 
--- all of them have had their turns so, and behind their text a beginning of the world's tables was printed
-pub record TapedEnded {P T : Type 0} (passes : Passes P) (takes : TakesOn T) (w : World) (p : P) (t : T) (es : List WorldEvent) (p2 : P) (t2 : T) (output printed : Option (List ℕ)) : Type 0 where
+-- all of them have had their turns so, and behind their text a beginning of the world's tables was printed, which or whose end was refused so
+pub record TapedEnded {P T : Type 0} (passes : Passes P) (takes : TakesOn T) (w : World) (p : P) (t : T) (es : List WorldEvent) (p2 : P) (t2 : T) (output printed : Option (List ℕ)) (why : PrintFault) : Type 0 where
   pub world : World
   pub some : Option (List ℕ)
   pub turned : TapedTurns passes takes w p t es world p2 t2 output some
   pub tables : IsBegun some printed (world_lines world)
+  pub refused : AreUntold world why some printed
 
 -- how far events have come from one world where a fault ends their run: the tape or output is refused at one of them, or output
 -- behind them all; and memory, which the tables want, behind them all
 abbrev pub StopsTaped : {P T : Type 0} → Passes P → TakesOn T → TakesOn T → World → P → T → List WorldEvent → P → T → Option (List ℕ) → Option (List ℕ) → Fault → Type 0
 StopsTaped passes takes refuses w p t es p2 t2 output printed NotWritten =
-    TapedBroken passes takes refuses w p t es p2 t2 output printed ⊎ TapedEnded passes takes w p t es p2 t2 output printed
-StopsTaped passes takes refuses w p t es p2 t2 output printed NoMemory = TapedEnded passes takes w p t es p2 t2 output printed
+    TapedBroken passes takes refuses w p t es p2 t2 output printed ⊎ TapedEnded passes takes w p t es p2 t2 output printed prints.NotWritten
+StopsTaped passes takes refuses w p t es p2 t2 output printed NoMemory = TapedEnded passes takes w p t es p2 t2 output printed prints.NoMemory
 StopsTaped passes takes refuses w p t es p2 t2 output printed others = ⊥
 
 -- the same on a new world of these settings; for want of memory there may be none, and then nothing is touched
@@ -110,7 +114,7 @@ abbrev pub StopsTapedLoop : {P T O : Type 0} → Passes P → TakesOn T → Take
 StopsTapedLoop passes takes refuses contents settings es p p2 t t2 output printed NotWritten =
     StopsTaped passes takes refuses (founding settings) p t es p2 t2 (contents output) (contents printed) NotWritten
 StopsTapedLoop passes takes refuses contents settings es p p2 t t2 output printed NoMemory =
-    (Untouched p p2 output printed × (t2 ≡ t))
+    ((Untouched p p2 output printed × (t2 ≡ t)) × WasUnfounded settings)
     ⊎ StopsTaped passes takes refuses (founding settings) p t es p2 t2 (contents output) (contents printed) NoMemory
 StopsTapedLoop passes takes refuses contents settings es p p2 t t2 output printed others = ⊥
 
@@ -125,7 +129,7 @@ pub record IsTapedUntil {P T O : Type 0} (opens : Opens P) (passes : Passes P) (
 -- for this
 abbrev pub IsUnbegun : {P T O : Type 0} → Refuses P → List ℕ → List ℕ → P → P → T → T → O → O → Type 0
 IsUnbegun unopens text script before after t t2 output printed = (t2 ≡ t)
-    × (Untouched before after output printed ⊎ IsRefused unopens text script before after output printed ports.NoMemory)
+    × ((Untouched before after output printed × WasUnread text script) ⊎ IsRefused unopens text script before after output printed ports.NoMemory)
 
 -- what a fault leaves of a tape: refused output, or a refused tape, a run that has begun; memory may be wanted before it, too; and
 -- for other faults it is asked for nothing

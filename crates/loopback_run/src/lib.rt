@@ -1,6 +1,7 @@
 //! Runs a script whose frames and datagrams are first sent through a passage.
 #![tactic(auto)]
 
+mod binding;
 mod carriers;
 mod carrying;
 mod loopback;

@@ -143,6 +143,21 @@ enum Hold<S> {
     Refused(PortFault),
 }
 
+impl<S: Drop> Hold<S> {
+    ghost use Rattle.std.specs.Prelude.{◌≡◌};
+    ghost use Rattle.loopback_run.specs.Holds.{standing_of};
+    ghost use Rattle.loopback_run.specs.Standings.{WasLetGo, unasked};
+
+    /// Lets go what was answered, and the ports, if they are had, as they are.
+    #[tactic(auto, unfolding(crate::specs::Standings::WasLetGo))]
+    fn let_go(&mut self)
+        ensures let_go { WasLetGo (standing_of self.old) }
+        ensures unasked { standing_of self.new ≡ unasked }
+    {
+        *self = Hold::Unasked;
+    }
+}
+
 /// Who binds ports, and which are held.
 #[derive(Drop)]
 struct Holding<B, S> {
@@ -154,7 +169,7 @@ impl<B: Binds<S>, S: Carries + Drop> Holding<B, S> {
     ghost use Rattle.loopback_run.specs.Holds.{passage_of};
     ghost use Rattle.loopback_run.specs.Standings.{HasPassed, HasPorts, LacksPorts};
 
-    /// Asks for the ports of settings, each once. After an Err it has none, also where it had some before.
+    /// Asks for the ports of settings, each once, after those that it had are let go. After an Err it has none.
     fn open(&mut self, settings: &Settings) -> Result<(), PortFault>
         ensures opens { OnOk result
             (HasPorts B.binds (passage_of self.old) settings.now (passage_of self.new)) }
@@ -162,6 +177,7 @@ impl<B: Binds<S>, S: Carries + Drop> Holding<B, S> {
             (λ fault. LacksPorts B.binds (passage_of self.old) settings.now fault
             (passage_of self.new)) }
     {
+        self.hold.let_go();
         match Both::bind(&mut self.system, settings) {
             Ok(both) => {
                 let settings = Snapshot::of(settings);
@@ -204,10 +220,10 @@ impl<'a, R> Model for Loopback<'a, R> {
     ghost view = { λ l. passage_of l.ports };
 }
 
-impl<'a, R: Net + Clock + AllocGlobal> Loopback<'a, R> {
+impl<'a, R> Loopback<'a, R> {
     ghost use Rattle.loopback_run.specs.Standings.{IsUnasked};
 
-    /// Was never asked for its ports.
+    /// Was never asked for its ports. Nothing is asked of the system here: of an `R` alone nothing can be.
     pub fn new(rt: &'a R) -> Loopback<'a, R>
         ensures { IsUnasked result }
     {

@@ -1,10 +1,9 @@
 //! The system's ports. What it is asked has names, and no more is known of it.
 ghost use Rattle.std.specs.Prelude.{◌≤◌, IfOk};
 ghost use Rattle.sockets.specs.Ends.{IsSocketOf, on_loopback};
-ghost use Rattle.loopback_run.specs.Binding.{WasBound, WasWatched};
+ghost use Rattle.loopback_run.specs.Binding.{WasBound, WasGivenRoom, WasPollMade, WasWatched};
 ghost use Rattle.loopback_run.specs.Carrying.{WasAwaited, WasNow, WasReceived, WasSent, WasSince};
 
-use crate::carriers::{Binds, Unbound};
 use mio::net::UdpSocket;
 use mio::{Events, Interest, Poll, Token};
 use sockets::LONGEST;
@@ -14,12 +13,20 @@ use std::net::{Ipv4Addr, Net, SocketAddr, SocketAddrV4};
 use std::rt::Clock;
 use std::time::{Duration, Instant};
 
+/// A socket of the system's, which nothing can be sent through yet.
+#[derive(Drop)]
+pub(crate) struct Socket(UdpSocket);
+
+/// What waits for a socket.
+#[derive(Drop)]
+pub(crate) struct Waits(Poll);
+
 /// A socket of the system's that never waits but in a poll, and the system's clock.
 #[derive(Drop)]
 pub(crate) struct SystemPort<'a, R> {
-    socket: UdpSocket,
-    poll: Poll,
-    events: Events,
+    socket: Socket,
+    waits: Waits,
+    events: Events<Global>,
     clock: &'a R,
 }
 
@@ -29,7 +36,7 @@ impl<R: Clock> SystemPort<'_, R> {
     pub(crate) fn told_to_send(&mut self, to: SocketAddr, bytes: &[u8]) -> bool
         ensures { WasSent self.old to bytes.now result self.new }
     {
-        self.socket.send_to(bytes, to).is_ok()
+        self.socket.0.send_to(bytes, to).is_ok()
     }
 
     /// Asks the system for the next datagram that is there, and who sent it.
@@ -41,7 +48,7 @@ impl<R: Clock> SystemPort<'_, R> {
         ensures within { IfOk result (λ answer. answer.0 ≤ 4096) }
         ensures asked { WasReceived self.old result room.new self.new }
     {
-        self.socket.recv_from(room)
+        self.socket.0.recv_from(room)
     }
 
     /// Has the system wait for one, for at most so long, and says whether it did.
@@ -49,7 +56,7 @@ impl<R: Clock> SystemPort<'_, R> {
     pub(crate) fn told_to_wait(&mut self, limit: Duration) -> bool
         ensures { WasAwaited self.old limit result self.new }
     {
-        self.poll.poll(&mut self.events, Some(limit)).is_ok()
+        self.waits.0.poll(&mut self.events, Some(limit)).is_ok()
     }
 
     /// Asks the system's clock for the moment.
@@ -88,54 +95,52 @@ impl<'a, R> SystemBinds<'a, R> {
     }
 }
 
-impl<'a, R: Net> SystemBinds<'a, R> {
+impl<'a, R: Net + AllocGlobal> SystemBinds<'a, R> {
+    /// Asks for memory in which a wait reports so many events.
+    #[tactic(auto, unfolding(crate::specs::Binding::WasGivenRoom))]
+    pub(crate) fn told_to_make_room(&mut self, count: usize) -> Option<Events<Global>>
+        ensures { WasGivenRoom self.old count result self.new }
+    {
+        Events::with_capacity(self.system.alloc(), count).ok()
+    }
+
     /// Asks the system for a socket at an address.
     #[tactic(auto, unfolding(crate::specs::Binding::WasBound))]
-    fn told_to_bind(&mut self, address: SocketAddr) -> io::Result<UdpSocket>
+    pub(crate) fn told_to_bind(&mut self, address: SocketAddr) -> io::Result<Socket>
         ensures { WasBound self.old address result self.new }
     {
-        UdpSocket::bind(self.system, address)
+        Ok(Socket(UdpSocket::bind(self.system, address)?))
     }
 
-    /// Has the system report what comes to a socket, in this room.
-    #[tactic(auto, unfolding(crate::specs::Binding::WasWatched))]
-    fn told_to_watch(
-        &mut self,
-        socket: UdpSocket,
-        events: Events<Global>,
-    ) -> io::Result<SystemPort<'a, R>>
-        ensures { WasWatched self.old socket events result self.new }
+    /// Asks the system for what waits for a socket.
+    #[tactic(auto, unfolding(crate::specs::Binding::WasPollMade))]
+    pub(crate) fn told_to_make_poll(&mut self) -> io::Result<Waits>
+        ensures { WasPollMade self.old result self.new }
     {
-        let poll = Poll::new(self.system)?;
+        Ok(Waits(Poll::new(self.system)?))
+    }
+
+    /// Has waits report of a socket what is of interest, in this room: it is a port then.
+    #[tactic(auto, unfolding(crate::specs::Binding::WasWatched))]
+    pub(crate) fn told_to_watch(
+        &mut self,
+        socket: Socket,
+        waits: Waits,
+        room: Events<Global>,
+        interest: Interest,
+    ) -> io::Result<SystemPort<'a, R>>
+        ensures { WasWatched self.old socket waits room interest result self.new }
+    {
         let mut socket = socket;
-        poll.registry()
-            .register(&mut socket, Token(0), Interest::READABLE)?;
-        let clock = self.system;
+        waits
+            .0
+            .registry()
+            .register(&mut socket.0, Token(0), interest)?;
         Ok(SystemPort {
             socket,
-            poll,
-            events,
-            clock,
+            waits,
+            events: room,
+            clock: self.system,
         })
-    }
-}
-
-/// Which ports are had is the system's answer.
-impl<'a, R: Net + AllocGlobal> Binds<SystemPort<'a, R>> for SystemBinds<'a, R> {
-    ghost use Rattle.loopback_run.specs.Binding.{HasBound};
-
-    ghost binds = { HasBound };
-
-    fn bind(&mut self, number: u16) -> Result<SystemPort<'a, R>, Unbound> {
-        let Ok(events) = Events::with_capacity(self.system.alloc(), 1) else {
-            return Err(Unbound::NoMemory);
-        };
-        let Ok(socket) = self.told_to_bind(address_of(number)) else {
-            return Err(Unbound::NoSocket);
-        };
-        match self.told_to_watch(socket, events) {
-            Ok(port) => Ok(port),
-            Err(_) => Err(Unbound::NoSocket),
-        }
     }
 }

@@ -1,13 +1,18 @@
 //! A script's run in which what each event hands in is first sent through a passage.
-ghost use Rattle.std.specs.Prelude.{◌≡◌, ◌⊎◌, ◌||◌, None, IfOk, IfErr, OnOk, OnErr, IsSome, if◌then◌else◌};
+ghost use Rattle.std.specs.Prelude.{◌≡◌, ◌≢◌, ◌⊎◌, ◌||◌, None, IfOk, IfErr, OnOk, OnErr, IsSome, if◌then◌else◌};
 ghost use Rattle.output.specs.Output.{none_told};
 ghost use Rattle.frame_sim.specs.Runs.{Answers};
+ghost use Rattle.frame_sim.specs.Status.{IsNew};
+ghost use Rattle.frame_sim.specs.Texts.{world_lines};
+ghost use Rattle.std.specs.Io.KnownBytes.{Keeps};
 ghost use Rattle.faults.specs.Faults.{status_of};
+ghost use Rattle.faults.specs.Jobs.{IsJobOf, TellsRun};
 ghost use Rattle.faults.specs.Texts.{fault_text};
 ghost use Rattle.scripts.specs.Script.{first_bad_line};
 ghost use Rattle.faults.specs.declared.faults.Fault.TheVariants as faults;
 ghost use Rattle.outlets.specs.Printed.{Prints};
 ghost use Rattle.outlets.specs.Telling.{IsToldOf};
+ghost use Rattle.loopback_run.specs.Refusals.{TapeRefuses, WasUnflushed, WasUnfounded, WasUnprinted, WasUnread, WasUntabled};
 ghost use Rattle.loopback_run.specs.Runs.{HasTurned, TakesTurns};
 ghost use Rattle.loopback_run.specs.Texts.{counts_then, turn_lines};
 ghost use Rattle.loopback_run.specs.Turns.{HasSent, TakesTurn, handed, is_lost, is_refusal, of_port};
@@ -16,10 +21,10 @@ ghost use Rattle.loopback_run.specs.Tapes.{IsTapedLoop, RefusesTurn, StopsTaped,
 ghost use Rattle.loopback_run.specs.Stops.{FailsBy, FailsScript, HoldJob, Leaves, StopsLoop, Untouched};
 
 use crate::{Channel, Passed, PortFault};
-use faults::{Fault, job_of};
+use faults::{Fault, Job, PrintFault, job_of};
 use frame_sim::{Step, Tape, Untaped, World};
 use gateway::Out;
-use nat_types::WorldEvent;
+use nat_types::{NoMemory, WorldEvent};
 use outlets::Tells;
 use printing::Printer;
 use settings::Settings;
@@ -81,7 +86,7 @@ pub fn loop_script<P: Channel, O: Write>(
     ensures run { IfOk result (LoopsScript P.opens P.passes settings.now script.now passage.old
         passage.new (O.contents output.old) (O.contents output.new)) }
     ensures status { IfOk result (λ status. (status ≡ 0) ⊎ (status ≡ 3)) }
-    ensures leaves { IfErr result (Leaves P.opens P.refuses P.passes O.contents settings.now
+    ensures leaves { IfErr result (Leaves ⊥ P.opens P.refuses P.passes O.contents settings.now
         script.now passage.old passage.new output.old output.new) }
     ensures untouched { (HoldJob settings.now script.now → ⊥)
         → Untouched passage.old passage.new output.old output.new }
@@ -108,8 +113,8 @@ pub fn loop_captured<P: Channel, T: Tape, O: Write>(
     ensures run { IfOk result (LoopsScript P.opens P.passes settings.now script.now passage.old
         passage.new (O.contents output.old) (O.contents output.new)) }
     ensures status { IfOk result (λ status. (status ≡ 0) ⊎ (status ≡ 3)) }
-    ensures leaves { IfErr result (Leaves P.opens P.refuses P.passes O.contents settings.now
-        script.now passage.old passage.new output.old output.new) }
+    ensures leaves { IfErr result (Leaves (TapeRefuses T.refuses) P.opens P.refuses P.passes
+        O.contents settings.now script.now passage.old passage.new output.old output.new) }
     ensures untouched { (HoldJob settings.now script.now → ⊥)
         → Untouched passage.old passage.new output.old output.new }
     ensures taped { OnOk result (TapesScript P.opens P.passes T.takes settings.now script.now
@@ -118,7 +123,7 @@ pub fn loop_captured<P: Channel, T: Tape, O: Write>(
         O.contents settings.now script.now passage.old passage.new tape.old tape.new
         output.old output.new) }
 {
-    let job = job_of(alloc, settings, script)?;
+    let job = read(alloc, settings, script)?;
     if let Some(key) = port_clash_of_both(&job.settings) {
         return Err(Fault::Setting(SettingFault::CantWork(key)));
     }
@@ -133,6 +138,20 @@ pub fn loop_captured<P: Channel, T: Tape, O: Write>(
         ),
         Err(fault) => Err(of_port(fault)),
     }
+}
+
+/// The job of two texts, as [`job_of`] gives it.
+#[tactic(auto, unfolding(crate::specs::Refusals::WasUnread))]
+fn read(alloc: Global, settings: &str, script: &str) -> Result<Job, Fault>
+    ensures job { IfOk result (IsJobOf settings.now script.now) }
+    ensures good { OnOk result (first_bad_line script.now ≡ None) }
+    ensures told { IfErr result (TellsRun settings.now script.now) }
+    ensures known { IfErr result (λ fault. status_of fault ≡ 1) }
+    ensures read { IfErr result (λ fault. fault ≢ faults.NotWritten) }
+    ensures unread { IfErr result
+        (λ fault. fault ≡ faults.NoMemory → WasUnread settings.now script.now) }
+{
+    job_of(alloc, settings, script)
 }
 
 fn of_port(fault: PortFault) -> Fault
@@ -164,15 +183,15 @@ pub fn play<P: Channel, T: Tape, O: Write>(
     ensures status { IfOk result (λ status. (status ≡ 0) ⊎ (status ≡ 3)) }
     ensures fault { IfErr result
         (λ fault. (fault ≡ faults.NotWritten) ⊎ (fault ≡ faults.NoMemory)) }
-    ensures stops { IfErr result (StopsLoop P.passes O.contents settings.now events.now
-        passage.old passage.new output.old output.new) }
+    ensures stops { IfErr result (StopsLoop (TapeRefuses T.refuses) P.passes O.contents
+        settings.now events.now passage.old passage.new output.old output.new) }
     ensures taped { OnOk result (IsTapedLoop P.passes T.takes settings.now events.now
         passage.old passage.new tape.old tape.new) }
     ensures broken { IfErr result (StopsTapedLoop P.passes T.takes T.refuses O.contents
         settings.now events.now passage.old passage.new tape.old tape.new
         output.old output.new) }
 {
-    match World::founded(alloc, settings) {
+    match founded(alloc, settings) {
         Ok(mut world) => {
             let status = played(alloc, &mut world, events, passage, tape, output);
             world.end();
@@ -180,6 +199,15 @@ pub fn play<P: Channel, T: Tape, O: Write>(
         }
         Err(fault) => Err(Fault::from(fault)),
     }
+}
+
+/// A new world of these settings.
+#[tactic(auto, unfolding(crate::specs::Refusals::WasUnfounded))]
+fn founded(alloc: Global, settings: &Settings) -> Result<World<'_>, NoMemory>
+    ensures new { IfOk result (IsNew settings.now) }
+    ensures unfounded { OnErr result (WasUnfounded settings.now) }
+{
+    World::founded(alloc, settings)
 }
 
 /// Runs events on a world, has a tape take them down, and prints what they gave and its tables.
@@ -201,9 +229,30 @@ fn played<P: Channel, T: Tape, O: Write>(
         (O.contents output.new)) }
 {
     let refused = turned(alloc, world, events, passage, tape, output)?;
-    world.tables(output)?;
-    output.flush()?;
+    put_tables(world, output)?;
+    flush(output)?;
     Ok(status_of(refused))
+}
+
+/// Prints a world's tables.
+#[tactic(auto, unfolding(crate::specs::Refusals::WasUntabled))]
+fn put_tables<O: Write>(world: &World<'_>, output: &mut O) -> Result<(), PrintFault>
+    ensures printed { Prints (O.contents output.old) result (O.contents output.new)
+        (world_lines world.now) }
+    ensures refused { IfErr result (λ why. WasUntabled world.now why
+        (O.contents output.old) (O.contents output.new)) }
+{
+    world.tables(output)
+}
+
+/// Hands on what was printed.
+#[tactic(auto, unfolding(crate::specs::Refusals::WasUnflushed))]
+fn flush<O: Write>(output: &mut O) -> io::Result<()>
+    ensures kept { Keeps (O.contents output.old) (O.contents output.new) }
+    ensures refused { OnErr result
+        (WasUnflushed (O.contents output.old) (O.contents output.new)) }
+{
+    output.flush()
 }
 
 /// Gives each event its turn, has a tape take it down, and prints what it gave. The answer says whether one was refused.
@@ -275,6 +324,7 @@ fn take_down<T: Tape>(
 }
 
 /// Prints what an event gave, or that it is lost.
+#[tactic(auto, unfolding(crate::specs::Refusals::WasUnprinted))]
 fn print<O: Write>(
     printer: &mut Printer,
     output: &mut O,
@@ -284,6 +334,8 @@ fn print<O: Write>(
     ensures printed { Prints (O.contents output.old) result (O.contents output.new)
         (turn_lines printer.old event.now step.now) }
     ensures counted { OnOk result (printer.new ≡ counts_then printer.old event.now step.now) }
+    ensures refused { OnErr result (WasUnprinted (turn_lines printer.old event.now step.now)
+        (O.contents output.old) (O.contents output.new)) }
 {
     match step {
         Some(step) => printer.step(output, event, &step.answer, &step.out),

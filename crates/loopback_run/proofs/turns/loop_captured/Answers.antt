@@ -1,6 +1,7 @@
 use Rattle.std.proofs.Common.{List, inr, refl, subst, sym}
 use Rattle.nat_types.specs.declared.events.WorldEvent.{WorldEvent}
 use Rattle.loopback_run.specs.Loops.{IsLoop}
+use Rattle.loopback_run.specs.Refusals.{TapeRefuses}
 use Rattle.loopback_run.specs.Stops.{StopsLoop}
 use Rattle.loopback_run.specs.Tapes.{IsTapedLoop, StopsTapedLoop}
 use Rattle.loopback_run.proofs.Looping.{in_ok, when_done}
@@ -33,7 +34,7 @@ returns-in-Ok-clause-run g c = in_ok c.play.result (λ n h. record {
 }) c.play.ensures.run
 
 pub returns-clause-leaves : goal.returns-clause-leaves
-returns-clause-leaves g c = rw c.of_port.ensures (leaves_refused _ _ _ _ _ _ _ _ _ _ c.in-Err.fault (record {
+returns-clause-leaves g c = rw c.of_port.ensures (leaves_refused _ _ _ _ _ _ _ _ _ _ _ c.in-Err.fault (record {
   texts = record { job = c.in_ok-job.job; is = c.in_ok-job.ensures.job; good = c.in_ok-job.ensures.good; apart = sym c.in_default.ensures };
   refused = c.in-Err.ensures.refuses;
   unwritten = refl;
@@ -44,11 +45,11 @@ returns-clause-untouched g c none =
     absurd (none (record { job = c.in_ok-job.job; is = c.in_ok-job.ensures.job; good = c.in_ok-job.ensures.good; apart = sym c.in_default.ensures }))
 
 pub returns-in-Ok-clause-leaves : goal.returns-in-Ok-clause-leaves
-returns-in-Ok-clause-leaves g c = in_err c.play.result (λ e h. leaves_stopped _ _ _ _ _ _ _ _ _ _ e (record {
+returns-in-Ok-clause-leaves g c = in_err c.play.result (λ e h. leaves_stopped _ _ _ _ _ _ _ _ _ _ _ e (record {
   texts = record { job = c.in_ok-job.job; is = c.in_ok-job.ensures.job; good = c.in_ok-job.ensures.good; apart = sym c.in_default.ensures };
   open_passage = c.open.new.self;
   opened = c.in-Ok.ensures.opens;
-  stopped = subst (λ (es : List WorldEvent). StopsLoop g.P.Channel.passes g.O.Write.contents c.in_ok-job.job.settings es c.open.new.self c.play.new.passage c.args.output.now c.play.new.output e) c.as_slice.ensures.value h;
+  stopped = subst (λ (es : List WorldEvent). StopsLoop (TapeRefuses g.T.Tape.refuses) g.P.Channel.passes g.O.Write.contents c.in_ok-job.job.settings es c.open.new.self c.play.new.passage c.args.output.now c.play.new.output e) c.as_slice.ensures.value h;
 })) c.play.ensures.stops
 
 pub returns-in-Ok-clause-untouched : goal.returns-in-Ok-clause-untouched

@@ -30,7 +30,7 @@ returns-in_err-print-clause-broken g c =
     let e = c.event-item.result in
     let split = split_at c.args.events.now l.event-index e c.loop-event-test.true c.event-item.is in
     on_err c.from_residual-in_err-print.result (one_broken _ _ _ _ _ _ c.args.events.now _ _ l.world l.passage l.tape _ _ l.refused l.printer e
-    c.turn-step.result _ _ _ _ split l.invariant c.turn-step.ensures (inr (c.in_ok-take_down.ensures.taken, c.in_err-print.ensures.printed)))
+    c.turn-step.result _ _ _ _ split l.invariant c.turn-step.ensures (inr (c.in_ok-take_down.ensures.taken, (c.in_err-print.ensures.printed, c.in_err-print.ensures.refused))))
 
 pub returns-clause-had : goal.returns-clause-had
 returns-clause-had g c =

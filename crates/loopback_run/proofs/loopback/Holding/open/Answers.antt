@@ -5,4 +5,4 @@ use Rattle.loopback_run.proofs.loopback.Holding.open.Goals as goal
 
 pub returns-in-Ok-clause-opens : goal.returns-in-Ok-clause-opens
 returns-in-Ok-clause-opens g c =
-    (c.in-Ok.both, (ap (λ (s : Settings). bound s c.in-Ok.both) c.of-settings.ensures, c.in-Ok.ensures.bound))
+    (c.let_go.ensures.let_go, (c.in-Ok.both, (ap (λ (s : Settings). bound s c.in-Ok.both) c.of-settings.ensures, c.in-Ok.ensures.bound)))

@@ -1,0 +1,42 @@
+//! How ports of the system's are had.
+ghost use Rattle.loopback_run.specs.Binding.{Watches};
+
+use crate::carriers::{Binds, Unbound};
+use crate::machine::{SystemBinds, SystemPort, address_of};
+use mio::{Events, Interest};
+use std::alloc::Global;
+use std::net::Net;
+
+/// Which ports are had is the system's answer.
+impl<'a, R: Net + AllocGlobal> Binds<SystemPort<'a, R>> for SystemBinds<'a, R> {
+    ghost use Rattle.loopback_run.specs.Binding.{HasBound};
+
+    ghost binds = { HasBound };
+
+    fn bind(&mut self, number: u16) -> Result<SystemPort<'a, R>, Unbound> {
+        match self.told_to_make_room(1) {
+            Some(room) => watched(self, number, room),
+            None => Err(Unbound::NoMemory),
+        }
+    }
+}
+
+/// The port of this number, of which waits report in this room that it can be read.
+fn watched<'a, R: Net + AllocGlobal>(
+    system: &mut SystemBinds<'a, R>,
+    number: u16,
+    room: Events<Global>,
+) -> Result<SystemPort<'a, R>, Unbound>
+    ensures { Watches number room system.old result system.new }
+{
+    let Ok(socket) = system.told_to_bind(address_of(number)) else {
+        return Err(Unbound::NoSocket);
+    };
+    let Ok(waits) = system.told_to_make_poll() else {
+        return Err(Unbound::NoSocket);
+    };
+    match system.told_to_watch(socket, waits, room, Interest::READABLE) {
+        Ok(port) => Ok(port),
+        Err(_) => Err(Unbound::NoSocket),
+    }
+}
