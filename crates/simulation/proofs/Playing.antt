@@ -11,10 +11,14 @@ use Rattle.frame_sim.specs.Status.{IsNew}
 use Rattle.frame_sim.specs.Tapes.{TakesOn}
 use Rattle.faults.specs.declared.faults.Fault.{Fault}
 use Rattle.faults.specs.declared.faults.Fault.TheVariants.{Words, Setting, BadLine, File, NotWritten, NotText, NoSocket, NoMemory}
+use Rattle.faults.specs.Faults.{of_print}
+use Rattle.faults.specs.declared.prints.PrintFault.{PrintFault}
+use Rattle.faults.specs.declared.prints.PrintFault.TheVariants as print
 use Rattle.faults.specs.declared.jobs.Job.{Job}
 use Rattle.faults.specs.Jobs.{IsJobOf, TellsRun}
 use Rattle.scripts.specs.Script.{first_bad_line}
 use Rattle.frame_sim.specs.World.{founding}
+use Rattle.simulation.specs.Refusals.{AreUntabled, IsRefused, IsShort, IsUnprinted, WasUnread}
 use Rattle.simulation.specs.Stops.{Begins, BeginsScript, Leaves}
 use Rattle.simulation.specs.Tapes.{IsTapedRun, StopsTaped, StopsTapedScript, TapesSteps}
 
@@ -64,22 +68,39 @@ begins_script (Ok x) text script job o o2 is h = tt
 begins_script (Err e) text script job o o2 is h = script_begins text script job o o2 is h
 
 -- a fault of the texts leaves the output as it was
-pub leaves_texts : (text script : List ℕ) (o : Option (List ℕ)) (fault : Fault) → TellsRun text script fault → fault ≢ NotWritten → Leaves text script o o fault
-leaves_texts text script o Words told read = absurd told
-leaves_texts text script o (Setting why) told read = refl
-leaves_texts text script o (BadLine n) told read = refl
-leaves_texts text script o (File why) told read = absurd told
-leaves_texts text script o NotWritten told read = absurd (read refl)
-leaves_texts text script o NotText told read = absurd told
-leaves_texts text script o (NoSocket port) told read = absurd told
-leaves_texts text script o NoMemory told read = inl refl
+pub leaves_texts : (text script : List ℕ) (o : Option (List ℕ)) (fault : Fault) → TellsRun text script fault → fault ≢ NotWritten
+    → (fault ≡ NoMemory → WasUnread text script) → Leaves text script o o fault
+leaves_texts text script o Words told read unread = absurd told
+leaves_texts text script o (Setting why) told read unread = refl
+leaves_texts text script o (BadLine n) told read unread = refl
+leaves_texts text script o (File why) told read unread = absurd told
+leaves_texts text script o NotWritten told read unread = absurd (read refl)
+leaves_texts text script o NotText told read unread = absurd told
+leaves_texts text script o (NoSocket port) told read unread = absurd told
+leaves_texts text script o NoMemory told read unread = (inl refl, inl (unread refl))
 
 -- and one of the run of good texts a beginning
 pub leaves_begun : {X : Type 0} (r : Result X Fault) (text script : List ℕ) (job : Job) (o o2 : Option (List ℕ)) → IsJobOf text script job → first_bad_line script ≡ None
-    → IfErr r (λ fault. (fault ≡ NotWritten) ⊎ (fault ≡ NoMemory)) → OnErr r (Begins (founding job.settings) job.events.items o o2) → IfErr r (Leaves text script o o2)
-leaves_begun (Ok x) text script job o o2 is good which h = tt
-leaves_begun (Err fault) text script job o o2 is good (inl which) h = rw which (record { job = job; is = is; good = good; begun = h })
-leaves_begun (Err fault) text script job o o2 is good (inr which) h = rw which (script_begins text script job o o2 is h)
+    → IfErr r (IsRefused o2) → OnErr r (Begins (founding job.settings) job.events.items o o2) → IfErr r (Leaves text script o o2)
+leaves_begun (Ok x) text script job o o2 is good refused h = tt
+leaves_begun (Err Words) text script job o o2 is good refused h = absurd refused
+leaves_begun (Err (Setting why)) text script job o o2 is good refused h = absurd refused
+leaves_begun (Err (BadLine n)) text script job o o2 is good refused h = absurd refused
+leaves_begun (Err (File why)) text script job o o2 is good refused h = absurd refused
+leaves_begun (Err NotWritten) text script job o o2 is good refused h = record { job = job; is = is; good = good; begun = h; refused = refused }
+leaves_begun (Err NotText) text script job o o2 is good refused h = absurd refused
+leaves_begun (Err (NoSocket port)) text script job o o2 is good refused h = absurd refused
+leaves_begun (Err NoMemory) text script job o o2 is good refused h = (script_begins text script job o o2 is h, inr refused)
+
+-- tables that weren't printed end the printing
+pub untabled_print : (after : Option (List ℕ)) (why : PrintFault) → AreUntabled why after → IsUnprinted after (of_print why)
+untabled_print after print.NotWritten h = inr (inl h)
+untabled_print after print.NoMemory h = h
+
+-- what ended the printing ended the run
+pub refused_print : (after : Option (List ℕ)) (why : PrintFault) → IsUnprinted after (of_print why) → IsRefused after (of_print why)
+refused_print after print.NotWritten h = inr h
+refused_print after print.NoMemory h = inr h
 
 -- what is so after every Err
 pub on_err : {X E Q : Type 0} (r : Result X E) → Q → OnErr r Q
@@ -87,14 +108,9 @@ on_err (Ok x) q = tt
 on_err (Err e) q = q
 
 -- what holds of the fault that is handed on holds of the end by it
-pub handed_on : {X : Type 0} (r : Result X Fault) (P : Fault → Type 0) (why : Fault) → IsErrAnd r (λ e. e ≡ why) → P why → IfErr r P
+pub handed_on : {X F : Type 0} (r : Result X F) (P : F → Type 0) (why : F) → IsErrAnd r (λ e. e ≡ why) → P why → IfErr r P
 handed_on (Ok x) P why is p = tt
 handed_on (Err e) P why is p = subst P (sym is) p
-
--- what holds of each fault holds of the end by one
-pub of_each : {X : Type 0} (r : Result X Fault) (P : Fault → Type 0) → ((why : Fault) → P why) → IfErr r P
-of_each (Ok x) P all = tt
-of_each (Err e) P all = all e
 
 -- ---- a run that is taken down, and that a fault ends
 
@@ -103,8 +119,8 @@ isnt_refused same = absurd (let bad : NoMemory ≡ NotWritten = same in cc)
 
 -- there was no memory, and nothing was taken down
 pub none_taped : {T O : Type 0} (takes refuses : TakesOn T) (prints : O → Option (List ℕ)) (w : World) (events : List WorldEvent) (t : T) (o : O) (why : Fault)
-    → why ≡ NoMemory → StopsTaped takes refuses prints w events t t o o why
-none_taped takes refuses prints w events t o why is = rw is (inl (isnt_refused, (refl, refl)))
+    → IsShort → why ≡ NoMemory → StopsTaped takes refuses prints w events t t o o why
+none_taped takes refuses prints w events t o why short is = rw is (inl (isnt_refused, ((λ same. short), (refl, refl))))
 
 -- a run from a new world stops as one from the world that it is
 pub stops_from : {X T O : Type 0} (r : Result X Fault) (takes refuses : TakesOn T) (prints : O → Option (List ℕ)) (settings : Settings) (w : World) (events : List WorldEvent) (t t2 : T) (o o2 : O)

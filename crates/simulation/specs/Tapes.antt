@@ -4,7 +4,7 @@ use Rattle.std.specs.Io.KnownBytes.{Appends}
 use Rattle.nat_types.specs.declared.events.WorldEvent.{WorldEvent}
 use Rattle.settings.specs.declared.whole.Settings.{Settings}
 use Rattle.faults.specs.declared.faults.Fault.{Fault}
-use Rattle.faults.specs.declared.faults.Fault.TheVariants.{NotWritten}
+use Rattle.faults.specs.declared.faults.Fault.TheVariants.{NotWritten, NoMemory}
 use Rattle.faults.specs.declared.jobs.Job.{Job}
 use Rattle.faults.specs.Jobs.{IsJobOf}
 use Rattle.frame_sim.specs.declared.events.Step.{Step}
@@ -14,6 +14,7 @@ use Rattle.frame_sim.specs.Status.{IsRun, TakesSteps}
 use Rattle.frame_sim.specs.Tapes.{AreTaken, RefusesOne, TakesOn}
 use Rattle.outlets.specs.Printed.{IsBegun}
 use Rattle.scripts.specs.Script.{first_bad_line}
+use Rattle.simulation.specs.Refusals.{IsShort, IsUnprinted}
 use Rattle.simulation.specs.Texts.{run_lines}
 
 -- the steps that these events take, in order, from one world to another, a tape that took them down, and their text
@@ -37,26 +38,26 @@ pub record TapesScript {T : Type 0} (takes : TakesOn T) (text script : List ℕ)
 
 -- ---- a run that a fault ends
 
--- the tape and the output are as they were; such a fault is not that one of them was refused
+-- the tape and the output are as they were; such a fault is not that one of them was refused, and want of memory is by name
 abbrev pub IsUntaped : {T O : Type 0} → T → T → O → O → Fault → Type 0
-IsUntaped before after old new why = (why ≢ NotWritten) × ((after ≡ before) × (new ≡ old))
+IsUntaped before after old new why = (why ≢ NotWritten) × ((why ≡ NoMemory → IsShort) × ((after ≡ before) × (new ≡ old)))
 
 -- a tape refused one of these events, once, behind those before it, which it took down, each with its step; and nothing was printed
 abbrev pub IsRefusedTape : {T O : Type 0} → TakesOn T → TakesOn T → World → List WorldEvent → List Step → T → T → O → O → Fault → Type 0
 IsRefusedTape takes refuses w events steps before after old new why =
     RefusesOne takes refuses w before events steps after × ((new ≡ old) × (why ≡ NotWritten))
 
--- the tape took them all down, and of their text the output has a beginning
-abbrev pub IsTapedWhole : {T O : Type 0} → TakesOn T → (O → Option (List ℕ)) → World → List WorldEvent → List Step → T → T → O → O → Type 0
-IsTapedWhole takes prints w events steps before after old new =
-    AreTaken takes w before events steps after × IsBegun (prints old) (prints new) (run_lines events steps w)
+-- the tape took them all down, and of their text the output has a beginning: to print it was refused
+abbrev pub IsTapedWhole : {T O : Type 0} → TakesOn T → (O → Option (List ℕ)) → World → List WorldEvent → List Step → T → T → O → O → Fault → Type 0
+IsTapedWhole takes prints w events steps before after old new why =
+    AreTaken takes w before events steps after × (IsBegun (prints old) (prints new) (run_lines events steps w) × IsUnprinted (prints new) why)
 
 -- these events take steps, in order, from a world; and a fault ended their run so, at the tape or behind it
 pub record StopsSteps {T O : Type 0} (takes refuses : TakesOn T) (prints : O → Option (List ℕ)) (w : World) (events : List WorldEvent) (before after : T) (old new : O) (why : Fault) : Type 0 where
   pub steps : List Step
   pub last : World
   pub answers : AreSteps w events steps last
-  pub stopped : IsRefusedTape takes refuses last events steps before after old new why ⊎ IsTapedWhole takes prints last events steps before after old new
+  pub stopped : IsRefusedTape takes refuses last events steps before after old new why ⊎ IsTapedWhole takes prints last events steps before after old new why
 
 -- that; or before it
 abbrev pub StopsTaped : {T O : Type 0} → TakesOn T → TakesOn T → (O → Option (List ℕ)) → World → List WorldEvent → T → T → O → O → Fault → Type 0

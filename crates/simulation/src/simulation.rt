@@ -1,25 +1,30 @@
 //! A script's run: its events on a new world, their steps and the tables at its end printed.
-ghost use Rattle.std.specs.Prelude.{◌≡◌, ◌⊎◌, None, IfOk, IfErr, OnOk, OnErr, IsSome, length};
+ghost use Rattle.std.specs.Io.KnownBytes.{Keeps};
+ghost use Rattle.std.specs.Prelude.{◌≡◌, ◌≢◌, ◌⊎◌, ◌++◌, [], None, IfOk, IfErr, OnOk, OnErr, IsSome, length};
 ghost use Rattle.frame_sim.specs.Runs.{AreSteps};
-ghost use Rattle.faults.specs.Faults.{status_of};
+ghost use Rattle.faults.specs.Faults.{of_print, status_of};
 ghost use Rattle.scripts.specs.Script.{first_bad_line};
-ghost use Rattle.faults.specs.Jobs.{TellsRun};
+ghost use Rattle.faults.specs.Jobs.{IsJobOf, TellsRun};
 ghost use Rattle.faults.specs.Texts.{fault_text};
-ghost use Rattle.frame_sim.specs.Status.{has_refusal, run_status};
+ghost use Rattle.frame_sim.specs.Status.{IsNew, has_refusal, run_status};
 ghost use Rattle.frame_sim.specs.Tapes.{AreTaken, RefusesOne};
 ghost use Rattle.outlets.specs.Printed.{Prints};
 ghost use Rattle.outlets.specs.Telling.{IsToldOf};
+ghost use Rattle.frame_sim.specs.Texts.{world_lines};
 ghost use Rattle.frame_sim.specs.World.{founding};
+ghost use Rattle.printing.specs.Lines.{no_counts};
+ghost use Rattle.simulation.specs.Refusals.{IsRefused, IsUnprinted, IsUnrun, IsUntaken};
+ghost use Rattle.simulation.specs.Refusals.{WasUnflushed, WasUnfounded, WasUnput, WasUnread, WasUnrun, WasUntabled, WasUntaken};
 ghost use Rattle.simulation.specs.Status.{RunsScript};
 ghost use Rattle.simulation.specs.Tapes.{IsTapedRun, StopsTaped, StopsTapedScript, TapesScript, TapesSteps};
-ghost use Rattle.simulation.specs.Texts.{run_lines};
+ghost use Rattle.simulation.specs.Texts.{run_lines, steps_lines};
 ghost use Rattle.simulation.specs.Watched.{IsToldAll, IsToldPart, IsToldSome, OverhearsScript, WatchesScript};
 ghost use Rattle.simulation.specs.Stops.{Begins, BeginsScript, FailsBy, Leaves};
 ghost use Rattle.faults.specs.declared.faults.Fault.TheVariants as faults;
 
 use crate::shown::print_steps;
 use crate::{Progress, Unwatched};
-use faults::{Fault, PrintFault, job_of};
+use faults::{Fault, Job, PrintFault, job_of};
 use frame_sim::{Step, Tape, Untaped, World};
 use nat_types::{NoMemory, WorldEvent};
 use outlets::Tells;
@@ -117,7 +122,7 @@ pub fn simulate_captured<P: Progress, T: Tape, O: Write>(
     ensures part { OnErr result
         (OverhearsScript P.hears settings.now script.now progress.old progress.new) }
 {
-    let job = job_of(alloc, settings, script)?;
+    let job = read(alloc, settings, script)?;
     play(
         alloc,
         &job.settings,
@@ -126,6 +131,20 @@ pub fn simulate_captured<P: Progress, T: Tape, O: Write>(
         tape,
         output,
     )
+}
+
+/// The job of two texts, as [`job_of`] gives it.
+#[tactic(auto, unfolding(crate::specs::Refusals::WasUnread))]
+fn read(alloc: Global, settings: &str, script: &str) -> Result<Job, Fault>
+    ensures job { IfOk result (IsJobOf settings.now script.now) }
+    ensures good { OnOk result (first_bad_line script.now ≡ None) }
+    ensures told { IfErr result (TellsRun settings.now script.now) }
+    ensures known { IfErr result (λ fault. status_of fault ≡ 1) }
+    ensures read { IfErr result (λ fault. fault ≢ faults.NotWritten) }
+    ensures unread { IfErr result
+        (λ fault. fault ≡ faults.NoMemory → WasUnread settings.now script.now) }
+{
+    job_of(alloc, settings, script)
 }
 
 /// Runs events on a new world of these settings, tells how far it is before every few of them, and has a tape take them down
@@ -151,13 +170,14 @@ pub fn play<P: Progress, T: Tape, O: Write>(
     ensures status { IfOk result (λ status. (status ≡ 0) ⊎ (status ≡ 3)) }
     ensures fault { IfErr result
         (λ fault. (fault ≡ faults.NotWritten) ⊎ (fault ≡ faults.NoMemory)) }
+    ensures refused { IfErr result (IsRefused (O.contents output.new)) }
     ensures watched { OnOk result
         (IsToldAll P.hears (length events.now) progress.old progress.new) }
     ensures overheard { OnErr result (IsToldSome P.hears progress.old progress.new) }
     ensures part { OnErr result
         (IsToldPart P.hears (length events.now) progress.old progress.new) }
 {
-    match World::founded(alloc, settings) {
+    match founded(alloc, settings) {
         Ok(mut world) => {
             let status = played(alloc, &mut world, events, progress, tape, output);
             world.end();
@@ -165,6 +185,15 @@ pub fn play<P: Progress, T: Tape, O: Write>(
         }
         Err(fault) => Err(Fault::from(fault)),
     }
+}
+
+/// A new world of these settings.
+#[tactic(auto, unfolding(crate::specs::Refusals::WasUnfounded))]
+fn founded(alloc: Global, settings: &Settings) -> Result<World<'_>, NoMemory>
+    ensures new { IfOk result (IsNew settings.now) }
+    ensures unfounded { OnErr result (WasUnfounded settings.now) }
+{
+    World::founded(alloc, settings)
 }
 
 /// Runs events on a world, has a tape take them down, and prints their steps and its tables.
@@ -186,6 +215,7 @@ fn played<P: Progress, T: Tape, O: Write>(
     ensures status { IfOk result (λ status. (status ≡ 0) ⊎ (status ≡ 3)) }
     ensures fault { IfErr result
         (λ fault. (fault ≡ faults.NotWritten) ⊎ (fault ≡ faults.NoMemory)) }
+    ensures refused { IfErr result (IsRefused (O.contents output.new)) }
     ensures watched { OnOk result
         (IsToldAll P.hears (length events.now) progress.old progress.new) }
     ensures overheard { OnErr result
@@ -208,16 +238,27 @@ fn take_down<T: Tape>(
         (AreTaken T.takes world.now tape.old events.now steps.now tape.new) }
     ensures refused { OnErr result
         (RefusesOne T.takes T.refuses world.now tape.old events.now steps.now tape.new) }
+    ensures untaken { OnErr result IsUntaken }
 {
     let mut rest = steps;
     for event in events {
         let Some((step, others)) = rest.split_first() else {
             return Ok(());
         };
-        tape.take(world, event, step)?;
+        take(tape, world, event, step)?;
         rest = others;
     }
     Ok(())
+}
+
+/// Has a tape take an event down.
+#[tactic(auto, unfolding(crate::specs::Refusals::WasUntaken))]
+fn take<T: Tape>(tape: &mut T, world: &World<'_>, event: &WorldEvent, step: &Step) -> io::Result<()>
+    ensures taken { OnOk result (T.takes tape.old world.now event.now step.now tape.new) }
+    ensures refused { OnErr result (T.refuses tape.old world.now event.now step.now tape.new) }
+    ensures untaken { OnErr result (WasUntaken event.now step.now) }
+{
+    tape.take(world, event, step)
 }
 
 /// Prints steps, and the tables of the world to which they led.
@@ -227,13 +268,47 @@ fn print<O: Write>(
     steps: &[Step],
     output: &mut O,
 ) -> Result<(), PrintFault>
-    ensures { Prints (O.contents output.old) result (O.contents output.new)
+    ensures printed { Prints (O.contents output.old) result (O.contents output.new)
         (run_lines events.now steps.now world.now) }
+    ensures refused { IfErr result
+        (λ why. IsUnprinted (O.contents output.new) (of_print why)) }
 {
-    print_steps(output, events, steps)?;
-    world.tables(output)?;
-    output.flush()?;
+    put_steps(events, steps, output)?;
+    put_tables(world, output)?;
+    flush(output)?;
     Ok(())
+}
+
+/// Prints steps.
+#[tactic(auto, unfolding(crate::specs::Refusals::WasUnput))]
+fn put_steps<O: Write>(events: &[WorldEvent], steps: &[Step], output: &mut O) -> io::Result<()>
+    ensures printed { Prints (O.contents output.old) result (O.contents output.new)
+        (steps_lines no_counts events.now steps.now) }
+    ensures refused { OnErr result (WasUnput events.now steps.now
+        (O.contents output.old) (O.contents output.new)) }
+{
+    print_steps(output, events, steps)
+}
+
+/// Prints a world's tables.
+#[tactic(auto, unfolding(crate::specs::Refusals::WasUntabled))]
+fn put_tables<O: Write>(world: &World<'_>, output: &mut O) -> Result<(), PrintFault>
+    ensures printed { Prints (O.contents output.old) result (O.contents output.new)
+        (world_lines world.now) }
+    ensures refused { IfErr result (λ why. WasUntabled world.now why
+        (O.contents output.old) (O.contents output.new)) }
+{
+    world.tables(output)
+}
+
+/// Hands on what was printed.
+#[tactic(auto, unfolding(crate::specs::Refusals::WasUnflushed))]
+fn flush<O: Write>(output: &mut O) -> io::Result<()>
+    ensures kept { Keeps (O.contents output.old) (O.contents output.new) }
+    ensures refused { OnErr result
+        (WasUnflushed (O.contents output.old) (O.contents output.new)) }
+{
+    output.flush()
 }
 
 /// How many events are run at a time.
@@ -251,21 +326,44 @@ fn steps_of<P: Progress>(
         (IsToldAll P.hears (length events.now) progress.old progress.new) }
     ensures overheard { OnErr result
         (IsToldPart P.hears (length events.now) progress.old progress.new) }
+    ensures unrun { OnErr result IsUnrun }
 {
-    let mut steps = Vec::with_capacity(alloc, events.len())?;
+    let mut steps = room_for(alloc, events)?;
     let mut rest = events;
     while !rest.is_empty() {
         progress.reached(steps.len(), events.len());
         let (next, others) = rest.split_at(rest.len().min(AT_A_TIME));
-        steps.append(&mut next_steps(world, next)?)?;
+        append(&mut steps, next_steps(world, next)?, next)?;
         rest = others;
     }
     Ok(steps)
 }
 
+/// Room for the steps of events.
+#[tactic(auto, unfolding(crate::specs::Refusals::WasUnrun))]
+fn room_for(alloc: Global, events: &[WorldEvent]) -> Result<Vec<Step>, NoMemory>
+    ensures items { IfOk result (λ steps. steps.items ≡ []) }
+    ensures unrun { OnErr result (WasUnrun events.now) }
+{
+    Ok(Vec::with_capacity(alloc, events.len())?)
+}
+
+/// Puts the steps of events behind others.
+#[tactic(auto, unfolding(crate::specs::Refusals::WasUnrun))]
+fn append(steps: &mut Vec<Step>, more: Vec<Step>, _events: &[WorldEvent]) -> Result<(), NoMemory>
+    ensures items { OnOk result (steps.new.items ≡ steps.old.items ++ more.items) }
+    ensures unrun { OnErr result (WasUnrun _events.now) }
+{
+    let mut more = more;
+    steps.append(&mut more)?;
+    Ok(())
+}
+
 /// What the next few events do to a world, in order.
+#[tactic(auto, unfolding(crate::specs::Refusals::WasUnrun))]
 fn next_steps(world: &mut World<'_>, events: &[WorldEvent]) -> Result<Vec<Step>, NoMemory>
-    ensures { IfOk result (λ steps. AreSteps world.old events.now steps.items world.new) }
+    ensures unrun { OnErr result (WasUnrun events.now) }
+    ensures steps { IfOk result (λ steps. AreSteps world.old events.now steps.items world.new) }
 {
     world.run(events)
 }

@@ -4,10 +4,12 @@ use Rattle.frame_sim.specs.declared.events.Step.{Step}
 use Rattle.frame_sim.specs.Status.{run_status}
 use Rattle.frame_sim.specs.Tapes.{AreTaken, RefusesOne}
 use Rattle.outlets.specs.Printed.{IsBegun}
+use Rattle.faults.specs.Faults.{of_print}
 use Rattle.faults.specs.declared.faults.Fault.TheVariants.{NoMemory, NotWritten}
+use Rattle.simulation.specs.Refusals.{IsRefused}
 use Rattle.simulation.specs.Tapes.{StopsTaped}
 use Rattle.simulation.specs.Texts.{run_lines}
-use Rattle.simulation.proofs.Playing.{handed_on, none_taped, of_each, on_err}
+use Rattle.simulation.proofs.Playing.{handed_on, none_taped, on_err, refused_print}
 use Rattle.simulation.proofs.Telling.{told-some}
 use Rattle.simulation.proofs.simulation.played.Goals as goal
 
@@ -22,7 +24,7 @@ returns-in_err-print-clause-begun g c = on_err c.from_residual-in_err-print.resu
   steps = c.in_ok-steps.steps.items;
   last = c.steps_of.new.world;
   answers = c.in_ok-steps.ensures.steps;
-  begun = subst (λ (ss : List Step). IsBegun (g.O.Write.contents c.args.output.now) (g.O.Write.contents c.print.new.output) (run_lines c.args.events.now ss c.steps_of.new.world)) c.as_slice-2.ensures.value c.in_err-print.ensures;
+  begun = subst (λ (ss : List Step). IsBegun (g.O.Write.contents c.args.output.now) (g.O.Write.contents c.print.new.output) (run_lines c.args.events.now ss c.steps_of.new.world)) c.as_slice-2.ensures.value c.in_err-print.ensures.printed;
 }))
 
 pub returns-clause-run : goal.returns-clause-run
@@ -33,7 +35,7 @@ returns-clause-run g c = record {
     refusals = c.status_of.ensures ∙ ap (λ xs. run_status xs) c.as_slice-3.ensures.value;
   };
   taken = subst (λ (ss : List Step). AreTaken g.T.Tape.takes c.steps_of.new.world c.args.tape.now c.args.events.now ss c.take_down.new.tape) c.as_slice.ensures.value c.in_ok-take_down.ensures.taken;
-  text = subst (λ (ss : List Step). Appends (g.O.Write.contents c.args.output.now) (g.O.Write.contents c.print.new.output) (run_lines c.args.events.now ss c.steps_of.new.world)) c.as_slice-2.ensures.value c.in_ok-print.ensures;
+  text = subst (λ (ss : List Step). Appends (g.O.Write.contents c.args.output.now) (g.O.Write.contents c.print.new.output) (run_lines c.args.events.now ss c.steps_of.new.world)) c.as_slice-2.ensures.value c.in_ok-print.ensures.printed;
 }
 
 pub returns-in_err-steps-clause-overheard : goal.returns-in_err-steps-clause-overheard
@@ -48,7 +50,7 @@ returns-in_err-print-clause-overheard g c = on_err c.from_residual-in_err-print.
 pub returns-in_err-steps-clause-stopped : goal.returns-in_err-steps-clause-stopped
 returns-in_err-steps-clause-stopped g c = handed_on c.from_residual.result
     (StopsTaped g.T.Tape.takes g.T.Tape.refuses g.O.Write.contents c.args.world.now c.args.events.now c.args.tape.now c.args.tape.now c.args.output.now c.args.output.now)
-    NoMemory c.from_residual.ensures.1 (none_taped _ _ _ _ _ _ _ _ refl)
+    NoMemory c.from_residual.ensures.1 (none_taped _ _ _ _ _ _ _ _ (inr (inr c.in_err-steps.ensures.unrun)) refl)
 
 pub returns-in_err-take_down-clause-stopped : goal.returns-in_err-take_down-clause-stopped
 returns-in_err-take_down-clause-stopped g c = handed_on c.from_residual-in_err-take_down.result
@@ -64,14 +66,21 @@ returns-in_err-take_down-clause-stopped g c = handed_on c.from_residual-in_err-t
     }))
 
 pub returns-in_err-print-clause-stopped : goal.returns-in_err-print-clause-stopped
-returns-in_err-print-clause-stopped g c = of_each c.from_residual-in_err-print.result
+returns-in_err-print-clause-stopped g c = handed_on c.from_residual-in_err-print.result
     (StopsTaped g.T.Tape.takes g.T.Tape.refuses g.O.Write.contents c.args.world.now c.args.events.now c.args.tape.now c.take_down.new.tape c.args.output.now c.print.new.output)
-    (λ why. inr (record {
+    (of_print c.in_err-print.field-0.0) c.from_residual-in_err-print.ensures.1 (inr (record {
       steps = c.in_ok-steps.steps.items;
       last = c.steps_of.new.world;
       answers = c.in_ok-steps.ensures.steps;
       stopped = inr (
         subst (λ (ss : List Step). AreTaken g.T.Tape.takes c.steps_of.new.world c.args.tape.now c.args.events.now ss c.take_down.new.tape) c.as_slice.ensures.value c.in_ok-take_down.ensures.taken,
-        subst (λ (ss : List Step). IsBegun (g.O.Write.contents c.args.output.now) (g.O.Write.contents c.print.new.output) (run_lines c.args.events.now ss c.steps_of.new.world)) c.as_slice-2.ensures.value c.in_err-print.ensures,
+        (
+          subst (λ (ss : List Step). IsBegun (g.O.Write.contents c.args.output.now) (g.O.Write.contents c.print.new.output) (run_lines c.args.events.now ss c.steps_of.new.world)) c.as_slice-2.ensures.value c.in_err-print.ensures.printed,
+          c.in_err-print.ensures.refused,
+        ),
       );
     }))
+
+pub returns-in_err-print-clause-refused : goal.returns-in_err-print-clause-refused
+returns-in_err-print-clause-refused g c = handed_on c.from_residual-in_err-print.result (IsRefused (g.O.Write.contents c.print.new.output))
+    (of_print c.in_err-print.field-0.0) c.from_residual-in_err-print.ensures.1 (refused_print _ _ c.in_err-print.ensures.refused)

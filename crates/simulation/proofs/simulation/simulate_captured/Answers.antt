@@ -24,10 +24,10 @@ returns-clause-begun g c = begins_script c.play.result _ _ c.in_ok-job.job _ _ c
 pub returns-in_err-job-clause-leaves : goal.returns-in_err-job-clause-leaves
 returns-in_err-job-clause-leaves g c =
     let p = err_from_is_err_and c.from_residual.result c.from_residual.ensures.1 in
-    rw (p.1, p.2) (leaves_texts _ _ _ c.in_err-job.field-0.0 c.in_err-job.ensures.told c.in_err-job.ensures.read)
+    rw (p.1, p.2) (leaves_texts _ _ _ c.in_err-job.field-0.0 c.in_err-job.ensures.told c.in_err-job.ensures.read c.in_err-job.ensures.unread)
 
 pub returns-clause-leaves : goal.returns-clause-leaves
-returns-clause-leaves g c = leaves_begun c.play.result _ _ c.in_ok-job.job _ _ c.in_ok-job.ensures.job c.in_ok-job.ensures.good c.play.ensures.fault
+returns-clause-leaves g c = leaves_begun c.play.result _ _ c.in_ok-job.job _ _ c.in_ok-job.ensures.job c.in_ok-job.ensures.good c.play.ensures.refused
     (subst (λ (es : List WorldEvent). OnErr c.play.result (Begins (founding c.in_ok-job.job.settings) es (g.O.Write.contents c.args.output.now) (g.O.Write.contents c.play.new.output))) c.as_slice.ensures.value c.play.ensures.begun)
 
 pub returns-clause-watched : goal.returns-clause-watched
@@ -50,7 +50,7 @@ returns-in_err-job-clause-overheard g c = on_err c.from_residual.result (0, (0, 
 pub returns-in_err-job-clause-stopped : goal.returns-in_err-job-clause-stopped
 returns-in_err-job-clause-stopped g c =
     let p = err_from_is_err_and c.from_residual.result c.from_residual.ensures.1 in
-    rw (p.1, p.2) (inl (c.in_err-job.ensures.read, (refl, refl)))
+    rw (p.1, p.2) (inl (c.in_err-job.ensures.read, ((λ same. inl (_, (_, c.in_err-job.ensures.unread same))), (refl, refl))))
 
 pub returns-clause-stopped : goal.returns-clause-stopped
 returns-clause-stopped g c = stops_script c.play.result _ _ _ _ _ c.in_ok-job.job _ _ _ _ c.in_ok-job.ensures.job

@@ -12,9 +12,9 @@ loop-rest-init g c = record {
 pub loop-rest-preserved : goal.loop-rest-preserved
 loop-rest-preserved g c = record {
   under_way = more-done _ _ _ _ c.loop-rest.rest.now _ _ _ _ _ (two-parts _ _ _ _ c.split_at.ensures.front c.split_at.ensures.back)
-      c.in_ok-append.ensures.items c.loop-rest.invariant.under_way c.in_ok-next_steps.ensures;
+      c.in_ok-append.ensures.items c.loop-rest.invariant.under_way c.in_ok-next_steps.ensures.steps;
   told = told-next _ _ _ _ _ c.loop-rest.rest.now _ _ _ _ _ _ _ _ _ _ c.loop-rest.invariant.told (search rules) c.reached.ensures (search rules) (search rules)
-      (search rules) c.split_at.ensures.front c.split_at.ensures.back c.in_ok-next_steps.ensures c.in_ok-append.ensures.items;
+      (search rules) c.split_at.ensures.front c.split_at.ensures.back c.in_ok-next_steps.ensures.steps c.in_ok-append.ensures.items;
 }
 
 pub returns-clause-watched : goal.returns-clause-watched
