@@ -1,5 +1,5 @@
 -- The boot of a gateway that begins.
-use Rattle.std.proofs.Common.{IsErrOf, ◌≡◌, ◌⊎◌, inl, inr, ◌<◌, ◌≤◌, ℕ, Bool, true, false, Result, Ok, Err, IfOk, refl, sym, ap, ◌∙◌, subst, arith, if◌then◌else◌, ◌++◌, List, [], Option, codes, decimal, append_assoc, append-nil}
+use Rattle.std.proofs.Common.{IsErrOf, ◌≡◌, ◌⊎◌, inl, inr, ◌<◌, ◌≤◌, ℕ, Bool, true, false, Result, Ok, Err, refl, sym, ap, ◌∙◌, subst, arith, if◌then◌else◌, ◌++◌, List, [], Option, codes, decimal, append_assoc, append-nil}
 use Rattle.std.proofs.lemmas.Bool.{cases_lt}
 use Rattle.std.proofs.KnownBytes.{Appends-kept}
 use Rattle.std.specs.Io.KnownBytes.{Appends, Keeps}
@@ -32,10 +32,10 @@ of_either settings id hashers boot true = of_founded settings hashers boot
 of_either settings id hashers boot false = of_begun settings id hashers boot
 
 -- a gateway that begins so is a start
-pub is_start : {E : Type 0} (settings : Settings) (id : GatewayId) (boot : ℕ) (found : Bool) (hashers : Hashers) (r : Result Shown E)
-    → IfOk r (λ g. g ≡ hashing hashers (if found then founded settings boot else begun settings id boot)) → IfOk r (IsStart settings id found hashers boot)
+pub is_start : (settings : Settings) (id : GatewayId) (boot : ℕ) (found : Bool) (hashers : Hashers) (g : Shown)
+    → g ≡ hashing hashers (if found then founded settings boot else begun settings id boot) → IsStart settings id found hashers boot g
 unfolding IsStart
-is_start settings id boot found hashers r is = is
+is_start settings id boot found hashers g is = is
 
 -- and is in that boot
 pub own_boot : (settings : Settings) (id : GatewayId) (found : Bool) (hashers : Hashers) (boot : ℕ) (g : Shown)

@@ -2,29 +2,29 @@
 use Rattle.std.proofs.Common.{◌≡◌, ◌⊎◌, inl, inr, ℕ, List, Option, Some, Result, Ok, Err, IfErr, OnOk, codes}
 use Rattle.std.specs.Io.KnownBytes.{Appends}
 use Rattle.box_words.specs.declared.refusals.BoxFault.{BoxFault}
-use Rattle.supervision.specs.Hearing.{Hears}
+use Rattle.supervision.specs.declared.managers.Manager.{Manager}
 use Rattle.gate.specs.Boots.{boot_line}
 use Rattle.gate.specs.Failing.{IsUnbegun, LacksOutput}
 use Rattle.gate.specs.Named.{WasLetGo}
 use Rattle.gate.specs.Told.{HearsOne, HearsSome, IsUnheard}
 
 -- behind a run, whose boot's line was printed, it is its end that output refused
-pub unheard_behind : {T S : Type 0} (r : Result T BoxFault) (hears : Hears S) (boot : ℕ) (before between after : Option (List ℕ)) (s s2 : S)
-    → Appends before between (boot_line boot) → HearsOne hears boot s s2
-    → IfErr r (LacksOutput (codes "end\n") between after) → IfErr r (IsUnheard hears before after s s2)
-unheard_behind (Ok x) hears boot before between after s s2 printed heard is = tt
-unheard_behind (Err why) hears boot before between after s s2 printed heard is = inr (boot, ((between, (printed, is)), heard))
+pub unheard_behind : {T : Type 0} (r : Result T BoxFault) (boot : ℕ) (before between after : Option (List ℕ)) (m m2 : Option Manager)
+    → Appends before between (boot_line boot) → HearsOne boot m m2
+    → IfErr r (LacksOutput (codes "end\n") between after) → IfErr r (IsUnheard before after m m2)
+unheard_behind (Ok x) boot before between after m m2 printed heard is = tt
+unheard_behind (Err why) boot before between after m m2 printed heard is = inr (boot, ((between, (printed, is)), heard))
 
 -- and where no capture is begun, the manager is as it was
-pub unheard_tapped : {T S W : Type 0} (r : Result T BoxFault) (hears : Hears S) (boot : ℕ) (before between after : Option (List ℕ)) (path : List ℕ) (wire : W) (A C D : Type 0) (s s2 : S)
+pub unheard_tapped : {T W : Type 0} (r : Result T BoxFault) (boot : ℕ) (before between after : Option (List ℕ)) (path : List ℕ) (wire : W) (A C D : Type 0) (m m2 : Option Manager)
     → Appends before between (boot_line boot)
-    → IfErr r (λ why. (LacksOutput (codes "end\n") between after why × (A × HearsOne hears boot s s2)) ⊎ ((IsUnbegun (Some path) why × WasLetGo wire) × (C × ((s2 ≡ s) × D))))
-    → IfErr r (IsUnheard hears before after s s2)
-unheard_tapped (Ok x) hears boot before between after path wire A C D s s2 printed is = tt
-unheard_tapped (Err why) hears boot before between after path wire A C D s s2 printed (inl lacks) = inr (boot, ((between, (printed, lacks.0)), lacks.1.1))
-unheard_tapped (Err why) hears boot before between after path wire A C D s s2 printed (inr unbegun) = inl unbegun.1.1.0
+    → IfErr r (λ why. (LacksOutput (codes "end\n") between after why × (A × HearsOne boot m m2)) ⊎ ((IsUnbegun (Some path) why × WasLetGo wire) × (C × ((m2 ≡ m) × D))))
+    → IfErr r (IsUnheard before after m m2)
+unheard_tapped (Ok x) boot before between after path wire A C D m m2 printed is = tt
+unheard_tapped (Err why) boot before between after path wire A C D m m2 printed (inl lacks) = inr (boot, ((between, (printed, lacks.0)), lacks.1.1))
+unheard_tapped (Err why) boot before between after path wire A C D m m2 printed (inr unbegun) = inl unbegun.1.1.0
 
 -- what is told of a run in a boot is told of one in some boot
-pub heard_in_some : {T E S : Type 0} (r : Result T E) (hears : Hears S) (boot : ℕ) (s s2 : S) → OnOk r (HearsOne hears boot s s2) → OnOk r (HearsSome hears s s2)
-heard_in_some (Ok x) hears boot s s2 heard = (boot, heard)
-heard_in_some (Err e) hears boot s s2 heard = tt
+pub heard_in_some : {T E : Type 0} (r : Result T E) (boot : ℕ) (m m2 : Option Manager) → OnOk r (HearsOne boot m m2) → OnOk r (HearsSome m m2)
+heard_in_some (Ok x) boot m m2 heard = (boot, heard)
+heard_in_some (Err e) boot m m2 heard = tt

@@ -1,6 +1,6 @@
 mod Asking
 mod Beginning
-mod Failing
+mod Below
 mod Heard
 mod Recorded
 mod Refusing

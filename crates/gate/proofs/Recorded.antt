@@ -1,9 +1,13 @@
 -- What a log was handed of a start that is refused.
-use Rattle.std.proofs.Common.{◌≡◌, ◌⊎◌, inl, inr, subst, sym, ℕ, List, Option, Some, Result, Ok, Err, IfErr, codes}
+use Rattle.std.proofs.Common.{◌≡◌, ◌⊎◌, inl, inr, subst, sym, ℕ, List, Option, Some, None, is_some, false, true≢false, Result, Ok, Err, IfErr, OnOk, codes}
+use Rattle.std.specs.Borrow.{Bor}
 use Rattle.std.specs.Io.KnownBytes.{Appends}
 use Rattle.box_words.specs.declared.refusals.BoxFault.{BoxFault}
 use Rattle.gate.specs.Boots.{boot_line}
 use Rattle.gate.specs.Failing.{IsUnbegun, LacksOutput}
+use Rattle.gate.specs.Asked.{path_in}
+use Rattle.gate.specs.Logs.{IsRecorded, IsToldAtMost, IsToldLeftOut}
+use Rattle.gate.specs.Named.{WasRecorded}
 use Rattle.gate.specs.Orders.{IsUnrecorded}
 
 -- behind a run its boot's line was printed before
@@ -27,3 +31,23 @@ recorded_tapped (Err why) contents path capture boot output between output2 log 
     subst (λ o. Appends (contents output) (contents o) (boot_line boot)) (sym unbegun.1.0) printed,
   ),
 )
+
+-- so it was told at most of a start that has begun
+pub told_behind : {L : Type 0} (capture : Option (List ℕ)) (path : List ℕ) (boot : ℕ) (log between log2 : L) → capture ≡ Some path → WasRecorded log boot between
+    → (log2 ≡ between) ⊎ IsToldLeftOut between log2 → IsToldAtMost capture log log2
+told_behind capture path boot log between log2 same told (inl alone) = inr (inl (boot, subst (λ l. WasRecorded log boot l) (sym alone) told))
+told_behind capture path boot log between log2 same told (inr left) =
+    inr (inr (subst (λ p. IsRecorded p log log2) (sym same) (boot, (between, (told, left)))))
+
+-- where there is a capture its record comes behind that of the boot
+pub recorded_both : {T E L : Type 0} (r : Result T E) (capture : Option (List ℕ)) (path : List ℕ) (boot : ℕ) (log between log2 : L) → capture ≡ Some path
+    → WasRecorded log boot between → OnOk r (IsToldLeftOut between log2) → OnOk r (IsRecorded capture log log2)
+recorded_both (Ok x) capture path boot log between log2 same told left =
+    subst (λ p. IsRecorded p log log2) (sym same) (boot, (between, (told, left)))
+recorded_both (Err e) capture path boot log between log2 same told left = tt
+
+-- and where there is none that stands alone
+pub recorded_alone : {T E L : Type 0} (r : Result T E) (capture : Option (Bor (List ℕ))) (log log2 : L) → is_some capture ≡ false → OnOk r (IsRecorded None log log2)
+    → OnOk r (IsRecorded (path_in capture) log log2)
+recorded_alone r (Some path) log log2 none told = absurd (true≢false none)
+recorded_alone r None log log2 none told = told

@@ -1,122 +1,32 @@
 -- What is known of a fault at which a start ends.
-use Rattle.std.proofs.Common.{◌≡◌, ◌⊎◌, ⊎_elim, inl, inr, subst, sym, refl, ℕ, Bool, List, [], ◌∷◌, Option, Some, None, Result, Ok, Err, IfErr, codes}
+use Rattle.std.proofs.Common.{◌≡◌, ◌⊎◌, inl, inr, subst, sym, refl, ℕ, Bool, List, [], ◌∷◌, Option, Some, None, Result, Ok, Err, IfErr, IsErrAnd, codes}
 use Rattle.std.specs.Io.KnownBytes.{Appends}
 use Rattle.boot_store.specs.Crash.{Decides}
 use Rattle.boot_store.specs.Moment.{Moment}
 use Rattle.sockets.specs.declared.ends.End.{End}
 use Rattle.sockets.specs.declared.places.Ports.{Ports}
 use Rattle.box_words.specs.Ends.{AsksSystem, IsAsked, IsFirstRefused, by_system}
-use Rattle.box_words.specs.Faults.{IsBeforeBoot, IsOfRun}
 use Rattle.box_words.specs.declared.refusals.BoxFault.{BoxFault}
-use Rattle.box_words.specs.declared.refusals.BoxFault.TheVariants as fault
 use Rattle.gate.specs.Boots.{boot_line}
 use Rattle.gate.specs.Failing.{IsUnbegun, IsUnrun, IsUnstarted, LacksOutput}
 use Rattle.gate.specs.Named.{WasGiven, boot_number}
 use Rattle.gate.specs.Orders.{IsInOrder, IsInSomeOrder, IsSilentOrTaken}
 
--- a fault of a capture that isn't begun is one of a run
-pub unbegun_of_run : (capture : Option (List ℕ)) (why : BoxFault) → IsUnbegun capture why → IsOfRun why
-unbegun_of_run capture (fault.Run reason) is = tt
-unbegun_of_run capture (fault.NoWay side) is = absurd is
-unbegun_of_run capture fault.NoWayOfLink is = absurd is
-unbegun_of_run capture (fault.NoDescriptor reason) is = absurd is
-unbegun_of_run capture fault.NoManager is = absurd is
-unbegun_of_run capture (fault.NotOpen reason) is = absurd is
-unbegun_of_run capture (fault.NoSocket end) is = absurd is
-unbegun_of_run capture (fault.NoControl path) is = absurd is
-unbegun_of_run capture fault.LongPath is = absurd is
-unbegun_of_run capture fault.Device is = absurd is
-unbegun_of_run capture fault.Damaged is = absurd is
-unbegun_of_run capture fault.BootsUsedUp is = absurd is
-unbegun_of_run capture fault.FoundTwice is = absurd is
-unbegun_of_run capture fault.InUse is = absurd is
-unbegun_of_run capture (fault.NoFilter part) is = absurd is
-unbegun_of_run capture (fault.NoCapture reason) is = absurd is
-unbegun_of_run capture (fault.PeerOff reason) is = absurd is
-unbegun_of_run capture (fault.NoReport reason) is = absurd is
-unbegun_of_run capture fault.NotSynced is = absurd is
+-- what holds of a fault that is handed on holds of the end by it
+pub handed_on : {T : Type 0} (r : Result T BoxFault) (P : BoxFault → Type 0) (why : BoxFault) → IsErrAnd r (λ e. e ≡ why) → P why → IfErr r P
+handed_on (Ok x) P why is p = tt
+handed_on (Err e) P why is p = subst P (sym is) p
 
--- which there is only where there is to be a capture
-unbegun_without : (why : BoxFault) → IsUnbegun None why → ⊥
-unbegun_without (fault.Run reason) is = absurd is.1
-unbegun_without (fault.NoWay side) is = absurd is
-unbegun_without fault.NoWayOfLink is = absurd is
-unbegun_without (fault.NoDescriptor reason) is = absurd is
-unbegun_without fault.NoManager is = absurd is
-unbegun_without (fault.NotOpen reason) is = absurd is
-unbegun_without (fault.NoSocket end) is = absurd is
-unbegun_without (fault.NoControl path) is = absurd is
-unbegun_without fault.LongPath is = absurd is
-unbegun_without fault.Device is = absurd is
-unbegun_without fault.Damaged is = absurd is
-unbegun_without fault.BootsUsedUp is = absurd is
-unbegun_without fault.FoundTwice is = absurd is
-unbegun_without fault.InUse is = absurd is
-unbegun_without (fault.NoFilter part) is = absurd is
-unbegun_without (fault.NoCapture reason) is = absurd is
-unbegun_without (fault.PeerOff reason) is = absurd is
-unbegun_without (fault.NoReport reason) is = absurd is
-unbegun_without fault.NotSynced is = absurd is
-
--- which is of nothing before the boot number
-run_behind : {A : Type 0} (why : BoxFault) → IsOfRun why → IsBeforeBoot why → A
-run_behind (fault.Run reason) is before = absurd before
-run_behind (fault.NoWay side) is before = absurd is
-run_behind fault.NoWayOfLink is before = absurd is
-run_behind (fault.NoDescriptor reason) is before = absurd is
-run_behind fault.NoManager is before = absurd is
-run_behind (fault.NotOpen reason) is before = absurd is
-run_behind (fault.NoSocket end) is before = absurd is
-run_behind (fault.NoControl path) is before = absurd is
-run_behind fault.LongPath is before = absurd is
-run_behind fault.Device is before = absurd is
-run_behind fault.Damaged is before = absurd is
-run_behind fault.BootsUsedUp is before = absurd is
-run_behind fault.FoundTwice is before = absurd is
-run_behind fault.InUse is before = absurd is
-run_behind (fault.NoFilter part) is before = absurd is
-run_behind (fault.NoCapture reason) is before = absurd is
-run_behind (fault.PeerOff reason) is before = absurd is
-run_behind (fault.NoReport reason) is before = absurd is
-run_behind fault.NotSynced is before = absurd is
-
--- nor is one of a gateway that isn't started
-start_behind : {A : Type 0} (why : BoxFault) → IsUnstarted why → IsBeforeBoot why → A
-start_behind (fault.Run reason) is before = absurd before
-start_behind (fault.NoWay side) is before = absurd is
-start_behind fault.NoWayOfLink is before = absurd is
-start_behind (fault.NoDescriptor reason) is before = absurd is
-start_behind fault.NoManager is before = absurd is
-start_behind (fault.NotOpen reason) is before = absurd is
-start_behind (fault.NoSocket end) is before = absurd is
-start_behind (fault.NoControl path) is before = absurd is
-start_behind fault.LongPath is before = absurd is
-start_behind fault.Device is before = absurd before
-start_behind fault.Damaged is before = absurd before
-start_behind fault.BootsUsedUp is before = absurd before
-start_behind fault.FoundTwice is before = absurd before
-start_behind fault.InUse is before = absurd is
-start_behind (fault.NoFilter part) is before = absurd is
-start_behind (fault.NoCapture reason) is before = absurd is
-start_behind (fault.PeerOff reason) is before = absurd is
-start_behind (fault.NoReport reason) is before = absurd is
-start_behind fault.NotSynced is before = absurd is
-
--- and so does what ends with one
-pub ends_unstarted : {T : Type 0} (A : Type 0) (r : Result T BoxFault) → IfErr r IsUnstarted → IfErr r (λ why. IsBeforeBoot why → A)
-ends_unstarted A (Ok x) is = tt
-ends_unstarted A (Err why) is = start_behind why is
-
-pub ends_unrun : {T : Type 0} (A : Type 0) (capture : Option (List ℕ)) (r : Result T BoxFault) → IfErr r (IsUnrun capture) → IfErr r (λ why. IsBeforeBoot why → A)
-ends_unrun A capture (Ok x) is = tt
-ends_unrun A capture (Err why) is =
-    ⊎_elim (λ unbegun. run_behind why (unbegun_of_run capture why unbegun.1)) (start_behind why) is
+-- what isn't run is so, whatever else may be
+pub so_or : {T : Type 0} (r : Result T BoxFault) (P : BoxFault → Type 0) (A : Type 0) → IfErr r P → IfErr r (λ why. P why ⊎ A)
+so_or (Ok x) P A is = tt
+so_or (Err why) P A is = inl is
 
 -- output that isn't written is a fault of a gateway that isn't started
 pub unwritten_unstarted : {T : Type 0} (r : Result T BoxFault) (text : List ℕ) (before after : Option (List ℕ)) → WasGiven boot_number
     → IfErr r (LacksOutput text before after) → IfErr r IsUnstarted
 unwritten_unstarted (Ok x) text before after given is = tt
-unwritten_unstarted (Err why) text before after given is = subst IsUnstarted (sym is.is) (inl (refl, (given, is.denied)))
+unwritten_unstarted (Err why) text before after given is = inl (is.is, (given, is.denied))
 
 -- where only this is so, it is, with what was had before
 pub only_this : {T : Type 0} (r : Result T BoxFault) (P Q : BoxFault → Type 0) (A : Type 0) → A → IfErr r P → IfErr r (λ why. (P why × A) ⊎ Q why)
@@ -169,7 +79,7 @@ pub unrun_so : {T : Type 0} (result : Result T BoxFault) (A B C : Type 0) (text 
     → IfErr result (λ why. (LacksOutput text between after why × A) ⊎ ((IsUnbegun (Some path) why × B) × C)) → IfErr result (IsUnrun capture)
 unrun_so (Ok x) A B C text between after path capture same given is = tt
 unrun_so (Err why) A B C text between after path capture same given (inl lacks) =
-    inr (subst IsUnstarted (sym lacks.0.is) (inl (refl, (given, lacks.0.denied))))
+    inr (inl (lacks.0.is, (given, lacks.0.denied)))
 unrun_so (Err why) A B C text between after path capture same given (inr unbegun) =
     inl (given, subst (λ p. IsUnbegun p why) (sym same) unbegun.0.0)
 
@@ -179,7 +89,7 @@ pub with_capture : {O : Type 0} (contents : O → Option (List ℕ)) (capture : 
     → IsInOrder contents capture honest found before after why output output2
 with_capture contents capture honest found before after why output output2 (inl same) = inl same
 with_capture contents capture honest found before after why output output2 (inr (boot, (taken, inl lacks))) = inr (boot, (taken, inl lacks))
-with_capture contents capture honest found before after why output output2 (inr (boot, (taken, inr unbegun))) = absurd (unbegun_without why unbegun.0)
+with_capture contents capture honest found before after why output output2 (inr (boot, (taken, inr unbegun))) = absurd unbegun.0
 
 -- what is in order of a disk is so of some disk
 pub of_some_disk : {T O D : Type 0} (result : Result T BoxFault) (contents : O → Option (List ℕ)) (capture : Option (List ℕ)) (honest : D → Type 0) (now : D → Moment) (found : Bool)

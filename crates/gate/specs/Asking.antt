@@ -4,8 +4,10 @@ use Rattle.std.specs.Borrow.{Bor}
 use Rattle.settings.specs.declared.whole.Settings.{Settings}
 use Rattle.control.specs.Paths.{socket_of}
 use Rattle.sockets.specs.declared.ways.Ways.{Ways}
+use Rattle.supervision.specs.Descriptors.{IsSetOnce}
+use Rattle.supervision.specs.Managers.{IsManagerText, IsNoManagerText}
 use Rattle.gate.specs.Asked.{boot_file_of, box_ports, path_in}
-use Rattle.gate.specs.Named.{Need, capture_file, control_socket, locked_file, own_sockets, service_manager, settings_text}
+use Rattle.gate.specs.Named.{Need, capture_file, control_socket, descriptors, locked_file, own_sockets, path_beside, service_manager, settings_text}
 use Rattle.gate.specs.Starts.{AreHeld, AreWays}
 use Rattle.gate.specs.declared.running.Start.{Start}
 
@@ -13,6 +15,11 @@ use Rattle.gate.specs.declared.running.Start.{Start}
 -- only what `Machine` does looks what stands here.
 unfoldable pub WasAsked : {M : Type 0} → M → Need → M → Type 0
 WasAsked before need after = Unit {0}
+
+-- of who takes descriptors over: it was asked for that of a text, once, where the text writes one
+abbrev pub SetsManager : {M : Type 0} → List ℕ → M → M → Type 0
+SetsManager text before after = (IsNoManagerText text × (after ≡ before))
+    ⊎ ((number : ℕ) × (IsManagerText text number × IsSetOnce before number after))
 
 -- it was asked for these, each once, in this order, up to one of them or to the last, and for nothing else
 abbrev pub AsksUpTo : {M : Type 0} → M → List Need → M → Type 0
@@ -36,6 +43,10 @@ listeners start settings ways = control_socket (socket_of (boot_file_of settings
 abbrev pub openings : Start → Settings → Ways → List Need
 openings start settings ways = locked_file (boot_file_of settings start.id) ∷ listeners start settings ways
 
+-- memory for the path of the control socket, and then those
+abbrev pub pathed : Start → Settings → Ways → List Need
+pathed start settings ways = path_beside (boot_file_of settings start.id) ∷ openings start settings ways
+
 -- the service manager whose descriptor a text writes, where there is a text
 abbrev pub AsksManager : {M : Type 0} → M → Option (Bor (List ℕ)) → M → Type 0
 AsksManager m (Some text) m2 = WasAsked m (service_manager text.now) m2
@@ -44,11 +55,16 @@ AsksManager m None m2 = m2 ≡ m
 -- that one, once, and then those
 abbrev pub AsksWatched : {M : Type 0} → M → Start → Settings → Ways → M → Type 0
 AsksWatched {M = M} m start settings ways m2 =
-    (between : M) × (AsksManager m start.notify between × AsksUpTo between (openings start settings ways) m2)
+    (between : M) × (AsksManager m start.notify between × AsksUpTo between (pathed start settings ways) m2)
+
+-- the descriptors of these ways, once, and then nothing, or those
+abbrev pub AsksInherited : {M : Type 0} → M → Start → Settings → Ways → M → Type 0
+AsksInherited {M = M} m start settings ways m2 =
+    (between : M) × (WasAsked m (descriptors ways) between × ((m2 ≡ between) ⊎ AsksWatched between start settings ways m2))
 
 -- by settings it is asked for nothing, or for those of the ways that the start's texts write
 abbrev pub AsksBy : {M : Type 0} → M → Start → Settings → M → Type 0
-AsksBy m start settings m2 = (m2 ≡ m) ⊎ ((ways : Ways) × (AreWays start.ways ways × AsksWatched m start settings ways m2))
+AsksBy m start settings m2 = (m2 ≡ m) ⊎ ((ways : Ways) × (AreWays start.ways ways × AsksInherited m start settings ways m2))
 
 -- The text at the start's path is asked for, once; then nothing; or it holds settings, and then just what these and the ways need.
 abbrev pub AsksFor : {M : Type 0} → M → Start → M → Type 0

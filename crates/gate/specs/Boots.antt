@@ -16,6 +16,7 @@ use Rattle.spec_step.specs.Shown.{Shown}
 use Rattle.spec_step.specs.Founding.{begun, founded, hashing}
 use Rattle.checks.specs.Digests.{digest}
 use Rattle.rounds.specs.declared.desk.Identity.{Identity}
+use Rattle.gate.specs.Named.{WasFlushed}
 
 -- its end of the link has this number for its own
 unfoldable pub HasBoot : ℕ → Shown → Type 0
@@ -30,7 +31,7 @@ IsStart settings id found hashers boot g = g ≡ hashing hashers (if found then 
 abbrev pub boot_line : ℕ → List ℕ
 boot_line boot = codes "boot " ++ decimal boot ++ codes "\n"
 
--- it begins in some boot above 0, its table hashes by keys that were drawn, and the boot's line is what was printed
+-- it begins in some boot above 0, its table hashes by keys that were drawn, and the boot's line is what was printed, and flushed
 pub record HasStarted (settings : Settings) (id : GatewayId) (found : Bool) (before after : Option (List ℕ)) (g : Shown) : Type 0 where
   pub boot : ℕ
   pub above_zero : 0 < boot
@@ -38,6 +39,7 @@ pub record HasStarted (settings : Settings) (id : GatewayId) (found : Bool) (bef
   pub drawn : is_drawn hashers ≡ true
   pub start : IsStart settings id found hashers boot g
   pub printed : Appends before after (boot_line boot)
+  pub flushed : WasFlushed after
 
 -- who a box is, to those who ask: its id, the boot that its gateway is in, and the digest of its settings
 pub record IsIdentity (settings : Settings) (id : GatewayId) (who : Identity) (g : Shown) : Type 0 where

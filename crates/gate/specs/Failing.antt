@@ -1,5 +1,5 @@
 -- Why each part of a start fails, by what it has at hand.
-use Rattle.std.specs.Prelude.{◌≡◌, ◌≢◌, ◌⊎◌, ℕ, List, Option, Some, None, IfSome, IsSomeAnd, MatchOption, string_bytes}
+use Rattle.std.specs.Prelude.{◌≡◌, ◌≢◌, ◌⊎◌, ℕ, List, Option, Some, None, IsSomeAnd, MatchOption, string_bytes}
 use Rattle.std.specs.Borrow.{Bor}
 use Rattle.std.specs.declared.io.ErrorKind.{ErrorKind}
 use Rattle.std.specs.declared.io.ErrorKind.TheVariants.{AlreadyExists, OutOfMemory}
@@ -8,6 +8,7 @@ use Rattle.nat_types.specs.declared.gateways.GatewayId.{GatewayId}
 use Rattle.settings.specs.declared.whole.Settings.{Settings}
 use Rattle.settings_file.specs.Clashes.{clash_of_one}
 use Rattle.settings_file.specs.declared.keys.Key.{Key}
+use Rattle.boot_store.specs.declared.faults.BootFault.{BootFault}
 use Rattle.boot_file.specs.Locks.{IsOfOpening}
 use Rattle.boot_file.specs.declared.faults.FileFault.{FileFault}
 use Rattle.control.specs.Paths.{socket_of}
@@ -23,18 +24,17 @@ use Rattle.faults.specs.declared.faults.Fault.{Fault}
 use Rattle.faults.specs.declared.faults.Fault.TheVariants as run
 use Rattle.faults.specs.declared.files.Refusal.TheVariants.{Exists, NotWritten}
 use Rattle.box_words.specs.Ends.{IsFirstOf}
-use Rattle.box_words.specs.Faults.{TellsBootFile, TellsSettings, TellsSocket, of_clash}
+use Rattle.box_words.specs.Faults.{TellsBootFile, TellsNoPath, TellsSettings, TellsSocket, of_boot, of_clash}
 use Rattle.box_words.specs.declared.refusals.BoxFault.{BoxFault}
 use Rattle.box_words.specs.declared.refusals.BoxFault.TheVariants as fault
-use Rattle.gate.specs.Asked.{IsSaid, IsFilter, boot_file_of, box_ports, on_loopback, path_in}
-use Rattle.gate.specs.Named.{IsOpened, WasDenied, WasGiven, WasRead, WasRefused, begun_capture, boot_number, capture_file, control_socket}
-use Rattle.gate.specs.Named.{locked_file, output, own_sockets, settings_text}
-use Rattle.gate.specs.declared.running.Start.{Start}
+use Rattle.gate.specs.Asked.{IsSaid, box_ports, on_loopback}
+use Rattle.gate.specs.Named.{WasDenied, WasGiven, WasRead, WasRefused, begun_capture, boot_number, capture_file, control_socket, filter}
+use Rattle.gate.specs.Named.{locked_file, new_gateway, output, own_sockets, path_beside, settings_in, settings_text}
 
--- no settings are had at this path: the file gives no text; or it gave this one, which holds none
+-- no settings are had at this path: the file gives no text; or it gave this one, which holds none, or there was no memory for them
 abbrev pub LacksSettings : List ℕ → BoxFault → Type 0
 LacksSettings path (fault.Run why) = (WasDenied (settings_text path) (fault.Run why) × IsUnread path why)
-    ⊎ ((text : List ℕ) × (WasRead path text × TellsSettings text (fault.Run why)))
+    ⊎ ((text : List ℕ) × (WasRead path text × (WasDenied (settings_in text) (fault.Run why) × TellsSettings text (fault.Run why))))
 LacksSettings path other = ⊥
 
 -- a descriptor of a way isn't open: the first that the system refuses
@@ -53,6 +53,10 @@ LacksManager notify other = ⊥
 abbrev pub Clashes : Settings → GatewayId → Ways → BoxFault → Type 0
 Clashes settings id ways why = (key : Key) × (clash_of_one settings id (on_loopback ways) ≡ Some key) × (why ≡ of_clash key)
 
+-- the control socket beside this boot file has no path: it is too long, or there was no memory for it
+abbrev pub LacksPath : List ℕ → BoxFault → Type 0
+LacksPath boot_file why = WasDenied (path_beside boot_file) why × TellsNoPath boot_file why
+
 -- the boot file at this path isn't opened and locked
 abbrev pub LacksBootFile : List ℕ → BoxFault → Type 0
 LacksBootFile path why = WasDenied (locked_file path) why × ((reason : FileFault) × (IsOfOpening reason × TellsBootFile path reason why))
@@ -70,12 +74,12 @@ LacksPlace settings id ways (fault.Run why) =
 LacksPlace settings id ways other = ⊥
 
 -- No filter of the records is had: this part is the first of the option's text that is no directive; or there is no option, and it is so of the
--- environment's text, or names the variable, which holds no text.
+-- environment's text, or names the variable, which holds no text. Or there was no memory for it.
 abbrev pub LacksFilter : Option (Bor (List ℕ)) → BoxFault → Type 0
 LacksFilter option (fault.NoFilter part) = MatchOption option
     (((string_bytes part ≡ VARIABLE.now) × IsNoText) ⊎ IsSaid (λ text. invalid_spec text ≡ Some (string_bytes part)))
     (λ text. invalid_spec text.now ≡ Some (string_bytes part))
-LacksFilter option (fault.Run why) = why ≡ run.NoMemory
+LacksFilter option (fault.Run why) = (why ≡ run.NoMemory) × WasDenied filter (fault.Run run.NoMemory)
 LacksFilter option other = ⊥
 
 -- just this is told of the capture in the file at a path, which can't be opened or begun for this cause; or there is no memory to tell it
@@ -85,21 +89,20 @@ pub record IsOfCause (path : List ℕ) (cause : ErrorKind) (why : Fault) : Type 
   pub exists : cause ≡ AlreadyExists → Tells Exists path None why
   pub unwritten : cause ≢ OutOfMemory → cause ≢ AlreadyExists → Tells NotWritten path (Some cause) why
 
--- so it is of the file of the capture, where there is to be one
-abbrev pub IsOfCaptureAt : Option (List ℕ) → Fault → Type 0
-IsOfCaptureAt (Some path) why = (cause : ErrorKind) × IsOfCause path cause why
-IsOfCaptureAt None why = ⊥
+-- so it is for some cause
+abbrev pub IsOfSomeCause : List ℕ → Fault → Type 0
+IsOfSomeCause path why = (cause : ErrorKind) × IsOfCause path cause why
 
--- that file isn't opened
+-- the file of the capture isn't opened, where there is to be one
 abbrev pub LacksCapture : Option (List ℕ) → BoxFault → Type 0
-LacksCapture capture (fault.NoCapture why) =
-    IfSome capture (λ path. WasDenied (capture_file path) (fault.NoCapture why)) × IsOfCaptureAt capture why
+LacksCapture (Some path) (fault.NoCapture why) = WasDenied (capture_file path) (fault.NoCapture why) × IsOfSomeCause path why
 LacksCapture capture other = ⊥
 
 -- no capture is begun in it
 abbrev pub IsUnbegun : Option (List ℕ) → BoxFault → Type 0
-IsUnbegun capture (fault.Run why) = IfSome capture (λ path. WasDenied (begun_capture path) (fault.Run why)) × IsOfCaptureAt capture why
-IsUnbegun capture other = ⊥
+IsUnbegun (Some path) why =
+    (reason : Fault) × ((why ≡ fault.Run reason) × (WasDenied (begun_capture path) (fault.Run reason) × IsOfSomeCause path reason))
+IsUnbegun None why = ⊥
 
 -- output that was handed this text refuses it: just a beginning of it is printed, and nothing behind that
 pub record LacksOutput (text : List ℕ) (before after : Option (List ℕ)) (why : BoxFault) : Type 0 where
@@ -108,41 +111,15 @@ pub record LacksOutput (text : List ℕ) (before after : Option (List ℕ)) (why
   pub refused : WasRefused text before after
   pub begun : IsBegun before after text
 
--- the gateway isn't started, or its end isn't told: it is of the boot number, of memory, or, once there is a number, of output
-abbrev pub IsUnstarted : BoxFault → Type 0
-IsUnstarted (fault.Run why) =
-    ((why ≡ run.NotWritten) × (WasGiven boot_number × WasDenied output (fault.Run run.NotWritten))) ⊎ (why ≡ run.NoMemory)
-IsUnstarted fault.Device = WasDenied boot_number fault.Device
-IsUnstarted fault.Damaged = WasDenied boot_number fault.Damaged
-IsUnstarted fault.BootsUsedUp = WasDenied boot_number fault.BootsUsedUp
-IsUnstarted fault.FoundTwice = WasDenied boot_number fault.FoundTwice
-IsUnstarted other = ⊥
+-- there was no memory, or no seed, for a gateway that begins
+abbrev pub LacksMemory : BoxFault → Type 0
+LacksMemory why = (why ≡ fault.Run run.NoMemory) × WasDenied new_gateway (fault.Run run.NoMemory)
 
--- ---- from each part on
+-- The gateway isn't started, or its end isn't told: once there is a number, output was refused; or there was no memory for it; or no boot number is had.
+abbrev pub IsUnstarted : BoxFault → Type 0
+IsUnstarted why = ((why ≡ fault.Run run.NotWritten) × (WasGiven boot_number × WasDenied output (fault.Run run.NotWritten)))
+    ⊎ (LacksMemory why ⊎ ((reason : BootFault) × ((why ≡ of_boot reason) × WasDenied boot_number (of_boot reason))))
 
 -- the gateway isn't run, with a capture, which is begun only once there is a number, or without
 abbrev pub IsUnrun : Option (List ℕ) → BoxFault → Type 0
 IsUnrun capture why = (WasGiven boot_number × IsUnbegun capture why) ⊎ IsUnstarted why
-
--- Once there is a log, the capture's file isn't opened; or it is, where there is to be one, and the gateway isn't run.
-abbrev pub FailsLogged : Start → BoxFault → Type 0
-FailsLogged start why = LacksCapture (path_in start.capture) why ⊎ (IsOpened (path_in start.capture) × IsUnrun (path_in start.capture) why)
-
--- Once there are sockets, there is no filter; or there is, and it fails behind that.
-abbrev pub FailsWired : Start → BoxFault → Type 0
-FailsWired start why = LacksFilter start.log why ⊎ (IsFilter start.log × FailsLogged start why)
-
--- Once there is a control socket, the others aren't had; or they are, and it fails behind that.
-abbrev pub FailsHeard : Start → Settings → Ways → BoxFault → Type 0
-FailsHeard start settings ways why =
-    LacksPlace settings start.id ways why ⊎ (WasGiven (own_sockets ways (box_ports settings start.id)) × FailsWired start why)
-
--- Once the boot file is locked, there is no control socket beside it; or there is, and it fails behind that.
-abbrev pub FailsLocked : Start → Settings → Ways → BoxFault → Type 0
-FailsLocked start settings ways why = LacksControl (boot_file_of settings start.id) why
-    ⊎ (WasGiven (control_socket (socket_of (boot_file_of settings start.id))) × FailsHeard start settings ways why)
-
--- Once all that a start says was looked at, its boot file isn't locked; or it is, and it fails behind that.
-abbrev pub FailsOpening : Start → Settings → Ways → BoxFault → Type 0
-FailsOpening start settings ways why = LacksBootFile (boot_file_of settings start.id) why
-    ⊎ (WasGiven (locked_file (boot_file_of settings start.id)) × FailsLocked start settings ways why)

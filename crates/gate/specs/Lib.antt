@@ -2,6 +2,7 @@ pub mod Asked
 pub mod Asking
 pub mod Boots
 pub mod Failing
+pub mod Logs
 pub mod Named
 pub mod Orders
 pub mod Served

@@ -5,24 +5,30 @@ use Rattle.sockets.specs.declared.places.Ports.{Ports}
 use Rattle.sockets.specs.declared.ways.Ways.{Ways}
 use Rattle.box_words.specs.declared.refusals.BoxFault.{BoxFault}
 
--- what a start asks the system for: the text of a file of settings, the service manager whose descriptor a text writes, a locked boot file, a control socket, the sockets of the places, all that it
--- needs, the file of a capture, that a capture begins in it, a wire whose packets go there, at the interfaces of a gateway, a boot number, that of
--- the boot file at a path, output
+-- what a start asks the system for: the text of a file of settings, memory for the settings in a text, the descriptors of ways, the service manager whose descriptor a text
+-- writes, memory for the path beside a boot file, a locked boot file, a control socket, the sockets of the places, all that it needs, a filter of
+-- records, the file of a capture, that a capture begins in it, a wire whose packets go there, at the interfaces of a gateway, a seed and memory for a
+-- gateway, a boot number, that of the boot file at a path, output
 pub data Need : Type 0 where
   settings_text : List ℕ → Need
+  settings_in : List ℕ → Need
+  descriptors : Ways → Need
   service_manager : List ℕ → Need
+  path_beside : List ℕ → Need
   locked_file : List ℕ → Need
   control_socket : List ℕ → Need
   own_sockets : Ways → Ports → Need
   all_sockets : Need
+  filter : Need
   capture_file : List ℕ → Need
   begun_capture : List ℕ → Need
   tapped_wire : List ℕ → GatewayId → Need
+  new_gateway : Need
   boot_number : Need
   number_of : List ℕ → Need
   output : Need
 
--- The system gave it. The system says nothing of such a call, so this, and the next five, are no more than names: who asks has one of them,
+-- The system gave it. The system says nothing of such a call, so this, and those below it, are no more than names: who asks has one of them,
 -- and nobody else, since only those functions look what stands here that make the call.
 unfoldable pub WasGiven : Need → Type 0
 WasGiven need = Unit {0}
@@ -46,6 +52,22 @@ WasRefused text before after = Unit {0}
 -- a log that was this was handed the record of this boot, once, and is this since
 unfoldable pub WasRecorded : {L : Type 0} → L → ℕ → L → Type 0
 WasRecorded before boot after = Unit {0}
+
+-- it was handed how many packets a capture left out, where it left any out, once, and is this since
+unfoldable pub WasLeftOut : {L : Type 0} → L → ℕ → L → Type 0
+WasLeftOut before packets after = Unit {0}
+
+-- a log was this when it was made: it was told nothing
+unfoldable pub IsUntold : {L : Type 0} → L → Type 0
+IsUntold log = Unit {0}
+
+-- A log was let go that was told of a start no more than it is to be told, with a capture at this path or without (`IsToldAtMost` of Logs).
+unfoldable pub WasClosed : Option (List ℕ) → Type 0
+WasClosed capture = Unit {0}
+
+-- output that has this, where that is known, was flushed
+unfoldable pub WasFlushed : Option (List ℕ) → Type 0
+WasFlushed contents = Unit {0}
 
 -- a wire or a service manager was this when it was let go: nothing was asked of it, or told it, behind that
 unfoldable pub WasLetGo : {A : Type 0} → A → Type 0

@@ -3,27 +3,25 @@ use Rattle.std.specs.Prelude.{ℕ, List, Option, codes}
 use Rattle.std.specs.Io.KnownBytes.{Appends}
 use Rattle.settings.specs.declared.whole.Settings.{Settings}
 use Rattle.spec_step.specs.Shown.{Shown}
-use Rattle.rounds.specs.Rounds.{Calls, Waits}
+use Rattle.rounds.specs.Rounds.{Calls, WireSays}
 use Rattle.rounds.specs.declared.desk.Identity.{Identity}
 use Rattle.sockets.specs.Doing.{DoesAt}
-use Rattle.sockets.specs.Receiving.{WaitsAt}
 use Rattle.sockets.specs.declared.sockets.Sockets.{Sockets}
 use Rattle.sockets.specs.declared.ways.Ways.{Ways}
-use Rattle.supervision.specs.Hearing.{gets, hears_inside}
 use Rattle.supervision.specs.declared.managers.Manager.{Manager}
 use Rattle.gate.specs.Asked.{IsFilter, IsNotified, IsWatched, boot_file_of, box_ports, path_in}
 use Rattle.gate.specs.Boots.{HasStarted, IsIdentity}
 use Rattle.control.specs.Paths.{socket_of}
-use Rattle.gate.specs.Named.{IsCaptured, WasGiven, WasLetGo, control_socket, locked_file, number_of, own_sockets}
+use Rattle.gate.specs.Named.{IsCaptured, WasClosed, WasGiven, WasLetGo, control_socket, locked_file, number_of, own_sockets}
 use Rattle.gate.specs.Starts.{CanOpen}
 use Rattle.gate.specs.Told.{HearsSome}
-use Rattle.gate.specs.Wires.{IsOfSockets, RanOn}
+use Rattle.gate.specs.Wires.{IsOfSockets, RanOn, says_at}
 use Rattle.gate.specs.declared.running.Start.{Start}
 
 -- With these settings the start's gateway begins, in some boot, whose line is printed; it has its rounds on this wire, which is that of its sockets,
 -- as the box of its id, its boot and the digest of its settings; the wire is let go, and `end` is printed. Where the start has a text for it, there
 -- is a service manager, whose descriptor never waits; a filter of its records, which the text is; and a capture, begun in its file.
-pub record HasRun {W : Type 0} (does : Calls W) (waits : Waits W) (settings : Settings) (start : Start) (wire : W) (before after : Option (List ℕ)) : Type 0
+pub record HasRun {W : Type 0} (does : Calls W) (says : WireSays W) (settings : Settings) (start : Start) (wire : W) (before after : Option (List ℕ)) : Type 0
   where
     pub first : Shown
     pub between : Option (List ℕ)
@@ -32,17 +30,17 @@ pub record HasRun {W : Type 0} (does : Calls W) (waits : Waits W) (settings : Se
     pub identity : IsIdentity settings start.id who first
     pub last : Shown
     pub own : IsOfSockets settings start wire
-    pub ran : RanOn does waits who start first last wire
+    pub ran : RanOn does says who start first last wire
     pub ended : Appends between after (codes "end\n")
     pub numbered : WasGiven (number_of (boot_file_of settings start.id))
     pub watched : IsWatched start.notify
     pub filter : IsFilter start.log
     pub captured : IsCaptured (path_in start.capture)
 
--- the same on the system's sockets, once those of its places were had,
+-- the same on the system's sockets, once those of its places were had, with a log that was told no more of the start than it is to be
 abbrev pub RunsWired : Start → Settings → Ways → Option (List ℕ) → Option (List ℕ) → Type 0
-RunsWired start settings ways before after = WasGiven (own_sockets ways (box_ports settings start.id))
-    × ((wire : Sockets) × HasRun DoesAt WaitsAt settings start wire before after)
+RunsWired start settings ways before after = (WasGiven (own_sockets ways (box_ports settings start.id)) × WasClosed (path_in start.capture))
+    × ((wire : Sockets) × HasRun DoesAt says_at settings start wire before after)
 
 -- and a control socket before,
 abbrev pub RunsLocked : Start → Settings → Ways → Option (List ℕ) → Option (List ℕ) → Type 0
@@ -57,7 +55,7 @@ RunsOpened start settings ways before after =
 -- the service manager that it took over was told just such a run until it was let go, where there is one
 abbrev pub IsToldRun : Start → Type 0
 IsToldRun start = (manager : Option Manager) × ((manager2 : Option Manager)
-    × (IsNotified start.notify manager × (HearsSome (hears_inside gets) manager manager2 × WasLetGo manager2)))
+    × (IsNotified start.notify manager × (HearsSome manager manager2 × WasLetGo manager2)))
 
 -- The settings of a text that was read at the start's path were run so, by ways that its texts write. By what settings and ways say, its
 -- boot file can be opened, and it was had, and so were its sockets. There are such a text, settings and ways: nothing says which.

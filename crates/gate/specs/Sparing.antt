@@ -1,60 +1,80 @@
--- What a start that is refused leaves alone: its sockets and its service manager.
-use Rattle.std.specs.Prelude.{◌⊎◌, ℕ, List, Option}
+-- Why a start is refused, and what it leaves alone then: its sockets and its service manager.
+use Rattle.std.specs.Prelude.{◌≡◌, ◌≤◌, ◌⊎◌, ℕ, List, Option, None, length}
 use Rattle.settings.specs.declared.whole.Settings.{Settings}
+use Rattle.settings_file.specs.Clashes.{clash_of_one}
+use Rattle.control.specs.Paths.{socket_of}
 use Rattle.sockets.specs.Doing.{DoesAt}
-use Rattle.sockets.specs.Receiving.{WaitsAt}
+use Rattle.sockets.specs.Inheriting.{AreUnblocked}
 use Rattle.sockets.specs.declared.sockets.Sockets.{Sockets}
 use Rattle.sockets.specs.declared.ways.Ways.{Ways}
-use Rattle.supervision.specs.Hearing.{gets, hears_inside}
 use Rattle.supervision.specs.declared.managers.Manager.{Manager}
-use Rattle.box_words.specs.Faults.{TellsNoPath}
 use Rattle.box_words.specs.declared.refusals.BoxFault.{BoxFault}
-use Rattle.gate.specs.Asked.{IsNotified, boot_file_of, box_ports}
-use Rattle.gate.specs.Failing.{Clashes, LacksBootFile, LacksControl, LacksDescriptor, LacksManager, LacksPlace, LacksSettings}
-use Rattle.gate.specs.Named.{WasHad, WasLetGo, own_sockets}
-use Rattle.gate.specs.Starts.{CanOpen, ForSome, LackWay, Refuses}
+use Rattle.gate.specs.Asked.{IsFilter, IsNotified, boot_file_of, box_ports, on_loopback, path_in}
+use Rattle.gate.specs.Failing.{Clashes, IsUnrun, LacksBootFile, LacksCapture, LacksControl, LacksDescriptor, LacksFilter, LacksManager, LacksPath}
+use Rattle.gate.specs.Failing.{LacksPlace, LacksSettings}
+use Rattle.gate.specs.Named.{IsOpened, WasClosed, WasGiven, WasHad, WasLetGo, control_socket, locked_file, own_sockets}
+use Rattle.gate.specs.Starts.{AreHeld, AreWays, LackWay}
 use Rattle.gate.specs.Told.{IsUnheard}
-use Rattle.gate.specs.Wires.{IsSpared}
+use Rattle.gate.specs.Wires.{IsSpared, says_at}
 use Rattle.gate.specs.declared.running.Start.{Start}
 
--- Once there is a control socket, the sockets of the places aren't had; or they are these, and they were let go as they were, but for a run at whose
--- end output was refused.
-abbrev pub SparesHeard : Start → Settings → Ways → Option (List ℕ) → Option (List ℕ) → BoxFault → Type 0
-SparesHeard start settings ways before after why = LacksPlace settings start.id ways why
-    ⊎ ((wire : Sockets) × (WasHad (own_sockets ways (box_ports settings start.id)) wire × IsSpared DoesAt WaitsAt settings start before after wire why))
+-- Each of these says why a start is refused from there on: what comes next isn't had, for just this; or it was had, and the start is refused from
+-- that on. So the first that isn't had is told, in this order: the settings, the first text that writes no way, a descriptor of a way, the service
+-- manager, ports that can't be had together, the path of the control socket, the boot file, the control socket, the sockets, the filter, the file of
+-- the capture, the boot number, the capture, output. What the system gives or refuses is said by name, want of memory too.
 
--- once the boot file is locked, there is no control socket beside it, or it is so of the others
-abbrev pub SparesLocked : Start → Settings → Ways → Option (List ℕ) → Option (List ℕ) → BoxFault → Type 0
-SparesLocked start settings ways before after why = LacksControl (boot_file_of settings start.id) why ⊎ SparesHeard start settings ways before after why
+-- the file of the capture, where there is to be one, and behind it the boot number, the capture, and output
+abbrev pub FailsLogged : Start → BoxFault → Type 0
+FailsLogged start why = LacksCapture (path_in start.capture) why ⊎ (IsOpened (path_in start.capture) × IsUnrun (path_in start.capture) why)
 
--- once all that a start says was looked at, its boot file isn't locked, or it is so of its sockets
-abbrev pub SparesOpening : Start → Settings → Ways → Option (List ℕ) → Option (List ℕ) → BoxFault → Type 0
-SparesOpening start settings ways before after why =
-    LacksBootFile (boot_file_of settings start.id) why ⊎ SparesLocked start settings ways before after why
+-- the filter, by which there is a log then, which is told no more of the start than it is to be
+abbrev pub FailsWired : Start → BoxFault → Type 0
+FailsWired start why = LacksFilter start.log why ⊎ ((IsFilter start.log × WasClosed (path_in start.capture)) × FailsLogged start why)
 
--- Once there is a service manager, where there is to be one, ports can't be had together, or the path of the control socket is too long; or its boot file
--- can be opened, and it is so of that.
-abbrev pub SparesApart : Start → Settings → Ways → Option (List ℕ) → Option (List ℕ) → BoxFault → Type 0
-SparesApart start settings ways before after why = Clashes settings start.id ways why ⊎ (TellsNoPath (boot_file_of settings start.id) why
-    ⊎ (CanOpen start settings ways × SparesOpening start settings ways before after why))
+-- The sockets. They are let go as they were, but for a run at whose end output was refused.
+abbrev pub FailsHeard : Start → Settings → Ways → Option (List ℕ) → Option (List ℕ) → BoxFault → Type 0
+FailsHeard start settings ways before after why = LacksPlace settings start.id ways why
+    ⊎ (WasGiven (own_sockets ways (box_ports settings start.id))
+    × ((wire : Sockets) × (WasHad (own_sockets ways (box_ports settings start.id)) wire
+    × (FailsWired start why × IsSpared DoesAt says_at settings start before after wire why))))
 
--- The service manager that it took over was told nothing before, and isn't told anything until it is let go, but for such a run.
-abbrev pub IsUntold : Start → Option (List ℕ) → Option (List ℕ) → BoxFault → Type 0
-IsUntold start before after why = (manager : Option Manager) × ((manager2 : Option Manager)
-    × (IsNotified start.notify manager × (IsUnheard (hears_inside gets) before after manager manager2 why × WasLetGo manager2)))
+-- the control socket
+abbrev pub FailsLocked : Start → Settings → Ways → Option (List ℕ) → Option (List ℕ) → BoxFault → Type 0
+FailsLocked start settings ways before after why = LacksControl (boot_file_of settings start.id) why
+    ⊎ (WasGiven (control_socket (socket_of (boot_file_of settings start.id))) × FailsHeard start settings ways before after why)
 
--- it fails before there is one: it lacks settings, a way, a descriptor or its manager
-abbrev pub FailsBefore : Start → BoxFault → Type 0
-FailsBefore start why = LacksSettings start.settings.now why
-    ⊎ (LackWay start.ways why ⊎ (((ways : Ways) × LacksDescriptor ways why) ⊎ LacksManager start.notify why))
+-- the boot file
+abbrev pub FailsOpening : Start → Settings → Ways → Option (List ℕ) → Option (List ℕ) → BoxFault → Type 0
+FailsOpening start settings ways before after why = LacksBootFile (boot_file_of settings start.id) why
+    ⊎ (WasGiven (locked_file (boot_file_of settings start.id)) × FailsLocked start settings ways before after why)
 
--- Either it fails so, where there are no sockets of its own and nobody to tell; or it sends nothing, and tells its manager nothing, but of a run whose
--- boot's line was printed, and whose end output refused.
-abbrev pub LeavesAlone : Start → Option (List ℕ) → Option (List ℕ) → BoxFault → Type 0
-LeavesAlone start before after why = FailsBefore start why
-    ⊎ (ForSome (λ settings ways. SparesApart start settings ways before after why) × IsUntold start before after why)
+-- the path of the control socket
+abbrev pub FailsApart : Start → Settings → Ways → Option (List ℕ) → Option (List ℕ) → BoxFault → Type 0
+FailsApart start settings ways before after why = LacksPath (boot_file_of settings start.id) why
+    ⊎ ((length (socket_of (boot_file_of settings start.id)) ≤ 107) × FailsOpening start settings ways before after why)
 
--- A start that has printed so is refused by this: by such a fault, and it leaves alone what it has opened.
-pub record IsRefusal (start : Start) (before after : Option (List ℕ)) (why : BoxFault) : Type 0 where
-  pub refuses : Refuses start why
-  pub alone : LeavesAlone start before after why
+-- the ports on loopback
+abbrev pub FailsWatched : Start → Settings → Ways → Option (List ℕ) → Option (List ℕ) → BoxFault → Type 0
+FailsWatched start settings ways before after why = Clashes settings start.id ways why
+    ⊎ ((clash_of_one settings start.id (on_loopback ways) ≡ None) × FailsApart start settings ways before after why)
+
+-- The service manager, where there is to be one. It was told nothing before, and isn't until it is let go, but of such a run.
+abbrev pub FailsInherited : Start → Settings → Ways → Option (List ℕ) → Option (List ℕ) → BoxFault → Type 0
+FailsInherited start settings ways before after why = LacksManager start.notify why
+    ⊎ ((manager : Option Manager) × ((manager2 : Option Manager) × (IsNotified start.notify manager
+    × (FailsWatched start settings ways before after why × (IsUnheard before after manager manager2 why × WasLetGo manager2)))))
+
+-- the descriptors of the ways
+abbrev pub FailsWritten : Start → Settings → Ways → Option (List ℕ) → Option (List ℕ) → BoxFault → Type 0
+FailsWritten start settings ways before after why =
+    LacksDescriptor ways why ⊎ (AreUnblocked ways None × FailsInherited start settings ways before after why)
+
+-- the ways
+abbrev pub FailsHeld : Start → Settings → Option (List ℕ) → Option (List ℕ) → BoxFault → Type 0
+FailsHeld start settings before after why =
+    LackWay start.ways why ⊎ ((ways : Ways) × (AreWays start.ways ways × FailsWritten start settings ways before after why))
+
+-- A start that has printed so is refused by this: the settings aren't had; or it is refused from them on.
+abbrev pub IsRefusal : Start → Option (List ℕ) → Option (List ℕ) → BoxFault → Type 0
+IsRefusal start before after why = LacksSettings start.settings.now why
+    ⊎ ((settings : Settings) × (AreHeld start.settings.now settings × FailsHeld start settings before after why))

@@ -1,23 +1,25 @@
--- What a service manager is told of a start and its run.
+-- What a service manager is told of a start and its run, where there is one.
 use Rattle.std.specs.Prelude.{◌≡◌, ◌⊎◌, ℕ, List, Option}
 use Rattle.box_words.specs.declared.refusals.BoxFault.{BoxFault}
 use Rattle.gate.specs.Orders.{EndIsRefused}
 use Rattle.rounds.specs.Told.{HearsRun}
-use Rattle.supervision.specs.Hearing.{Hears}
+use Rattle.supervision.specs.Hearing.{gets, hears_inside}
+use Rattle.supervision.specs.declared.managers.Manager.{Manager}
 use Rattle.supervision.specs.declared.notices.Notice.TheVariants.{Ready}
 
 -- it is told once that the box is up in this boot, then what a run tells whose rounds end at these moments, and nothing else
-abbrev pub HearsAll : {S : Type 0} → Hears S → ℕ → List ℕ → S → S → Type 0
-HearsAll {S = S} hears boot moments s s2 = (middle : S) × (hears s (Ready boot) middle × HearsRun hears moments middle s2)
+abbrev pub HearsAll : ℕ → List ℕ → Option Manager → Option Manager → Type 0
+HearsAll boot moments m m2 =
+    (middle : Option Manager) × (hears_inside gets m (Ready boot) middle × HearsRun (hears_inside gets) moments middle m2)
 
 -- it is told just that of some run in this boot
-abbrev pub HearsOne : {S : Type 0} → Hears S → ℕ → S → S → Type 0
-HearsOne hears boot s s2 = (moments : List ℕ) × HearsAll hears boot moments s s2
+abbrev pub HearsOne : ℕ → Option Manager → Option Manager → Type 0
+HearsOne boot m m2 = (moments : List ℕ) × HearsAll boot moments m m2
 
 -- in some boot
-abbrev pub HearsSome : {S : Type 0} → Hears S → S → S → Type 0
-HearsSome hears s s2 = (boot : ℕ) × HearsOne hears boot s s2
+abbrev pub HearsSome : Option Manager → Option Manager → Type 0
+HearsSome m m2 = (boot : ℕ) × HearsOne boot m m2
 
 -- it is told nothing at this refusal; or there was a run, whose boot's line was printed, and then output refused its end
-abbrev pub IsUnheard : {S : Type 0} → Hears S → Option (List ℕ) → Option (List ℕ) → S → S → BoxFault → Type 0
-IsUnheard hears before after s s2 why = (s2 ≡ s) ⊎ ((boot : ℕ) × (EndIsRefused before after boot why × HearsOne hears boot s s2))
+abbrev pub IsUnheard : Option (List ℕ) → Option (List ℕ) → Option Manager → Option Manager → BoxFault → Type 0
+IsUnheard before after m m2 why = (m2 ≡ m) ⊎ ((boot : ℕ) × (EndIsRefused before after boot why × HearsOne boot m m2))

@@ -1,12 +1,16 @@
 -- The wire that a box is run on.
-use Rattle.std.specs.Prelude.{◌≡◌, ◌⊎◌, ◌<◌, ℕ, Bool, false, List, length, Option, Some, None, IsTrue}
+use Rattle.std.specs.Prelude.{◌≡◌, ◌⊎◌, ℕ, Bool, List, [], Option, Some, None, is_some}
+use Rattle.inputs.specs.Inputs.{TellsEnd, TellsNoEnd}
 use Rattle.settings.specs.declared.whole.Settings.{Settings}
 use Rattle.spec_step.specs.Shown.{Shown}
 use Rattle.box_words.specs.declared.refusals.BoxFault.{BoxFault}
 use Rattle.rounds.specs.Clocks.{HasRead, Watch, WasNow}
-use Rattle.rounds.specs.Inputs.{InputEnds, InputGoesOn}
-use Rattle.rounds.specs.Rounds.{Box, Calls, IsRun, Waits, begun, most_rounds}
+use Rattle.rounds.specs.Rounds.{Box, Calls, IsRun, WireSays, begun, most_rounds, wire_says}
 use Rattle.rounds.specs.declared.desk.Identity.{Identity}
+use Rattle.rounds.specs.declared.teller.Telling.{Telling}
+use Rattle.sockets.specs.Receiving.{WaitsAt}
+use Rattle.sockets.specs.Showing.{failing_at, losses_at}
+use Rattle.sockets.specs.declared.sockets.Sockets.{Sockets}
 use Rattle.sockets.specs.declared.ways.Ways.{Ways}
 use Rattle.gate.specs.Asked.{box_ports}
 use Rattle.gate.specs.Boots.{IsIdentity}
@@ -14,6 +18,10 @@ use Rattle.gate.specs.Named.{WasHad, WasLetGo, own_sockets, tapped_wire}
 use Rattle.gate.specs.Orders.{EndIsRefused}
 use Rattle.gate.specs.Starts.{AreWays}
 use Rattle.gate.specs.declared.running.Start.{Start}
+
+-- what sockets say: how long they wait, which places fail, and what was lost there
+abbrev pub says_at : WireSays Sockets
+says_at = wire_says WaitsAt (λ s place is. is ≡ failing_at s.board place) (λ s place losses. losses ≡ losses_at s.board place)
 
 -- it is that of the sockets which were had for a start's box, by the ways that its texts write
 abbrev pub IsOfSockets : {W : Type 0} → Settings → Start → W → Type 0
@@ -24,37 +32,39 @@ abbrev pub IsOwnWire : {W : Type 0} → Option (List ℕ) → Settings → Start
 IsOwnWire None settings start wire = IsOfSockets settings start wire
 IsOwnWire (Some path) settings start wire = WasHad (tapped_wire path start.id) wire
 
--- the input doesn't count, or there may be more of it
-abbrev pub MayGoOn : Bool → Type 0
-MayGoOn until_eof = (until_eof ≡ false) ⊎ InputGoesOn
-
 -- A run of a gateway on a wire, by the system's clock, takes both from the first to the second: all that was asked of the wire, for how long, and
--- handed to it is of its rounds and of the one Stop behind them; who asks hears of this box. They end once it was told to end, by its input only
--- where that is watched and is at its end, or had so many; and there is a round only where it may go on. What carriers tell counted or not.
-pub record RunsOn {W : Type 0} (does : Calls W) (waits : Waits W) (who : Identity) (rounds : Option ℕ) (track until_eof : Bool)
+-- handed to it is of its rounds and of the one Stop behind them; who asks hears of this box. They end once it was told to end, or had so many. By
+-- its input it is told only where that is watched, and at its end: it is asked before each round, one time after the other, and for nothing beside.
+-- What carriers tell counted or not. Its log was told nothing of it before.
+pub record RunsOn {W : Type 0} (I : Type 0) (does : Calls W) (says : WireSays W) (who : Identity) (rounds : Option ℕ) (track until_eof : Bool)
     (g g2 : Shown) (wire wire2 : W) : Type 0
   where
     pub clock : Watch
     pub start : WasNow clock.start
     pub at_start : clock.read ≡ 0
     pub clock2 : Watch
+    pub until : Option I
+    pub watched : is_some until ≡ until_eof
+    pub until2 : Option I
+    pub told : List Telling
+    pub untold : told ≡ []
     pub last : Box W
-    pub had : IsRun does waits track who HasRead (most_rounds rounds) (IsTrue until_eof × InputEnds) (begun g wire) clock last clock2
-    pub went_on : 0 < length had.all.moments → MayGoOn until_eof
+    pub had : IsRun does says track who HasRead (most_rounds rounds) TellsEnd TellsNoEnd (begun g wire told) clock until last clock2 until2
     pub shows : last.shown ≡ g2
     pub wire_is : last.wire ≡ wire2
 
--- so ran the box of a start, as this one, from a gateway to a gateway, on a wire which was let go behind that
-abbrev pub RanOn : {W : Type 0} → Calls W → Waits W → Identity → Start → Shown → Shown → W → Type 0
-RanOn {W = W} does waits who start g g2 wire =
-    (wire2 : W) × (RunsOn does waits who start.rounds start.track start.until_eof g g2 wire wire2 × WasLetGo wire2)
+-- So ran the box of a start, as this one, from a gateway to a gateway, on a wire which was let go behind that. Of its input it is known what it was
+-- asked and what it answered.
+abbrev pub RanOn : {W : Type 0} → Calls W → WireSays W → Identity → Start → Shown → Shown → W → Type 0
+RanOn {W = W} does says who start g g2 wire =
+    (wire2 : W) × (RunsOn (Unit {0}) does says who start.rounds start.track start.until_eof g g2 wire wire2 × WasLetGo wire2)
 
 -- the same, of some gateway of these settings' box, whose boot's line was printed; and then output refused its end
-abbrev pub HasRunUnended : {W : Type 0} → Calls W → Waits W → Settings → Start → Option (List ℕ) → Option (List ℕ) → W → BoxFault → Type 0
-HasRunUnended does waits settings start before after wire why = (who : Identity) × (EndIsRefused before after who.boot why
-    × ((first : Shown) × ((last : Shown) × (IsIdentity settings start.id who first × RanOn does waits who start first last wire))))
+abbrev pub HasRunUnended : {W : Type 0} → Calls W → WireSays W → Settings → Start → Option (List ℕ) → Option (List ℕ) → W → BoxFault → Type 0
+HasRunUnended does says settings start before after wire why = (who : Identity) × (EndIsRefused before after who.boot why
+    × ((first : Shown) × ((last : Shown) × (IsIdentity settings start.id who first × RanOn does says who start first last wire))))
 
 -- What became of a wire, where a start is refused: it was let go as it was; or there was such a run before, of the boot that is printed.
-abbrev pub IsSpared : {W : Type 0} → Calls W → Waits W → Settings → Start → Option (List ℕ) → Option (List ℕ) → W → BoxFault → Type 0
-IsSpared does waits settings start before after wire why =
-    WasLetGo wire ⊎ HasRunUnended does waits settings start before after wire why
+abbrev pub IsSpared : {W : Type 0} → Calls W → WireSays W → Settings → Start → Option (List ℕ) → Option (List ℕ) → W → BoxFault → Type 0
+IsSpared does says settings start before after wire why =
+    WasLetGo wire ⊎ HasRunUnended does says settings start before after wire why

@@ -5,7 +5,7 @@ mod capturing;
 mod machine;
 mod reading;
 mod recording;
-mod records;
+mod rest;
 mod running;
 mod starting;
 mod ways;

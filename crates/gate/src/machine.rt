@@ -1,20 +1,23 @@
 //! The system, as who opens what a start needs. What it is asked has names, and no more is known of it.
-ghost use Rattle.std.specs.Prelude.{IfErr, IfOk, OnOk, Some, string_bytes};
+ghost use Rattle.std.specs.Prelude.{◌≤◌, ℕ, IfErr, IfOk, None, OnErr, OnOk, Option, Some, length, string_bytes};
+ghost use Rattle.control.specs.Opening.{WasNotOpened, WasOpened};
 ghost use Rattle.control.specs.Paths.{IsBeside, socket_of};
 ghost use Rattle.faults.specs.Faults.{IsUnread};
-ghost use Rattle.sockets.specs.Boards.{Opens};
+ghost use Rattle.sockets.specs.Boards.{IsRefused, Opens};
+ghost use Rattle.sockets.specs.Inheriting.{AreUnblocked, AreUnblockedBy};
+ghost use Rattle.sockets.specs.declared.sockets.SocketFault.{SocketFault as Reason};
 ghost use Rattle.box_words.specs.Ends.{IsFirstOf};
 ghost use Rattle.box_words.specs.declared.refusals.BoxFault.TheVariants as faults;
 ghost use Rattle.gate.specs.Asked.{IsFilter, IsNotified, boot_file_of, box_ports};
-ghost use Rattle.gate.specs.Asking.{WasAsked};
-ghost use Rattle.gate.specs.Failing.{LacksBootFile, LacksCapture, LacksControl, LacksManager, LacksPlace};
-ghost use Rattle.gate.specs.Named.{WasDenied, WasGiven, WasHad, WasRead, all_sockets, capture_file, control_socket, locked_file, own_sockets, service_manager, settings_text};
+ghost use Rattle.gate.specs.Asking.{SetsManager, WasAsked};
+ghost use Rattle.gate.specs.Failing.{LacksBootFile, LacksCapture, LacksControl, LacksDescriptor, LacksManager, LacksPath, LacksPlace};
+ghost use Rattle.gate.specs.Named.{WasDenied, WasGiven, WasHad, WasRead, all_sockets, capture_file, control_socket, descriptors, locked_file, own_sockets, path_beside, service_manager, settings_text};
 ghost use Rattle.gate.specs.Starts.{CanOpen};
 
 use crate::running::Start;
 use boot_file::{Blocks, FileDisk, Lockable};
 use box_words::{BoxFault, Machine as Ends, Refused, refused_end};
-use control::{Control, ControlPath, Machine as Listeners};
+use control::{Bound, ControlPath, Machine as Listeners};
 use faults::{Fault, text_of};
 use nat_types::{GatewayId, NoMemory};
 use settings::Settings;
@@ -43,7 +46,7 @@ pub(crate) fn machine_of<R: Files + Net>(rt: &R) -> Machine<'_, R> {
     }
 }
 
-impl<R: Files + Net + AllocGlobal> Machine<'_, R> {
+impl<R: Files + AllocGlobal> Machine<'_, R> {
     /// Has it read the text of the file at a path.
     #[tactic(auto, unfolding(crate::specs::Asking::WasAsked, crate::specs::Named::WasRead, crate::specs::Named::WasDenied))]
     pub(crate) fn told_to_read(&mut self, path: &str) -> Result<String, Fault>
@@ -53,20 +56,6 @@ impl<R: Files + Net + AllocGlobal> Machine<'_, R> {
             × IsUnread path.now why) }
     {
         text_of(self.rt, path)
-    }
-
-    /// Has it give a start the service manager whose descriptor a text writes, which is told nothing yet.
-    #[tactic(auto, unfolding(crate::specs::Asking::WasAsked))]
-    pub(crate) fn told_to_take_over(&mut self, text: &str) -> Result<Manager, BoxFault>
-        ensures asked { WasAsked self.old (service_manager text.now) self.new }
-        ensures ok { IfOk result (λ manager. IsNotified (Some text.entry) (Some manager)) }
-        ensures err { IfErr result (LacksManager (Some text.entry)) }
-    {
-        let Some(descriptor) = Manager::read(text) else {
-            return Err(BoxFault::NoManager);
-        };
-        let manager = Manager::inherit(&mut self.descriptors, descriptor)?;
-        Ok(manager)
     }
 
     /// Has it open and lock the boot file of a start's box, once all that the start says was looked at, and its descriptors were
@@ -97,73 +86,6 @@ impl<R: Files + Net + AllocGlobal> Machine<'_, R> {
         }
     }
 
-    /// Has it open the control socket beside a box's boot file.
-    #[tactic(auto, unfolding(crate::specs::Asking::WasAsked, crate::specs::Named::WasGiven, crate::specs::Named::WasHad, crate::specs::Named::WasDenied))]
-    pub(crate) fn told_to_hear(
-        &mut self,
-        settings: &Settings,
-        id: GatewayId,
-        path: &ControlPath,
-    ) -> Result<Control, BoxFault>
-        requires beside { IsBeside (boot_file_of settings.now id) path.now }
-        requires locked { WasGiven (locked_file (boot_file_of settings.now id)) }
-        ensures asked { WasAsked self.old
-            (control_socket (socket_of (boot_file_of settings.now id))) self.new }
-        ensures given { OnOk result
-            (WasGiven (control_socket (socket_of (boot_file_of settings.now id)))) }
-        ensures had { IfOk result
-            (WasHad (control_socket (socket_of (boot_file_of settings.now id)))) }
-        ensures err { IfErr result (LacksControl (boot_file_of settings.now id)) }
-    {
-        match Control::open(&mut self.listeners, path, self.rt.alloc()) {
-            Ok(control) => Ok(control),
-            Err(_) => {
-                let boot_file = settings.gateway(id).boot_file.as_str();
-                Err(BoxFault::no_control(self.rt.alloc(), boot_file))
-            }
-        }
-    }
-
-    /// Has it open the sockets that the ways of a box need, beside its control socket. Where they aren't had, the first of the
-    /// box's own ends that is refused is told, where one is.
-    #[tactic(auto, unfolding(crate::specs::Asking::WasAsked, crate::specs::Named::WasGiven, crate::specs::Named::WasHad, crate::specs::Named::WasDenied))]
-    pub(crate) fn told_to_wire(
-        &mut self,
-        settings: &Settings,
-        id: GatewayId,
-        ways: &Ways,
-        control: Control,
-    ) -> Result<Sockets, BoxFault>
-        requires heard { WasHad (control_socket (socket_of (boot_file_of settings.now id)))
-            control }
-        ensures asked { WasAsked self.old
-            (own_sockets ways.now (box_ports settings.now id)) self.new }
-        ensures given { OnOk result (WasGiven (own_sockets ways.now (box_ports settings.now id))) }
-        ensures wired { OnOk result (WasGiven all_sockets) }
-        ensures had { IfOk result (WasHad (own_sockets ways.now (box_ports settings.now id))) }
-        ensures opened { IfOk result
-            (λ wire. Opens self.old.places ways.now (box_ports settings.now id) control wire.board
-            self.new.places) }
-        ensures err { IfErr result (LacksPlace settings.now id ways.now) }
-    {
-        let ports = ports_of(settings, id);
-        match Sockets::open(&mut self.places, self.rt.alloc(), ways, ports, control) {
-            Ok(sockets) => Ok(sockets),
-            Err(SocketFault::NoMemory) => Err(BoxFault::from(NoMemory)),
-            Err(SocketFault::NoSocket) => {
-                let end = self.first_refused(ways, ports);
-                Err(BoxFault::NoSocket(end))
-            }
-        }
-    }
-
-    /// The first of a box's own ends that it refuses, if it refuses one by itself.
-    fn first_refused(&mut self, ways: &Ways, ports: Ports) -> Refused
-        ensures { IsFirstOf ways.now ports result.0 }
-    {
-        refused_end(&mut Ends::new(self.rt), ways, ports)
-    }
-
     /// Has it open the file at a path for a capture, once the sockets were had, and the start's filter is one: a start that is
     /// refused before makes none.
     #[tactic(auto, unfolding(crate::specs::Asking::WasAsked, crate::specs::Named::WasGiven, crate::specs::Named::WasHad, crate::specs::Named::WasDenied))]
@@ -183,5 +105,129 @@ impl<R: Files + Net + AllocGlobal> Machine<'_, R> {
             Ok(file) => Ok(file),
             Err(error) => Err(BoxFault::no_capture(self.rt.alloc(), path, &error)),
         }
+    }
+}
+
+impl<R: Files + Net + AllocGlobal> Machine<'_, R> {
+    /// Has it open the control socket beside a box's boot file.
+    #[tactic(auto, unfolding(crate::specs::Asking::WasAsked, crate::specs::Named::WasGiven, crate::specs::Named::WasHad, crate::specs::Named::WasDenied))]
+    pub(crate) fn told_to_hear(
+        &mut self,
+        settings: &Settings,
+        id: GatewayId,
+        path: &ControlPath,
+    ) -> Result<Bound, BoxFault>
+        requires beside { IsBeside (boot_file_of settings.now id) path.now }
+        requires locked { WasGiven (locked_file (boot_file_of settings.now id)) }
+        ensures asked { WasAsked self.old
+            (control_socket (socket_of (boot_file_of settings.now id))) self.new }
+        ensures given { OnOk result
+            (WasGiven (control_socket (socket_of (boot_file_of settings.now id)))) }
+        ensures had { IfOk result
+            (WasHad (control_socket (socket_of (boot_file_of settings.now id)))) }
+        ensures opened { IfOk result
+            (λ bound. WasOpened path.now self.old.listeners bound self.new.listeners) }
+        ensures unopened { OnErr result
+            (WasNotOpened path.now self.old.listeners self.new.listeners) }
+        ensures err { IfErr result (LacksControl (boot_file_of settings.now id)) }
+    {
+        match Bound::open(&mut self.listeners, path, self.rt.alloc()) {
+            Ok(control) => Ok(control),
+            Err(_) => {
+                let boot_file = settings.gateway(id).boot_file.as_str();
+                Err(BoxFault::no_control(self.rt.alloc(), boot_file))
+            }
+        }
+    }
+}
+
+impl<R: Net + AllocGlobal> Machine<'_, R> {
+    /// Has it make the descriptors of ways ones that never wait.
+    #[tactic(auto, unfolding(crate::specs::Asking::WasAsked))]
+    pub(crate) fn told_to_inherit(&mut self, ways: &Ways) -> Result<(), BoxFault>
+        ensures asked { WasAsked self.old (descriptors ways.now) self.new }
+        ensures alone { (named : Option ℕ)
+            × AreUnblockedBy ways.now named self.old.places self.new.places }
+        ensures ok { OnOk result (AreUnblocked ways.now None) }
+        ensures err { IfErr result (LacksDescriptor ways.now) }
+    {
+        ways.inherit(&mut self.places)?;
+        Ok(())
+    }
+
+    /// Has it give a start the service manager whose descriptor a text writes, which is told nothing yet.
+    #[tactic(auto, unfolding(crate::specs::Asking::WasAsked))]
+    pub(crate) fn told_to_take_over(&mut self, text: &str) -> Result<Manager, BoxFault>
+        ensures asked { WasAsked self.old (service_manager text.now) self.new }
+        ensures set { SetsManager text.now self.old.descriptors self.new.descriptors }
+        ensures ok { IfOk result (λ manager. IsNotified (Some text.entry) (Some manager)) }
+        ensures err { IfErr result (LacksManager (Some text.entry)) }
+    {
+        let Some(descriptor) = Manager::read(text) else {
+            return Err(BoxFault::NoManager);
+        };
+        let manager = Manager::inherit(&mut self.descriptors, descriptor)?;
+        Ok(manager)
+    }
+
+    /// Has it open the sockets that the ways of a box need, beside its control socket. Where they aren't had, the first of the
+    /// box's own ends that is refused is told, where one is.
+    #[tactic(auto, unfolding(crate::specs::Asking::WasAsked, crate::specs::Named::WasGiven, crate::specs::Named::WasHad, crate::specs::Named::WasDenied))]
+    pub(crate) fn told_to_wire(
+        &mut self,
+        settings: &Settings,
+        id: GatewayId,
+        ways: &Ways,
+        control: Bound,
+    ) -> Result<Sockets, BoxFault>
+        requires heard { WasHad (control_socket (socket_of (boot_file_of settings.now id)))
+            control }
+        ensures asked { WasAsked self.old
+            (own_sockets ways.now (box_ports settings.now id)) self.new }
+        ensures given { OnOk result (WasGiven (own_sockets ways.now (box_ports settings.now id))) }
+        ensures wired { OnOk result (WasGiven all_sockets) }
+        ensures had { IfOk result (WasHad (own_sockets ways.now (box_ports settings.now id))) }
+        ensures opened { IfOk result
+            (λ wire. Opens self.old.places ways.now (box_ports settings.now id) control wire.board
+            self.new.places) }
+        ensures unopened { OnErr result ((why : Reason) × IsRefused self.old.places ways.now
+            (box_ports settings.now id) control why self.new.places) }
+        ensures err { IfErr result (LacksPlace settings.now id ways.now) }
+    {
+        let ports = ports_of(settings, id);
+        match Sockets::open(&mut self.places, self.rt.alloc(), ways, ports, control) {
+            Ok(sockets) => Ok(sockets),
+            Err(SocketFault::NoMemory) => Err(BoxFault::from(NoMemory)),
+            Err(SocketFault::NoSocket) => {
+                let end = self.first_refused(ways, ports);
+                Err(BoxFault::NoSocket(end))
+            }
+        }
+    }
+
+    /// The first of a box's own ends that it refuses, if it refuses one by itself.
+    fn first_refused(&self, ways: &Ways, ports: Ports) -> Refused
+        ensures { IsFirstOf ways.now ports result.0 }
+    {
+        refused_end(&mut Ends::new(self.rt), ways, ports)
+    }
+}
+
+impl<R: AllocGlobal> Machine<'_, R> {
+    /// The path of a box's control socket, beside its boot file, where it gives memory for it.
+    #[tactic(auto, unfolding(crate::specs::Asking::WasAsked, crate::specs::Named::WasDenied))]
+    pub(crate) fn told_to_give_path(
+        &mut self,
+        settings: &Settings,
+        id: GatewayId,
+    ) -> Result<ControlPath, BoxFault>
+        ensures asked { WasAsked self.old (path_beside (boot_file_of settings.now id)) self.new }
+        ensures beside { IfOk result (IsBeside (boot_file_of settings.now id)) }
+        ensures short { OnOk result (length (socket_of (boot_file_of settings.now id)) ≤ 107) }
+        ensures err { IfErr result (LacksPath (boot_file_of settings.now id)) }
+    {
+        let boot_file = settings.gateway(id).boot_file.as_str();
+        let path = ControlPath::beside(self.rt.alloc(), boot_file)?;
+        Ok(path)
     }
 }

@@ -1,18 +1,18 @@
 //! What a start says is read and looked at, before anything of the box's own is opened.
-ghost use Rattle.std.specs.Prelude.{◌≡◌, ◌≤◌, IfErr, IfOk, None, OnOk, length};
-ghost use Rattle.control.specs.Paths.{IsBeside, socket_of};
-ghost use Rattle.sockets.specs.Inheriting.{AreUnblocked};
+ghost use Rattle.std.specs.Prelude.{◌≡◌, IfErr, IfOk, None, OnOk};
+ghost use Rattle.toml.specs.Parse.{parse_document};
 ghost use Rattle.settings_file.specs.Clashes.{clash_of_one};
-ghost use Rattle.box_words.specs.Faults.{TellsNoPath};
-ghost use Rattle.gate.specs.Asked.{IsNotified, boot_file_of, is_loopback, on_loopback};
-ghost use Rattle.gate.specs.Failing.{Clashes, LacksDescriptor, LacksManager, LacksSettings};
+ghost use Rattle.settings_file.specs.Settings.{IsReadFrom};
+ghost use Rattle.box_words.specs.Faults.{TellsSettings};
+ghost use Rattle.box_words.specs.declared.refusals.BoxFault.TheVariants as faults;
+ghost use Rattle.gate.specs.Asked.{IsNotified, is_loopback, on_loopback};
+ghost use Rattle.gate.specs.Failing.{Clashes, LacksManager, LacksSettings};
 ghost use Rattle.gate.specs.Asking.{AsksManager, WasAsked};
-ghost use Rattle.gate.specs.Named.{settings_text};
+ghost use Rattle.gate.specs.Named.{WasDenied, settings_in, settings_text};
 ghost use Rattle.gate.specs.Starts.{AreHeld};
 
 use crate::machine::Machine;
 use box_words::BoxFault;
-use control::ControlPath;
 use faults::Fault;
 use nat_types::GatewayId;
 use settings::Settings;
@@ -34,17 +34,19 @@ pub(crate) fn settings_at<R: Files + Net + AllocGlobal>(
     ensures err { IfErr result (LacksSettings path.now) }
 {
     let text = machine.told_to_read(path)?;
-    let settings = settings_file::read(alloc, text.as_str())?;
+    let settings = settings_in(alloc, text.as_str())?;
     Ok(settings)
 }
 
-/// Makes the descriptors of ways ones that never wait.
-pub(crate) fn inherited(ways: &Ways) -> Result<(), BoxFault>
-    ensures ok { OnOk result (AreUnblocked ways.now None) }
-    ensures err { IfErr result (LacksDescriptor ways.now) }
+/// The settings in a text.
+#[tactic(auto, unfolding(crate::specs::Named::WasDenied))]
+fn settings_in(alloc: Global, text: &str) -> Result<Settings, Fault>
+    ensures held { IfOk result (IsReadFrom (parse_document text.now)) }
+    ensures denied { IfErr result (λ why. WasDenied (settings_in text.now) (faults.Run why)) }
+    ensures err { IfErr result (λ why. TellsSettings text.now (faults.Run why)) }
 {
-    ways.inherit()?;
-    Ok(())
+    let settings = settings_file::read(alloc, text)?;
+    Ok(settings)
 }
 
 /// The service manager whose descriptor a text writes, if there is one.
@@ -92,18 +94,4 @@ fn is_loopback(way: Way) -> bool
         Way::Loopback => true,
         Way::Udp(_) | Way::Vxlan(_, _) | Way::Descriptor(_) => false,
     }
-}
-
-/// The path of a box's control socket, beside its boot file.
-pub(crate) fn path_of(
-    alloc: Global,
-    settings: &Settings,
-    id: GatewayId,
-) -> Result<ControlPath, BoxFault>
-    ensures beside { IfOk result (IsBeside (boot_file_of settings.now id)) }
-    ensures short { OnOk result (length (socket_of (boot_file_of settings.now id)) ≤ 107) }
-    ensures err { IfErr result (TellsNoPath (boot_file_of settings.now id)) }
-{
-    let path = ControlPath::beside(alloc, settings.gateway(id).boot_file.as_str())?;
-    Ok(path)
 }

@@ -1,44 +1,46 @@
 //! What is done at a box: its boot file and its rounds.
-ghost use Rattle.std.specs.Prelude.{◌≡◌, ◌⊎◌, ◌<◌, IfErr, IfSome, IsTrue, None, Ok, OnOk, Some, codes, false, is_some};
+ghost use Rattle.std.specs.Prelude.{◌≡◌, ◌⊎◌, ◌<◌, IfErr, IfSome, IsTrue, OnOk, Some, codes, false, is_some};
 ghost use Rattle.std.specs.Io.KnownBytes.{Appends};
 ghost use Rattle.nat_types.specs.declared.gateways.GatewayId.TheVariants.{Zero};
+ghost use Rattle.inputs.specs.Inputs.{IsUnasked};
+ghost use Rattle.inputs.specs.declared.standard_input.StandardInput.{StandardInput as Source};
 ghost use Rattle.control.specs.Paths.{IsBeside, socket_of};
 ghost use Rattle.sockets.specs.Doing.{DoesAt};
-ghost use Rattle.sockets.specs.Receiving.{WaitsAt};
-ghost use Rattle.gate.specs.Asking.{AsksBy, AsksFor, AsksUpTo, AsksWatched, captures, listeners, openings, places};
-ghost use Rattle.gate.specs.Asked.{IsChosenBy, IsFilter, IsNotified, boot_file_of, box_ports, path_in};
-ghost use Rattle.box_words.specs.Deeds.{HasUnmade, made};
 ghost use Rattle.sockets.specs.Inheriting.{AreUnblocked};
-ghost use Rattle.gate.specs.Boots.{IsIdentity};
-ghost use Rattle.box_words.specs.Faults.{IsBeforeBoot, fault_text};
+ghost use Rattle.rounds.specs.Rounds.{wire_says};
+ghost use Rattle.box_words.specs.Deeds.{HasUnmade, made};
+ghost use Rattle.box_words.specs.Faults.{fault_text};
 ghost use Rattle.outlets.specs.Telling.{IsToldOf};
-ghost use Rattle.gate.specs.Failing.{FailsHeard, FailsLocked, FailsLogged, FailsOpening, FailsWired, IsUnrun, IsUnstarted};
-ghost use Rattle.gate.specs.Failing.{IsUnbegun, LacksOutput};
-ghost use Rattle.gate.specs.Named.{WasGiven, WasHad, WasLetGo, all_sockets, begun_capture, boot_number, capture_file, control_socket, locked_file, own_sockets};
+ghost use Rattle.gate.specs.Asking.{AsksBy, AsksFor, AsksUpTo, AsksWatched, captures, listeners, openings, pathed, places};
+ghost use Rattle.gate.specs.Asked.{IsFilter, IsNotified, boot_file_of, path_in};
+ghost use Rattle.gate.specs.Boots.{IsIdentity};
+ghost use Rattle.gate.specs.Failing.{IsUnbegun, IsUnrun, IsUnstarted, LacksOutput};
+ghost use Rattle.gate.specs.Logs.{IsOwnLog, IsRecorded, IsToldAtMost, IsToldLeftOut, new_teller};
+ghost use Rattle.gate.specs.Named.{WasClosed, WasGiven, WasHad, WasLetGo, all_sockets, begun_capture, boot_number, capture_file, control_socket, locked_file};
 ghost use Rattle.gate.specs.Orders.{IsInOrder, IsInSomeOrder, IsNumbered, IsSilentOrTaken, IsUnrecorded};
 ghost use Rattle.gate.specs.Served.{HasRun, HasServed, RunsLocked, RunsOpened, RunsWired};
-ghost use Rattle.gate.specs.Sparing.{IsRefusal, LeavesAlone, SparesApart, SparesHeard, SparesLocked, SparesOpening};
-ghost use Rattle.gate.specs.Starts.{AreHeld, AreRead, AreWatched, AreWays, CanOpen, Refuses};
-ghost use Rattle.gate.specs.Told.{HearsOne, HearsSome, IsUnheard};
-ghost use Rattle.gate.specs.Wires.{IsOfSockets, IsSpared, RanOn};
+ghost use Rattle.gate.specs.Sparing.{FailsHeard, FailsHeld, FailsInherited, FailsLocked, FailsLogged, FailsOpening, FailsWatched, FailsWired, IsRefusal};
+ghost use Rattle.gate.specs.Starts.{AreHeld, AreRead, AreWatched, AreWays, CanOpen};
+ghost use Rattle.gate.specs.Told.{HearsAll, HearsOne, HearsSome, IsUnheard};
+ghost use Rattle.gate.specs.Wires.{IsOfSockets, IsOwnWire, IsSpared, RanOn, RunsOn, says_at};
 
 use crate::capturing::{CaptureAt, capture_at};
 use crate::machine::{Machine, machine_of};
-use crate::reading::{inherited, manager_of, path_of, settings_at, without_clash};
+use crate::reading::{manager_of, settings_at, without_clash};
 use crate::recording::Records;
-use crate::records::records_of;
+use crate::rest::{Means, Rest, rest_of};
 use crate::starting::started;
 use crate::ways::{WayTexts, ways_of};
 use crate::wires::{let_go, let_go_tapped};
 use boot_file::{Blocks, FileDisk, Lockable};
 use boot_store::Disk;
 use box_words::{BoxFault, Site};
-use control::{Control, ControlPath};
+use control::{Bound, ControlPath};
 use gateway::Gateway;
 use journal::{Format, Journal};
 use nat_types::GatewayId;
 use outlets::Tells;
-use rounds::Identity;
+use rounds::{Identity, InputEnd, Teller, serve};
 use settings::Settings;
 use sockets::{Sockets, Ways, Wire};
 use std::alloc::Global;
@@ -49,7 +51,6 @@ use std::os::fd::AsRawFd;
 use std::random::RandomSource;
 use std::rt::{Clock, Env};
 use supervision::{Manager, Supervisor};
-use tap::SinceFirst;
 
 /// Makes the boot file of a box. The answer is the exit status: 0, or 1 for a fault, which is told
 /// on `errors`.
@@ -118,7 +119,7 @@ where
         ⟦<FileDisk<R::File> as Disk>⟧.honest ⟦<FileDisk<R::File> as Disk>⟧.now start.now.found
         why output.old output.new) errors.old errors.new }
 {
-    match served(&mut machine_of(rt), rt, start, output) {
+    match served(&mut machine_of(rt), rest_of(rt), start, output) {
         Ok(()) => 0,
         Err(fault) => fault.tell(rt.alloc(), errors),
     }
@@ -133,22 +134,26 @@ fn served<
     R: Files + Net + AllocGlobal,
     C: Clock + RandomSource + Eprint + Env + Input + AllocGlobal,
     O: Write,
->(machine: &mut Machine<'_, R>, rt: &C, start: &Start<'_>, output: &mut O) -> Result<(), BoxFault>
+>(
+    machine: &mut Machine<'_, R>,
+    rest: Rest<'_, C>,
+    start: &Start<'_>,
+    output: &mut O,
+) -> Result<(), BoxFault>
 where
     R::File: Blocks + Lockable + AsRawFd,
     requires found { IsTrue start.now.found → start.now.id ≡ Zero }
     ensures asks { AsksFor machine.old start.now machine.new }
     ensures ok { OnOk result (HasServed start.now
         (O.contents output.old) (O.contents output.new)) }
-    ensures err { IfErr result (Refuses start.now) }
-    ensures alone { IfErr result (LeavesAlone start.now
+    ensures err { IfErr result (IsRefusal start.now
         (O.contents output.old) (O.contents output.new)) }
     ensures order { IfErr result (λ why. IsInSomeOrder O.contents (path_in start.now.capture)
         ⟦<FileDisk<R::File> as Disk>⟧.honest ⟦<FileDisk<R::File> as Disk>⟧.now start.now.found
         why output.old output.new) }
 {
-    let settings = settings_at(machine, rt.alloc(), start.settings)?;
-    let ended = reached(machine, rt, start, &settings, output);
+    let settings = settings_at(machine, rest.alloc(), start.settings)?;
+    let ended = reached(machine, rest, start, &settings, output);
     drop(settings);
     ended
 }
@@ -160,7 +165,7 @@ fn reached<
     O: Write,
 >(
     machine: &mut Machine<'_, R>,
-    rt: &C,
+    rest: Rest<'_, C>,
     start: &Start<'_>,
     settings: &Settings,
     output: &mut O,
@@ -172,16 +177,15 @@ where
     ensures asks { AsksBy machine.old start.now settings.now machine.new }
     ensures ok { OnOk result (HasServed start.now
         (O.contents output.old) (O.contents output.new)) }
-    ensures err { IfErr result (Refuses start.now) }
-    ensures alone { IfErr result (LeavesAlone start.now
+    ensures err { IfErr result (FailsHeld start.now settings.now
         (O.contents output.old) (O.contents output.new)) }
     ensures order { IfErr result (λ why. IsInSomeOrder O.contents (path_in start.now.capture)
         ⟦<FileDisk<R::File> as Disk>⟧.honest ⟦<FileDisk<R::File> as Disk>⟧.now start.now.found
         why output.old output.new) }
 {
     let ways = ways_of(start.ways)?;
-    inherited(&ways)?;
-    watched(machine, rt, start, settings, &ways, output)
+    machine.told_to_inherit(&ways)?;
+    watched(machine, rest, start, settings, &ways, output)
 }
 
 /// Takes over the service manager's descriptor, and lets the manager go once all is done.
@@ -191,7 +195,7 @@ fn watched<
     O: Write,
 >(
     machine: &mut Machine<'_, R>,
-    rt: &C,
+    rest: Rest<'_, C>,
     start: &Start<'_>,
     settings: &Settings,
     ways: &Ways,
@@ -205,15 +209,14 @@ where
     ensures asks { AsksWatched machine.old start.now settings.now ways.now machine.new }
     ensures ok { OnOk result (HasServed start.now
         (O.contents output.old) (O.contents output.new)) }
-    ensures err { IfErr result (Refuses start.now) }
-    ensures alone { IfErr result (LeavesAlone start.now
+    ensures err { IfErr result (FailsInherited start.now settings.now ways.now
         (O.contents output.old) (O.contents output.new)) }
     ensures order { IfErr result (λ why. IsInSomeOrder O.contents (path_in start.now.capture)
         ⟦<FileDisk<R::File> as Disk>⟧.honest ⟦<FileDisk<R::File> as Disk>⟧.now start.now.found
         why output.old output.new) }
 {
     let mut manager = manager_of(machine, start.notify)?;
-    let ended = apart(machine, rt, start, settings, ways, &mut manager, output);
+    let ended = apart(machine, rest, start, settings, ways, &mut manager, output);
     let_go(manager);
     ended
 }
@@ -225,7 +228,7 @@ fn apart<
     O: Write,
 >(
     machine: &mut Machine<'_, R>,
-    rt: &C,
+    rest: Rest<'_, C>,
     start: &Start<'_>,
     settings: &Settings,
     ways: &Ways,
@@ -237,23 +240,21 @@ where
     requires found { IsTrue start.now.found → start.now.id ≡ Zero }
     requires watched { AreWatched start.now settings.now ways.now }
     requires notified { IsNotified start.now.notify manager.old }
-    ensures asks { AsksUpTo machine.old (openings start.now settings.now ways.now) machine.new }
+    ensures asks { AsksUpTo machine.old (pathed start.now settings.now ways.now) machine.new }
     ensures ok { OnOk result (CanOpen start.now settings.now ways.now × RunsOpened start.now
         settings.now ways.now (O.contents output.old) (O.contents output.new)) }
-    ensures err { IfErr result (Refuses start.now) }
-    ensures spared { IfErr result (SparesApart start.now settings.now ways.now
+    ensures err { IfErr result (FailsWatched start.now settings.now ways.now
         (O.contents output.old) (O.contents output.new)) }
-    ensures heard { OnOk result
-        (HearsSome ⟦<Option<Manager> as Supervisor>⟧.hears manager.old manager.new) }
-    ensures unheard { IfErr result (IsUnheard ⟦<Option<Manager> as Supervisor>⟧.hears
-        (O.contents output.old) (O.contents output.new) manager.old manager.new) }
+    ensures heard { OnOk result (HearsSome manager.old manager.new) }
+    ensures unheard { IfErr result (IsUnheard (O.contents output.old) (O.contents output.new)
+        manager.old manager.new) }
     ensures order { IfErr result (λ why. IsInSomeOrder O.contents (path_in start.now.capture)
         ⟦<FileDisk<R::File> as Disk>⟧.honest ⟦<FileDisk<R::File> as Disk>⟧.now start.now.found
         why output.old output.new) }
 {
     without_clash(settings, start.id, ways)?;
-    let path = path_of(rt.alloc(), settings, start.id)?;
-    locked(machine, rt, start, settings, ways, &path, manager, output)
+    let path = machine.told_to_give_path(settings, start.id)?;
+    locked(machine, rest, start, settings, ways, &path, manager, output)
 }
 
 /// Opens and locks the boot file, for as long as the gateway runs.
@@ -263,7 +264,7 @@ fn locked<
     O: Write,
 >(
     machine: &mut Machine<'_, R>,
-    rt: &C,
+    rest: Rest<'_, C>,
     start: &Start<'_>,
     settings: &Settings,
     ways: &Ways,
@@ -280,20 +281,18 @@ where
     ensures asks { AsksUpTo machine.old (openings start.now settings.now ways.now) machine.new }
     ensures ok { OnOk result (RunsOpened start.now settings.now ways.now
         (O.contents output.old) (O.contents output.new)) }
-    ensures err { IfErr result (FailsOpening start.now settings.now ways.now) }
-    ensures spared { IfErr result (SparesOpening start.now settings.now ways.now
+    ensures err { IfErr result (FailsOpening start.now settings.now ways.now
         (O.contents output.old) (O.contents output.new)) }
-    ensures heard { OnOk result
-        (HearsSome ⟦<Option<Manager> as Supervisor>⟧.hears manager.old manager.new) }
-    ensures unheard { IfErr result (IsUnheard ⟦<Option<Manager> as Supervisor>⟧.hears
-        (O.contents output.old) (O.contents output.new) manager.old manager.new) }
+    ensures heard { OnOk result (HearsSome manager.old manager.new) }
+    ensures unheard { IfErr result (IsUnheard (O.contents output.old) (O.contents output.new)
+        manager.old manager.new) }
     ensures order { IfErr result (λ why. IsInSomeOrder O.contents (path_in start.now.capture)
         ⟦<FileDisk<R::File> as Disk>⟧.honest ⟦<FileDisk<R::File> as Disk>⟧.now start.now.found
         why output.old output.new) }
 {
     match machine.told_to_lock(start, settings, ways) {
         Ok(mut disk) => connected(
-            machine, rt, start, settings, ways, path, manager, &mut disk, output,
+            machine, rest, start, settings, ways, path, manager, &mut disk, output,
         ),
         Err(fault) => Err(fault),
     }
@@ -306,7 +305,7 @@ fn connected<
     O: Write,
 >(
     machine: &mut Machine<'_, R>,
-    rt: &C,
+    rest: Rest<'_, C>,
     start: &Start<'_>,
     settings: &Settings,
     ways: &Ways,
@@ -327,19 +326,17 @@ where
     ensures asks { AsksUpTo machine.old (listeners start.now settings.now ways.now) machine.new }
     ensures ok { OnOk result (RunsLocked start.now settings.now ways.now
         (O.contents output.old) (O.contents output.new)) }
-    ensures err { IfErr result (FailsLocked start.now settings.now ways.now) }
-    ensures spared { IfErr result (SparesLocked start.now settings.now ways.now
+    ensures err { IfErr result (FailsLocked start.now settings.now ways.now
         (O.contents output.old) (O.contents output.new)) }
-    ensures untouched { IfErr result (λ why. IsBeforeBoot why →
-        (disk.new ≡ disk.old) × (manager.new ≡ manager.old)) }
+    ensures untouched { IfErr result (λ why. IsUnrun (path_in start.now.capture) why
+        ⊎ ((disk.new ≡ disk.old) × (manager.new ≡ manager.old))) }
     ensures decided { ⟦<FileDisk<R::File> as Disk>⟧.honest disk.old
         → OnOk result (IsNumbered start.now.found
         (⟦<FileDisk<R::File> as Disk>⟧.now disk.old)
         (⟦<FileDisk<R::File> as Disk>⟧.now disk.new)) }
-    ensures heard { OnOk result
-        (HearsSome ⟦<Option<Manager> as Supervisor>⟧.hears manager.old manager.new) }
-    ensures unheard { IfErr result (IsUnheard ⟦<Option<Manager> as Supervisor>⟧.hears
-        (O.contents output.old) (O.contents output.new) manager.old manager.new) }
+    ensures heard { OnOk result (HearsSome manager.old manager.new) }
+    ensures unheard { IfErr result (IsUnheard (O.contents output.old) (O.contents output.new)
+        manager.old manager.new) }
     ensures order { IfErr result (λ why. IsInOrder O.contents (path_in start.now.capture)
         (⟦<FileDisk<R::File> as Disk>⟧.honest disk.old) start.now.found
         (⟦<FileDisk<R::File> as Disk>⟧.now disk.old)
@@ -347,7 +344,7 @@ where
 {
     let control = machine.told_to_hear(settings, start.id, path)?;
     wired(
-        machine, rt, start, settings, ways, manager, disk, control, output,
+        machine, rest, start, settings, ways, manager, disk, control, output,
     )
 }
 
@@ -359,13 +356,13 @@ fn wired<
     O: Write,
 >(
     machine: &mut Machine<'_, R>,
-    rt: &C,
+    rest: Rest<'_, C>,
     start: &Start<'_>,
     settings: &Settings,
     ways: &Ways,
     manager: &mut Option<Manager>,
     disk: &mut D,
-    control: Control,
+    control: Bound,
     output: &mut O,
 ) -> Result<(), BoxFault>
 where
@@ -379,25 +376,21 @@ where
     ensures asks { AsksUpTo machine.old (places start.now settings.now ways.now) machine.new }
     ensures ok { OnOk result (RunsWired start.now settings.now ways.now
         (O.contents output.old) (O.contents output.new)) }
-    ensures err { IfErr result (FailsHeard start.now settings.now ways.now) }
-    ensures spared { IfErr result (SparesHeard start.now settings.now ways.now
+    ensures err { IfErr result (FailsHeard start.now settings.now ways.now
         (O.contents output.old) (O.contents output.new)) }
-    ensures untouched { IfErr result (λ why. IsBeforeBoot why →
-        (disk.new ≡ disk.old) × (manager.new ≡ manager.old)) }
+    ensures untouched { IfErr result (λ why. IsUnrun (path_in start.now.capture) why
+        ⊎ ((disk.new ≡ disk.old) × (manager.new ≡ manager.old))) }
     ensures decided { D.honest disk.old
         → OnOk result (IsNumbered start.now.found (D.now disk.old) (D.now disk.new)) }
-    ensures heard { OnOk result
-        (HearsSome ⟦<Option<Manager> as Supervisor>⟧.hears manager.old manager.new) }
-    ensures unheard { IfErr result (IsUnheard ⟦<Option<Manager> as Supervisor>⟧.hears
-        (O.contents output.old) (O.contents output.new) manager.old manager.new) }
+    ensures heard { OnOk result (HearsSome manager.old manager.new) }
+    ensures unheard { IfErr result (IsUnheard (O.contents output.old) (O.contents output.new)
+        manager.old manager.new) }
     ensures order { IfErr result (λ why. IsInOrder O.contents (path_in start.now.capture)
         (D.honest disk.old) start.now.found (D.now disk.old) (D.now disk.new)
         why output.old output.new) }
 {
     let wire = machine.told_to_wire(settings, start.id, ways, control)?;
-    logged(
-        machine, rt, start, settings, ways, manager, disk, wire, output,
-    )
+    logged(machine, rest, start, settings, manager, disk, wire, output)
 }
 
 /// Reads the filter of the records.
@@ -408,10 +401,9 @@ fn logged<
     O: Write,
 >(
     machine: &mut Machine<'_, R>,
-    rt: &C,
+    rest: Rest<'_, C>,
     start: &Start<'_>,
     settings: &Settings,
-    ways: &Ways,
     manager: &mut Option<Manager>,
     disk: &mut D,
     wire: Sockets,
@@ -423,31 +415,30 @@ where
     requires notified { IsNotified start.now.notify manager.old }
     requires had { WasHad (locked_file (boot_file_of settings.now start.now.id)) disk.old }
     requires wired { WasGiven all_sockets }
-    requires wire { WasHad (own_sockets ways.now (box_ports settings.now start.now.id)) wire }
-    requires written { AreWays start.now.ways ways.now }
+    requires own { IsOfSockets settings.now start.now wire }
     ensures asks { AsksUpTo machine.old (captures (path_in start.now.capture)) machine.new }
-    ensures ok { OnOk result (HasRun DoesAt WaitsAt settings.now start.now wire
+    ensures ok { OnOk result (HasRun DoesAt says_at settings.now start.now wire
         (O.contents output.old) (O.contents output.new)) }
+    ensures closed { OnOk result (WasClosed (path_in start.now.capture)) }
     ensures err { IfErr result (FailsWired start.now) }
-    ensures spared { IfErr result (IsSpared DoesAt WaitsAt settings.now start.now
+    ensures spared { IfErr result (IsSpared DoesAt says_at settings.now start.now
         (O.contents output.old) (O.contents output.new) wire) }
-    ensures untouched { IfErr result (λ why. IsBeforeBoot why →
-        (disk.new ≡ disk.old) × (manager.new ≡ manager.old)) }
+    ensures untouched { IfErr result (λ why. IsUnrun (path_in start.now.capture) why
+        ⊎ ((disk.new ≡ disk.old) × (manager.new ≡ manager.old))) }
     ensures decided { D.honest disk.old
         → OnOk result (IsNumbered start.now.found (D.now disk.old) (D.now disk.new)) }
-    ensures heard { OnOk result
-        (HearsSome ⟦<Option<Manager> as Supervisor>⟧.hears manager.old manager.new) }
-    ensures unheard { IfErr result (IsUnheard ⟦<Option<Manager> as Supervisor>⟧.hears
-        (O.contents output.old) (O.contents output.new) manager.old manager.new) }
+    ensures heard { OnOk result (HearsSome manager.old manager.new) }
+    ensures unheard { IfErr result (IsUnheard (O.contents output.old) (O.contents output.new)
+        manager.old manager.new) }
     ensures order { IfErr result (λ why. IsInOrder O.contents (path_in start.now.capture)
         (D.honest disk.old) start.now.found (D.now disk.old) (D.now disk.new)
         why output.old output.new) }
 {
-    match records_of(rt, start.log, start.format) {
-        Ok(mut records) => {
+    match rest.records(start.log, start.format) {
+        Ok((mut records, means)) => {
             let ended = captured(
                 machine,
-                rt,
+                means,
                 start,
                 settings,
                 manager,
@@ -456,7 +447,7 @@ where
                 output,
                 &mut records,
             );
-            drop(records);
+            records.close(start);
             ended
         }
         Err(fault) => {
@@ -476,7 +467,7 @@ fn captured<
     L: Journal,
 >(
     machine: &mut Machine<'_, R>,
-    rt: &C,
+    means: Means<'_, C>,
     start: &Start<'_>,
     settings: &Settings,
     manager: &mut Option<Manager>,
@@ -493,33 +484,34 @@ where
     requires had { WasHad (locked_file (boot_file_of settings.now start.now.id)) disk.old }
     requires own { IsOfSockets settings.now start.now wire }
     requires wired { WasGiven all_sockets }
-    requires chosen { IfSome (L.passes records.old.log) (IsChosenBy start.now.log) }
-    requires format { L.writes records.old.log ≡ Some start.now.format }
+    requires log { IsOwnLog L.passes L.writes start.now records.old.log }
     ensures asks { AsksUpTo machine.old (captures (path_in start.now.capture)) machine.new }
-    ensures ok { OnOk result (HasRun W.does W.waits settings.now start.now wire
-        (O.contents output.old) (O.contents output.new)) }
+    ensures ok { OnOk result (HasRun W.does (wire_says W.waits W.failing W.lost) settings.now
+        start.now wire (O.contents output.old) (O.contents output.new)) }
     ensures err { IfErr result (FailsLogged start.now) }
-    ensures spared { IfErr result (IsSpared W.does W.waits settings.now start.now
-        (O.contents output.old) (O.contents output.new) wire) }
-    ensures untouched { IfErr result (λ why. IsBeforeBoot why →
-        (disk.new ≡ disk.old) × (manager.new ≡ manager.old)) }
+    ensures spared { IfErr result (IsSpared W.does (wire_says W.waits W.failing W.lost)
+        settings.now start.now (O.contents output.old) (O.contents output.new) wire) }
+    ensures untouched { IfErr result (λ why. IsUnrun (path_in start.now.capture) why
+        ⊎ ((disk.new ≡ disk.old) × (manager.new ≡ manager.old))) }
+    ensures told { IsToldAtMost (path_in start.now.capture) records.old records.new }
+    ensures recorded { OnOk result
+        (IsRecorded (path_in start.now.capture) records.old records.new) }
     ensures unrecorded { IfErr result (IsUnrecorded (path_in start.now.capture)
         (O.contents output.old) (O.contents output.new) records.old records.new) }
     ensures decided { D.honest disk.old
         → OnOk result (IsNumbered start.now.found (D.now disk.old) (D.now disk.new)) }
-    ensures heard { OnOk result
-        (HearsSome ⟦<Option<Manager> as Supervisor>⟧.hears manager.old manager.new) }
-    ensures unheard { IfErr result (IsUnheard ⟦<Option<Manager> as Supervisor>⟧.hears
-        (O.contents output.old) (O.contents output.new) manager.old manager.new) }
+    ensures heard { OnOk result (HearsSome manager.old manager.new) }
+    ensures unheard { IfErr result (IsUnheard (O.contents output.old) (O.contents output.new)
+        manager.old manager.new) }
     ensures order { IfErr result (λ why. IsInOrder O.contents (path_in start.now.capture)
         (D.honest disk.old) start.now.found (D.now disk.old) (D.now disk.new)
         why output.old output.new) }
 {
     match capture_at(machine, start) {
         Ok(Some(capture)) => tapped(
-            rt, start, settings, manager, disk, capture, wire, output, records,
+            means, start, settings, manager, disk, capture, wire, output, records,
         ),
-        Ok(None) => run(rt, start, settings, manager, disk, wire, output, records),
+        Ok(None) => run(means, start, settings, manager, disk, wire, output, records),
         Err(fault) => {
             let_go(wire);
             Err(fault)
@@ -537,7 +529,7 @@ fn tapped<
     O: Write,
     L: Journal,
 >(
-    rt: &C,
+    means: Means<'_, C>,
     start: &Start<'_>,
     settings: &Settings,
     manager: &mut Option<Manager>,
@@ -554,27 +546,38 @@ fn tapped<
     requires own { IsOfSockets settings.now start.now wire }
     requires had { WasHad (locked_file (boot_file_of settings.now start.now.id)) disk.old }
     requires file { WasHad (capture_file capture.path.now) capture.file }
-    ensures ok { OnOk result (HasRun W.does W.waits settings.now start.now wire
-        (O.contents output.old) (O.contents output.new)) }
+    requires log { IsOwnLog L.passes L.writes start.now records.old.log }
+    ensures ok { OnOk result (HasRun W.does (wire_says W.waits W.failing W.lost) settings.now
+        start.now wire (O.contents output.old) (O.contents output.new)) }
     ensures err { IfErr result (IsUnrun (path_in start.now.capture)) }
-    ensures spared { IfErr result (IsSpared W.does W.waits settings.now start.now
-        (O.contents output.old) (O.contents output.new) wire) }
+    ensures spared { IfErr result (IsSpared W.does (wire_says W.waits W.failing W.lost)
+        settings.now start.now (O.contents output.old) (O.contents output.new) wire) }
+    ensures told { IsToldAtMost (path_in start.now.capture) records.old records.new }
+    ensures recorded { OnOk result
+        (IsRecorded (path_in start.now.capture) records.old records.new) }
     ensures unrecorded { IfErr result (IsUnrecorded (path_in start.now.capture)
         (O.contents output.old) (O.contents output.new) records.old records.new) }
     ensures decided { D.honest disk.old
         → OnOk result (IsNumbered start.now.found (D.now disk.old) (D.now disk.new)) }
-    ensures heard { OnOk result
-        (HearsSome ⟦<Option<Manager> as Supervisor>⟧.hears manager.old manager.new) }
-    ensures unheard { IfErr result (IsUnheard ⟦<Option<Manager> as Supervisor>⟧.hears
-        (O.contents output.old) (O.contents output.new) manager.old manager.new) }
+    ensures heard { OnOk result (HearsSome manager.old manager.new) }
+    ensures unheard { IfErr result (IsUnheard (O.contents output.old) (O.contents output.new)
+        manager.old manager.new) }
     ensures order { IfErr result (λ why. IsInOrder O.contents (path_in start.now.capture)
         (D.honest disk.old) start.now.found (D.now disk.old) (D.now disk.new)
         why output.old output.new) }
 {
-    match started(rt, disk, settings, start.id, start.found, output, records) {
+    match started(
+        &means,
+        disk,
+        settings,
+        start.id,
+        start.found,
+        output,
+        records,
+    ) {
         Ok((identity, mut gateway)) => {
             let ended = tapped_rounds(
-                rt,
+                means,
                 &mut gateway,
                 wire,
                 capture,
@@ -604,7 +607,7 @@ fn tapped_rounds<
     O: Write,
     L: Journal,
 >(
-    rt: &C,
+    means: Means<'_, C>,
     gateway: &mut Gateway,
     wire: W,
     capture: CaptureAt<'_, F>,
@@ -620,28 +623,30 @@ fn tapped_rounds<
     requires captured { path_in start.now.capture ≡ Some capture.path.now }
     requires identity { IsIdentity settings.now start.now.id identity gateway.old }
     requires had { WasHad (capture_file capture.path.now) capture.file }
-    ensures ran { OnOk result (RanOn W.does W.waits identity start.now
-        gateway.old gateway.new wire) }
+    requires log { IsOwnLog L.passes L.writes start.now records.old.log }
+    ensures ran { OnOk result (RanOn W.does (wire_says W.waits W.failing W.lost) identity
+        start.now gateway.old gateway.new wire) }
     ensures ended { OnOk result
         (Appends (O.contents output.old) (O.contents output.new) (codes "end\n")) }
     ensures begun { OnOk result (WasGiven (begun_capture capture.entry.path.now)) }
-    ensures heard { OnOk result (HearsOne ⟦<Option<Manager> as Supervisor>⟧.hears identity.boot
-        manager.old manager.new) }
+    ensures heard { OnOk result (HearsOne identity.boot manager.old manager.new) }
+    ensures told { (records.new ≡ records.old) ⊎ IsToldLeftOut records.old records.new }
+    ensures recorded { OnOk result (IsToldLeftOut records.old records.new) }
     ensures unrun { IfErr result (λ why.
         (LacksOutput (codes "end\n") (O.contents output.old) (O.contents output.new) why
-        × (RanOn W.does W.waits identity start.now gateway.old gateway.new wire
-        × HearsOne ⟦<Option<Manager> as Supervisor>⟧.hears identity.boot manager.old manager.new))
+        × (RanOn W.does (wire_says W.waits W.failing W.lost) identity start.now
+        gateway.old gateway.new wire × HearsOne identity.boot manager.old manager.new))
         ⊎ ((IsUnbegun (Some capture.entry.path.now) why × WasLetGo wire)
         × ((output.new ≡ output.old)
         × ((manager.new ≡ manager.old) × (gateway.new ≡ gateway.old))))) }
 {
-    let moments = SinceFirst::new(rt);
-    let mut wire = capture.begin(rt.alloc(), wire, start.id, moments)?;
-    let ended = records.rounds_of(
-        rt, gateway, &mut wire, start, settings, identity, manager, output,
+    let mut wire = capture.begin(means.alloc(), wire, start.id, means.moments())?;
+    let teller = records.teller_at(gateway.moment());
+    let ended = rounds_of(
+        means, gateway, &mut wire, start, settings, identity, manager, output, teller,
     );
     wire.end();
-    records.told_of_left_out(wire.left_out());
+    records.told_of_left_out(&wire);
     let_go_tapped(wire);
     ended
 }
@@ -654,7 +659,7 @@ fn run<
     O: Write,
     L: Journal,
 >(
-    rt: &C,
+    means: Means<'_, C>,
     start: &Start<'_>,
     settings: &Settings,
     manager: &mut Option<Manager>,
@@ -669,27 +674,39 @@ fn run<
     requires uncaptured { is_some start.now.capture ≡ false }
     requires had { WasHad (locked_file (boot_file_of settings.now start.now.id)) disk.old }
     requires own { IsOfSockets settings.now start.now wire }
-    ensures ok { OnOk result (HasRun W.does W.waits settings.now start.now wire
-        (O.contents output.old) (O.contents output.new)) }
+    requires log { IsOwnLog L.passes L.writes start.now records.old.log }
+    ensures ok { OnOk result (HasRun W.does (wire_says W.waits W.failing W.lost) settings.now
+        start.now wire (O.contents output.old) (O.contents output.new)) }
     ensures err { IfErr result IsUnstarted }
-    ensures spared { IfErr result (IsSpared W.does W.waits settings.now start.now
-        (O.contents output.old) (O.contents output.new) wire) }
+    ensures spared { IfErr result (IsSpared W.does (wire_says W.waits W.failing W.lost)
+        settings.now start.now (O.contents output.old) (O.contents output.new) wire) }
+    ensures told { IsToldAtMost (path_in start.now.capture) records.old records.new }
+    ensures recorded { OnOk result
+        (IsRecorded (path_in start.now.capture) records.old records.new) }
     ensures unrecorded { IfErr result (IsUnrecorded (path_in start.now.capture)
         (O.contents output.old) (O.contents output.new) records.old records.new) }
     ensures decided { D.honest disk.old
         → OnOk result (IsNumbered start.now.found (D.now disk.old) (D.now disk.new)) }
-    ensures heard { OnOk result
-        (HearsSome ⟦<Option<Manager> as Supervisor>⟧.hears manager.old manager.new) }
-    ensures unheard { IfErr result (IsUnheard ⟦<Option<Manager> as Supervisor>⟧.hears
-        (O.contents output.old) (O.contents output.new) manager.old manager.new) }
+    ensures heard { OnOk result (HearsSome manager.old manager.new) }
+    ensures unheard { IfErr result (IsUnheard (O.contents output.old) (O.contents output.new)
+        manager.old manager.new) }
     ensures order { IfErr result (λ why. IsInOrder O.contents (path_in start.now.capture)
         (D.honest disk.old) start.now.found (D.now disk.old) (D.now disk.new)
         why output.old output.new) }
 {
-    match started(rt, disk, settings, start.id, start.found, output, records) {
+    match started(
+        &means,
+        disk,
+        settings,
+        start.id,
+        start.found,
+        output,
+        records,
+    ) {
         Ok((identity, mut gateway)) => {
-            let ended = records.rounds_of(
-                rt,
+            let teller = records.teller_at(gateway.moment());
+            let ended = rounds_of(
+                means,
                 &mut gateway,
                 &mut wire,
                 start,
@@ -697,6 +714,7 @@ fn run<
                 identity,
                 manager,
                 output,
+                teller,
             );
             gateway.end();
             let_go(wire);
@@ -707,4 +725,52 @@ fn run<
             Err(fault)
         }
     }
+}
+
+/// Runs a gateway until it is told to end, or has had its rounds. Its manager hears first that it is up. After an Err it was
+/// run too, and `end` isn't written.
+#[tactic(auto, unfolding(crate::specs::Named::WasDenied, crate::specs::Named::WasRefused))]
+fn rounds_of<C: Clock + Input + AllocGlobal, W: Wire, O: Write, L: Journal>(
+    means: Means<'_, C>,
+    gateway: &mut Gateway,
+    wire: &mut W,
+    start: &Start<'_>,
+    settings: &Settings,
+    identity: Identity,
+    manager: &mut Option<Manager>,
+    output: &mut O,
+    mut teller: Teller<'_, L>,
+) -> Result<(), BoxFault>
+    requires notified { IsNotified start.now.notify manager.old }
+    requires own { IsOwnWire (path_in start.now.capture) settings.now start.now wire.old }
+    requires identity { IsIdentity settings.now start.now.id identity gateway.old }
+    requires log { IsOwnLog L.passes L.writes start.now teller.log }
+    requires fresh { teller ≡ new_teller teller.log gateway.old.moment }
+    ensures runs { (run : RunsOn (Source C) W.does (wire_says W.waits W.failing W.lost) identity
+        start.now.rounds start.now.track start.now.until_eof
+        gateway.old gateway.new wire.old wire.new) × (IfSome run.until IsUnasked
+        × HearsAll identity.boot run.had.all.moments manager.old manager.new) }
+    ensures ended { OnOk result
+        (Appends (O.contents output.old) (O.contents output.new) (codes "end\n")) }
+    ensures err { IfErr result (LacksOutput (codes "end\n")
+        (O.contents output.old) (O.contents output.new)) }
+{
+    let alloc = means.alloc();
+    manager.ready(identity.boot);
+    let mut clock = means.stopwatch();
+    let mut until = InputEnd::new(means.input(start.until_eof));
+    serve(
+        alloc,
+        gateway,
+        wire,
+        &mut clock,
+        &mut until,
+        start.rounds,
+        start.track,
+        identity,
+        manager,
+        output,
+        &mut teller,
+    )?;
+    Ok(())
 }

@@ -1,55 +1,38 @@
 //! A gateway begins in the next boot of its box.
-ghost use Rattle.std.specs.Prelude.{◌≡◌, ◌<◌, ◌↔◌, IfErr, IfOk, IsTrue, None, Ok, OnErr, OnOk, true};
-ghost use Rattle.std.specs.Io.KnownBytes.{Appends};
+ghost use Rattle.std.specs.Prelude.{◌≡◌, ◌<◌, ◌↔◌, IfErr, IfOk, IsTrue, None, Ok, OnErr, OnOk};
+ghost use Rattle.std.specs.Io.KnownBytes.{Appends, Keeps};
 ghost use Rattle.nat_types.specs.declared.gateways.GatewayId.TheVariants.{Zero};
-ghost use Rattle.slots.specs.Hashers.{is_drawn};
 ghost use Rattle.journal.specs.Handed.{IsTold};
 ghost use Rattle.journal.specs.declared.entries.Entry.TheVariants.{Boot};
 ghost use Rattle.outlets.specs.Printed.{Prints};
-ghost use Rattle.boot_store.specs.Crash.{Decides, Keeps, Rises, Since};
+ghost use Rattle.checks.specs.Digests.{digest};
+ghost use Rattle.boot_store.specs.Crash.{Decides, Keeps as KeepsFile, Rises, Since};
 ghost use Rattle.gate.specs.Boots.{HasBoot, HasStarted, IsIdentity, IsStart, TellsNumber, boot_line};
-ghost use Rattle.box_words.specs.declared.refusals.BoxFault.TheVariants as faults;
-ghost use Rattle.faults.specs.declared.faults.Fault.TheVariants as reasons;
-ghost use Rattle.gate.specs.Failing.{IsUnstarted};
-ghost use Rattle.gate.specs.Failing.{LacksOutput};
-ghost use Rattle.gate.specs.Named.{IsNumberOf, WasGiven, boot_number};
+ghost use Rattle.gate.specs.Failing.{IsUnstarted, LacksMemory, LacksOutput};
+ghost use Rattle.gate.specs.Logs.{IsLikeLog};
+ghost use Rattle.gate.specs.Named.{IsNumberOf, WasFlushed, WasGiven, WasRecorded, boot_number};
 ghost use Rattle.gate.specs.Orders.{IsInOrder};
 
 use crate::recording::Records;
+use crate::rest::Means;
 use boot_store::{Disk, next_boot};
 use box_words::BoxFault;
 use checks::digest;
 use gateway::{Gateway, Hashers};
 use itoa::Buffer;
-use log::Log;
-use nat_types::{GatewayId, NoMemory};
+use journal::Journal;
+use nat_types::GatewayId;
 use outlets::put_all;
 use rounds::Identity;
 use settings::Settings;
-use slots::SystemDraws;
 use std::alloc::Global;
 use std::io::{self, Write};
 use std::random::RandomSource;
 
-/// The hashers of a seed that is drawn now. Where the system refuses a seed, that is told as memory
-/// that it refuses.
-fn drawn<R: RandomSource>(rt: &R) -> Result<Hashers, BoxFault>
-    ensures drawn { IfOk result (λ hashers. is_drawn hashers ≡ true) }
-    ensures err { IfErr result (λ why. why ≡ faults.Run reasons.NoMemory) }
-{
-    let mut draws = SystemDraws(rt);
-    let drawn = Hashers::drawn(&mut draws);
-    let SystemDraws(_) = draws;
-    match drawn {
-        Ok(hashers) => Ok(hashers),
-        Err(_refused) => Err(BoxFault::from(NoMemory)),
-    }
-}
-
 /// A gateway in the next boot of its disk, whose number is printed before anything is sent, and is the first record. Its
 /// seed is drawn first, so that a start without one takes no number. The answer has who the box is.
-pub(crate) fn started<R: RandomSource + AllocGlobal, D: Disk, O: Write, L: Log>(
-    rt: &R,
+pub(crate) fn started<R: RandomSource + AllocGlobal, D: Disk, O: Write, L: Journal>(
+    means: &Means<'_, R>,
     disk: &mut D,
     settings: &Settings,
     id: GatewayId,
@@ -65,7 +48,10 @@ pub(crate) fn started<R: RandomSource + AllocGlobal, D: Disk, O: Write, L: Log>(
         (D.now disk.old) (D.now disk.new) (Ok begun.0.boot)) }
     ensures record { IfOk result (λ begun. IsTold L.enables records.old.log 0
         (Boot begun.0.boot)) }
+    ensures recorded { IfOk result
+        (λ begun. WasRecorded records.old begun.0.boot records.new) }
     ensures unrecorded { OnErr result (records.new ≡ records.old) }
+    ensures like { OnOk result (IsLikeLog L.passes L.writes records.old.log records.new.log) }
     ensures given { OnOk result (WasGiven boot_number) }
     ensures own_number { OnOk result (IsNumberOf disk.old) }
     ensures err { IfErr result IsUnstarted }
@@ -74,9 +60,9 @@ pub(crate) fn started<R: RandomSource + AllocGlobal, D: Disk, O: Write, L: Log>(
     ensures order { IfErr result (λ why. IsInOrder O.contents None (D.honest disk.old) found
         (D.now disk.old) (D.now disk.new) why output.old output.new) }
 {
-    let digest = digest(rt.alloc(), settings)?;
-    let hashers = drawn(rt)?;
-    let (boot, gateway) = booted(rt.alloc(), disk, settings, id, found, hashers)?;
+    let digest = digested(means.alloc(), settings)?;
+    let hashers = means.drawn()?;
+    let (boot, gateway) = booted(means.alloc(), disk, settings, id, found, hashers)?;
     match announced(output, boot) {
         Ok(()) => {
             records.told_of_boot(boot);
@@ -89,11 +75,22 @@ pub(crate) fn started<R: RandomSource + AllocGlobal, D: Disk, O: Write, L: Log>(
     }
 }
 
+/// What tells settings apart from those of another box.
+#[tactic(auto, unfolding(crate::specs::Named::WasDenied))]
+fn digested(alloc: Global, settings: &Settings) -> Result<u64, BoxFault>
+    ensures digest { IfOk result (λ number. number ≡ digest settings.now) }
+    ensures err { IfErr result LacksMemory }
+{
+    let number = digest(alloc, settings)?;
+    Ok(number)
+}
+
 /// Prints the number of a boot.
 #[tactic(auto, unfolding(crate::specs::Named::WasDenied, crate::specs::Named::WasRefused))]
 fn announced<O: Write>(output: &mut O, boot: u64) -> Result<(), BoxFault>
     ensures printed { OnOk result
         (Appends (O.contents output.old) (O.contents output.new) (boot_line boot)) }
+    ensures flushed { OnOk result (WasFlushed (O.contents output.new)) }
     ensures err { IfErr result (LacksOutput (boot_line boot)
         (O.contents output.old) (O.contents output.new)) }
 {
@@ -103,10 +100,21 @@ fn announced<O: Write>(output: &mut O, boot: u64) -> Result<(), BoxFault>
 
 /// Writes the line of a boot, to its end.
 fn print_boot<O: Write>(output: &mut O, boot: u64) -> io::Result<()>
-    ensures { Prints (O.contents output.old) result (O.contents output.new) (boot_line boot) }
+    ensures prints { Prints (O.contents output.old) result (O.contents output.new)
+        (boot_line boot) }
+    ensures flushed { OnOk result (WasFlushed (O.contents output.new)) }
 {
     let mut digits = Buffer::new();
     put_all(output, &["boot ", digits.format(boot), "\n"])?;
+    flushed(output)
+}
+
+/// Has output hand on what it keeps.
+#[tactic(auto, unfolding(crate::specs::Named::WasFlushed))]
+fn flushed<O: Write>(output: &mut O) -> io::Result<()>
+    ensures bytes { Keeps (O.contents output.old) (O.contents output.new) }
+    ensures flushed { OnOk result (WasFlushed (O.contents output.new)) }
+{
     output.flush()
 }
 
@@ -132,7 +140,7 @@ fn booted<D: Disk>(
     ensures decided { D.honest disk.old
         → IfOk result (λ start. Decides found (D.now disk.old) (D.now disk.new) (Ok start.0)) }
     ensures any_moment { D.honest disk.old
-        → Since (D.past disk.old) (D.past disk.new) (Keeps (D.now disk.old) (D.now disk.new)) }
+        → Since (D.past disk.old) (D.past disk.new) (KeepsFile (D.now disk.old) (D.now disk.new)) }
     ensures honesty { D.honest disk.old ↔ D.honest disk.new }
 {
     let boot = numbered(disk, found)?;
@@ -154,7 +162,7 @@ fn numbered<D: Disk>(disk: &mut D, found: bool) -> Result<u64, BoxFault>
     ensures decided { D.honest disk.old
         → IfOk result (λ boot. Decides found (D.now disk.old) (D.now disk.new) (Ok boot)) }
     ensures any_moment { D.honest disk.old
-        → Since (D.past disk.old) (D.past disk.new) (Keeps (D.now disk.old) (D.now disk.new)) }
+        → Since (D.past disk.old) (D.past disk.new) (KeepsFile (D.now disk.old) (D.now disk.new)) }
     ensures honesty { D.honest disk.old ↔ D.honest disk.new }
 {
     match next_boot(disk, found) {
@@ -164,6 +172,7 @@ fn numbered<D: Disk>(disk: &mut D, found: bool) -> Result<u64, BoxFault>
 }
 
 /// A gateway that begins in this boot. What it shows stays closed to its caller here.
+#[tactic(auto, unfolding(crate::specs::Named::WasDenied))]
 fn begun(
     alloc: Global,
     settings: &Settings,
@@ -171,10 +180,12 @@ fn begun(
     boot: u64,
     found: bool,
     hashers: Hashers,
-) -> Result<Gateway, NoMemory>
+) -> Result<Gateway, BoxFault>
     requires boot { 0 < boot }
     requires found { IsTrue found → id ≡ Zero }
-    ensures { IfOk result (IsStart settings.now id found hashers boot) }
+    ensures start { IfOk result (IsStart settings.now id found hashers boot) }
+    ensures err { IfErr result LacksMemory }
 {
-    Gateway::new(alloc, settings, id, boot, found, hashers)
+    let gateway = Gateway::new(alloc, settings, id, boot, found, hashers)?;
+    Ok(gateway)
 }

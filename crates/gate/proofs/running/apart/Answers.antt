@@ -1,20 +1,16 @@
 use Rattle.std.proofs.Common.{inl, inr, refl}
+use Rattle.gate.specs.Asked.{boot_file_of}
+use Rattle.gate.specs.Failing.{Clashes, LacksPath}
 use Rattle.gate.specs.Served.{RunsOpened}
-use Rattle.gate.specs.Sparing.{SparesApart}
+use Rattle.gate.specs.Sparing.{FailsApart, FailsOpening, FailsWatched}
 use Rattle.gate.specs.Starts.{CanOpen}
-use Rattle.gate.proofs.Failing.{by_opening, by_path, by_ports, handed_on}
+use Rattle.gate.proofs.Refusing.{behind_it, handed_on}
 use Rattle.gate.proofs.Serving.{also}
-use Rattle.gate.proofs.Sparing.{spares_apart}
 use Rattle.gate.proofs.running.apart.Goals as goal
 
 pub returns-in_err-without_clash-clause-err : goal.returns-in_err-without_clash-clause-err
 returns-in_err-without_clash-clause-err g c =
-    by_ports c.from_residual.result c.args.start.now c.args.settings.now c.args.ways.now _ c.from_residual.ensures.1 c.requires.watched
-    c.in_err-without_clash.ensures.err
-
-pub returns-in_err-without_clash-clause-spared : goal.returns-in_err-without_clash-clause-spared
-returns-in_err-without_clash-clause-spared g c =
-    handed_on c.from_residual.result (SparesApart c.args.start.now c.args.settings.now c.args.ways.now _ _) _ c.from_residual.ensures.1
+    handed_on c.from_residual.result (FailsWatched c.args.start.now c.args.settings.now c.args.ways.now _ _) _ c.from_residual.ensures.1
     (inl c.in_err-without_clash.ensures.err)
 
 pub returns-in_err-without_clash-clause-asks : goal.returns-in_err-without_clash-clause-asks
@@ -22,45 +18,35 @@ returns-in_err-without_clash-clause-asks g c = inl refl
 
 pub returns-in_err-path-clause-err : goal.returns-in_err-path-clause-err
 returns-in_err-path-clause-err g c =
-    by_path c.from_residual-in_err-path.result c.args.start.now c.args.settings.now c.args.ways.now _ c.from_residual-in_err-path.ensures.1
-    (record { watched = c.requires.watched; no_clash = c.in_ok-without_clash.ensures.ok }) c.in_err-path.ensures.err
-
-pub returns-in_err-path-clause-spared : goal.returns-in_err-path-clause-spared
-returns-in_err-path-clause-spared g c =
-    handed_on c.from_residual-in_err-path.result (SparesApart c.args.start.now c.args.settings.now c.args.ways.now _ _) _
-    c.from_residual-in_err-path.ensures.1 (inr (inl c.in_err-path.ensures.err))
+    handed_on c.from_residual-in_err-path.result (FailsWatched c.args.start.now c.args.settings.now c.args.ways.now _ _) _
+    c.from_residual-in_err-path.ensures.1 (inr (c.in_ok-without_clash.ensures.ok, inl c.in_err-path.ensures.err))
 
 pub returns-in_err-path-clause-asks : goal.returns-in_err-path-clause-asks
-returns-in_err-path-clause-asks g c = inl refl
+returns-in_err-path-clause-asks g c = inr (_, (c.in_err-path.ensures.asked, inl refl))
 
 pub returns-clause-err : goal.returns-clause-err
 returns-clause-err g c =
-    let can : CanOpen c.args.start.now c.args.settings.now c.args.ways.now = record {
-      apart = record { watched = c.requires.watched; no_clash = c.in_ok-without_clash.ensures.ok };
-      short = c.in_ok-path.ensures.short;
-    } in
-    by_opening c.locked.result c.args.start.now c.args.settings.now c.args.ways.now can c.locked.ensures.err
+    behind_it c.locked.result (Clashes c.args.settings.now c.args.start.now.id c.args.ways.now)
+    (FailsApart c.args.start.now c.args.settings.now c.args.ways.now _ _) _ c.in_ok-without_clash.ensures.ok
+    (
+    behind_it c.locked.result (LacksPath (boot_file_of c.args.settings.now c.args.start.now.id))
+    (FailsOpening c.args.start.now c.args.settings.now c.args.ways.now _ _) _ c.in_ok-path.ensures.short c.locked.ensures.err
+    )
 
 pub returns-clause-ok : goal.returns-clause-ok
 returns-clause-ok g c =
-    let can : CanOpen c.args.start.now c.args.settings.now c.args.ways.now = record {
-      apart = record { watched = c.requires.watched; no_clash = c.in_ok-without_clash.ensures.ok };
-      short = c.in_ok-path.ensures.short;
-    } in
     also c.locked.result (CanOpen c.args.start.now c.args.settings.now c.args.ways.now)
     (RunsOpened c.args.start.now c.args.settings.now c.args.ways.now (g.O.Write.contents c.args.output.now) (g.O.Write.contents c.locked.new.output))
-    can c.locked.ensures.ok
-
-pub returns-clause-spared : goal.returns-clause-spared
-returns-clause-spared g c =
-    let can : CanOpen c.args.start.now c.args.settings.now c.args.ways.now = record {
+    (
+    record {
       apart = record { watched = c.requires.watched; no_clash = c.in_ok-without_clash.ensures.ok };
       short = c.in_ok-path.ensures.short;
-    } in
-    spares_apart c.locked.result c.args.start.now c.args.settings.now c.args.ways.now _ _ can c.locked.ensures.spared
+    }
+    )
+    c.locked.ensures.ok
 
 pub returns-clause-asks : goal.returns-clause-asks
-returns-clause-asks g c = c.locked.ensures.asks
+returns-clause-asks g c = inr (_, (c.in_ok-path.ensures.asked, c.locked.ensures.asks))
 
 pub returns-clause-heard : goal.returns-clause-heard
 returns-clause-heard g c = c.locked.ensures.heard

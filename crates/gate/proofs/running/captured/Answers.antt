@@ -1,7 +1,7 @@
-use Rattle.std.proofs.Common.{inl}
+use Rattle.std.proofs.Common.{inl, refl}
 use Rattle.gate.specs.Asked.{path_in}
 use Rattle.gate.specs.Failing.{IsUnrun, LacksCapture}
-use Rattle.gate.proofs.Refusing.{behind_it, ends_unrun, ends_unstarted, unstarted_unrun}
+use Rattle.gate.proofs.Refusing.{behind_it, so_or, unstarted_unrun}
 use Rattle.gate.proofs.running.captured.Goals as goal
 
 pub returns-in-Err-clause-err : goal.returns-in-Err-clause-err
@@ -16,7 +16,7 @@ returns-in-Ok-Some-clause-err g c =
     c.in-Ok-Some.ensures.given c.tapped.ensures.err
 
 pub returns-in-Ok-Some-clause-untouched : goal.returns-in-Ok-Some-clause-untouched
-returns-in-Ok-Some-clause-untouched g c = ends_unrun _ _ c.tapped.result c.tapped.ensures.err
+returns-in-Ok-Some-clause-untouched g c = so_or c.tapped.result (IsUnrun (path_in c.args.start.now.capture)) _ c.tapped.ensures.err
 
 pub returns-in-Ok-None-clause-err : goal.returns-in-Ok-None-clause-err
 returns-in-Ok-None-clause-err g c =
@@ -24,7 +24,9 @@ returns-in-Ok-None-clause-err g c =
     c.in-Ok-None.ensures.given (unstarted_unrun (path_in c.args.start.now.capture) c.run.result c.run.ensures.err)
 
 pub returns-in-Ok-None-clause-untouched : goal.returns-in-Ok-None-clause-untouched
-returns-in-Ok-None-clause-untouched g c = ends_unstarted _ c.run.result c.run.ensures.err
+returns-in-Ok-None-clause-untouched g c =
+    so_or c.run.result (IsUnrun (path_in c.args.start.now.capture)) _
+    (unstarted_unrun (path_in c.args.start.now.capture) c.run.result c.run.ensures.err)
 
 pub returns-in-Ok-Some-clause-order : goal.returns-in-Ok-Some-clause-order
 returns-in-Ok-Some-clause-order g c = c.tapped.ensures.order
@@ -67,3 +69,18 @@ returns-in-Ok-Some-clause-unrecorded g c = c.tapped.ensures.unrecorded
 
 pub returns-in-Ok-None-clause-unrecorded : goal.returns-in-Ok-None-clause-unrecorded
 returns-in-Ok-None-clause-unrecorded g c = c.run.ensures.unrecorded
+
+pub returns-in-Ok-Some-clause-recorded : goal.returns-in-Ok-Some-clause-recorded
+returns-in-Ok-Some-clause-recorded g c = c.tapped.ensures.recorded
+
+pub returns-in-Ok-None-clause-recorded : goal.returns-in-Ok-None-clause-recorded
+returns-in-Ok-None-clause-recorded g c = c.run.ensures.recorded
+
+pub returns-in-Ok-Some-clause-told : goal.returns-in-Ok-Some-clause-told
+returns-in-Ok-Some-clause-told g c = c.tapped.ensures.told
+
+pub returns-in-Ok-None-clause-told : goal.returns-in-Ok-None-clause-told
+returns-in-Ok-None-clause-told g c = c.run.ensures.told
+
+pub returns-in-Err-clause-told : goal.returns-in-Err-clause-told
+returns-in-Err-clause-told g c = inl refl

@@ -1,14 +1,12 @@
 use Rattle.std.proofs.Common.{inl, inr, refl}
 use Rattle.control.specs.Paths.{socket_of}
 use Rattle.gate.specs.Asked.{boot_file_of}
-use Rattle.gate.specs.Failing.{FailsHeard, FailsLocked, LacksControl}
+use Rattle.gate.specs.Failing.{LacksControl}
 use Rattle.gate.specs.Named.{WasGiven, control_socket}
 use Rattle.gate.specs.Served.{RunsWired}
-use Rattle.gate.specs.Sparing.{SparesHeard, SparesLocked}
-use Rattle.gate.proofs.Failing.{handed_on}
-use Rattle.gate.proofs.Refusing.{behind_it}
+use Rattle.gate.specs.Sparing.{FailsHeard, FailsLocked}
+use Rattle.gate.proofs.Refusing.{behind_it, handed_on}
 use Rattle.gate.proofs.Serving.{also}
-use Rattle.gate.proofs.Sparing.{or_else}
 use Rattle.gate.proofs.running.connected.Goals as goal
 
 pub returns-clause-ok : goal.returns-clause-ok
@@ -20,7 +18,7 @@ returns-clause-ok g c =
 pub returns-clause-err : goal.returns-clause-err
 returns-clause-err g c =
     behind_it c.wired.result (LacksControl (boot_file_of c.args.settings.now c.args.start.now.id))
-    (FailsHeard c.args.start.now c.args.settings.now c.args.ways.now)
+    (FailsHeard c.args.start.now c.args.settings.now c.args.ways.now _ _)
     (WasGiven (control_socket (socket_of (boot_file_of c.args.settings.now c.args.start.now.id)))) c.in_ok-control.ensures.given c.wired.ensures.err
 
 pub returns-clause-asks : goal.returns-clause-asks
@@ -37,7 +35,7 @@ returns-clause-order g c = c.wired.ensures.order
 
 pub returns-in_err-control-clause-err : goal.returns-in_err-control-clause-err
 returns-in_err-control-clause-err g c =
-    handed_on c.from_residual.result (FailsLocked c.args.start.now c.args.settings.now c.args.ways.now) _ c.from_residual.ensures.1
+    handed_on c.from_residual.result (FailsLocked c.args.start.now c.args.settings.now c.args.ways.now _ _) _ c.from_residual.ensures.1
     (inl c.in_err-control.ensures.err)
 
 pub returns-clause-decided : goal.returns-clause-decided
@@ -48,13 +46,3 @@ returns-clause-heard g c = c.wired.ensures.heard
 
 pub returns-clause-unheard : goal.returns-clause-unheard
 returns-clause-unheard g c = c.wired.ensures.unheard
-
-pub returns-clause-spared : goal.returns-clause-spared
-returns-clause-spared g c =
-    or_else c.wired.result (LacksControl (boot_file_of c.args.settings.now c.args.start.now.id))
-    (SparesHeard c.args.start.now c.args.settings.now c.args.ways.now _ _) c.wired.ensures.spared
-
-pub returns-in_err-control-clause-spared : goal.returns-in_err-control-clause-spared
-returns-in_err-control-clause-spared g c =
-    handed_on c.from_residual.result (SparesLocked c.args.start.now c.args.settings.now c.args.ways.now _ _) _ c.from_residual.ensures.1
-    (inl c.in_err-control.ensures.err)

@@ -4,7 +4,7 @@ use Rattle.gate.proofs.running.gate.Goals as goal
 pub returns-in-Err-clause-failed : goal.returns-in-Err-clause-failed
 returns-in-Err-clause-failed g c one = (
   c.in-Err.fault,
-  ((record { refuses = c.in-Err.ensures.err; alone = c.in-Err.ensures.alone }, c.in-Err.ensures.order), c.tell.ensures.told),
+  ((c.in-Err.ensures.err, c.in-Err.ensures.order), c.tell.ensures.told),
 )
 
 pub returns-in-Err-clause-order : goal.returns-in-Err-clause-order

@@ -1,14 +1,17 @@
 use Rattle.std.proofs.Common.{inl}
-use Rattle.gate.specs.Asked.{IsFilter}
-use Rattle.gate.specs.Failing.{FailsLogged, LacksFilter}
+use Rattle.gate.specs.Asked.{IsFilter, path_in}
+use Rattle.gate.specs.Failing.{LacksFilter}
+use Rattle.gate.specs.Sparing.{FailsLogged}
 use Rattle.gate.proofs.Asking.{none_asked}
+use Rattle.gate.specs.Named.{WasClosed}
 use Rattle.gate.proofs.Refusing.{behind_it}
+use Rattle.gate.proofs.Serving.{always}
 use Rattle.gate.proofs.running.logged.Goals as goal
 
 pub returns-in-Ok-clause-err : goal.returns-in-Ok-clause-err
 returns-in-Ok-clause-err g c =
-    behind_it c.captured-ended.result (LacksFilter c.args.start.now.log) (FailsLogged c.args.start.now) (IsFilter c.args.start.now.log)
-    c.in-Ok.ensures.valid c.captured-ended.ensures.err
+    behind_it c.captured-ended.result (LacksFilter c.args.start.now.log) (FailsLogged c.args.start.now)
+    (IsFilter c.args.start.now.log × WasClosed (path_in c.args.start.now.capture)) (c.in-Ok.ensures.valid, c.close.ensures) c.captured-ended.ensures.err
 
 pub returns-in-Ok-clause-ok : goal.returns-in-Ok-clause-ok
 returns-in-Ok-clause-ok g c = c.captured-ended.ensures.ok
@@ -30,3 +33,9 @@ returns-in-Ok-clause-asks g c = c.captured-ended.ensures.asks
 
 pub returns-in-Err-clause-asks : goal.returns-in-Err-clause-asks
 returns-in-Err-clause-asks g c = none_asked _ _
+
+pub close-requires : goal.close-requires
+close-requires g c = record { told = (_, (c.in-Ok.ensures.untold, c.captured-ended.ensures.told)) }
+
+pub returns-in-Ok-clause-closed : goal.returns-in-Ok-clause-closed
+returns-in-Ok-clause-closed g c = always c.captured-ended.result _ c.close.ensures

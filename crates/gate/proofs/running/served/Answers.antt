@@ -1,15 +1,16 @@
 use Rattle.std.proofs.Common.{inl, inr, refl}
-use Rattle.gate.proofs.Failing.{by_settings}
-use Rattle.gate.proofs.Sparing.{fails_before}
+use Rattle.gate.specs.Sparing.{IsRefusal}
+use Rattle.gate.proofs.Refusing.{handed_on}
+use Rattle.gate.proofs.Sparing.{behind_settings}
 use Rattle.gate.proofs.running.served.Goals as goal
 
 pub returns-in_err-settings-clause-err : goal.returns-in_err-settings-clause-err
 returns-in_err-settings-clause-err g c =
-    by_settings c.from_residual.result c.args.start.now _ c.from_residual.ensures.1 c.in_err-settings.ensures.err
+    handed_on c.from_residual.result (IsRefusal c.args.start.now _ _) _ c.from_residual.ensures.1 (inl c.in_err-settings.ensures.err)
 
-pub returns-in_err-settings-clause-alone : goal.returns-in_err-settings-clause-alone
-returns-in_err-settings-clause-alone g c =
-    fails_before c.from_residual.result c.args.start.now _ _ _ c.from_residual.ensures.1 (inl c.in_err-settings.ensures.err)
+pub returns-clause-err : goal.returns-clause-err
+returns-clause-err g c =
+    behind_settings c.reached-ended.result c.args.start.now _ _ _ c.in_ok-settings.ensures.held c.reached-ended.ensures.err
 
 pub returns-clause-asks : goal.returns-clause-asks
 returns-clause-asks g c = (_, (c.in_ok-settings.ensures.asked, inr (_, (c.in_ok-settings.ensures.held, c.reached-ended.ensures.asks))))

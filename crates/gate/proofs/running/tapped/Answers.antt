@@ -1,14 +1,14 @@
 use Rattle.std.proofs.Common.{inl, inr}
-use Rattle.supervision.specs.Hearing.{gets, hears_inside}
+use Rattle.rounds.specs.Rounds.{wire_says}
 use Rattle.gate.proofs.Heard.{heard_in_some, unheard_tapped}
-use Rattle.gate.proofs.Recorded.{recorded_tapped}
+use Rattle.gate.proofs.Recorded.{recorded_both, recorded_tapped, told_behind}
 use Rattle.gate.proofs.Refusing.{ends_in_order, unrun_so, with_capture}
 use Rattle.gate.proofs.Serving.{always, captured_at, has_run, spared_tapped}
 use Rattle.gate.proofs.running.tapped.Goals as goal
 
 pub returns-in-Ok-clause-ok : goal.returns-in-Ok-clause-ok
 returns-in-Ok-clause-ok g c =
-    has_run c.tapped_rounds-ended.result g.W.Wire.does g.W.Wire.waits c.args.settings.now c.args.start.now c.args.wire _ _ _ _ _ _
+    has_run c.tapped_rounds-ended.result g.W.Wire.does (wire_says g.W.Wire.waits g.W.Wire.failing g.W.Wire.lost) c.args.settings.now c.args.start.now c.args.wire _ _ _ _ _ _
     c.in-Ok.ensures.start c.in-Ok.ensures.identity c.requires.own c.tapped_rounds-ended.ensures.ran c.tapped_rounds-ended.ensures.ended
     (c.in-Ok.ensures.own_number _ c.requires.had) (_, c.requires.notified) c.requires.valid
     (captured_at c.tapped_rounds-ended.result _ _ c.requires.captured c.tapped_rounds-ended.ensures.begun)
@@ -19,7 +19,7 @@ returns-in-Ok-clause-err g c =
 
 pub returns-in-Ok-clause-spared : goal.returns-in-Ok-clause-spared
 returns-in-Ok-clause-spared g c =
-    spared_tapped c.tapped_rounds-ended.result g.W.Wire.does g.W.Wire.waits c.args.settings.now c.args.start.now c.args.wire _ _ _ _ _ _ _ _ _
+    spared_tapped c.tapped_rounds-ended.result g.W.Wire.does (wire_says g.W.Wire.waits g.W.Wire.failing g.W.Wire.lost) c.args.settings.now c.args.start.now c.args.wire _ _ _ _ _ _ _ _ _
     c.in-Ok.ensures.identity c.in-Ok.ensures.printed c.tapped_rounds-ended.ensures.unrun
 
 pub returns-in-Ok-clause-decided : goal.returns-in-Ok-clause-decided
@@ -27,7 +27,7 @@ returns-in-Ok-clause-decided g c h = always c.tapped_rounds-ended.result _ (_, c
 
 pub returns-in-Ok-clause-heard : goal.returns-in-Ok-clause-heard
 returns-in-Ok-clause-heard g c =
-    heard_in_some c.tapped_rounds-ended.result (hears_inside gets) _ c.args.manager.now c.tapped_rounds-ended.new.manager c.tapped_rounds-ended.ensures.heard
+    heard_in_some c.tapped_rounds-ended.result _ c.args.manager.now c.tapped_rounds-ended.new.manager c.tapped_rounds-ended.ensures.heard
 
 pub returns-in-Ok-clause-order : goal.returns-in-Ok-clause-order
 returns-in-Ok-clause-order g c =
@@ -45,7 +45,7 @@ returns-in-Err-clause-order g c = with_capture g.O.Write.contents _ _ _ _ _ _ _ 
 
 pub returns-in-Ok-clause-unheard : goal.returns-in-Ok-clause-unheard
 returns-in-Ok-clause-unheard g c =
-    unheard_tapped c.tapped_rounds-ended.result (hears_inside gets) _ _ _ _ c.args.capture.path.now c.args.wire _ _ _ _ _ c.in-Ok.ensures.printed c.tapped_rounds-ended.ensures.unrun
+    unheard_tapped c.tapped_rounds-ended.result _ _ _ _ c.args.capture.path.now c.args.wire _ _ _ _ _ c.in-Ok.ensures.printed c.tapped_rounds-ended.ensures.unrun
 
 pub returns-in-Ok-clause-unrecorded : goal.returns-in-Ok-clause-unrecorded
 returns-in-Ok-clause-unrecorded g c =
@@ -54,3 +54,15 @@ returns-in-Ok-clause-unrecorded g c =
 
 pub returns-in-Err-clause-unrecorded : goal.returns-in-Err-clause-unrecorded
 returns-in-Err-clause-unrecorded g c = inl c.in-Err.ensures.unrecorded
+
+pub returns-in-Ok-clause-recorded : goal.returns-in-Ok-clause-recorded
+returns-in-Ok-clause-recorded g c =
+    recorded_both c.tapped_rounds-ended.result _ c.args.capture.path.now _ _ _ _ c.requires.captured c.in-Ok.ensures.recorded
+    c.tapped_rounds-ended.ensures.recorded
+
+pub returns-in-Ok-clause-told : goal.returns-in-Ok-clause-told
+returns-in-Ok-clause-told g c =
+    told_behind _ c.args.capture.path.now _ _ _ _ c.requires.captured c.in-Ok.ensures.recorded c.tapped_rounds-ended.ensures.told
+
+pub returns-in-Err-clause-told : goal.returns-in-Err-clause-told
+returns-in-Err-clause-told g c = inl c.in-Err.ensures.unrecorded

@@ -1,27 +1,28 @@
-use Rattle.std.proofs.Common.{inr, refl}
-use Rattle.gate.proofs.Failing.{handed_on}
-use Rattle.gate.proofs.Refusing.{only_this}
-use Rattle.gate.proofs.Serving.{always, on_tapped, ran_below}
+use Rattle.std.proofs.Common.{inl, inr, refl}
+use Rattle.rounds.specs.Rounds.{wire_says}
+use Rattle.gate.proofs.Below.{ran_below}
+use Rattle.gate.proofs.Refusing.{handed_on, only_this}
+use Rattle.gate.proofs.Serving.{always, on_tapped}
 use Rattle.gate.proofs.running.tapped_rounds.Goals as goal
 
 pub returns-clause-ran : goal.returns-clause-ran
 returns-clause-ran g c =
     always c.rounds_of-ended.result _
-    (ran_below (λ tapped. tapped.wire) g.W.Wire.does g.W.Wire.waits c.args.identity c.args.start.now _ _ _ _ c.end.new.self c.args.wire
+    (ran_below (λ tapped. tapped.wire) g.W.Wire.does (wire_says g.W.Wire.waits g.W.Wire.failing g.W.Wire.lost) c.args.identity c.args.start.now _ _ _ _ c.end.new.self c.args.wire
     c.in_ok-wire.ensures.tapped.0 c.end.ensures.wire c.let_go_tapped.ensures c.rounds_of-ended.ensures.runs.0)
 
 pub returns-clause-begun : goal.returns-clause-begun
 returns-clause-begun g c = always c.rounds_of-ended.result _ c.in_ok-wire.ensures.begun
 
 pub returns-clause-heard : goal.returns-clause-heard
-returns-clause-heard g c = always c.rounds_of-ended.result _ (_, c.rounds_of-ended.ensures.runs.1)
+returns-clause-heard g c = always c.rounds_of-ended.result _ (_, c.rounds_of-ended.ensures.runs.1.1)
 
 pub returns-clause-unrun : goal.returns-clause-unrun
 returns-clause-unrun g c =
     only_this c.rounds_of-ended.result _ _ _ (
-      ran_below (λ tapped. tapped.wire) g.W.Wire.does g.W.Wire.waits c.args.identity c.args.start.now _ _ _ _ c.end.new.self c.args.wire
+      ran_below (λ tapped. tapped.wire) g.W.Wire.does (wire_says g.W.Wire.waits g.W.Wire.failing g.W.Wire.lost) c.args.identity c.args.start.now _ _ _ _ c.end.new.self c.args.wire
           c.in_ok-wire.ensures.tapped.0 c.end.ensures.wire c.let_go_tapped.ensures c.rounds_of-ended.ensures.runs.0,
-      (_, c.rounds_of-ended.ensures.runs.1),
+      (_, c.rounds_of-ended.ensures.runs.1.1),
     )
     c.rounds_of-ended.ensures.err
 
@@ -33,3 +34,12 @@ returns-in_err-wire-clause-unrun g c =
 pub rounds_of-ended-requires-clause-own : goal.rounds_of-ended-requires-clause-own
 rounds_of-ended-requires-clause-own g c =
     on_tapped _ c.args.capture.path.now c.args.settings.now c.args.start.now _ c.requires.captured c.in_ok-wire.ensures.had
+
+pub returns-clause-recorded : goal.returns-clause-recorded
+returns-clause-recorded g c = always c.rounds_of-ended.result _ (_, c.told_of_left_out.ensures.told)
+
+pub returns-clause-told : goal.returns-clause-told
+returns-clause-told g c = inr (_, c.told_of_left_out.ensures.told)
+
+pub returns-in_err-wire-clause-told : goal.returns-in_err-wire-clause-told
+returns-in_err-wire-clause-told g c = inl refl

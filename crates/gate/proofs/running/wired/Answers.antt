@@ -1,21 +1,22 @@
 use Rattle.std.proofs.Common.{inl, inr}
-use Rattle.gate.specs.Failing.{FailsHeard, FailsWired, LacksPlace}
-use Rattle.gate.specs.Sparing.{SparesHeard}
+use Rattle.gate.specs.Sparing.{FailsHeard}
 use Rattle.gate.proofs.Asking.{none_asked}
-use Rattle.gate.proofs.Failing.{handed_on}
-use Rattle.gate.proofs.Refusing.{behind_it}
-use Rattle.gate.proofs.Serving.{also, on_some}
-use Rattle.gate.proofs.Sparing.{spared_if_had}
+use Rattle.gate.proofs.Refusing.{handed_on}
+use Rattle.gate.proofs.Serving.{both, on_some}
+use Rattle.gate.proofs.Sparing.{behind_sockets}
 use Rattle.gate.proofs.running.wired.Goals as goal
+
+pub logged-requires-clause-own : goal.logged-requires-clause-own
+logged-requires-clause-own g c = (_, (c.requires.written, c.in_ok-wire.ensures.had))
 
 pub returns-clause-ok : goal.returns-clause-ok
 returns-clause-ok g c =
-    also c.logged.result _ _ c.in_ok-wire.ensures.given (on_some c.logged.result _ c.in_ok-wire.wire c.logged.ensures.ok)
+    both c.logged.result _ _ _ c.in_ok-wire.ensures.given c.logged.ensures.closed (on_some c.logged.result _ c.in_ok-wire.wire c.logged.ensures.ok)
 
 pub returns-clause-err : goal.returns-clause-err
 returns-clause-err g c =
-    behind_it c.logged.result (LacksPlace c.args.settings.now c.args.start.now.id c.args.ways.now) (FailsWired c.args.start.now) _
-    c.in_ok-wire.ensures.given c.logged.ensures.err
+    behind_sockets c.logged.result c.args.start.now c.args.settings.now c.args.ways.now c.in_ok-wire.wire _ _ c.in_ok-wire.ensures.given
+    c.in_ok-wire.ensures.had c.logged.ensures.err c.logged.ensures.spared
 
 pub returns-clause-untouched : goal.returns-clause-untouched
 returns-clause-untouched g c = c.logged.ensures.untouched
@@ -25,7 +26,7 @@ returns-clause-order g c = c.logged.ensures.order
 
 pub returns-in_err-wire-clause-err : goal.returns-in_err-wire-clause-err
 returns-in_err-wire-clause-err g c =
-    handed_on c.from_residual.result (FailsHeard c.args.start.now c.args.settings.now c.args.ways.now) _ c.from_residual.ensures.1
+    handed_on c.from_residual.result (FailsHeard c.args.start.now c.args.settings.now c.args.ways.now _ _) _ c.from_residual.ensures.1
     (inl c.in_err-wire.ensures.err)
 
 pub returns-clause-decided : goal.returns-clause-decided
@@ -36,15 +37,6 @@ returns-clause-heard g c = c.logged.ensures.heard
 
 pub returns-clause-unheard : goal.returns-clause-unheard
 returns-clause-unheard g c = c.logged.ensures.unheard
-
-pub returns-clause-spared : goal.returns-clause-spared
-returns-clause-spared g c =
-    spared_if_had c.logged.result c.args.start.now c.args.settings.now c.args.ways.now c.in_ok-wire.wire _ _ c.in_ok-wire.ensures.had c.logged.ensures.spared
-
-pub returns-in_err-wire-clause-spared : goal.returns-in_err-wire-clause-spared
-returns-in_err-wire-clause-spared g c =
-    handed_on c.from_residual.result (SparesHeard c.args.start.now c.args.settings.now c.args.ways.now _ _) _ c.from_residual.ensures.1
-    (inl c.in_err-wire.ensures.err)
 
 pub returns-clause-asks : goal.returns-clause-asks
 returns-clause-asks g c = inr (_, (c.in_ok-wire.ensures.asked, c.logged.ensures.asks))

@@ -1,20 +1,11 @@
-use Rattle.boot_store.specs.declared.faults.BootFault.{BootFault}
-use Rattle.boot_store.specs.declared.faults.BootFault.TheVariants as boot
-use Rattle.box_words.specs.Faults.{of_boot}
-use Rattle.gate.specs.Failing.{IsUnstarted}
+use Rattle.std.proofs.Common.{inr}
 use Rattle.gate.specs.Named.{WasDenied}
 use Rattle.gate.proofs.Beginning.{none_failed, tells_number}
 use Rattle.gate.proofs.starting.numbered.Goals as goal
 
-unnumbered : (reason : BootFault) → IsUnstarted (of_boot reason)
-unfolding WasDenied
-unnumbered boot.Device = tt
-unnumbered boot.Damaged = tt
-unnumbered boot.BootsUsedUp = tt
-unnumbered boot.FoundTwice = tt
-
 pub returns-in-Err-clause-err : goal.returns-in-Err-clause-err
-returns-in-Err-clause-err g c = rw c.from.ensures (unnumbered c.in-Err.fault)
+unfolding WasDenied
+returns-in-Err-clause-err g c = inr (inr (c.in-Err.fault, (c.from.ensures, tt)))
 
 pub returns-in-Ok-clause-decided : goal.returns-in-Ok-clause-decided
 returns-in-Ok-clause-decided g c h =

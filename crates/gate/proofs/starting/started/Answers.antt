@@ -1,10 +1,8 @@
-use Rattle.std.proofs.Common.{inl, inr, refl, subst, sym}
-use Rattle.gate.specs.Failing.{IsUnstarted}
+use Rattle.std.proofs.Common.{inl, inr}
 use Rattle.gate.proofs.starting.started.Goals as goal
 
 pub returns-in-Err-clause-err : goal.returns-in-Err-clause-err
-returns-in-Err-clause-err g c =
-    subst IsUnstarted (sym c.in-Err.ensures.err.is) (inl (refl, (c.in_ok-boot.ensures.given, c.in-Err.ensures.err.denied)))
+returns-in-Err-clause-err g c = inl (c.in-Err.ensures.err.is, (c.in_ok-boot.ensures.given, c.in-Err.ensures.err.denied))
 
 pub returns-in-Err-clause-order : goal.returns-in-Err-clause-order
 returns-in-Err-clause-order g c = inr (_, (c.in_ok-boot.ensures.decided, inl (inl c.in-Err.ensures.err)))

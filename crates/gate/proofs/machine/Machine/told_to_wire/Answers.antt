@@ -1,4 +1,4 @@
-use Rattle.sockets.specs.Boards.{Opens}
+use Rattle.sockets.specs.Boards.{IsRefused, Opens}
 use Rattle.sockets.specs.declared.places.Ports.{Ports}
 use Rattle.box_words.specs.Ends.{IsFirstOf}
 use Rattle.gate.specs.Asked.{box_ports}
@@ -22,3 +22,21 @@ returns-in-Ok-clause-opened g c =
     let own = box_ports c.args.settings.now c.args.id in
     of_ports (λ (p : Ports). Opens c.args.self.now.places c.args.ways.now p c.args.control c.in-Ok.sockets.board c.open.new.machine) ports.result own.link own.inside
     own.outside ports.ensures.link ports.ensures.inside ports.ensures.outside c.in-Ok.ensures.opened
+
+pub returns-in-Err-NoMemory-clause-unopened : goal.returns-in-Err-NoMemory-clause-unopened
+returns-in-Err-NoMemory-clause-unopened g c =
+    let ports = c.ports_of-ports in
+    let own = box_ports c.args.settings.now c.args.id in (
+      c.in-Err-NoMemory.field-0,
+      of_ports (λ (p : Ports). IsRefused c.args.self.now.places c.args.ways.now p c.args.control c.in-Err-NoMemory.field-0 c.open.new.machine) ports.result own.link
+          own.inside own.outside ports.ensures.link ports.ensures.inside ports.ensures.outside c.in-Err-NoMemory.ensures.refused,
+    )
+
+pub returns-in-Err-NoSocket-clause-unopened : goal.returns-in-Err-NoSocket-clause-unopened
+returns-in-Err-NoSocket-clause-unopened g c =
+    let ports = c.ports_of-ports in
+    let own = box_ports c.args.settings.now c.args.id in (
+      c.in-Err-NoSocket.field-0,
+      of_ports (λ (p : Ports). IsRefused c.args.self.now.places c.args.ways.now p c.args.control c.in-Err-NoSocket.field-0 c.open.new.machine) ports.result own.link
+          own.inside own.outside ports.ensures.link ports.ensures.inside ports.ensures.outside c.in-Err-NoSocket.ensures.refused,
+    )
