@@ -14,7 +14,8 @@ use Rattle.commands.proofs.Telling.{told_once, told_then}
 text_lines : {E : Type 0} (tells : Telling E) (before after : E) (text : List ℕ) (start : List (List ℕ)) → IsTold tells before text after
     → (lines : List (List ℕ)) × AreTold tells before lines after × IsTold lists start text (start ++ lines)
 text_lines tells before after text start (inl h) = (line_of text ∷ [], told_once tells before after (line_of text) h, inl (Ok tt, refl))
-text_lines tells before after text start (inr h) = (no_memory_line ∷ [], told_once tells before after no_memory_line h, inr (Ok tt, refl))
+text_lines tells before after text start (inr h) =
+    (no_memory_line ∷ [], told_once tells before after no_memory_line h.1, inr (h.0, (Ok tt, refl)))
 
 pub fault_lines : {E F : Type 0} (tells : Telling E) (text : F → List ℕ) (P Q : F → Type 0) (before after : E) (start : List (List ℕ))
     → IsToldOf tells text P before after → ((why : F) → P why → Q why)
@@ -34,21 +35,21 @@ said_lines tells text status old new before after answer start (inr cut) = (
   inr (record { begun = cut.begun; told = (Ok tt, refl); is_one = cut.is_one }),
 )
 
-unsaid_lines : {O E : Type 0} (holds : O → Option (List ℕ)) (tells : Telling E) (old new : O) (before after : E) (answer : ℕ) (start : List (List ℕ))
-    → IsUnsaid tells old new before after answer
-    → (lines : List (List ℕ)) × AreTold tells before lines after × IsUnsaid lists (holds old) (holds new) start (start ++ lines) answer
+unsaid_lines : {O E short : Type 0} (holds : O → Option (List ℕ)) (tells : Telling E) (old new : O) (before after : E) (answer : ℕ) (start : List (List ℕ))
+    → IsUnsaid short tells old new before after answer
+    → (lines : List (List ℕ)) × AreTold tells before lines after × IsUnsaid short lists (holds old) (holds new) start (start ++ lines) answer
 unsaid_lines holds tells old new before after answer start h = (
   no_memory_line ∷ [],
   told_once tells before after no_memory_line h.told,
-  record { unwritten = ap holds h.unwritten; told = (Ok tt, refl); is_one = h.is_one },
+  record { is_short = h.is_short; unwritten = ap holds h.unwritten; told = (Ok tt, refl); is_one = h.is_one },
 )
 
 pub check_lines : {P O E : Type 0} (finds : Finds P) (takes : Takes P) (holds : O → Option (List ℕ)) (tells : Telling E) (around : P) (text : List ℕ)
-    (request : Request) (old new : O) (before after : E) (answer : ℕ)
-    → HasChecked finds takes holds tells around text request old new before after answer
+    (request : Request) (behind : P) (old new : O) (before after : E) (answer : ℕ)
+    → HasChecked finds takes holds tells around text request behind old new before after answer
     → (lines : List (List ℕ)) × AreTold tells before lines after
-    × HasChecked finds takes (λ (o : Option (List ℕ)). o) lists around text request (holds old) (holds new) [] lines answer
-check_lines finds takes holds tells around text request old new before after answer (inl reported) =
+    × HasChecked finds takes (λ (o : Option (List ℕ)). o) lists around text request behind (holds old) (holds new) [] lines answer
+check_lines finds takes holds tells around text request behind old new before after answer (inl reported) =
     let l = said_lines tells reported.said _ (holds old) (holds new) before after answer [] reported.is_said in (
       l.0,
       l.1,
@@ -60,7 +61,7 @@ check_lines finds takes holds tells around text request old new before after ans
         is_said = l.2;
       }),
     )
-check_lines finds takes holds tells around text request old new before after answer (inr unsaid) =
+check_lines finds takes holds tells around text request behind old new before after answer (inr unsaid) =
     let l = unsaid_lines holds tells old new before after answer [] unsaid in
     (l.0, l.1, inr l.2)
 

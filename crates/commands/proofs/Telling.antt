@@ -23,7 +23,7 @@ SomeTold tells before after = (lines : List (List ℕ)) × AreTold tells before 
 
 pub some_text : {E : Type 0} (tells : Telling E) (before after : E) (text : List ℕ) → IsTold tells before text after → SomeTold tells before after
 some_text tells before after text (inl h) = (line_of text ∷ [], told_once tells before after (line_of text) h)
-some_text tells before after text (inr h) = (no_memory_line ∷ [], told_once tells before after no_memory_line h)
+some_text tells before after text (inr h) = (no_memory_line ∷ [], told_once tells before after no_memory_line h.1)
 
 pub some_fault : {E F : Type 0} (tells : Telling E) (text : F → List ℕ) (is_such : F → Type 0) (before after : E) → IsToldOf tells text is_such before after
     → SomeTold tells before after
@@ -47,7 +47,7 @@ some_said tells text status old new before after answer (inl whole) = ([], whole
 some_said tells text status old new before after answer (inr cut) =
     (not_written_line ∷ [], told_once tells before after not_written_line cut.told)
 
-pub some_unsaid : {O E : Type 0} (tells : Telling E) (old new : O) (before after : E) (answer : ℕ) → IsUnsaid tells old new before after answer
+pub some_unsaid : {O E short : Type 0} (tells : Telling E) (old new : O) (before after : E) (answer : ℕ) → IsUnsaid short tells old new before after answer
     → SomeTold tells before after
 some_unsaid tells old new before after answer h = (no_memory_line ∷ [], told_once tells before after no_memory_line h.told)
 
@@ -57,23 +57,23 @@ pub said_untold : {E : Type 0} (tells : Telling E) (text : List ℕ) (status : �
 said_untold tells text status old new before after answer (inl whole) none = whole.untold
 said_untold tells text status old new before after answer (inr cut) none = absurd (let bad : 1 ≡ 0 = sym cut.is_one ∙ none in cc)
 
-pub unsaid_untold : {O E : Type 0} (tells : Telling E) (old new : O) (before after : E) (answer : ℕ) → IsUnsaid tells old new before after answer
+pub unsaid_untold : {O E short : Type 0} (tells : Telling E) (old new : O) (before after : E) (answer : ℕ) → IsUnsaid short tells old new before after answer
     → answer ≡ 0 → after ≡ before
 unsaid_untold tells old new before after answer h none = absurd (let bad : 1 ≡ 0 = sym h.is_one ∙ none in cc)
 
 pub check_told : {P O E : Type 0} (finds : Finds P) (takes : Takes P) (holds : O → Option (List ℕ)) (tells : Telling E) (around : P) (text : List ℕ)
-    (request : Request) (old new : O) (before after : E) (answer : ℕ)
-    → HasChecked finds takes holds tells around text request old new before after answer → SomeTold tells before after
-check_told finds takes holds tells around text request old new before after answer (inl reported) =
+    (request : Request) (behind : P) (old new : O) (before after : E) (answer : ℕ)
+    → HasChecked finds takes holds tells around text request behind old new before after answer → SomeTold tells before after
+check_told finds takes holds tells around text request behind old new before after answer (inl reported) =
     some_said tells _ _ (holds old) (holds new) before after answer reported.is_said
-check_told finds takes holds tells around text request old new before after answer (inr unsaid) = some_unsaid tells old new before after answer unsaid
+check_told finds takes holds tells around text request behind old new before after answer (inr unsaid) = some_unsaid tells old new before after answer unsaid
 
 pub check_untold : {P O E : Type 0} (finds : Finds P) (takes : Takes P) (holds : O → Option (List ℕ)) (tells : Telling E) (around : P) (text : List ℕ)
-    (request : Request) (old new : O) (before after : E) (answer : ℕ)
-    → HasChecked finds takes holds tells around text request old new before after answer → answer ≡ 0 → after ≡ before
-check_untold finds takes holds tells around text request old new before after answer (inl reported) none =
+    (request : Request) (behind : P) (old new : O) (before after : E) (answer : ℕ)
+    → HasChecked finds takes holds tells around text request behind old new before after answer → answer ≡ 0 → after ≡ before
+check_untold finds takes holds tells around text request behind old new before after answer (inl reported) none =
     said_untold tells _ _ (holds old) (holds new) before after answer reported.is_said none
-check_untold finds takes holds tells around text request old new before after answer (inr unsaid) none =
+check_untold finds takes holds tells around text request behind old new before after answer (inr unsaid) none =
     unsaid_untold tells old new before after answer unsaid none
 
 -- ---- by `gate`

@@ -1,5 +1,5 @@
 -- What a task has done, at a site and by a host.
-use Rattle.std.specs.Prelude.{◌≡◌, ◌⊎◌, ℕ, List, Option, MatchOption, Bool, true, false, None, Some, string_bytes}
+use Rattle.std.specs.Prelude.{◌≡◌, ◌⊎◌, ℕ, List, Option, MatchOption, Bool, true, false, None, Some, string_bytes, unwrap_or}
 use Rattle.command_line.specs.declared.tasks.Task.{Task}
 use Rattle.command_line.specs.declared.tasks.Task.TheVariants as task
 use Rattle.checks.specs.Comparing.{text_with_path}
@@ -26,7 +26,8 @@ use Rattle.box_words.specs.Said.{said_off, said_side, said_stop}
 use Rattle.box_words.specs.declared.refusals.BoxFault.{BoxFault}
 use Rattle.commands.specs.Asked.{filter_of, form_of}
 use Rattle.commands.specs.Captures.{HasJob, IsCaptured, IsLoopCaptured, IsOpened, IsUnlooped, LeavesCapture, TapesPassed, TapesSim, Taping}
-use Rattle.commands.specs.Ends.{version_line}
+use Rattle.box_words.specs.Outputs.{IsFlushed, IsPrinted}
+use Rattle.commands.specs.Ends.{IsUnput, version_line}
 use Rattle.commands.specs.Hosts.{Begins, Closes, HasWorked, Scene, Scope, Work, Works, compared, looked, plan_of, scope_of, served, text_at, written}
 use Rattle.commands.specs.Meters.{Hearing, IsToldBehind}
 use Rattle.commands.specs.Reading.{AreNotHad, AreRead, IsNotHad}
@@ -51,9 +52,9 @@ EndsSo tells done fails status before after = IsUncaptured before after
     × (status ≡ 0 → IsUntold before after × done before.site after.site)
     × (status ≡ 1 → IsToldOf tells box_text (λ why. fails why before.site after.site) before.errors after.errors)
 
--- a box is asked how it stands, and its report written, or until it is synced
+-- a box is asked how it stands, and its report written; or, for so many seconds or 60, until it is synced
 abbrev pub IsAskedSo : {S : Type 0} → Does S → Bool → StatusWords → Option (List ℕ) → Option (List ℕ) → S → S → Type 0
-IsAskedSo does true words old new before after = HasSynced does (string_bytes words.settings) words.id before after
+IsAskedSo does true words old new before after = HasSynced does (string_bytes words.settings) words.id (unwrap_or words.seconds 60) before after
 IsAskedSo does false words old new before after =
     HasReported does (string_bytes words.settings) words.id (form_of words.form) old new before after
 
@@ -62,7 +63,8 @@ IsAsked does words old new before after = IsAskedSo does words.until_synced word
 
 -- or it is asked so in vain, and this is the fault
 abbrev pub IsAskedInVainSo : {S O : Type 0} → Does S → (O → Option (List ℕ)) → Bool → StatusWords → BoxFault → O → O → S → S → Type 0
-IsAskedInVainSo does prints true words why old new before after = HasUnsynced does (string_bytes words.settings) words.id why before after
+IsAskedInVainSo does prints true words why old new before after =
+    HasUnsynced does (string_bytes words.settings) words.id (unwrap_or words.seconds 60) why before after
 IsAskedInVainSo does prints false words why old new before after =
     HasUnreported does prints (string_bytes words.settings) words.id (form_of words.form) why old new before after
 
@@ -88,10 +90,11 @@ module _ {S H O E : Type 0} (does : Does S) (works : Works Work H) (prints : O �
     pub good : status ≡ 0 → IsGoodText text
     pub clean : scope.strict ≡ true → status ≡ 0 → IsCleanText text
 
-  -- just it was asked for and not had, which was told, and nothing printed: the status is 1
+  -- just it was asked for and not had, which was told, and nothing printed nor looked at: the status is 1
   pub record IsUnread (settings : List ℕ) (status : ℕ) (before after : Scene S H O E) : Type 0 where
     pub is_one : status ≡ 1
     pub unprinted : IsUnprinted before after
+    pub unlooked : after.host ≡ before.host
     pub told : IsToldOf tells fault_text (λ why. IsNotHad does settings why before.site after.site) before.errors after.errors
 
   -- just the files that are named were read, the settings first, and their texts compared, with this status: 0 only where they
@@ -104,10 +107,11 @@ module _ {S H O E : Type 0} (does : Does S) (works : Works Work H) (prints : O �
         before.host after.host before.errors after.errors
     pub alike : status ≡ 0 → AreAlike one two
 
-  -- both were asked for, the settings first, whatever came of them, and one wasn't had; nothing is printed: the status is 1
+  -- both were asked for, the settings first, whatever came of them, and one wasn't had; nothing is printed nor looked at: the status is 1
   pub record AreUnread (settings other : List ℕ) (status : ℕ) (before after : Scene S H O E) : Type 0 where
     pub is_one : status ≡ 1
     pub unprinted : IsUnprinted before after
+    pub unlooked : after.host ≡ before.host
     pub one : Option (List ℕ)
     pub two : Option (List ℕ)
     pub lacks : (one ≡ None) ⊎ (two ≡ None)
@@ -238,21 +242,23 @@ IsSpared others first last = last ≡ first
 -- just its line was told, and that what led to it was all that was done: just that file was tried, that box asked, those files read; and
 -- of `status`, `pairs`, `sim`, `loop` and the version what was printed until then. Whatever the status, `check` looks at just what the
 -- words say, as they say it, and `gate` has just one gateway run, as they say; what the host told is told, and nothing else. Neither
--- `gate` nor the version does anything at the site; only `sim` and `loop` begin a capture; and `init`, `stop`, `peer-off`, `side` and
--- `status --until synced` print nothing.
+-- `gate` nor the version does anything at the site; of a host nothing is asked but by `check`, by `gate`, and for a capture; and `init`, `stop`, `peer-off`, `side` and
+-- `status --until synced` print nothing. What `status`, `pairs` and the version print at 0 is flushed last of all; the version ends with 1 only where
+-- its output refused it, or to be flushed.
 module _ {S H T P O E : Type 0} (does : Does S) (works : Works Work H) (takes refuses : TakesOn T) (begins : Begins H T) (closes : Closes H T)
     (opens : Opens P) (denies : Refuses P) (passes : Passes P) (prints : O → Option (List ℕ)) (tells : Telling E) (hears overhears : Hearing E) where
   abbrev pub Acts : P → P → Task → ℕ → Scene S H O E → Scene S H O E → Type 0
   Acts first last (task.Init file) status before after = IsUnprinted before after
       × EndsSo tells (λ b a. does b (made (string_bytes file)) a) (HasUnmade does (string_bytes file)) status before after
-  Acts first last (task.Check words) status before after = IsUncaptured before after × (status ≡ 0 → IsUntold before after)
+  Acts first last (task.Check words) status before after = (status ≡ 0 → IsUntold before after)
       × HasLooked does works prints tells words status before after
   Acts first last (task.Gate words) status before after = (after.site ≡ before.site) × (status ≡ 0 → IsUntold before after)
       × HasWorked tells works (served (plan_of words)) (written prints before.output after.output) status before.host after.host
       before.errors after.errors
   Acts first last (task.Status words) status before after = (words.until_synced ≡ true → IsUnprinted before after)
+      × (words.until_synced ≡ false → status ≡ 0 → IsFlushed after.output)
       × EndsSo tells (IsAsked does words (prints before.output) (prints after.output)) (λ why. IsAskedInVain does prints words why before.output after.output) status before after
-  Acts first last (task.Pairs words) status before after = EndsSo tells
+  Acts first last (task.Pairs words) status before after = (status ≡ 0 → IsFlushed after.output) × EndsSo tells
       (HasListed does (string_bytes words.settings) words.id (filter_of words) (prints before.output) (prints after.output))
       (λ why. HasUnlisted does prints (string_bytes words.settings) words.id (filter_of words) why before.output after.output) status before after
   Acts first last (task.Stop settings id) status before after = IsUnprinted before after
@@ -269,5 +275,7 @@ module _ {S H T P O E : Type 0} (does : Does S) (works : Works Work H) (takes re
       × (status ≡ 1 → EndsSim does takes refuses begins closes prints tells overhears files before after)
   Acts first last (task.Loop files) status before after =
       Repeats does takes refuses begins closes prints tells opens denies passes first last files status before after
-  Acts first last task.Version status before after = (after.site ≡ before.site) × IsUncaptured before after × (status ≡ 0 → IsUntold before after)
-      × (status ≡ 1 → IsTold tells before.errors (fault_text NotWritten) after.errors × IsBegun (prints before.output) (prints after.output) version_line)
+  Acts first last task.Version status before after = (after.site ≡ before.site) × IsUncaptured before after
+      × (status ≡ 0 → IsUntold before after × IsPrinted before.output version_line after.output)
+      × (status ≡ 1 → IsTold tells before.errors (fault_text NotWritten) after.errors × IsBegun (prints before.output) (prints after.output) version_line
+      × IsUnput before.output version_line after.output)

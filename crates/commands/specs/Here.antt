@@ -41,14 +41,16 @@ abbrev pub HasServedHere : {G : Type 0} → Works Start G
 HasServedHere before start printed lines status after = WasServed before start status after × ServesHere before start printed lines status after
 
 -- Of a text `checks` says just what it finds of it, and tells just that the output or memory was refused, with the status that it says; in
--- what two differ so too, and of each that holds no settings why. Who runs gateways is handed just one start, which has the plan.
-abbrev pub WorksHere : {P G : Type 0} → Finds P → Takes P → Works Start G → Works Work G
-WorksHere {P = P} finds takes serves before (looked text scope) printed lines status after = (around : P) × (request : Request)
-    × (scope_in request ≡ scope) × HasChecked finds takes (λ o. o) lists around text request printed.before printed.after [] lines status
-WorksHere finds takes serves before (compared one other) printed lines status after = (first : Source) × (second : Source)
+-- what two differ so too, and of each that holds no settings why. Who runs gateways is asked for nothing by these; else he is handed just
+-- one start, which has the plan. Around this machine it is looked for the first of these alone, by who was asked before and is then.
+abbrev pub WorksHere : {P G : Type 0} → Finds P → Takes P → P → P → Works Start G → Works Work G
+WorksHere finds takes around behind serves before (looked text scope) printed lines status after = (after ≡ before) × (request : Request)
+    × (scope_in request ≡ scope) × HasChecked finds takes (λ o. o) lists around text request behind printed.before printed.after [] lines status
+WorksHere finds takes around behind serves before (compared one other) printed lines status after = (behind ≡ around) × (after ≡ before)
+    × (first : Source) × (second : Source)
     × (text_in first ≡ one) × (text_in second ≡ other)
     × HasCompared (λ o. o) lists first second printed.before printed.after [] lines status
-WorksHere finds takes serves before (served plan) printed lines status after = (start : Start)
+WorksHere finds takes around behind serves before (served plan) printed lines status after = (behind ≡ around) × (start : Start)
     × (plan_in start ≡ plan) × serves before start printed lines status after
 
 -- just a capture in the file at this path was begun, by what begins them before and then

@@ -1,11 +1,12 @@
 //! What is asked of settings, and of a running gateway.
-ghost use Rattle.std.specs.Prelude.{◌≡◌, ◌⊎◌, option_map, string_bytes, true, unwrap_or};
+ghost use Rattle.std.specs.Prelude.{◌≡◌, ◌⊎◌, false, option_map, string_bytes, true, unwrap_or};
 ghost use Rattle.outlets.specs.Telling.{IsToldOf};
 ghost use Rattle.commands.specs.Acts.{HasChecked, HasCompared, HasLooked, IsAsked, IsAskedFor, IsAskedInVain};
 ghost use Rattle.commands.specs.Asked.{filter_of, form_of};
 ghost use Rattle.commands.specs.Hosts.{scene, scope_in};
 ghost use Rattle.box_words.specs.Deeds.{HasListed, HasUnlisted};
 ghost use Rattle.box_words.specs.Faults.{fault_text};
+ghost use Rattle.box_words.specs.Outputs.{IsFlushed};
 
 use crate::commands::text_of;
 use crate::hosts::Host;
@@ -16,7 +17,6 @@ use outlets::Tells;
 use report_texts::Filter;
 use std::alloc::Global;
 use std::io::Write;
-use std::rt::Clock;
 
 /// How long a gateway is waited for, in seconds, where the words don't say.
 const PATIENCE: u32 = 60;
@@ -25,7 +25,7 @@ const PATIENCE: u32 = 60;
 pub(crate) fn look_at<S: Site, H: Host, O: Write, E: Tells>(
     alloc: Global,
     site: &mut S,
-    host: &H,
+    host: &mut H,
     words: &CheckWords,
     output: &mut O,
     errors: &mut E,
@@ -33,8 +33,8 @@ pub(crate) fn look_at<S: Site, H: Host, O: Write, E: Tells>(
     ensures status { (result ≡ 0) ⊎ (result ≡ 1) }
     ensures quiet { result ≡ 0 → errors.new ≡ errors.old }
     ensures looked { HasLooked S.does H.works O.contents E.tells words.now result
-        (scene site.old host.now output.old errors.old)
-        (scene site.new host.now output.new errors.new) }
+        (scene site.old host.old output.old errors.old)
+        (scene site.new host.new output.new errors.new) }
 {
     let settings = words.settings.as_str();
     match &words.other {
@@ -55,7 +55,7 @@ pub(crate) fn look_at<S: Site, H: Host, O: Write, E: Tells>(
 fn look_at_one<S: Site, H: Host, O: Write, E: Tells>(
     alloc: Global,
     site: &mut S,
-    host: &H,
+    host: &mut H,
     settings: &str,
     request: &Request<'_>,
     output: &mut O,
@@ -64,8 +64,8 @@ fn look_at_one<S: Site, H: Host, O: Write, E: Tells>(
     ensures status { (result ≡ 0) ⊎ (result ≡ 1) }
     ensures quiet { result ≡ 0 → errors.new ≡ errors.old }
     ensures checked { HasChecked S.does H.works O.contents E.tells settings.now
-        (scope_in request.now) result (scene site.old host.now output.old errors.old)
-        (scene site.new host.now output.new errors.new) }
+        (scope_in request.now) result (scene site.old host.old output.old errors.old)
+        (scene site.new host.new output.new errors.new) }
 {
     match site.text(settings) {
         Ok(text) => host.look(text.as_str(), request, output, errors),
@@ -144,8 +144,8 @@ fn request_of(words: &CheckWords) -> Request<'_>
 }
 
 /// Writes a running gateway's report, or waits until it is synced.
-pub(crate) fn state_of<R: Clock + AllocGlobal, S: Site, O: Write, E: Tells>(
-    rt: &R,
+pub(crate) fn state_of<S: Site, O: Write, E: Tells>(
+    alloc: Global,
     site: &mut S,
     words: &StatusWords,
     output: &mut O,
@@ -158,14 +158,15 @@ pub(crate) fn state_of<R: Clock + AllocGlobal, S: Site, O: Write, E: Tells>(
     ensures failed { result ≡ 1 → IsToldOf E.tells fault_text (λ why. IsAskedInVain S.does
         O.contents words.now why output.old output.new site.old site.new) errors.old errors.new }
     ensures unprinted { words.now.until_synced ≡ true → output.new ≡ output.old }
+    ensures flushed { words.now.until_synced ≡ false → result ≡ 0 → IsFlushed output.new }
 {
     let settings = words.settings.as_str();
     if words.until_synced {
         let seconds = seconds_of(words.seconds);
-        await_synced(rt, site, settings, words.id, seconds, errors)
+        await_synced(alloc, site, settings, words.id, seconds, errors)
     } else {
         let form = form_of(words.form);
-        status(rt.alloc(), site, settings, words.id, form, output, errors)
+        status(alloc, site, settings, words.id, form, output, errors)
     }
 }
 
@@ -199,6 +200,7 @@ pub(crate) fn pairs_of<S: Site, O: Write, E: Tells>(
     ensures listed { result ≡ 0
         → HasListed S.does (string_bytes words.now.settings) words.now.id (filter_of words.now)
         (O.contents output.old) (O.contents output.new) site.old site.new }
+    ensures flushed { result ≡ 0 → IsFlushed output.new }
     ensures quiet { result ≡ 0 → errors.new ≡ errors.old }
     ensures failed { result ≡ 1 → IsToldOf E.tells fault_text (λ why. HasUnlisted S.does
         O.contents (string_bytes words.now.settings) words.now.id (filter_of words.now) why

@@ -20,21 +20,13 @@ use journal::Format;
 use loopback_run::Channel;
 use outlets::Tells;
 use rounds::Clockwork;
+use std::alloc::Global;
 use std::io::Write;
-use std::rt::Clock;
 
 /// All that is done for the words at a site, by a host and through a passage, where who watches a script hears by a clock how
 /// far it is: the task of the words is done; or just why they ask for none is told.
-pub(crate) fn act_at<
-    R: Clock + AllocGlobal,
-    S: Site,
-    H: Host,
-    P: Channel,
-    C: Clockwork + Drop,
-    O: Write,
-    E: Tells,
->(
-    rt: &R,
+pub(crate) fn act_at<S: Site, H: Host, P: Channel, C: Clockwork + Drop, O: Write, E: Tells>(
+    alloc: Global,
     site: &mut S,
     host: &mut H,
     passage: &mut P,
@@ -63,27 +55,19 @@ pub(crate) fn act_at<
         (map string_bytes words.now) result (scene site.old host.old output.old errors.old)
         (scene site.new host.new output.new errors.new) }
 {
-    match command(rt.alloc(), words) {
+    match command(alloc, words) {
         Ok(task) => done(
-            rt, site, host, passage, clock, &task, is_watched, output, errors,
+            alloc, site, host, passage, clock, &task, is_watched, output, errors,
         ),
-        Err(fault) => fault.tell(rt.alloc(), errors),
+        Err(fault) => fault.tell(alloc, errors),
     }
 }
 
 /// Does a task: files are read, boxes are spoken to, and boot files made, at a site; a host looks at settings and runs
 /// gateways; what a script of `loop` hands in goes through a passage; and who watches a script of `sim` hears by a clock how
 /// far it is.
-fn done<
-    R: Clock + AllocGlobal,
-    S: Site,
-    H: Host,
-    P: Channel,
-    C: Clockwork + Drop,
-    O: Write,
-    E: Tells,
->(
-    rt: &R,
+fn done<S: Site, H: Host, P: Channel, C: Clockwork + Drop, O: Write, E: Tells>(
+    alloc: Global,
     site: &mut S,
     host: &mut H,
     passage: &mut P,
@@ -107,12 +91,11 @@ fn done<
         (scene site.old host.old output.old errors.old)
         (scene site.new host.new output.new errors.new) }
 {
-    let alloc = rt.alloc();
     match task {
         Task::Init(file) => init(alloc, site, file.as_str(), errors),
         Task::Check(words) => look_at(alloc, site, host, words, output, errors),
         Task::Gate(words) => host.serve(&start_of(words), output, errors),
-        Task::Status(words) => state_of(rt, site, words, output, errors),
+        Task::Status(words) => state_of(alloc, site, words, output, errors),
         Task::Pairs(words) => pairs_of(alloc, site, words, output, errors),
         Task::Stop(settings, id) => stop(alloc, site, settings.as_str(), *id, errors),
         Task::PeerOff(words) => {

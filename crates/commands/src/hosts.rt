@@ -51,16 +51,16 @@ pub(crate) trait Host {
         ensures ended { IfOk result (λ _. ends self.now tape (Ok tt)) }
         ensures unended { IfErr result (λ error. ends self.now tape (Err (error_kind error))) };
 
-    /// Looks at a text of settings.
+    /// Looks at a text of settings, and around.
     fn look<O: Write, E: Tells>(
-        &self,
+        &mut self,
         text: &str,
         request: &Request<'_>,
         output: &mut O,
         errors: &mut E,
     ) -> u8
         ensures works { HasWorked E.tells works (looked text.now (scope_in request.now))
-            (written O.contents output.old output.new) result self.now self.now
+            (written O.contents output.old output.new) result self.old self.new
             errors.old errors.new }
         ensures status { (result ≡ 0) ⊎ (result ≡ 1) }
         ensures quiet { result ≡ 0 → errors.new ≡ errors.old }
@@ -127,12 +127,13 @@ where
     ghost works = { λ host work printed lines status host2.
         (host2.captures ≡ host.captures)
         × WorksHere ⟦<ThisMachine<'static, R> as Surroundings>⟧.finds
-        ⟦<ThisMachine<'static, R> as Surroundings>⟧.takes
+        ⟦<ThisMachine<'static, R> as Surroundings>⟧.takes host.around host2.around
         G.serves host.gateways work printed lines status host2.gateways };
 
     type Record = Capture<BufWriter<R::File>>;
 
     ghost begins = { λ host path answer host2. (host2.gateways ≡ host.gateways)
+        × (host2.around ≡ host.around)
         × IsBegunAt host.captures path answer host2.captures
         × IfOk answer (λ tape. IsFresh tape.clocks tape.is_refused) };
 
@@ -148,13 +149,13 @@ where
     }
 
     fn look<O: Write, E: Tells>(
-        &self,
+        &mut self,
         text: &str,
         request: &Request<'_>,
         output: &mut O,
         errors: &mut E,
     ) -> u8 {
-        check(self.alloc, &self.around, text, request, output, errors)
+        check(self.alloc, &mut self.around, text, request, output, errors)
     }
 
     fn compare<O: Write, E: Tells>(

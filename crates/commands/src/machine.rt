@@ -79,7 +79,7 @@ where
     let mut passage = Loopback::new(rt);
     let clock = Stopwatch::start(rt);
     act_at(
-        rt,
+        rt.alloc(),
         &mut site,
         &mut host,
         &mut passage,

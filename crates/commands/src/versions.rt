@@ -1,11 +1,12 @@
 //! What the program is.
-ghost use Rattle.std.specs.Prelude.{◌≡◌, ◌⊎◌};
+ghost use Rattle.std.specs.Prelude.{◌≡◌, ◌⊎◌, OnErr, OnOk};
 ghost use Rattle.faults.specs.Texts.{fault_text};
 ghost use Rattle.faults.specs.declared.faults.Fault.TheVariants as faults;
 ghost use Rattle.outlets.specs.Printed.{IsBegun, Prints};
 ghost use Rattle.outlets.specs.Telling.{IsTold};
-ghost use Rattle.std.specs.Io.KnownBytes.{Appends};
-ghost use Rattle.commands.specs.Ends.{version_line};
+ghost use Rattle.std.specs.Io.KnownBytes.{Appends, Keeps};
+ghost use Rattle.box_words.specs.Outputs.{IsPrinted, WasFlushed, WasPut};
+ghost use Rattle.commands.specs.Ends.{IsUnput, version_line};
 
 use command_line::{KIT, VERSION};
 use faults::Fault;
@@ -24,6 +25,8 @@ pub(crate) fn tell_version<O: Write, E: Tells>(alloc: Global, output: &mut O, er
         → IsTold E.tells errors.old (fault_text faults.NotWritten) errors.new }
     ensures begun { result ≡ 1
         → IsBegun (O.contents output.old) (O.contents output.new) version_line }
+    ensures put { result ≡ 0 → IsPrinted output.old version_line output.new }
+    ensures unput { result ≡ 1 → IsUnput output.old version_line output.new }
 {
     match write_version(output) {
         Ok(()) => 0,
@@ -33,15 +36,28 @@ pub(crate) fn tell_version<O: Write, E: Tells>(alloc: Global, output: &mut O, er
 
 /// Writes that line, to its end.
 fn write_version<O: Write>(output: &mut O) -> io::Result<()>
-    ensures { Prints (O.contents output.old) result (O.contents output.new) version_line }
+    ensures printed { Prints (O.contents output.old) result (O.contents output.new) version_line }
+    ensures put { OnOk result (IsPrinted output.old version_line output.new) }
+    ensures unput { OnErr result (IsUnput output.old version_line output.new) }
 {
-    put_version(output)?;
-    output.flush()
+    told_to_put_version(output)?;
+    told_to_flush(output)
 }
 
-/// Writes that line.
-fn put_version<O: Write>(output: &mut O) -> io::Result<()>
-    ensures { Prints (O.contents output.old) result (O.contents output.new) version_line }
+/// Has an output take that line, all of it.
+#[tactic(auto, unfolding(box_words::specs::Outputs::WasPut))]
+fn told_to_put_version<O: Write>(output: &mut O) -> io::Result<()>
+    ensures bytes { Prints (O.contents output.old) result (O.contents output.new) version_line }
+    ensures put { WasPut output.old version_line result output.new }
 {
     put_all(output, &["natpair ", VERSION, " (", KIT, ")\n"])
+}
+
+/// Has it hand on what it keeps.
+#[tactic(auto, unfolding(box_words::specs::Outputs::WasFlushed))]
+fn told_to_flush<O: Write>(output: &mut O) -> io::Result<()>
+    ensures bytes { Keeps (O.contents output.old) (O.contents output.new) }
+    ensures flushed { WasFlushed output.old result output.new }
+{
+    output.flush()
 }

@@ -14,5 +14,6 @@ pub returns-in-Err-clause-checked : goal.returns-in-Err-clause-checked
 returns-in-Err-clause-checked g c = inl (record {
   is_one = c.tell.ensures.status ∙ c.in-Err.ensures.status;
   unprinted = refl;
+  unlooked = refl;
   told = (c.in-Err.fault, ((c.in-Err.ensures.unread, c.in-Err.ensures.told), c.tell.ensures.told));
 })

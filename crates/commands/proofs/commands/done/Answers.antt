@@ -66,7 +66,7 @@ returns-in-Init-clause-acts g c = rw c.in-Init.is (
 )
 
 pub returns-in-Check-clause-acts : goal.returns-in-Check-clause-acts
-returns-in-Check-clause-acts g c = rw c.in-Check.is (refl, c.look_at.ensures.quiet, c.look_at.ensures.looked)
+returns-in-Check-clause-acts g c = rw c.in-Check.is (c.look_at.ensures.quiet, c.look_at.ensures.looked)
 
 pub returns-in-Gate-clause-acts : goal.returns-in-Gate-clause-acts
 returns-in-Gate-clause-acts g c =
@@ -81,6 +81,7 @@ returns-in-Gate-clause-acts g c =
 pub returns-in-Status-clause-acts : goal.returns-in-Status-clause-acts
 returns-in-Status-clause-acts g c = rw c.in-Status.is (
   c.state_of.ensures.unprinted,
+  c.state_of.ensures.flushed,
   (
     refl,
     λ none. (c.state_of.ensures.quiet none, c.state_of.ensures.asked none),
@@ -90,9 +91,12 @@ returns-in-Status-clause-acts g c = rw c.in-Status.is (
 
 pub returns-in-Pairs-clause-acts : goal.returns-in-Pairs-clause-acts
 returns-in-Pairs-clause-acts g c = rw c.in-Pairs.is (
-  refl,
-  λ none. (c.pairs_of.ensures.quiet none, c.pairs_of.ensures.listed none),
-  c.pairs_of.ensures.failed,
+  c.pairs_of.ensures.flushed,
+  (
+    refl,
+    λ none. (c.pairs_of.ensures.quiet none, c.pairs_of.ensures.listed none),
+    c.pairs_of.ensures.failed,
+  ),
 )
 
 pub returns-in-Stop-clause-acts : goal.returns-in-Stop-clause-acts
@@ -132,7 +136,12 @@ pub returns-in-Loop-clause-acts : goal.returns-in-Loop-clause-acts
 returns-in-Loop-clause-acts g c = rw c.in-Loop.is c.repeat.ensures.repeats
 
 pub returns-in-Version-clause-acts : goal.returns-in-Version-clause-acts
-returns-in-Version-clause-acts g c = rw c.in-Version.is (refl, refl, c.tell_version.ensures.quiet, λ one. (c.tell_version.ensures.told one, c.tell_version.ensures.begun one))
+returns-in-Version-clause-acts g c = rw c.in-Version.is (
+  refl,
+  refl,
+  λ none. (c.tell_version.ensures.quiet none, c.tell_version.ensures.put none),
+  λ one. (c.tell_version.ensures.told one, c.tell_version.ensures.begun one, c.tell_version.ensures.unput one),
+)
 
 pub returns-in-Init-clause-quiet : goal.returns-in-Init-clause-quiet
 returns-in-Init-clause-quiet g c unwatched h = c.init.ensures.quiet (is_0 _ c.init.ensures.status h)
