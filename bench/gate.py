@@ -14,8 +14,8 @@ the gate and prints what it has seen. A FILE of the gate's bare output has no ti
 printed alone.
 
 A processor second is one that a process of the gate's, or one that it started, spent computing. They are read from
-/proc some ten times a second, so that up to a tenth of a second of each is lost; what no crate's process took (the
-gate itself, formats, what was lost) stands in the line `others`.
+/proc twice a second, so that up to half a second of each is lost; to read them takes a hundredth of a processor. What no
+crate's process took (the gate itself, formats, what was lost) stands in the line `others`.
 """
 import os
 import re
@@ -27,7 +27,7 @@ import threading
 import time
 
 KINDS = ("proof", "tests", "edits", "builds")
-PERIOD = 0.1
+PERIOD = 0.5
 TICKS = os.sysconf("SC_CLK_TCK")
 
 

@@ -31,22 +31,43 @@ PROOF_TEXT = ("Answers.antt", "Invariants.antt", "Proof.antt")
 
 
 class Edit:
-    """A wrong body: a file of a crate, and lines of it with what stands in their place."""
+    """A wrong body: files of a crate, and lines of them with what stands in their place. What stands in front of the
+    first `file:` says what it does."""
 
     def __init__(self, path):
         self.path, self.name = path, path.stem
         self.is_gated = path.parent.name == "must-fail"
         self.crate = (path.parent.parent if self.is_gated else path.parent).name
-        lines = path.read_text(encoding="utf-8").splitlines()
-        self.file = lines[0].removeprefix("file: ")
-        self.pairs = [(old.removeprefix("old: "), new.removeprefix("new: ")) for old, new in zip(lines[1::2], lines[2::2])]
+        self.files, at = [], None
+        for line in path.read_text(encoding="utf-8").splitlines():
+            word, _, rest = line.partition(":")
+            if word == "file":
+                self.files.append((rest.strip(), []))
+            elif word in ("old", "new") and self.files:
+                at = 0 if word == "old" else 1
+                if at == 0:
+                    self.files[-1][1].append(["", ""])
+                self.files[-1][1][-1][at] = rest.removeprefix(" ")
+            elif self.files and at is not None:
+                self.files[-1][1][-1][at] += "\n" + line
 
-    def applied_to(self, text):
-        for old, new in self.pairs:
-            if text.count(old) != 1:
-                raise SystemExit(f"edits: {self.crate}/{self.name}: its old text stands {text.count(old)} times")
-            text = text.replace(old, new)
-        return text
+    def put_into(self, crate):
+        """Puts it into the files of the crate in that folder, and gives what each of them had."""
+        had = {crate / name: (crate / name).read_text(encoding="utf-8") for name, _ in self.files}
+        for name, pairs in self.files:
+            text = (crate / name).read_text(encoding="utf-8")
+            for old, new in pairs:
+                if text.count(old) != 1:
+                    put_back(had)
+                    raise SystemExit(f"edits: {self.crate}/{self.name}: its old text stands {text.count(old)} times")
+                text = text.replace(old, new)
+            (crate / name).write_text(text, encoding="utf-8")
+        return had
+
+
+def put_back(had):
+    for file, text in had.items():
+        file.write_text(text, encoding="utf-8")
 
 
 def edits_of(top, wanted):
@@ -79,11 +100,9 @@ def told(clauses):
 
 def refusal(crate, edit):
     """What refuses the edit, in one line. The crate's files are as they were when it ends."""
-    file = crate / edit.file
-    right = file.read_text(encoding="utf-8")
+    had = edit.put_into(crate)
     aside, moved = pathlib.Path(tempfile.mkdtemp()), []
     try:
-        file.write_text(edit.applied_to(right), encoding="utf-8")
         report = check(crate)
         if "logic=proved" in report:
             return "PROVED"
@@ -94,15 +113,15 @@ def refusal(crate, edit):
             shutil.move(str(text), str(aside / str(len(moved))))
             moved.append(text)
         wrong = open_clauses(check(crate))
-        file.write_text(right, encoding="utf-8")
+        put_back({file: text for file, text in had.items() if file.is_file()})
         both = open_clauses(check(crate))
         alone = [it for it in wrong if it not in both]
         return f"without proof text: {told(alone)} (open at the right body too: {told([it for it in wrong if it in both])})"
     finally:
-        file.write_text(right, encoding="utf-8")
         for number, folder in enumerate(moved):
             shutil.rmtree(folder, ignore_errors=True)
             shutil.move(str(aside / str(number)), str(folder))
+        put_back(had)
         shutil.rmtree(aside, ignore_errors=True)
 
 
@@ -160,12 +179,10 @@ def printed(folder):
 
 def change(top, edit):
     """The first line that a program of cases prints otherwise than it must, those that stand on the fewest crates first."""
-    file = top / "crates" / edit.crate / edit.file
-    right = file.read_text(encoding="utf-8")
+    had = edit.put_into(top / "crates" / edit.crate)
     below = stands_on(top)
     programs = [it for it in below if edit.crate in below[it] and (top / "crates" / it / "stdout").exists()]
     programs.sort(key=lambda it: len(below[it]))
-    file.write_text(edit.applied_to(right), encoding="utf-8")
     try:
         for name in programs:
             owed = (top / "crates" / name / "stdout").read_bytes().split(b"\n")
@@ -177,7 +194,7 @@ def change(top, edit):
                 return f"{name}: it ends behind line {len(got) - 1} of {len(owed) - 1}"
         return "NO CASE: " + (", ".join(programs) or "no program of cases stands on it")
     finally:
-        file.write_text(right, encoding="utf-8")
+        put_back(had)
 
 
 FUNCTION = re.compile(r"^\s*(?:pub(?:\([a-z]+\))? )?(?:const )?fn (\w+)")
