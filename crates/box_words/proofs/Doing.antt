@@ -26,7 +26,7 @@ use Rattle.report_texts.specs.declared.pairs.Filter.{Filter}
 use Rattle.box_words.specs.Deeds.{Does, Fails, HasFailed, HasListed, HasPage, HasPages, HasReported, HasSynced, HasTaken, HasUnlisted, HasUnreported, IsAskedOnce, IsAwaited, IsAwaitedInVain, IsBoxOf, IsBroken, IsCutShort, IsInVain, IsNotSynced, IsSyncedAt, IsUnpaged, IsUnprinted, IsUnreached, IsUnreported, IsWaitedFor, Lists, Reports, asked, awaits, lines_of, page_lines, past, read, rested, text_of, unread}
 use Rattle.box_words.specs.Faults.{TellsPathless, TellsSocket, of_path}
 use Rattle.box_words.specs.Memory.{WasShort}
-use Rattle.box_words.specs.Outputs.{IsUnflushed, WasFlushed, WasPut}
+use Rattle.outlets.specs.Outputs.{IsUnflushed, WasFlushed, WasPut}
 use Rattle.box_words.specs.declared.asking.Form.{Form}
 use Rattle.box_words.specs.declared.refusals.BoxFault.{BoxFault}
 use Rattle.box_words.specs.declared.refusals.BoxFault.TheVariants as fault

@@ -28,7 +28,7 @@ use Rattle.report_texts.specs.People.{people_text}
 use Rattle.report_texts.specs.declared.pairs.Filter.{Filter}
 use Rattle.box_words.specs.Faults.{TellsBootFile, TellsNoSettings, TellsPathless, TellsSocket, TellsUnlisted, TellsUnreported, TellsUntaken}
 use Rattle.box_words.specs.Memory.{WasShort}
-use Rattle.box_words.specs.Outputs.{IsRefused, IsUnflushed, WasPut}
+use Rattle.outlets.specs.Outputs.{IsRefused, IsUnflushed, WasPut}
 use Rattle.box_words.specs.Said.{said_status}
 use Rattle.box_words.specs.declared.refusals.BoxFault.{BoxFault}
 use Rattle.box_words.specs.declared.refusals.BoxFault.TheVariants as fault

@@ -1,5 +1,4 @@
 pub mod Memory
-pub mod Outputs
 pub mod Faults
 pub mod Said
 pub mod Deeds

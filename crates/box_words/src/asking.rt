@@ -11,19 +11,18 @@ ghost use Rattle.box_words.specs.Deeds.{IsCutShort, IsNotSynced, IsSyncedAt, IsU
 ghost use Rattle.box_words.specs.Deeds.{Lists, Reports, asked as deed_asked, next_of, page_lines, text_of};
 ghost use Rattle.box_words.specs.Faults.{fault_text};
 ghost use Rattle.box_words.specs.Memory.{WasShort};
-ghost use Rattle.box_words.specs.Outputs.{IsFlushed};
+ghost use Rattle.outlets.specs.Outputs.{IsFlushed};
 ghost use Rattle.box_words.specs.Said.{said_status};
 ghost use Rattle.reports.specs.Formats.{reading};
 ghost use Rattle.reports.specs.Reports.{page as page_format};
 ghost use Rattle.reports.specs.declared.faults.ReadFault.TheVariants as read;
 
-use crate::outputs::{told_to_flush, told_to_put};
 use crate::refusals::BoxFault;
 use crate::saying::{Line, line_to};
 use crate::sites::Site;
 use control::{Answer, spelled_pairs, spelled_pairs_after, spelled_status};
 use nat_types::{GatewayId, Key, NoMemory};
-use outlets::Tells;
+use outlets::{Tells, told_to_flush, told_to_put};
 use report_texts::{Filter, write_json, write_metrics, write_pairs, write_people};
 use reports::{Page, ReadFault, Report};
 use std::alloc::Global;

@@ -4,7 +4,6 @@
 mod asking;
 mod ends;
 mod machine;
-mod outputs;
 mod refusals;
 mod saying;
 mod sites;

@@ -1,3 +1,4 @@
 pub mod Printed
 pub mod Writes
 pub mod Telling
+pub mod Outputs

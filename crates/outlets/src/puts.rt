@@ -6,6 +6,7 @@ ghost use Rattle.std.specs.Prelude.{◌≡◌, ◌≢◌, Err, IfErr, IfOk, IsEr
 ghost use Rattle.std.specs.IoError.{error_kind};
 ghost use Rattle.outlets.specs.Printed.{Prints};
 ghost use Rattle.outlets.specs.Writes.{IsOfOneWrite, IsPut};
+ghost use Rattle.outlets.specs.Outputs.{WasTaken};
 
 use std::io::{self, ErrorKind, Write};
 
@@ -42,7 +43,7 @@ fn judged(answer: io::Result<usize>) -> io::Result<usize>
     }
 }
 
-/// What takes bytes, some at a time. All that is a `Write` does, though no more is known of its answers.
+/// What takes bytes, some at a time. All that is a `Write` does, each of whose answers has a name.
 pub trait Takes {
     ghost use Rattle.std.specs.Prelude.{ℕ, List, Option, Result};
     ghost use Rattle.std.specs.Io.KnownBytes.{WriteAppends};
@@ -62,12 +63,13 @@ pub trait Takes {
         ensures answered { answers self.old bytes.now result self.new };
 }
 
-/// Of what a writer answers nothing more is known.
+/// A writer was asked to take some bytes, and answered so: more isn't known of it.
 impl<O: Write> Takes for O {
     ghost held = { O.contents };
 
-    ghost answers = { λ _ _ _ _. Unit {0} };
+    ghost answers = { WasTaken };
 
+    #[tactic(auto, unfolding(crate::specs::Outputs::WasTaken))]
     fn take(&mut self, bytes: &[u8]) -> io::Result<usize> {
         self.write(bytes)
     }
