@@ -5,7 +5,7 @@ use crate::pages::Paper;
 use crate::sheets::Sheet;
 use crate::words::paper_in;
 use cases_words::{Actor, Case};
-use journal::{Format, Tally, Unhindered, filter_of, tell, tell_end, tell_loss, tell_turn};
+use journal::{Format, Journal, Pen, Tally, Unhindered, filter_of};
 use log::Log;
 use log::filter::{Filter, FilteredLog};
 use std::cell::Cell;
@@ -105,24 +105,25 @@ fn given(word: &str) -> Option<&str> {
 /// - `flush`: what was left out is told
 fn act_on(station: &mut Station<'_>, case: &mut Case) {
     case.back();
+    let mut pen = Pen::new(&station.log);
     match case.word() {
-        "turn" => tell_turn(&station.log, &mut station.tally, case.number()),
-        "lose" => lose(station, case),
+        "turn" => pen.tell_turn(&mut station.tally, case.number()),
+        "lose" => lose(&mut pen, &mut station.tally, case),
         "tell" => {
             let moment = case.number();
-            tell(&station.log, moment, entry_in(case));
+            pen.tell(moment, entry_in(case));
         }
-        "end" => tell_end(&station.log, &station.tally, case.number()),
+        "end" => pen.tell_end(&station.tally, case.number()),
         "flush" => station.log.flush(),
         _ => case.fault(),
     }
 }
 
 /// So many events of which nothing came.
-fn lose(station: &mut Station<'_>, case: &mut Case) {
+fn lose<L: Journal>(pen: &mut Pen<'_, L>, tally: &mut Tally, case: &mut Case) {
     let moment = case.number();
     let (origin, cause) = (origin_in(case), cause_in(case));
     for _ in 0..case.times() {
-        tell_loss(&station.log, &mut station.tally, moment, origin, cause);
+        pen.tell_loss(tally, moment, origin, cause);
     }
 }

@@ -1,13 +1,14 @@
 -- Where it isn't said who asks.
 use Rattle.std.proofs.Common.{inl, inr, ℕ, Option, Some, None, Result, ap}
 use Rattle.std.specs.declared.io.Error.{Error}
-use Rattle.inputs.specs.Inputs.{HasNone, HasReport, InputGoesOn, InputIsRead, TellsEnd, TellsNoEnd, unsaid}
+use Rattle.polls.specs.Polls.{HasNoReport, HasReport}
+use Rattle.inputs.specs.Inputs.{InputGoesOn, InputIsRead, TellsEnd, TellsNoEnd, unsaid}
 
 report_so : {I : Type 0} (before after : I) → HasReport before after → HasReport {I = Unit {0}} tt tt
-report_so before after (answer, (above, (by, so))) = (answer, (above, (so, so)))
+report_so before after (answered, (answer, (above, (by, so)))) = (answered, (answer, (above, (so, so))))
 
-none_so : {I : Type 0} (before after : I) → HasNone before after → HasNone {I = Unit {0}} tt tt
-none_so before after (answer, (below, (by, so))) = (answer, (below, (so, so)))
+none_so : {I : Type 0} (before after : I) → HasNoReport before after → HasNoReport {I = Unit {0}} tt tt
+none_so before after (answered, (answer, (below, (by, so)))) = (answered, (answer, (below, (so, so))))
 
 read_so : {I : Type 0} (Is : Result ℕ Error → Type 0) (before after : I) → InputIsRead Is before after → InputIsRead {I = Unit {0}} Is tt tt
 read_so Is before after r = record {

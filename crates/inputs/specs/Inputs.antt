@@ -1,46 +1,26 @@
 -- The end of the standard input.
-use Rattle.std.specs.Prelude.{◌≡◌, ◌≢◌, ◌<◌, ◌⊎◌, ◌<ℤ◌, ◌≤ℤ◌, ℕ, ℤ, pos, List, [], ◌∷◌, Option, Some, None, Result, Ok, Err}
+use Rattle.std.specs.Prelude.{◌≡◌, ◌≢◌, ◌<◌, ◌⊎◌, ℕ, Option, Some, None, Result, Ok, Err}
 use Rattle.std.specs.IoError.{error_kind}
 use Rattle.std.specs.declared.io.Error.{Error}
 use Rattle.std.specs.declared.io.ErrorKind.TheVariants.{Interrupted, WouldBlock}
-use Rattle.libc.specs.declared.types.pollfd.{pollfd}
+use Rattle.polls.specs.Polls.{HasNoReport, HasReport}
 
 -- ---- what the system is asked
 
--- Who watches the standard input asked it for nothing yet. It is no more than a name for what he is made as, and so are the two below it for
--- calls: who makes the call has one, and nobody else. Where it isn't said who asks, he is `tt` before and after: then it is said that the call
--- was made, and not that no other was.
+-- Who watches the standard input asked it for nothing yet. It is no more than a name for what he is made as, and so is the one below it for a
+-- call: who makes the call has it, and nobody else. What he asks by a poll has a name of the crate `polls`. Where it isn't said who asks, he is
+-- `tt` before and after: then it is said that the call was made, and not that no other was.
 unfoldable pub IsUnasked : {I : Type 0} → I → Type 0
 IsUnasked input = Unit {0}
 
--- By what he was before and is then: the system was asked by a poll for what these descriptors have to report, was to wait for it for at most so
--- many milliseconds, and answered this.
-unfoldable pub WasPolled : {I : Type 0} → I → List pollfd → ℤ → ℤ → I → Type 0
-WasPolled before asked limit answer after = Unit {0}
-
--- It was asked for what stands on the standard input, for at most so many bytes, and answered so: how many there were, or why it gave none.
+-- By what he was before and is then: the system was asked for what stands on the standard input, for at most so many bytes, and answered so: how
+-- many there were, or why it gave none.
 unfoldable pub WasRead : {I : Type 0} → I → ℕ → Result ℕ Error → I → Type 0
 WasRead before room answer after = Unit {0}
 
 -- ---- one look
 
--- whether something stands on the standard input, or it is closed: what poll is asked of descriptor 0 by POLLIN
-abbrev pub asks_input : List pollfd
-asks_input = record { fd = pos 0; events = pos 1; revents = pos 0 } ∷ []
-
--- it was asked so, once, and not waited for
-abbrev pub IsPolled : {I : Type 0} → I → ℤ → I → Type 0
-IsPolled before answer after = WasPolled before asks_input (pos 0) answer after × WasPolled (tt {0}) asks_input (pos 0) answer tt
-
--- and the poll reported it
-abbrev pub HasReport : {I : Type 0} → I → I → Type 0
-HasReport before after = (answer : ℤ) × ((pos 0 <ℤ answer) × IsPolled before answer after)
-
--- or it reported nothing
-abbrev pub HasNone : {I : Type 0} → I → I → Type 0
-HasNone before after = (answer : ℤ) × ((answer ≤ℤ pos 0) × IsPolled before answer after)
-
--- the last that was asked was such a poll, which reported it: so to read doesn't wait
+-- the last that was asked was a poll of it, which reported it: so to read doesn't wait
 abbrev pub IsReported : {I : Type 0} → I → Type 0
 IsReported {I = I} now = (before : I) × HasReport before now
 
@@ -69,7 +49,7 @@ InputEnds before after = InputIsRead IsEnd before after
 
 -- it isn't: a poll reported nothing, or there may be more
 abbrev pub InputGoesOn : {I : Type 0} → I → I → Type 0
-InputGoesOn before after = HasNone before after ⊎ InputIsRead IsNoEnd before after
+InputGoesOn before after = HasNoReport before after ⊎ InputIsRead IsNoEnd before after
 
 -- ---- who watches it, or doesn't
 

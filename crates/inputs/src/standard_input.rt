@@ -1,13 +1,10 @@
-//! The system's standard input. What it is asked has names, and only here it is at hand.
+//! The system's standard input. Only here it is at hand, and what it is asked has names.
 ghost use Rattle.std.specs.Prelude.{◌≡◌, false, true, length};
-ghost use Rattle.inputs.specs.Inputs.{HasNone, HasReport, IsReported};
-ghost use Rattle.inputs.specs.Inputs.{IsUnasked, WasPolled, WasRead};
+ghost use Rattle.polls.specs.Polls.{HasNoReport, HasReport};
+ghost use Rattle.inputs.specs.Inputs.{IsReported, IsUnasked, WasRead};
 
-use libc::types::pollfd;
+use polls::standard_input_is_reported;
 use std::io::{self, Read};
-
-/// How many bytes are read at once, at most.
-const ROOM: usize = 512;
 
 /// The standard input, of who watches it.
 #[derive(Drop)]
@@ -24,45 +21,21 @@ impl<'a, R> StandardInput<'a, R> {
     {
         StandardInput { rt }
     }
+
+    /// Asks whether something stands there, or it is closed. It doesn't wait; and it can't read, since of `R` nothing is known.
+    pub(crate) fn is_reported(&mut self) -> bool
+        ensures reported { result ≡ true → HasReport self.old self.new }
+        ensures none { result ≡ false → HasNoReport self.old self.new }
+    {
+        standard_input_is_reported(self)
+    }
 }
 
 impl<R: Input> StandardInput<'_, R> {
-    /// Asks whether something stands there, or it is closed. It doesn't wait.
-    pub(crate) fn is_reported(&mut self) -> bool
-        ensures reported { result ≡ true → HasReport self.old self.new }
-        ensures none { result ≡ false → HasNone self.old self.new }
-    {
-        let mut asked = [pollfd {
-            fd: libc::STDIN_FILENO,
-            events: libc::net::POLLIN,
-            revents: 0,
-        }];
-        self.told_to_poll(&mut asked, 0) > 0
-    }
-
-    /// Asks for what stands there, up to 512 bytes. It was reported last, so that doesn't wait.
-    pub(crate) fn read(&mut self) -> io::Result<usize>
-        requires reported { IsReported self.old }
-        ensures read { WasRead self.old 512 result self.new }
-        ensures read_so { WasRead (tt {0}) 512 result tt }
-    {
-        let mut room = [0; ROOM];
-        self.told_to_read(&mut room)
-    }
-
-    /// Has the system poll these, waiting for at most so many milliseconds, and gives its answer.
-    #[tactic(auto, unfolding(crate::specs::Inputs::WasPolled))]
-    fn told_to_poll(&mut self, asked: &mut [pollfd], limit: i32) -> i32
-        ensures polled { WasPolled self.old asked.old limit result self.new }
-        ensures polled_so { WasPolled (tt {0}) asked.old limit result tt }
-    {
-        libc::net::poll(asked, limit)
-    }
-
     /// Asks the system for what stands there, as far as there is room, and gives its answer: once
     /// for each time that it was reported.
     #[tactic(auto, unfolding(crate::specs::Inputs::WasRead))]
-    fn told_to_read(&mut self, room: &mut [u8]) -> io::Result<usize>
+    pub(crate) fn told_to_read(&mut self, room: &mut [u8]) -> io::Result<usize>
         requires reported { IsReported self.old }
         ensures read { WasRead self.old (length room.old) result self.new }
         ensures read_so { WasRead (tt {0}) (length room.old) result tt }

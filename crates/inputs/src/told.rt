@@ -1,11 +1,14 @@
 //! What tells a box that it is to end, beside its control socket and the number of its rounds.
 ghost use Rattle.std.specs.Prelude.{◌≡◌, false, true};
-ghost use Rattle.inputs.specs.Inputs.{InputEnds, InputGoesOn, IsEnd, IsNoEnd};
-ghost use Rattle.inputs.specs.Inputs.{TellsEnd, TellsNoEnd};
+ghost use Rattle.inputs.specs.Inputs.{InputEnds, InputGoesOn, IsEnd, IsNoEnd, IsReported};
+ghost use Rattle.inputs.specs.Inputs.{TellsEnd, TellsNoEnd, WasRead};
 
 use crate::standard_input::StandardInput;
 use std::io::{self, ErrorKind};
 use std::marker::Model;
+
+/// How many bytes are read at once, at most.
+const ROOM: usize = 512;
 
 /// What may tell a box that it is to end.
 pub trait Told {
@@ -64,7 +67,17 @@ fn is_at_end<R: Input>(input: &mut StandardInput<'_, R>) -> bool
     ensures ends { result ≡ true → InputEnds input.old input.new }
     ensures goes_on { result ≡ false → InputGoesOn input.old input.new }
 {
-    input.is_reported() && is_end(input.read())
+    input.is_reported() && is_end(read(input))
+}
+
+/// Asks for what stands there, up to 512 bytes. It was reported last, so that doesn't wait.
+fn read<R: Input>(input: &mut StandardInput<'_, R>) -> io::Result<usize>
+    requires reported { IsReported input.old }
+    ensures read { WasRead input.old 512 result input.new }
+    ensures read_so { WasRead (tt {0}) 512 result tt }
+{
+    let mut room = [0; ROOM];
+    input.told_to_read(&mut room)
 }
 
 /// Whether nothing is left there, by what was answered to who asked for it.

@@ -1,1 +1,4 @@
+mod Asked
+mod Begun
+mod Blocks
 mod Whole

@@ -1,2 +1,5 @@
+pub mod Outlets
 pub mod Reels
+pub mod Files
+pub mod Moments
 pub mod Taps

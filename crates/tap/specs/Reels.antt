@@ -1,7 +1,8 @@
 -- A capture that is being written.
-use Rattle.std.specs.Prelude.{ℕ, ◌≡◌, ◌+◌, ◌-◌, ◌^◌, min, List, Option, Result, Ok, Err}
+use Rattle.std.specs.Prelude.{ℕ, ◌≡◌, ◌⊎◌, ◌<◌, ◌+◌, ◌-◌, ◌^◌, min, length, drop, List, Option}
 use Rattle.std.specs.Io.KnownBytes.{Appends, Keeps, append_known}
 use Rattle.captures.specs.Captures.{Captured, capture_of, head, packet_block}
+use Rattle.tap.specs.Outlets.{Looks, Pours, Writes, front}
 
 -- where it goes, what its last block is owed, and how many packets were left out
 pub record Reeled (O : Type 0) : Type 0 where
@@ -36,7 +37,21 @@ pub record LeavesOut {O : Type 0} (contents : Holds O) (r r2 : Reeled O) : Type 
 abbrev pub IsCapture : {O : Type 0} → Holds O → Option (List ℕ) → Reeled O → List Captured → Type 0
 IsCapture contents before r ps = Appends before (whole contents r) (capture_of ps)
 
--- how many bytes a write took
-abbrev pub taken : {E : Type 0} → Result ℕ E → ℕ
-taken (Ok count) = count
-taken (Err fault) = 0
+-- no more than 4,096 bytes of what is owed are handed on, by one look and at most one write; of these so many were taken
+abbrev pub HandsOn : {O : Type 0} → Looks O → Writes O → Reeled O → Reeled O → Type 0
+HandsOn looks writes r r2 = (count : ℕ) × (Pours looks writes r.outlet (front r.owed) count r2.outlet × (r2.owed ≡ drop count r.owed))
+
+-- Memory was refused for a capture's head, or for a packet's block. They are no more than names: who asks for that memory has them, and nobody else.
+unfoldable pub WasRefusedHead : Type 0
+WasRefusedHead = Unit {0}
+
+unfoldable pub WasRefusedRoom : Captured → Type 0
+WasRefusedRoom p = Unit {0}
+
+-- why a capture isn't begun: memory was refused for its head, or its outlet took nothing of that
+abbrev pub IsUnbegun : {O : Type 0} → Looks O → Writes O → O → Type 0
+IsUnbegun {O = O} looks writes outlet = WasRefusedHead ⊎ ((after : O) × Pours looks writes outlet (front head) 0 after)
+
+-- why a packet is left out: the outlet is full, or more than 4,096 bytes were owed, or memory was refused for its block
+abbrev pub IsLeftOut : {O : Type 0} → (O → Type 0) → List ℕ → Captured → O → Type 0
+IsLeftOut IsFull owed p outlet = IsFull outlet ⊎ ((4096 < length owed) ⊎ WasRefusedRoom p)

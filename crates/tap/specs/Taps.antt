@@ -9,11 +9,16 @@ use Rattle.captures.specs.declared.interfaces.Interface.{Interface}
 use Rattle.captures.specs.declared.interfaces.Interface.TheVariants as interface
 use Rattle.tap.specs.Reels.{Adds, Holds, LeavesOut, Reeled}
 
--- a wire, its gateway, and its capture
-pub record Tapping (W O : Type 0) : Type 0 where
+-- a wire, its gateway, what says the moments of its packets, and its capture
+pub record Tapping (W M O : Type 0) : Type 0 where
   pub wire : W
   pub id : GatewayId
+  pub moments : M
   pub reel : Reeled O
+
+-- what a moment may be, by what says it before, and what that is then
+abbrev pub Reads : Type 0 → Type 1
+Reads M = M → ℕ → M → Type 0
 
 -- a gateway's interface at a place; its operator's place has none
 abbrev pub interface_at : GatewayId → Place → Option Interface
@@ -21,21 +26,32 @@ interface_at id place.Link = Some (interface.Link id)
 interface_at id (place.Side side) = Some (interface.Side id side)
 interface_at id place.Operator = None
 
--- a packet was seen there, at some moment: it is in the capture now, or it was left out
-abbrev pub TakesDown : {O : Type 0} → Holds O → Reeled O → Reeled O → Option Interface → Direction → List ℕ → Type 0
-TakesDown contents r r2 (Some i) direction bytes =
-    (moment : ℕ) × (Adds contents r r2 (record { interface = i; direction = direction; moment = moment; bytes = bytes })
-    ⊎ LeavesOut contents r r2)
-TakesDown contents r r2 None direction bytes = r2 ≡ r
+-- nothing is taken down, and no moment asked for
+pub record TakesNothing {W M O : Type 0} (t t2 : Tapping W M O) : Type 0 where
+  pub reel : t2.reel ≡ t.reel
+  pub moments : t2.moments ≡ t.moments
+
+-- a packet was seen there, at the moment that is said: it is in the capture now, or it was left out
+pub record TakesPacket {W M O : Type 0} (contents : Holds O) (reads : Reads M) (t t2 : Tapping W M O) (i : Interface) (direction : Direction)
+    (bytes : List ℕ) : Type 0
+  where
+    pub moment : ℕ
+    pub read : reads t.moments moment t2.moments
+    pub taken : Adds contents t.reel t2.reel (record { interface = i; direction = direction; moment = moment; bytes = bytes })
+        ⊎ LeavesOut contents t.reel t2.reel
+
+abbrev pub TakesDown : {W M O : Type 0} → Holds O → Reads M → Tapping W M O → Tapping W M O → Option Interface → Direction → List ℕ → Type 0
+TakesDown contents reads t t2 (Some i) direction bytes = TakesPacket contents reads t t2 i direction bytes
+TakesDown contents reads t t2 None direction bytes = TakesNothing t t2
 
 -- what was sent is taken down, and what wasn't is not
-abbrev pub TakesSent : {W O T E : Type 0} → Holds O → Tapping W O → Tapping W O → Place → Result T E → List ℕ → Type 0
-TakesSent contents t t2 to (Ok done) bytes = TakesDown contents t.reel t2.reel (interface_at t.id to) Outbound bytes
-TakesSent contents t t2 to (Err fault) bytes = t2.reel ≡ t.reel
+abbrev pub TakesSent : {W M O T E : Type 0} → Holds O → Reads M → Tapping W M O → Tapping W M O → Place → Result T E → List ℕ → Type 0
+TakesSent contents reads t t2 to (Ok done) bytes = TakesDown contents reads t t2 (interface_at t.id to) Outbound bytes
+TakesSent contents reads t t2 to (Err fault) bytes = TakesNothing t t2
 
 -- what came is taken down
-abbrev pub TakesAnswer : {W O E : Type 0} → Holds O → Tapping W O → Tapping W O → Result (Option (Place × ℕ)) E → List ℕ → Type 0
-TakesAnswer contents t t2 (Ok (Some found)) room =
-    TakesDown contents t.reel t2.reel (interface_at t.id found.0) Inbound (take found.1 room)
-TakesAnswer contents t t2 (Ok None) room = t2.reel ≡ t.reel
-TakesAnswer contents t t2 (Err fault) room = t2.reel ≡ t.reel
+abbrev pub TakesAnswer : {W M O E : Type 0} → Holds O → Reads M → Tapping W M O → Tapping W M O → Result (Option (Place × ℕ)) E → List ℕ → Type 0
+TakesAnswer contents reads t t2 (Ok (Some found)) room =
+    TakesDown contents reads t t2 (interface_at t.id found.0) Inbound (take found.1 room)
+TakesAnswer contents reads t t2 (Ok None) room = TakesNothing t t2
+TakesAnswer contents reads t t2 (Err fault) room = TakesNothing t t2

@@ -1,16 +1,16 @@
 //! Where a capture goes.
-ghost use Rattle.std.specs.Prelude.{◌≡◌, ◌<◌, ◌≤◌, false, true, List, ℕ, Option, IfOk, IsTrue, length};
+ghost use Rattle.std.specs.Prelude.{◌≡◌, ◌<◌, ◌≤◌, Bool, false, true, List, ℕ, Option, Result, IfOk, IsTrue, OnErr, length};
 ghost use Rattle.std.specs.Io.KnownBytes.{WriteAppends};
 ghost use Rattle.std.specs.Io.{WritesAtMost};
-ghost use Rattle.tap.specs.Reels.{taken};
+ghost use Rattle.tap.specs.Files.{IsBegunIn, IsUnbegunIn, WasCleared};
+ghost use Rattle.tap.specs.Outlets.{Looks, Writes, taken};
 
-use crate::Reel;
+use crate::{CaptureFile, Reel};
 use captures::{Reader, Vacant};
-use libc::types::pollfd;
 use std::alloc::Global;
 use std::fs::{Files, OpenFile};
 use std::io::{self, Read, Seek, Write};
-use std::os::fd::{AsRawFd, RawFd};
+use std::os::fd::AsRawFd;
 
 /// Where a capture goes; and only while it has room.
 pub trait Outlet {
@@ -23,8 +23,14 @@ pub trait Outlet {
     /// It had no room when it was asked last, or took less than it was handed.
     ghost IsFull: { Self → Type 0 } = { λ _. Unit {0} };
 
+    /// What one look at its room is, and one write. Who looks or writes has it, and nobody else.
+    ghost looks: { Looks Self } = { λ _ _ _. Unit {0} };
+
+    ghost writes: { Writes Self } = { λ _ _ _ _. Unit {0} };
+
     /// Whether a write of at most 4,096 bytes wouldn't wait. It never waits itself.
     fn has_room(&mut self) -> bool
+        ensures looked { looks self.old result self.new }
         ensures room { IsTrue result → IsRoomy self.new }
         ensures full { result ≡ false → IsFull self.new }
         ensures bytes { contents self.new ≡ contents self.old };
@@ -37,23 +43,32 @@ pub trait Outlet {
     fn write(&mut self, bytes: &[u8]) -> io::Result<usize>
         requires room { IsRoomy self.old }
         requires few { length bytes.now ≤ 4096 }
+        ensures written { writes self.old bytes.now result self.new }
         ensures bound { WritesAtMost result bytes.now }
         ensures full { taken result < length bytes.now → IsFull self.new }
         ensures bytes { WriteAppends (contents self.old) (contents self.new) result bytes.now };
 }
 
-/// A file or a pipe.
-#[derive(Drop)]
-pub struct CaptureFile<F> {
-    file: F,
-    /// Whether it was seen to have room since the last write.
-    room: bool,
-}
+impl<F: Write + AsRawFd> Outlet for CaptureFile<F> {
+    ghost use Rattle.std.specs.Prelude.{◌⊎◌};
+    ghost use Rattle.tap.specs.Files.{FileLooks, FileWrites, IsFullFile, IsRoomyFile, IsShortFile};
 
-impl<F> CaptureFile<F> {
-    /// Nothing is known of its room.
-    pub fn new(file: F) -> CaptureFile<F> {
-        CaptureFile { file, room: false }
+    ghost contents = { λ c. F.contents c.file };
+
+    ghost IsRoomy = { λ c. IsRoomyFile F.raw_fd c };
+
+    ghost IsFull = { λ c. IsFullFile F.raw_fd c ⊎ IsShortFile c };
+
+    ghost looks = { λ c has c2. FileLooks F.raw_fd c has c2 };
+
+    ghost writes = { λ c bytes answer c2. FileWrites c bytes answer c2 };
+
+    fn has_room(&mut self) -> bool {
+        self.is_roomy()
+    }
+
+    fn write(&mut self, bytes: &[u8]) -> io::Result<usize> {
+        self.told_to_write(bytes)
     }
 }
 
@@ -75,36 +90,21 @@ pub fn open<R: Files>(rt: &R, path: &str) -> io::Result<Vacant<R::File>> {
 pub fn begin<F>(alloc: Global, file: Vacant<F>) -> io::Result<Reel<CaptureFile<F>>>
 where
     F: Read + Write + Seek + OpenFile + AsRawFd + Drop,
-    ensures { IfOk result (λ reel. reel.left_out ≡ 0) }
+    ensures begun { IfOk result (λ reel. IsBegunIn F.contents F.raw_fd file reel) }
+    ensures refused { OnErr result (IsUnbegunIn F.raw_fd file) }
 {
-    let file = file.clear()?;
+    let file = cleared(file)?;
     Reel::begin(alloc, CaptureFile::new(file))
 }
 
-impl<F: Write + AsRawFd> Outlet for CaptureFile<F> {
-    ghost contents = { λ c. F.contents c.file };
-
-    ghost IsRoomy = { λ c. c.room ≡ true };
-
-    ghost IsFull = { λ c. c.room ≡ false };
-
-    fn has_room(&mut self) -> bool {
-        self.room = polled(self.file.as_raw_fd());
-        self.room
-    }
-
-    fn write(&mut self, bytes: &[u8]) -> io::Result<usize> {
-        self.room = false;
-        self.file.write(bytes)
-    }
-}
-
-/// Whether the system says that a write wouldn't wait: a pipe has room for 4,096 bytes then.
-fn polled(descriptor: RawFd) -> bool {
-    let mut asked = [pollfd {
-        fd: descriptor,
-        events: libc::net::POLLOUT,
-        revents: 0,
-    }];
-    libc::net::poll(&mut asked, 0) > 0 && asked[0].revents & libc::net::POLLOUT != 0
+/// Takes from what was opened what it has, and gives it as a file.
+///
+/// # Errors
+///
+/// Where the system refuses that.
+#[tactic(auto, unfolding(crate::specs::Files::WasCleared))]
+fn cleared<F: Read + Seek + OpenFile + Drop>(file: Vacant<F>) -> io::Result<F>
+    ensures { WasCleared file result }
+{
+    file.clear()
 }

@@ -2,13 +2,15 @@
 //! for.
 #![tactic(auto)]
 
+mod asked_files;
 mod capture_files;
 mod laws;
 mod moments;
 mod reels;
 mod taps;
 
-pub use capture_files::{CaptureFile, Outlet, begin, open};
+pub use asked_files::CaptureFile;
+pub use capture_files::{Outlet, begin, open};
 pub use captures::Vacant;
 pub use laws::capture_law;
 pub use moments::{Moments, SinceFirst};

@@ -1,14 +1,20 @@
 //! The moments of packets.
-ghost use Rattle.std.specs.Prelude.{◌≡◌, ◌/◌, ◌≤◌, IfSome, IsNone};
+ghost use Rattle.std.specs.Prelude.{◌≡◌, ◌/◌, ◌≤◌, ℕ, IfSome, IsNone, None};
 ghost use Rattle.std.specs.Duration.{as_nanos};
+ghost use Rattle.tap.specs.Moments.{HasReadSince, IsReading, WasNow};
 
+use std::marker::Model;
 use std::rt::Clock;
 use std::time::{Duration, Instant};
 
 /// What says the moment of a packet.
 pub trait Moments {
+    /// What a moment may be, and what says the next one is then.
+    ghost reads: { Self → ℕ → Self → Type 0 } = { λ _ _ _. Unit {0} };
+
     /// The moment, in centiseconds.
-    fn moment(&mut self) -> u64;
+    fn moment(&mut self) -> u64
+        ensures { reads self.old result self.new };
 }
 
 /// The centiseconds on the system's monotonic clock since it was asked first. Where it can't be read, the last reading
@@ -20,6 +26,14 @@ pub struct SinceFirst<'a, R> {
     last: u64,
 }
 
+impl<'a, R> Model for SinceFirst<'a, R> {
+    ghost use Rattle.tap.specs.Moments.{Since};
+
+    ghost Value = { Since };
+
+    ghost view = { λ s. record { start = s.start; read = s.last } };
+}
+
 /// The centiseconds of a duration, where 64 bits hold them.
 fn centiseconds(passed: Duration) -> Option<u64>
     ensures passed { IfSome result (λ count. count ≡ as_nanos passed / 1_000_000 / 10) }
@@ -28,29 +42,46 @@ fn centiseconds(passed: Duration) -> Option<u64>
     u64::try_from(passed.as_millis() / 10).ok()
 }
 
-impl<'a, R: Clock> SinceFirst<'a, R> {
+/// Asks the system for the moment of its monotonic clock, and gives its answer.
+#[tactic(auto, unfolding(crate::specs::Moments::WasNow))]
+fn now<R: Clock>(rt: &R) -> Option<Instant>
+    ensures { WasNow result }
+{
+    Instant::now(rt).ok()
+}
+
+/// What a clock reads that was started at one moment, at a later one, where both could be had; else what it read last.
+fn reading(start: Option<Instant>, now: Option<Instant>, last: u64) -> u64
+    ensures { IsReading start now last result }
+{
+    match (start, now) {
+        (Some(start), Some(now)) => centiseconds(now.duration_since(start)).unwrap_or(last),
+        _ => last,
+    }
+}
+
+impl<'a, R> SinceFirst<'a, R> {
     /// It wasn't asked yet.
-    pub fn new(rt: &'a R) -> SinceFirst<'a, R> {
+    pub fn new(rt: &'a R) -> SinceFirst<'a, R>
+        ensures { result ≡ record { start = None; read = 0 } }
+    {
         SinceFirst {
             rt,
             start: None,
             last: 0,
         }
     }
-
-    /// The centiseconds since the first call, where the clock can be read.
-    fn passed(&mut self) -> Option<u64> {
-        let Some(start) = self.start else {
-            self.start = Instant::now(self.rt).ok();
-            return None;
-        };
-        centiseconds(start.elapsed(self.rt).ok()?)
-    }
 }
 
 impl<R: Clock> Moments for SinceFirst<'_, R> {
+    ghost reads = { HasReadSince };
+
     fn moment(&mut self) -> u64 {
-        self.last = self.passed().unwrap_or(self.last);
+        let said = now(self.rt);
+        self.last = reading(self.start, said, self.last);
+        if self.start.is_none() {
+            self.start = said;
+        }
         self.last
     }
 }

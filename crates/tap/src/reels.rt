@@ -1,8 +1,10 @@
 //! A capture that is being written.
-ghost use Rattle.std.specs.Prelude.{◌≡◌, ◌<◌, ◌≤◌, [], drop, false, take, length, IfOk, IsTrue, MatchBool};
+ghost use Rattle.std.specs.Prelude.{◌≡◌, ◌⊎◌, ◌++◌, ◌<◌, ◌≤◌, [], drop, false, take, length, IfOk, IsTrue, MatchBool, OnErr, true};
 ghost use Rattle.std.specs.Io.KnownBytes.{Appends, Keeps};
 ghost use Rattle.captures.specs.Captures.{captured_of, head, packet_block};
-ghost use Rattle.tap.specs.Reels.{Adds, Begins, LeavesOut, whole};
+ghost use Rattle.tap.specs.Outlets.{IsAskedOnce, IsAskedTwice, Pours, front};
+ghost use Rattle.tap.specs.Reels.{Adds, Begins, HandsOn, IsLeftOut, IsUnbegun, LeavesOut};
+ghost use Rattle.tap.specs.Reels.{WasRefusedHead, WasRefusedRoom, whole};
 
 use crate::Outlet;
 use captures::{Packet, write_head, write_packet};
@@ -50,9 +52,11 @@ impl<O: Outlet + Drop> Reel<O> {
     pub fn begin(alloc: Global, mut outlet: O) -> io::Result<Reel<O>>
         ensures begins { IfOk result (Begins O.contents outlet) }
         ensures some { IfOk result (λ reel. length reel.owed < length head) }
+        ensures outlet { IfOk result
+            (λ reel. IsAskedOnce O.looks O.writes outlet reel.outlet) }
+        ensures refused { OnErr result (IsUnbegun O.looks O.writes outlet) }
     {
-        let mut block = Vec::with_capacity(alloc, ROOM)?;
-        write_head(&mut block)?;
+        let block = head_in(alloc)?;
         let begun = open_with(&mut outlet, &block)?;
         Ok(Reel {
             outlet,
@@ -67,9 +71,12 @@ impl<O: Outlet> Reel<O> {
     /// Adds a packet, and says whether it could; if not, it is left out and counted. The count stays at its greatest
     /// number.
     pub fn keep(&mut self, packet: &Packet<'_>) -> bool
-        ensures { MatchBool result
+        ensures kept { MatchBool result
             (Adds O.contents self.old self.new (captured_of packet.now))
             (LeavesOut O.contents self.old self.new) }
+        ensures why { result ≡ false
+            → IsLeftOut O.IsFull self.old.owed (captured_of packet.now) self.new.outlet }
+        ensures outlet { IsAskedTwice O.looks O.writes self.old.outlet self.new.outlet }
     {
         let is_kept = self.settle() && self.lay(packet);
         if !is_kept {
@@ -86,6 +93,9 @@ impl<O: Outlet> Reel<O> {
             → O.IsFull self.new.outlet }
         ensures kept { Keeps (whole O.contents self.old) (whole O.contents self.new) }
         ensures left_out { self.new.left_out ≡ self.old.left_out }
+        ensures outlet { IsAskedOnce O.looks O.writes self.old.outlet self.new.outlet }
+        ensures poured { 0 < length self.old.owed
+            → HandsOn O.looks O.writes self.old self.new }
     {
         if self.block.len() <= self.begun {
             return true;
@@ -109,11 +119,12 @@ impl<O: Outlet> Reel<O> {
             (packet_block (captured_of packet.now)))
             (Keeps (whole O.contents self.old) (whole O.contents self.new)) }
         ensures left_out { self.new.left_out ≡ self.old.left_out }
+        ensures outlet { IsAskedOnce O.looks O.writes self.old.outlet self.new.outlet }
+        ensures why { result ≡ false
+            → O.IsFull self.new.outlet ⊎ WasRefusedRoom (captured_of packet.now) }
     {
-        self.block.clear();
         self.begun = 0;
-        if write_packet(&mut self.block, packet).is_err() {
-            self.block.clear();
+        if !lay_out(&mut self.block, packet) {
             return false;
         }
         if self.hand_on() == 0 {
@@ -131,12 +142,54 @@ impl<O: Outlet> Reel<O> {
             → O.IsFull self.new.outlet }
         ensures owed { self.new.owed ≡ drop result self.old.owed }
         ensures left_out { self.new.left_out ≡ self.old.left_out }
+        ensures none { result ≡ 0 → 0 < length self.old.owed → O.IsFull self.new.outlet }
+        ensures poured { Pours O.looks O.writes self.old.outlet (front self.old.owed) result
+            self.new.outlet }
     {
         let owed = &self.block[self.begun.min(self.block.len())..];
         let count = pour(&mut self.outlet, &owed[..owed.len().min(MOST)]);
         self.begun = self.begun.saturating_add(count);
         count
     }
+}
+
+/// A capture's head, in the room that is had for blocks.
+///
+/// # Errors
+///
+/// `OutOfMemory`.
+#[tactic(auto, unfolding(crate::specs::Reels::WasRefusedHead))]
+fn head_in(alloc: Global) -> io::Result<Vec<u8>>
+    ensures laid { IfOk result (λ block. block.items ≡ head) }
+    ensures refused { OnErr result WasRefusedHead }
+{
+    let mut block = Vec::with_capacity(alloc, ROOM)?;
+    write_head(&mut block)?;
+    Ok(block)
+}
+
+/// Lays a packet's block out, and says whether it could: where memory is refused it can't, and then nothing is there.
+fn lay_out(block: &mut Vec<u8>, packet: &Packet<'_>) -> bool
+    ensures laid { result ≡ true → block.new.items ≡ packet_block (captured_of packet.now) }
+    ensures none { result ≡ false → block.new.items ≡ [] }
+    ensures refused { result ≡ false → WasRefusedRoom (captured_of packet.now) }
+{
+    block.clear();
+    if has_laid(block, packet) {
+        return true;
+    }
+    block.clear();
+    false
+}
+
+/// Adds a packet's block, and says whether it could: where memory is refused it can't.
+#[tactic(auto, unfolding(crate::specs::Reels::WasRefusedRoom))]
+fn has_laid(block: &mut Vec<u8>, packet: &Packet<'_>) -> bool
+    ensures laid { result ≡ true
+        → block.new.items ≡ block.old.items ++ packet_block (captured_of packet.now) }
+    ensures refused { result ≡ false → WasRefusedRoom (captured_of packet.now) }
+{
+    write_packet(block, packet).is_ok()
 }
 
 /// Hands on as much as is taken of the bytes with which a capture begins, and says how many were.
@@ -148,6 +201,10 @@ fn open_with<O: Outlet>(outlet: &mut O, bytes: &[u8]) -> io::Result<usize>
     ensures taken { IfOk result (λ count.
         Appends (O.contents outlet.old) (O.contents outlet.new) (take count bytes.now)) }
     ensures some { IfOk result (λ count. (0 < count) × (count ≤ length bytes.now)) }
+    ensures poured { IfOk result (λ count.
+        Pours O.looks O.writes outlet.old (front bytes.now) count outlet.new) }
+    ensures unpoured { OnErr result
+        (Pours O.looks O.writes outlet.old (front bytes.now) 0 outlet.new) }
 {
     if !outlet.has_room() {
         return Err(io::Error::from(ErrorKind::WouldBlock));
@@ -165,6 +222,7 @@ fn pour<O: Outlet>(outlet: &mut O, bytes: &[u8]) -> usize
     ensures full { result < length bytes.now → O.IsFull outlet.new }
     ensures taken { Appends (O.contents outlet.old) (O.contents outlet.new)
         (take result bytes.now) }
+    ensures poured { Pours O.looks O.writes outlet.old bytes.now result outlet.new }
 {
     if !outlet.has_room() {
         return 0;

@@ -3,8 +3,9 @@ ghost use Rattle.std.specs.Prelude.{◌≡◌, ◌<◌, ◌≤◌, IfOk, IfSome,
 ghost use Rattle.sockets.specs.Letters.{answer_of, answered, asked, sent};
 ghost use Rattle.captures.specs.declared.interfaces.Direction.TheVariants.{Outbound};
 ghost use Rattle.std.specs.Io.KnownBytes.{Keeps};
+ghost use Rattle.tap.specs.Outlets.{IsAskedOnce, IsAskedTwice};
 ghost use Rattle.tap.specs.Reels.{whole};
-ghost use Rattle.tap.specs.Taps.{TakesAnswer, TakesDown, TakesSent, interface_at};
+ghost use Rattle.tap.specs.Taps.{TakesAnswer, TakesDown, TakesNothing, TakesSent, interface_at};
 
 use crate::{Moments, Outlet, Reel};
 use captures::{Direction, Interface, Packet};
@@ -26,9 +27,14 @@ pub struct Tapped<W, M, O> {
 impl<W, M, O> Model for Tapped<W, M, O> {
     ghost use Rattle.tap.specs.Taps.{Tapping};
 
-    ghost Value = { Tapping W O };
+    ghost Value = { Tapping W M O };
 
-    ghost view = { λ t. record { wire = t.wire; id = t.id; reel = t.reel } };
+    ghost view = { λ t. record {
+      wire = t.wire;
+      id = t.id;
+      moments = t.moments;
+      reel = t.reel;
+    } };
 }
 
 /// The interface of a gateway at a place; its operator's place has none.
@@ -45,7 +51,8 @@ fn interface_at(id: GatewayId, place: Place) -> Option<Interface>
 impl<W: Wire, M: Moments, O: Outlet> Tapped<W, M, O> {
     /// The wire of a gateway, and the capture that its packets are added to.
     pub fn new(wire: W, id: GatewayId, moments: M, reel: Reel<O>) -> Tapped<W, M, O>
-        ensures { result ≡ record { wire = wire; id = id; reel = reel } }
+        ensures { result
+            ≡ record { wire = wire; id = id; moments = moments; reel = reel } }
     {
         Tapped {
             wire,
@@ -65,10 +72,12 @@ impl<W: Wire, M: Moments, O: Outlet> Tapped<W, M, O> {
     /// Ends the capture: hands on what its last block is owed, as far as there is room.
     pub fn end(&mut self)
         ensures wire { self.new.wire ≡ self.old.wire }
+        ensures moments { self.new.moments ≡ self.old.moments }
         ensures kept { Keeps (whole O.contents self.old.reel) (whole O.contents self.new.reel) }
         ensures ended { 0 < length self.new.reel.owed → length self.old.reel.owed ≤ 4096
             → O.IsFull self.new.reel.outlet }
         ensures left_out { self.new.reel.left_out ≡ self.old.reel.left_out }
+        ensures outlet { IsAskedOnce O.looks O.writes self.old.reel.outlet self.new.reel.outlet }
     {
         let _is_settled = self.reel.settle();
     }
@@ -77,8 +86,9 @@ impl<W: Wire, M: Moments, O: Outlet> Tapped<W, M, O> {
     fn take_down(&mut self, place: Place, direction: Direction, bytes: &[u8])
         ensures wire { self.new.wire ≡ self.old.wire }
         ensures id { self.new.id ≡ self.old.id }
-        ensures taken { TakesDown O.contents self.old.reel self.new.reel
+        ensures taken { TakesDown O.contents M.reads self.old self.new
             (interface_at self.old.id place) direction bytes.now }
+        ensures outlet { IsAskedTwice O.looks O.writes self.old.reel.outlet self.new.reel.outlet }
     {
         if let Some(interface) = interface_at(self.id, place) {
             let packet = Packet {
@@ -106,7 +116,8 @@ impl<W: Wire, M: Moments, O: Outlet> Wire for Tapped<W, M, O> {
     fn send(&mut self, to: Place, bytes: &[u8]) -> Result<(), WireFault>
         ensures does { W.does self.old.wire (sent to bytes.now) self.new.wire }
         ensures answers { W.answers self.old.wire to bytes.now (is_err result) self.new.wire }
-        ensures taken { TakesSent O.contents self.old self.new to result bytes.now }
+        ensures taken { TakesSent O.contents M.reads self.old self.new to result bytes.now }
+        ensures outlet { IsAskedTwice O.looks O.writes self.old.reel.outlet self.new.reel.outlet }
     {
         let sent = self.wire.send(to, bytes);
         if sent.is_ok() {
@@ -117,7 +128,7 @@ impl<W: Wire, M: Moments, O: Outlet> Wire for Tapped<W, M, O> {
 
     fn answer(&mut self, bytes: &[u8])
         ensures does { W.does self.old.wire (answered bytes.now) self.new.wire }
-        ensures untaken { self.new.reel ≡ self.old.reel }
+        ensures untaken { TakesNothing self.old self.new }
     {
         self.wire.answer(bytes);
     }
@@ -130,7 +141,8 @@ impl<W: Wire, M: Moments, O: Outlet> Wire for Tapped<W, M, O> {
         ensures within { IfOk result (λ found. IfSome found (λ datagram. datagram.1 ≤ 4096)) }
         ensures does { W.does self.old.wire (asked (answer_of result room.new)) self.new.wire }
         ensures waits { W.waits self.old.wire limit self.new.wire }
-        ensures taken { TakesAnswer O.contents self.old self.new result room.new }
+        ensures taken { TakesAnswer O.contents M.reads self.old self.new result room.new }
+        ensures outlet { IsAskedTwice O.looks O.writes self.old.reel.outlet self.new.reel.outlet }
     {
         let result = self.wire.receive(limit, room);
         if let Ok(Some((place, count))) = result {

@@ -1,4 +1,4 @@
-use Rattle.std.proofs.Common.{◌≡◌, ◌∙◌, ◌++◌, List, ℕ, drop, ap, subst, refl}
+use Rattle.std.proofs.Common.{◌≡◌, List, ℕ, drop, subst, refl}
 use Rattle.std.specs.Io.KnownBytes.{Appends, append_known}
 use Rattle.captures.specs.Captures.{head}
 use Rattle.tap.proofs.Whole.{opened}
@@ -7,8 +7,8 @@ use Rattle.tap.proofs.reels.Reel.begin.Goals as goal
 pub returns-clause-begins : goal.returns-clause-begins
 returns-clause-begins g c =
     let contents = g.O.Outlet.contents in
-    let laid = c.write_head.new.output.items in
-    let is : laid ≡ head = c.in_ok-write_head.ensures ∙ ap (λ (l : List ℕ). l ++ head) c.in_ok-block.ensures.items in
+    let laid = c.in_ok-block.block.items in
+    let is : laid ≡ head = c.in_ok-block.ensures.laid in
     let moved = rw c.deref.ensures.value at c.in_ok-begun.ensures.taken in
     let rest = drop c.in_ok-begun.begun laid in
     record {
