@@ -10,3 +10,5 @@ pub mod Each
 pub mod Lines
 pub mod Sinks
 pub mod Handed
+pub mod Errors
+pub mod Shown

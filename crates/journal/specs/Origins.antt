@@ -20,6 +20,10 @@ target_of Outside = codes "natpair::outside"
 target_of Link = codes "natpair::link"
 target_of Own = codes "natpair::box"
 
+-- that of what a capture left out
+abbrev pub capture_target : List ℕ
+capture_target = codes "natpair::capture"
+
 abbrev pub place_of : Origin → ℕ
 place_of Inside = 0
 place_of Outside = 1

@@ -45,3 +45,7 @@ more_pairs other = []
 -- the moment, the event, and what else there is
 abbrev pub pairs_of : ℕ → Entry → List Pair
 pairs_of moment told = (codes "at", decimal moment) ∷ (codes "event", event_name told) ∷ more_pairs told
+
+-- those of how many packets a capture left out
+abbrev pub packets_pairs : ℕ → List Pair
+packets_pairs packets = (codes "packets", decimal packets) ∷ []

@@ -63,3 +63,7 @@ words_of (entry.TooLong origin) = codes "takes less than a frame"
 -- the moment, and what it tells
 abbrev pub text_of : ℕ → Entry → List ℕ
 text_of moment told = decimal moment ++ codes " " ++ words_of told
+
+-- how many packets a capture left out
+abbrev pub packets_text : ℕ → List ℕ
+packets_text packets = codes "capture left out " ++ decimal packets ++ codes " packets"

@@ -1,8 +1,8 @@
 //! A record's text, and its keys and values.
 ghost use Rattle.std.specs.Prelude.{Some, OnOk, decimal};
 ghost use Rattle.std.specs.List.{FoldsTo};
-ghost use Rattle.journal.specs.Pairs.{cause_pairs, more_pairs, pairs_of};
-ghost use Rattle.journal.specs.Texts.{cause_text, role_name, text_of};
+ghost use Rattle.journal.specs.Pairs.{cause_pairs, more_pairs, packets_pairs, pairs_of};
+ghost use Rattle.journal.specs.Texts.{cause_text, packets_text, role_name, text_of};
 
 use crate::Cause;
 use crate::entries::{Entry, Role};
@@ -16,6 +16,12 @@ use std::fmt::{self, Display, Formatter};
 pub struct Note {
     pub moment: u64,
     pub entry: Entry,
+}
+
+/// How many packets a capture has left out.
+#[derive(Clone, Copy, Debug, PartialEq, Eq)]
+pub struct LeftOutPackets {
+    pub packets: u64,
 }
 
 impl Display for Note {
@@ -72,6 +78,22 @@ impl Source for Note {
         visit_number(visitor, "at", self.moment)?;
         visit_word(visitor, "event", event_name(&self.entry))?;
         visit_more(visitor, &self.entry)
+    }
+}
+
+impl Display for LeftOutPackets {
+    ghost output = { λ l. Some (packets_text l.packets) };
+
+    fn fmt<W: fmt::Write>(&self, f: &mut Formatter<W>) -> fmt::Result {
+        write!(f, "capture left out {} packets", self.packets)
+    }
+}
+
+impl Source for LeftOutPackets {
+    ghost pairs = { λ l. Some (packets_pairs l.packets) };
+
+    fn visit<V: VisitSource>(&self, visitor: &mut V) -> Result<(), Error> {
+        visit_number(visitor, "packets", self.packets)
     }
 }
 

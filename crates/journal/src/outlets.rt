@@ -1,8 +1,10 @@
 //! Where lines go.
-ghost use Rattle.std.specs.Prelude.{◌≡◌, true, None, List, ℕ, Option, IsOk, IsTrue};
-ghost use Rattle.journal.specs.Lines.{AddsLine};
+ghost use Rattle.std.specs.Prelude.{◌≡◌, Bool, None, List, ℕ, Option, Result, IsErr, IsOk, IsTrue, ⊤};
+ghost use Rattle.std.specs.declared.io.Error.{Error};
+ghost use Rattle.journal.specs.Errors.{IsSeenRoomy, WasSeen, WasWritten};
+ghost use Rattle.journal.specs.Lines.{AddsCut, AddsLine};
 
-use libc::types::pollfd;
+use crate::standard_error::StandardError;
 use std::fmt::Display;
 use std::io;
 
@@ -14,56 +16,44 @@ pub trait Outlet {
     /// The bytes of the lines that it was given, where they are known.
     ghost contents: { Self → Option (List ℕ) } = { λ _. None };
 
+    // What it was before, whether a write of one line wouldn't wait, and what it is then.
+    ghost looks: { Self → Bool → Self → Type 0 } = { λ _ _ _. ⊤ };
+
+    // What it was before, the line, what came of writing it, and what it is then.
+    ghost writes: { Self → Option (List ℕ) → Result (Unit {0}) Error → Self → Type 0 } = { λ _ _ _ _. ⊤ };
+
     /// Whether a write of one line wouldn't wait. It never waits itself.
     fn has_room(&mut self) -> bool
         ensures room { IsTrue result → IsRoomy self.new }
+        ensures looks { looks self.old result self.new }
         ensures bytes { contents self.new ≡ contents self.old };
 
     /// Writes a line, and the line's end.
     ///
     /// # Errors
     ///
-    /// Those of writing.
+    /// Those of writing: no more than the first bytes of the line were written then.
     fn write<D: Display + Drop>(&mut self, line: D) -> io::Result<()>
         requires { IsRoomy self.old }
-        ensures { IsOk result → AddsLine (contents self.old) (contents self.new) (D.output line) };
-}
-
-/// The standard error: a line of at most 1,024 bytes is one write.
-#[derive(Drop)]
-pub struct StandardError<R> {
-    rt: R,
-    /// Whether it was seen to have room since the last write.
-    room: bool,
-}
-
-impl<R> StandardError<R> {
-    /// Nothing is known of its room.
-    pub fn new(rt: R) -> StandardError<R> {
-        StandardError { rt, room: false }
-    }
+        ensures writes { writes self.old (D.output line) result self.new }
+        ensures written { IsOk result
+            → AddsLine (contents self.old) (contents self.new) (D.output line) }
+        ensures cut { IsErr result
+            → AddsCut (contents self.old) (contents self.new) (D.output line) };
 }
 
 impl<R: Eprint> Outlet for StandardError<R> {
-    ghost IsRoomy = { λ s. s.room ≡ true };
+    ghost IsRoomy = { IsSeenRoomy };
+
+    ghost looks = { WasSeen };
+
+    ghost writes = { WasWritten };
 
     fn has_room(&mut self) -> bool {
-        self.room = polled();
-        self.room
+        self.is_roomy()
     }
 
     fn write<D: Display + Drop>(&mut self, line: D) -> io::Result<()> {
-        self.room = false;
-        self.rt.eprintln(line)
+        self.told_to_write(line)
     }
-}
-
-/// Whether the system says that a write to the standard error wouldn't wait: a pipe has room for 4,096 bytes then.
-fn polled() -> bool {
-    let mut asked = [pollfd {
-        fd: libc::STDERR_FILENO,
-        events: libc::net::POLLOUT,
-        revents: 0,
-    }];
-    libc::net::poll(&mut asked, 0) > 0 && asked[0].revents & libc::net::POLLOUT != 0
 }

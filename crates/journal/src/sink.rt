@@ -1,19 +1,18 @@
 //! A sink that never waits.
-ghost use Rattle.std.specs.Prelude.{◌≡◌, ◌<◌, true, [], List, None, Option, Some, IsTrue, if◌then◌else◌};
+ghost use Rattle.std.specs.Prelude.{◌≡◌, ◌<◌, true, false, ℕ, [], List, None, Option, Some, IsTrue};
 ghost use Rattle.log.specs.Filter.{Rule, filtered_inner, filtered_rules};
 ghost use Rattle.journal.specs.Fates.{all_after, left_after, left_told};
-ghost use Rattle.journal.specs.Lines.{AddsLine};
+ghost use Rattle.journal.specs.Lines.{AddsCut, AddsLeftOut, AddsLine, AddsOffer, IsOffered, IsPut, IsToldOnce, left_out_text};
 ghost use Rattle.journal.specs.Sinks.{format_of};
 ghost use Rattle.journal.specs.declared.lines.Format.{Format as Writing};
 ghost use Rattle.journal.specs.declared.sink.Fate.TheVariants as fates;
 
-use crate::lines::{Format, LeftOutLines, Shown};
-use crate::origins::Origin;
+use crate::lines::{Format, LeftOutLine, Shown};
 use crate::outlets::Outlet;
 use log::filter::FilteredLog;
-use log::kv::{Source, With};
+use log::kv::Source;
 use log::span::Spans;
-use log::{Level, Log, Metadata, Record};
+use log::{Log, Metadata, Record};
 use std::alloc::Allocator;
 use std::cell::RefCell;
 use std::fmt::Display;
@@ -43,6 +42,10 @@ impl<O: Outlet> Desk<O> {
         ensures left { self.new.left_out ≡ left_after result self.old.left_out }
         ensures told { result ≡ fates.ToldAndLeftOut → 0 < self.old.left_out }
         ensures all { self.new.all ≡ all_after result self.old.all }
+        ensures asks { IsOffered O.looks O.writes self.old.outlet format self.old.left_out
+            (D.output line) result self.new.outlet }
+        ensures stands { AddsOffer (O.contents self.old.outlet) (O.contents self.new.outlet)
+            format self.old.left_out (D.output line) result }
     {
         let owed = 0 < self.left_out;
         if !self.tell_left_out(format) {
@@ -66,24 +69,19 @@ impl<O: Outlet> Desk<O> {
     fn tell_left_out(&mut self, format: Format) -> bool
         ensures left { self.new.left_out ≡ left_told result self.old.left_out }
         ensures all { self.new.all ≡ self.old.all }
+        ensures asks { IsToldOnce O.looks O.writes self.old.outlet format self.old.left_out
+            result self.new.outlet }
+        ensures told { IsTrue result → AddsLeftOut (O.contents self.old.outlet)
+            (O.contents self.new.outlet) format self.old.left_out }
+        ensures some { result ≡ false → 0 < self.old.left_out }
+        ensures cut { result ≡ false → AddsCut (O.contents self.old.outlet)
+            (O.contents self.new.outlet) (Some (left_out_text format self.old.left_out)) }
     {
-        let left_out = self.left_out;
-        if left_out == 0 {
+        let lines = self.left_out;
+        if lines == 0 {
             return true;
         }
-        let event = With {
-            before: (),
-            key: "event",
-            value: "left-out",
-        };
-        let pairs = With {
-            before: event,
-            key: "lines",
-            value: left_out,
-        };
-        let metadata = Metadata::new(Level::Warn, Origin::Own.target());
-        let line = Record::new(metadata, LeftOutLines(left_out), pairs, ());
-        let is_told = self.put(Shown::new(format, &line));
+        let is_told = self.put(LeftOutLine { format, lines });
         if is_told {
             self.left_out = 0;
         }
@@ -94,10 +92,20 @@ impl<O: Outlet> Desk<O> {
     fn put<D: Display + Drop>(&mut self, line: D) -> bool
         ensures written { IsTrue result → AddsLine (O.contents self.old.outlet)
             (O.contents self.new.outlet) (D.output line) }
+        ensures cut { result ≡ false → AddsCut (O.contents self.old.outlet)
+            (O.contents self.new.outlet) (D.output line) }
+        ensures asks { IsPut O.looks O.writes self.old.outlet (D.output line)
+            result self.new.outlet }
         ensures left { self.new.left_out ≡ self.old.left_out }
         ensures all { self.new.all ≡ self.old.all }
     {
-        self.outlet.has_room() && self.outlet.write(line).is_ok()
+        if !self.outlet.has_room() {
+            return false;
+        }
+        match self.outlet.write(line) {
+            Ok(()) => true,
+            Err(_) => false,
+        }
     }
 }
 
@@ -109,7 +117,7 @@ pub struct Unhindered<O> {
     format: Format,
 }
 
-impl<O: Outlet> Unhindered<O> {
+impl<O> Unhindered<O> {
     /// Over an outlet, of which nothing was left out yet.
     pub fn new(outlet: O, format: Format) -> Unhindered<O>
         ensures { format_of result ≡ format }
@@ -159,8 +167,12 @@ pub trait Journal: Log {
     /// By which rules they pass, where that is known.
     ghost passes: { Self → Option (List Rule) } = { λ _. None };
 
+    /// That it has left out so many lines, as it says.
+    ghost leaves_out: { Self → ℕ → Type 0 } = { λ _ _. Unit {0} };
+
     /// How many lines were left out so far. It stays at its greatest number.
-    fn lines_left_out(&self) -> u64;
+    fn lines_left_out(&self) -> u64
+        ensures { leaves_out self.now result };
 }
 
 impl<O: Outlet> Journal for Unhindered<O> {
@@ -178,6 +190,8 @@ impl<L: Journal, A: Allocator> Journal for FilteredLog<L, A> {
     ghost writes = { λ log. L.writes (filtered_inner log) };
 
     ghost passes = { λ log. Some (filtered_rules log) };
+
+    ghost leaves_out = { λ log lines. L.leaves_out (filtered_inner log) lines };
 
     fn lines_left_out(&self) -> u64 {
         self.inner().lines_left_out()

@@ -1,97 +1,136 @@
-//! The calls by which a box writes its records.
-ghost use Rattle.std.specs.Prelude.{◌≡◌, IfSome};
+//! The records of a box, as its log is handed them by a pen.
+ghost use Rattle.std.specs.Prelude.{◌≡◌, Some};
 ghost use Rattle.log.specs.Record.{metadata_level, metadata_target};
-ghost use Rattle.journal.specs.Handed.{AreToldOthers, IsTold, IsToldOthers, WasHanded};
-ghost use Rattle.journal.specs.Owed.{owed};
-ghost use Rattle.journal.specs.Tally.{count_at, ended, noted, turned};
-ghost use Rattle.journal.specs.declared.causes.Cause.{Cause as Why};
-ghost use Rattle.journal.specs.declared.entries.Entry.TheVariants.{First};
+ghost use Rattle.journal.specs.Handed.{AreToldOfOrigin, AreToldOthers, IsRecord};
+ghost use Rattle.journal.specs.Handed.{IsTold, IsToldLeftOut, IsToldLoss, IsToldSome, IsToldTurn, log_of};
+ghost use Rattle.journal.specs.Owed.{first_of, owed};
+ghost use Rattle.journal.specs.Tally.{ended, noted, turned};
 
 use crate::causes::CAUSES;
 use crate::entries::Entry;
-use crate::notes::Note;
+use crate::notes::{LeftOutPackets, Note};
 use crate::origins::ORIGINS;
+use crate::pens::Pen;
+use crate::sink::Journal;
 use crate::{Cause, Origin, Tally};
-use log::{Log, Metadata, Record};
+use log::kv::Source;
+use log::{Level, Metadata};
+use std::fmt::Display;
 
-/// Writes one record, if it passes.
-pub fn tell<L: Log>(log: &L, moment: u64, entry: Entry)
-    ensures { IsTold L.enables log.now moment entry }
-{
-    let metadata = Metadata::new(entry.level(), entry.origin().target());
-    if log.enabled(&metadata) {
-        hand(log, metadata, Note { moment, entry });
+impl<L: Journal> Pen<'_, L> {
+    /// Writes one record, if it passes.
+    pub fn tell(&mut self, moment: u64, entry: Entry)
+        ensures log { log_of self.new ≡ log_of self.old }
+        ensures told { IsTold L.enables self.old moment entry self.new }
+    {
+        let metadata = Metadata::new(entry.level(), entry.origin().target());
+        self.offer(metadata, Note { moment, entry });
+    }
+
+    /// Counts an event of which nothing came, and writes a record if it is the first of its second there for that cause;
+    /// before it those that are owed of a second that has ended.
+    pub fn tell_loss(&mut self, tally: &mut Tally, moment: u64, origin: Origin, cause: Cause)
+        ensures log { log_of self.new ≡ log_of self.old }
+        ensures tally { tally.new ≡ noted origin cause (turned moment tally.old) }
+        ensures told { IsToldLoss L.enables self.old moment tally.old origin cause self.new }
+    {
+        self.tell_turn(tally, moment);
+        let first = first_of(tally.note(origin, cause), origin, cause);
+        self.tell_some(moment, first);
+    }
+
+    /// Where a later second has begun, writes the records that are owed of the one that has ended, and how many lines were
+    /// left out, if there is room.
+    pub fn tell_turn(&mut self, tally: &mut Tally, moment: u64)
+        ensures log { log_of self.new ≡ log_of self.old }
+        ensures tally { tally.new ≡ turned moment tally.old }
+        ensures told { IsToldTurn L.enables self.old moment (ended moment tally.old) self.new }
+    {
+        let ended = tally.turn(moment);
+        self.tell_ended(moment, ended);
+    }
+
+    /// Writes at a box's end what is owed of the second that hasn't ended, and how many lines were left out, if there is
+    /// room.
+    pub fn tell_end(&mut self, tally: &Tally, moment: u64)
+        ensures log { log_of self.new ≡ log_of self.old }
+        ensures told { IsToldTurn L.enables self.old moment (Some tally.now) self.new }
+    {
+        self.tell_all_others(moment, tally);
+        self.flush();
+    }
+
+    /// Writes how many packets a capture has left out, if it has.
+    pub fn tell_left_out(&mut self, packets: u64)
+        ensures log { log_of self.new ≡ log_of self.old }
+        ensures told { IsToldLeftOut L.enables self.old packets self.new }
+    {
+        if 0 < packets {
+            let metadata = Metadata::new(Level::Warn, "natpair::capture");
+            self.offer(metadata, LeftOutPackets { packets });
+        }
+    }
+
+    /// Writes what is owed of a second that has ended, if one has.
+    fn tell_ended(&mut self, moment: u64, ended: Option<Tally>)
+        ensures log { log_of self.new ≡ log_of self.old }
+        ensures told { IsToldTurn L.enables self.old moment ended self.new }
+    {
+        if let Some(tally) = ended {
+            self.tell_end(&tally, moment);
+        }
+    }
+
+    /// Writes how many others there were of a second, for each origin and cause where there were any.
+    fn tell_all_others(&mut self, moment: u64, ended: &Tally)
+        ensures log { log_of self.new ≡ log_of self.old }
+        ensures told { AreToldOthers L.enables self.old moment ended.now self.new }
+    {
+        for origin in ORIGINS {
+            self.tell_others(moment, origin, ended);
+        }
+    }
+
+    /// Writes how many others there were of a second, for each cause where there were any.
+    fn tell_others(&mut self, moment: u64, origin: Origin, ended: &Tally)
+        ensures log { log_of self.new ≡ log_of self.old }
+        ensures told { AreToldOfOrigin L.enables self.old moment ended.now origin self.new }
+    {
+        for cause in CAUSES {
+            self.tell_some(moment, owed(ended, origin, cause));
+        }
+    }
+
+    /// Writes a record, where there is one and it passes.
+    fn tell_some(&mut self, moment: u64, entry: Option<Entry>)
+        ensures log { log_of self.new ≡ log_of self.old }
+        ensures told { IsToldSome L.enables self.old moment entry self.new }
+    {
+        if let Some(entry) = entry {
+            self.tell(moment, entry);
+        }
+    }
+
+    /// Hands the log a record, if it says that it passes.
+    fn offer<N: Display + Source + Copy>(&mut self, metadata: Metadata<'_>, note: N)
+        ensures log { log_of self.new ≡ log_of self.old }
+        ensures told { IsRecord L.enables self.old (metadata_level metadata.entry)
+            (metadata_target metadata.entry) note self.new }
+    {
+        if self.passes(&metadata) {
+            self.hand(metadata, note);
+        }
     }
 }
 
-/// Hands a record to a log.
-#[tactic(auto, unfolding(crate::specs::Handed::WasHanded))]
-fn hand<L: Log>(log: &L, metadata: Metadata<'_>, note: Note)
-    ensures { WasHanded log.now (metadata_level metadata.entry) (metadata_target metadata.entry)
-        note }
+/// A record of an event of which nothing came, where that is the first of its second there for that cause.
+fn first_of(is_first: bool, origin: Origin, cause: Cause) -> Option<Entry>
+    ensures { result ≡ first_of is_first origin cause }
 {
-    log.log(&Record::new(metadata, note, note, ()));
-}
-
-/// Counts an event of which nothing came, and writes a record if it is the first of its second there for that cause;
-/// before it those that are owed of a second that has ended.
-pub fn tell_loss<L: Log>(log: &L, tally: &mut Tally, moment: u64, origin: Origin, cause: Cause)
-    ensures tally { tally.new ≡ noted origin cause (turned moment tally.old) }
-    ensures others { IfSome (ended moment tally.old) (AreToldOthers L.enables log.now moment) }
-    ensures first { count_at (turned moment tally.old) origin cause ≡ 0
-        → IsTold L.enables log.now moment (First origin cause) }
-{
-    tell_turn(log, tally, moment);
-    if tally.note(origin, cause) {
-        tell(log, moment, Entry::First(origin, cause));
-    }
-}
-
-/// Where a later second has begun, writes the records that are owed of the one that has ended, and how many lines were
-/// left out, if there is room.
-pub fn tell_turn<L: Log>(log: &L, tally: &mut Tally, moment: u64)
-    ensures tally { tally.new ≡ turned moment tally.old }
-    ensures others { IfSome (ended moment tally.old) (AreToldOthers L.enables log.now moment) }
-{
-    if let Some(ended) = tally.turn(moment) {
-        tell_all_others(log, moment, &ended);
-        log.flush();
-    }
-}
-
-/// Writes at a box's end what is owed of the second that hasn't ended, and how many lines were left out, if there is
-/// room.
-pub fn tell_end<L: Log>(log: &L, tally: &Tally, moment: u64)
-    ensures { AreToldOthers L.enables log.now moment tally.now }
-{
-    tell_all_others(log, moment, tally);
-    log.flush();
-}
-
-/// Writes how many others there were of a second, for each origin and cause where there were any.
-fn tell_all_others<L: Log>(log: &L, moment: u64, ended: &Tally)
-    ensures { AreToldOthers L.enables log.now moment ended.now }
-{
-    for origin in ORIGINS {
-        tell_others(log, moment, origin, ended);
-    }
-}
-
-/// Writes how many others there were of a second, for each cause where there were any.
-fn tell_others<L: Log>(log: &L, moment: u64, origin: Origin, ended: &Tally)
-    ensures { (cause : Why) → IsToldOthers L.enables log.now moment ended.now origin cause }
-{
-    for cause in CAUSES {
-        tell_some(log, moment, owed(ended, origin, cause));
-    }
-}
-
-/// Writes a record, where there is one and it passes.
-fn tell_some<L: Log>(log: &L, moment: u64, entry: Option<Entry>)
-    ensures { IfSome entry (IsTold L.enables log.now moment) }
-{
-    if let Some(entry) = entry {
-        tell(log, moment, entry);
+    if is_first {
+        Some(Entry::First(origin, cause))
+    } else {
+        None
     }
 }
 

@@ -1,0 +1,77 @@
+//! The pen by which a log is handed the records of a box. What the log is asked by it has names, and only here it is at hand.
+ghost use Rattle.std.specs.Prelude.{◌≡◌, IfSome};
+ghost use Rattle.log.specs.Record.{metadata_level, metadata_target};
+ghost use Rattle.journal.specs.Handed.{IsFlushed, IsHanded, IsUnhanded};
+ghost use Rattle.journal.specs.Handed.{WasAskedLines, WasPutDown, log_of};
+
+use crate::sink::Journal;
+use log::kv::Source;
+use log::{Metadata, Record};
+use std::fmt::Display;
+use std::snapshot::Snapshot;
+
+/// A log, which is handed records by this alone, as long as it is there. So what is known of the pen, before a call and after,
+/// is all that the log was asked.
+#[derive(Drop)]
+pub struct Pen<'a, L> {
+    log: &'a L,
+    /// What tells the pen from what it was before a call. Only clauses see it; it takes no bytes.
+    page: Snapshot<u64>,
+}
+
+impl<'a, L> Pen<'a, L> {
+    /// That of a log. It was handed nothing by it yet.
+    #[tactic(auto, unfolding(crate::specs::Handed::IsUnhanded))]
+    pub fn new(log: &'a L) -> Pen<'a, L>
+        ensures log { log_of result ≡ log.now }
+        ensures unhanded { IsUnhanded result }
+    {
+        let page = Snapshot::of(&0);
+        Pen { log, page }
+    }
+
+    /// Lets it go. The log is handed nothing by it any more.
+    #[tactic(auto, unfolding(crate::specs::Handed::WasPutDown))]
+    pub fn put_down(self)
+        ensures { WasPutDown self.entry }
+    {
+        drop(self);
+    }
+}
+
+impl<L: Journal> Pen<'_, L> {
+    /// Whether the log says that such a record passes.
+    pub(crate) fn passes(&self, metadata: &Metadata<'_>) -> bool
+        ensures { IfSome (L.enables (log_of self.now) (metadata_level metadata.now)
+            (metadata_target metadata.now)) (λ said. result ≡ said) }
+    {
+        self.log.enabled(metadata)
+    }
+
+    /// Hands the log a record.
+    #[tactic(auto, unfolding(crate::specs::Handed::WasHanded))]
+    pub(crate) fn hand<N: Display + Source + Copy>(&mut self, metadata: Metadata<'_>, note: N)
+        ensures { IsHanded self.old (metadata_level metadata.entry)
+            (metadata_target metadata.entry) note self.new }
+    {
+        self.log.log(&Record::new(metadata, note, note, ()));
+    }
+
+    /// Has the log write how many lines were left out, if there is room.
+    #[tactic(auto, unfolding(crate::specs::Handed::WasFlushed))]
+    pub(crate) fn flush(&mut self)
+        ensures { IsFlushed self.old self.new }
+    {
+        self.log.flush();
+    }
+
+    /// How many lines the log has left out so far.
+    #[tactic(auto, unfolding(crate::specs::Handed::WasAskedLines))]
+    pub fn lines_left_out(&mut self) -> u64
+        ensures log { log_of self.new ≡ log_of self.old }
+        ensures asked { WasAskedLines self.old result self.new }
+        ensures lines { L.leaves_out (log_of self.old) result }
+    {
+        self.log.lines_left_out()
+    }
+}
