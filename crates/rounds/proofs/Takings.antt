@@ -1,66 +1,54 @@
 -- What is taken, one part after another.
-use Rattle.std.proofs.Common.{◌≡◌, ◌∙◌, ◌+◌, ◌<◌, ◌++◌, min, ℕ, zero, suc, Bool, true, false, not, List, [], ◌∷◌, take, Option, Some, None, Ok, length, refl, sym, ap, subst, inl, inr, add-one, length-append}
-use Rattle.std.proofs.lemmas.List.{append-nil, append_assoc, get_or-set_other, take_at}
+use Rattle.std.proofs.Common.{◌≡◌, ◌∙◌, ◌+◌, ◌<◌, ◌++◌, ℕ, zero, suc, Bool, true, false, not, List, [], ◌∷◌, take, Option, Some, None, Result, Ok, Err, is_err, is_ok, length, refl, sym, ap, subst, inl, inr, add-one, length-append}
+use Rattle.std.proofs.lemmas.List.{append-nil, append_assoc, take_at}
 use Rattle.std.proofs.lemmas.List.Folds.{list_any-append}
-use Rattle.journal.specs.Origins.{origin_of as side_origin}
-use Rattle.journal.specs.declared.origins.Origin.{Origin}
-use Rattle.journal.specs.declared.origins.Origin.TheVariants.{Own}
-use Rattle.nat_types.specs.declared.gateways.Side.{Side}
-use Rattle.nat_types.specs.declared.gateways.Side.TheVariants.{Inside, Outside}
-use Rattle.reports.specs.Counts.{count_at, counted, key_of, most}
-use Rattle.reports.specs.declared.counters.Count.{Count}
-use Rattle.reports.specs.declared.counters.Count.TheVariants.{Sent}
-use Rattle.sockets.specs.Letters.{Call, Polled, answer_of, asked, came, failed, is_nothing, nothing}
+use Rattle.sockets.specs.Letters.{Polled, answer_of, asked, came, failed, is_nothing, nothing, sent}
 use Rattle.sockets.specs.declared.places.Place.{Place}
 use Rattle.sockets.specs.declared.wire.WireFault.{WireFault}
-use Rattle.rounds.specs.Losing.{CountsOnlySent}
-use Rattle.rounds.specs.Rounds.{AreMade, Box, Calls, HasLimit, TakesAll, TakesLetter, Waits}
+use Rattle.rounds.specs.Losing.{with_sent}
+use Rattle.rounds.specs.Rounds.{AreSent, Box, Calls, HasLimit, IsSent, Sending, TakesAll, TakesLetter, Waits}
 use Rattle.rounds.specs.Polls.{Asks, HasAsked, HasPolled}
 
 -- ---- what is sent
 
--- calls were made, and then others
-pub made_on : {W : Type 0} (does : Calls W) (xs ys : List Call) (a b c : W) → AreMade does xs a b → AreMade does ys b c → AreMade does (xs ++ ys) a c
-made_on does [] ys a b c one two = subst (λ (w : _). AreMade does ys w c) one two
-made_on does (x ∷ xs) ys a b c one two = (one.0, (one.1.0, made_on does xs ys one.0 b c one.1.1 two))
+-- these were sent, and then others
+pub sent_on : {W : Type 0} (does : Calls W) (xs ys : List Sending) (a b c : W) (counts then last : List ℕ) → AreSent does xs a counts b then → AreSent does ys b then c last
+    → AreSent does (xs ++ ys) a counts c last
+sent_on does [] ys a b c counts then last one two =
+    subst (λ (n : List ℕ). AreSent does ys a n c last) one.1 (subst (λ (w : _). AreSent does ys w then c last) one.0 two)
+sent_on does (x ∷ xs) ys a b c counts then last one two =
+    (one.0, (one.1.0, (one.1.1.0, sent_on does xs ys one.0 b c one.1.0 then last one.1.1.1 two)))
 
--- of these calls some were made, and the rest is still to be made
-pub record HasMade {W : Type 0} (does : Calls W) (calls rest : List Call) (w w2 : W) : Type 0 where
-  pub done : List Call
-  pub are : calls ≡ done ++ rest
-  pub made : AreMade does done w w2
+-- of these some were sent, and counted, and the rest is still to be
+pub record HasSent {W : Type 0} (does : Calls W) (all rest : List Sending) (w : W) (counts : List ℕ) (w2 : W) (counts2 : List ℕ) : Type 0 where
+  pub done : List Sending
+  pub are : all ≡ done ++ rest
+  pub sent : AreSent does done w counts w2 counts2
 
-pub made_none : {W : Type 0} (does : Calls W) (calls rest : List Call) (w w2 : W) → calls ≡ rest → w2 ≡ w → HasMade does calls rest w w2
-made_none does calls rest w w2 is same = record { done = []; are = is; made = same }
+pub sent_none : {W : Type 0} (does : Calls W) (all rest : List Sending) (w w2 : W) (counts counts2 : List ℕ) → all ≡ rest → w2 ≡ w → counts2 ≡ counts
+    → HasSent does all rest w counts w2 counts2
+sent_none does all rest w w2 counts counts2 is same so = record { done = []; are = is; sent = (same, so) }
 
-pub made_more : {W : Type 0} (does : Calls W) (calls rest rest2 : List Call) (x : Call) (a b c : W) → HasMade does calls rest a b → rest ≡ x ∷ rest2 → does b x c
-    → HasMade does calls rest2 a c
-made_more does calls rest rest2 x a b c had is one = record {
+pub sent_more : {W : Type 0} (does : Calls W) (all rest rest2 : List Sending) (x : Sending) (a b c : W) (counts then last : List ℕ) → HasSent does all rest a counts b then
+    → rest ≡ x ∷ rest2 → IsSent does x b then c last → HasSent does all rest2 a counts c last
+sent_more does all rest rest2 x a b c counts then last had is one = record {
   done = had.done ++ x ∷ [];
-  are = had.are ∙ (ap (λ (ys : List Call). had.done ++ ys) is ∙ sym (append_assoc had.done (x ∷ []) rest2));
-  made = made_on does had.done (x ∷ []) a b c had.made (c, (one, refl));
+  are = had.are ∙ (ap (λ (ys : List Sending). had.done ++ ys) is ∙ sym (append_assoc had.done (x ∷ []) rest2));
+  sent = sent_on does had.done (x ∷ []) a b c counts then last had.sent (c, (last, (one, (refl, refl))));
 }
 
-pub made_all : {W : Type 0} (does : Calls W) (calls rest : List Call) (a b : W) → HasMade does calls rest a b → rest ≡ [] → AreMade does calls a b
-made_all does calls rest a b had is =
-    subst (λ (xs : List Call). AreMade does xs a b) (sym (had.are ∙ (ap (λ (ys : List Call). had.done ++ ys) is ∙ append-nil had.done))) had.made
+pub sent_all : {W : Type 0} (does : Calls W) (all rest : List Sending) (a b : W) (counts then : List ℕ) → HasSent does all rest a counts b then → rest ≡ []
+    → AreSent does all a counts b then
+sent_all does all rest a b counts then had is =
+    subst (λ (xs : List Sending). AreSent does xs a counts b then) (sym (had.are ∙ (ap (λ (ys : List Sending). had.done ++ ys) is ∙ append-nil had.done))) had.sent
 
--- keys of a box's counts are apart
-abbrev pub KeysApart : Type 0
-KeysApart = (origin other : Origin) → (what that : Count) → key_of other that ≡ key_of origin what → (other ≡ origin) × (that ≡ what)
-
--- a side isn't the box itself
-pub of_side : (side : Side) → side_origin side ≡ Own → ⊥
-of_side Inside is = cc
-of_side Outside is = cc
-
--- one more that is sent there is no other count
-pub one_sent : (first before after : List ℕ) (origin : Origin) → KeysApart → (origin ≡ Own → ⊥) → CountsOnlySent first before → after ≡ counted origin Sent 1 before
-    → CountsOnlySent first after
-one_sent first before after origin apart outer only is = λ other what sent.
-    ap (λ (xs : List ℕ). count_at xs other what) is
-    ∙ (get_or-set_other before (key_of origin Sent) (key_of other what) (min (count_at before origin Sent + 1) most) 0
-    (λ same. let at = apart origin other Sent what same in outer (sym at.0 ∙ sent at.1)) ∙ only other what sent)
+-- one was, and what is counted is by what the wire answered
+pub is_sent : {W T E : Type 0} (does : Calls W) (s : Sending) (r : Result T E) (so : Bool) (w w2 : W) (counts counts2 : List ℕ) → does.call w (sent s.place s.bytes) w2
+    → does.answer w s.place s.bytes (is_err r) w2 → is_ok r ≡ so → counts2 ≡ with_sent s.place (not so) counts → IsSent does s w counts w2 counts2
+is_sent does s (Ok x) so w w2 counts counts2 handed answered is counted =
+    record { is_failed = false; handed = handed; answered = answered; counted = counted ∙ ap (λ (b : Bool). with_sent s.place (not b) counts) (sym is) }
+is_sent does s (Err x) so w w2 counts counts2 handed answered is counted =
+    record { is_failed = true; handed = handed; answered = answered; counted = counted ∙ ap (λ (b : Bool). with_sent s.place (not b) counts) (sym is) }
 
 -- ---- what is answered
 
@@ -75,27 +63,27 @@ laid head bytes front rest middle tail is same two =
 
 -- a letter came, so many bytes of a receiver's room, and was taken
 pub one_came : {W : Type 0} (does : Calls W) (waits : Waits W) (track : Bool) (limit : ℕ) (b b2 : Box W) (w : W) (place : Place) (count : ℕ) (room : List ℕ)
-    (found : Option (Place × ℕ)) → found ≡ Some (place, count) → does b.wire (asked (answer_of {E = WireFault} (Ok found) room)) w → HasLimit waits limit b.wire w
+    (found : Option (Place × ℕ)) → found ≡ Some (place, count) → does.call b.wire (asked (answer_of {E = WireFault} (Ok found) room)) w → HasLimit waits limit b.wire w
     → TakesLetter does track (record b { wire = w }) (record { place = place; bytes = take count room }) b2
     → Asks does waits track limit b true b2
 one_came does waits track limit b b2 w place count room found is call limited taken = record {
   answer = came (record { place = place; bytes = take count room });
   is_more = refl;
-  taken = (w, ((subst (λ (o : Option (Place × ℕ)). does b.wire (asked (answer_of {E = WireFault} (Ok o) room)) w) is call, limited), (b2, (taken, refl))));
+  taken = (w, ((subst (λ (o : Option (Place × ℕ)). does.call b.wire (asked (answer_of {E = WireFault} (Ok o) room)) w) is call, limited), (b2, (taken, refl))));
 }
 
 -- nothing was there
 pub none_came : {W : Type 0} (does : Calls W) (waits : Waits W) (track : Bool) (limit : ℕ) (b b2 : Box W) (room : List ℕ) (found : Option (Place × ℕ)) → found ≡ None
-    → does b.wire (asked (answer_of {E = WireFault} (Ok found) room)) b2.wire → HasLimit waits limit b.wire b2.wire → b2 ≡ record b { wire = b2.wire }
+    → does.call b.wire (asked (answer_of {E = WireFault} (Ok found) room)) b2.wire → HasLimit waits limit b.wire b2.wire → b2 ≡ record b { wire = b2.wire }
     → Asks does waits track limit b false b2
 none_came does waits track limit b b2 room found is call limited same = record {
   answer = nothing;
   is_more = refl;
-  taken = (b2.wire, ((subst (λ (o : Option (Place × ℕ)). does b.wire (asked (answer_of {E = WireFault} (Ok o) room)) b2.wire) is call, limited), (b2, (same, refl))));
+  taken = (b2.wire, ((subst (λ (o : Option (Place × ℕ)). does.call b.wire (asked (answer_of {E = WireFault} (Ok o) room)) b2.wire) is call, limited), (b2, (same, refl))));
 }
 
 -- to receive failed
-pub one_failed : {W : Type 0} (does : Calls W) (waits : Waits W) (track : Bool) (limit : ℕ) (b b2 : Box W) → does b.wire (asked failed) b2.wire
+pub one_failed : {W : Type 0} (does : Calls W) (waits : Waits W) (track : Bool) (limit : ℕ) (b b2 : Box W) → does.call b.wire (asked failed) b2.wire
     → HasLimit waits limit b.wire b2.wire → b2 ≡ record b { wire = b2.wire } → Asks does waits track limit b true b2
 one_failed does waits track limit b b2 call limited same = record { answer = failed; is_more = refl; taken = (b2.wire, ((call, limited), (b2, (same, refl)))) }
 

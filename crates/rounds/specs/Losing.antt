@@ -1,12 +1,11 @@
--- Of which events nothing came, and what is counted.
-use Rattle.std.specs.Prelude.{◌≡◌, ℕ, Bool, true, false, List, Option, Some, None, Result, Ok, Err}
+-- Of which events nothing came, and what is counted of them, and as sent.
+use Rattle.std.specs.Prelude.{ℕ, Bool, true, false, List, Option, Some, None, Result, Ok, Err}
 use Rattle.journal.specs.Origins.{origin_of as side_origin}
 use Rattle.journal.specs.declared.causes.Cause.{Cause}
 use Rattle.journal.specs.declared.causes.Cause.TheVariants.{Dropped, NoMemory}
 use Rattle.journal.specs.declared.origins.Origin.{Origin}
 use Rattle.journal.specs.declared.origins.Origin.TheVariants as origin
-use Rattle.reports.specs.Counts.{count_at, counted}
-use Rattle.reports.specs.declared.counters.Count.{Count}
+use Rattle.reports.specs.Counts.{counted}
 use Rattle.reports.specs.declared.counters.Count.TheVariants.{Lost, Sent}
 use Rattle.sockets.specs.declared.places.Place.{Place}
 use Rattle.sockets.specs.declared.places.Place.TheVariants as place
@@ -48,12 +47,7 @@ abbrev pub with_lost : Origin → Option Cause → List ℕ → List ℕ
 with_lost origin (Some cause) counts = counted origin (Lost cause) 1 counts
 with_lost origin None counts = counts
 
--- what is sent to a side or by the link may count as sent there, and every other count is as it was
-abbrev pub CountsOnlySent : List ℕ → List ℕ → Type 0
-CountsOnlySent before after = (from : Origin) → (what : Count) → (what ≡ Sent → from ≡ origin.Own) → count_at after from what ≡ count_at before from what
-
--- with what was sent an event is counted as lost, if it is, and nothing else is
-pub record CountsLoss (origin : Origin) (cause : Option Cause) (before after : List ℕ) : Type 0 where
-  pub sent : List ℕ
-  pub only : CountsOnlySent before sent
-  pub lost : after ≡ with_lost origin cause sent
+-- with one more that was sent at a place, unless that failed
+abbrev pub with_sent : Place → Bool → List ℕ → List ℕ
+with_sent place true counts = counts
+with_sent place false counts = counted (origin_at place) Sent 1 counts

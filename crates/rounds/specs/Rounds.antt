@@ -24,7 +24,7 @@ use Rattle.spec_step.specs.Steps.{IsStepOn}
 use Rattle.supervision.specs.Hearing.{Hears}
 use Rattle.rounds.specs.Answers.{IsAnswerTo, first_sides, sides_again}
 use Rattle.rounds.specs.Letters.{event_of, is_end, reply_at}
-use Rattle.rounds.specs.Losing.{CountsLoss, cause_on, origin_at, origin_of}
+use Rattle.rounds.specs.Losing.{cause_on, origin_at, origin_of, with_lost, with_sent}
 use Rattle.rounds.specs.Memory.{MayLack, WasLeftOut}
 use Rattle.rounds.specs.Outages.{TellsPlaces, none_told_of}
 use Rattle.rounds.specs.Records.{with_step}
@@ -94,9 +94,13 @@ on_wire b wire = record {
   told = b.told;
 }
 
--- what a call is to a wire, and what the wire is then
-abbrev pub Calls : Type 0 → Type 1
-Calls W = W → Call → W → Type 0
+-- what a call is to a wire, and what the wire is then; and what it answers who has it send a datagram for a place, as whether that failed
+pub record Calls (W : Type 0) : Type 1 where
+  pub call : W → Call → W → Type 0
+  pub answer : W → Place → List ℕ → Bool → W → Type 0
+
+abbrev pub calls : {W : Type 0} → (W → Call → W → Type 0) → (W → Place → List ℕ → Bool → W → Type 0) → Calls W
+calls call answer = record { call = call; answer = answer }
 
 -- how long a wire that is asked waits at most, and what it is then
 abbrev pub Waits : Type 0 → Type 1
@@ -117,36 +121,49 @@ HasLimit waits nanoseconds w w2 = (limit : Duration) × ((as_nanos limit ≡ nan
 
 -- it is asked for the next datagram, to wait for at most so long, and answers so
 abbrev pub IsAsked : {W : Type 0} → Calls W → Waits W → ℕ → W → Polled → W → Type 0
-IsAsked does waits nanoseconds w answer w2 = does w (asked answer) w2 × HasLimit waits nanoseconds w w2
+IsAsked does waits nanoseconds w answer w2 = does.call w (asked answer) w2 × HasLimit waits nanoseconds w w2
 
--- these calls were made, one after the other, and no others
-abbrev pub AreMade : {W : Type 0} → Calls W → List Call → W → W → Type 0
-AreMade does [] w w2 = w2 ≡ w
-AreMade {W = W} does (call ∷ rest) w w2 = (middle : W) × (does w call middle × AreMade does rest middle w2)
+-- a datagram, and the place that it is for
+pub record Sending : Type 0 where
+  pub place : Place
+  pub bytes : List ℕ
+
+-- a wire is handed it, once; and it counts as sent at its place, once, just where the wire itself answers that this didn't fail
+pub record IsSent {W : Type 0} (does : Calls W) (s : Sending) (w : W) (counts : List ℕ) (w2 : W) (counts2 : List ℕ) : Type 0 where
+  pub is_failed : Bool
+  pub handed : does.call w (sent s.place s.bytes) w2
+  pub answered : does.answer w s.place s.bytes is_failed w2
+  pub counted : counts2 ≡ with_sent s.place is_failed counts
+
+-- so it is with each of these, one after the other, and the wire is handed nothing else, and nothing else is counted
+abbrev pub AreSent : {W : Type 0} → Calls W → List Sending → W → List ℕ → W → List ℕ → Type 0
+AreSent does [] w counts w2 counts2 = (w2 ≡ w) × (counts2 ≡ counts)
+AreSent {W = W} does (s ∷ rest) w counts w2 counts2 =
+    (middle : W) × ((then : List ℕ) × (IsSent does s w counts middle then × AreSent does rest middle then w2 counts2))
 
 -- what was told is sent: each frame at its side, and then each datagram by the link
-abbrev pub frame_sent : Sent → Call
-frame_sent f = sent (place.Side f.side) f.bytes
+abbrev pub frame_sent : Sent → Sending
+frame_sent f = record { place = place.Side f.side; bytes = f.bytes }
 
-abbrev pub datagram_sent : List ℕ → Call
-datagram_sent bytes = sent place.Link bytes
+abbrev pub datagram_sent : List ℕ → Sending
+datagram_sent bytes = record { place = place.Link; bytes = bytes }
 
-abbrev pub all_sent : Output → List Call
+abbrev pub all_sent : Output → List Sending
 all_sent out = map frame_sent out.frames ++ map datagram_sent out.datagrams
 
--- an event is taken by a step, and just what was told with it is sent; or the gateway refused it for want of memory, nothing has
--- changed, and one event more was left out
+-- An event is taken by a step, just what was told with it is sent, and then it is counted as lost, if nothing came of it; or the gateway refused it
+-- for want of memory, nothing has changed, it is counted as lost, and one event more was left out.
 abbrev pub TakesBy : {W : Type 0} → Calls W → Bool → Box W → Event → Box W → Type 0
-TakesBy does true b event b2 =
-    (out : Output) × (IsStepOn (scene b.shown none_told) event (scene b2.shown out)
-    × (AreMade does (all_sent out) b.wire b2.wire × (b2.left_out ≡ b.left_out)))
-TakesBy does false b event b2 =
-    (b2.shown ≡ b.shown) × ((b2.wire ≡ b.wire) × ((b2.left_out ≡ b.left_out + 1) × WasLeftOut b.shown event))
+TakesBy does true b event b2 = (out : Output) × ((counts : List ℕ) × (IsStepOn (scene b.shown none_told) event (scene b2.shown out)
+    × (AreSent does (all_sent out) b.wire b.counts b2.wire counts
+    × ((b2.counts ≡ with_lost (origin_of event) (cause_on b.shown event true) counts) × (b2.left_out ≡ b.left_out)))))
+TakesBy does false b event b2 = (b2.shown ≡ b.shown) × ((b2.wire ≡ b.wire)
+    × ((b2.counts ≡ with_lost (origin_of event) (cause_on b.shown event false) b.counts)
+    × ((b2.left_out ≡ b.left_out + 1) × WasLeftOut b.shown event)))
 
--- and the log is told just what has changed with it; and that nothing came of it, if so, which is counted
+-- the log is told just what has changed with it; and that nothing came of it, if so
 abbrev pub IsRecorded : {W : Type 0} → Bool → Box W → Event → Box W → Type 0
-IsRecorded is_done b event b2 = (b2.told ≡ with_step event (cause_on b.shown event is_done) is_done (seen b.shown) (seen b2.shown) b.told)
-    × CountsLoss (origin_of event) (cause_on b.shown event is_done) b.counts b2.counts
+IsRecorded is_done b event b2 = b2.told ≡ with_step event (cause_on b.shown event is_done) is_done (seen b.shown) (seen b2.shown) b.told
 
 abbrev pub Takes : {W : Type 0} → Calls W → Bool → Box W → Event → Box W → Type 0
 Takes does is_done b event b2 = TakesBy does is_done b event b2
@@ -160,7 +177,7 @@ TakesAny does is_done b None b2 = (is_done ≡ true) × (b2 ≡ b)
 -- who said the last word is answered with these bytes, and that is counted
 abbrev pub IsAnswered : {W : Type 0} → Calls W → List ℕ → Box W → Box W → Type 0
 IsAnswered does bytes b b2 =
-    does b.wire (answered bytes) b2.wire × (b2 ≡ record b { wire = b2.wire; counts = counted Own SentOne 1 b.counts })
+    does.call b.wire (answered bytes) b2.wire × (b2 ≡ record b { wire = b2.wire; counts = counted Own SentOne 1 b.counts })
 
 abbrev pub Says : {W : Type 0} → Calls W → Content → Box W → Box W → Type 0
 Says does content b b2 = (bytes : List ℕ) × ((answer_of bytes ≡ Some content) × IsAnswered does bytes b b2)

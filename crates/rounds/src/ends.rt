@@ -1,10 +1,12 @@
 //! The line that a box ends by.
-ghost use Rattle.std.specs.Prelude.{codes};
+ghost use Rattle.std.specs.Prelude.{OnErr, OnOk, codes};
+ghost use Rattle.outlets.specs.Outputs.{IsPrinted, IsUnput};
 ghost use Rattle.outlets.specs.Printed.{Prints};
 ghost use Rattle.rounds.specs.Polls.{WasStopped};
+ghost use Rattle.rounds.specs.Rounds.{calls};
 
 use gateway::Gateway;
-use outlets::put;
+use outlets::{told_to_flush, told_to_put};
 use sockets::Wire;
 use std::io::{self, Write};
 
@@ -15,14 +17,16 @@ pub trait EndLine {
     /// What it has, where that is known.
     ghost contents: { Self → Option (List ℕ) };
 
-    /// Writes `end`, once the gateway was stopped.
+    /// Writes `end`, once the gateway was stopped, and flushes it.
     ///
     /// # Errors
     ///
-    /// Those of writing.
+    /// Those of writing and of the flush.
     fn end<W: Wire>(&mut self, gateway: &Gateway, wire: &W) -> io::Result<()>
-        requires stopped { WasStopped W.does gateway.now wire.now }
-        ensures { Prints (contents self.old) result (contents self.new) (codes "end\n") };
+        requires stopped { WasStopped (calls W.does W.answers) gateway.now wire.now }
+        ensures ended { Prints (contents self.old) result (contents self.new) (codes "end\n") }
+        ensures written { OnOk result (IsPrinted self.old (codes "end\n") self.new) }
+        ensures unwritten { OnErr result (IsUnput self.old (codes "end\n") self.new) };
 }
 
 impl<O: Write> EndLine for O {
@@ -35,8 +39,11 @@ impl<O: Write> EndLine for O {
 
 /// Writes `end`, and flushes it.
 fn put_end<O: Write>(output: &mut O) -> io::Result<()>
-    ensures { Prints (O.contents output.old) result (O.contents output.new) (codes "end\n") }
+    ensures ended { Prints (O.contents output.old) result (O.contents output.new)
+        (codes "end\n") }
+    ensures written { OnOk result (IsPrinted output.old (codes "end\n") output.new) }
+    ensures unwritten { OnErr result (IsUnput output.old (codes "end\n") output.new) }
 {
-    put(output, b"end\n")?;
-    output.flush()
+    told_to_put(output, b"end\n")?;
+    told_to_flush(output)
 }

@@ -7,7 +7,7 @@ ghost use Rattle.sockets.specs.Letters.{answered};
 ghost use Rattle.spec_step.specs.Shown.{Shown};
 ghost use Rattle.rounds.specs.Answers.{Answers, CountsLosses, SaysOf, with_losses};
 ghost use Rattle.rounds.specs.Memory.{MayLack};
-ghost use Rattle.rounds.specs.Rounds.{AnswersOwed, Replies, box, wire_says};
+ghost use Rattle.rounds.specs.Rounds.{AnswersOwed, Replies, box, calls, wire_says};
 ghost use Rattle.rounds.specs.declared.judging.Question.TheVariants.{Status};
 ghost use Rattle.rounds.specs.declared.teller.Telling.{Telling};
 ghost use Rattle.rounds.specs.declared.teller.Telling.TheVariants.{Asked};
@@ -26,8 +26,8 @@ use sockets::{LONGEST, Losses, Place, Wire};
 /// Answers a word at once, where a reply is owed; a question is kept for the round's end. A word that isn't done, for want
 /// of memory, has no answer: who said it doesn't hear that it was taken.
 pub(crate) fn reply<W: Wire>(owed: Option<Reply>, is_done: bool, wire: &mut W, desk: &mut Desk)
-    ensures { (g : Shown) → (told : List Telling) → Replies W.does owed is_done
-        (box g wire.old desk.old told) (box g wire.new desk.new told) }
+    ensures { (g : Shown) → (told : List Telling) → Replies (calls W.does W.answers)
+        owed is_done (box g wire.old desk.old told) (box g wire.new desk.new told) }
 {
     match owed {
         None => {}
@@ -61,8 +61,8 @@ pub(crate) fn answer_question<W: Wire, L: Journal>(
     desk: &mut Desk,
     log: &mut Teller<'_, L>,
 )
-    ensures answered { AnswersOwed W.does (wire_says W.waits W.failing W.lost) identity
-        desk.old.question
+    ensures answered { AnswersOwed (calls W.does W.answers) (wire_says W.waits W.failing W.lost)
+        identity desk.old.question
         (box gateway.now wire.old desk.old log.old.told)
         (box gateway.now wire.new desk.new log.new.told) }
     ensures same_log { log.new.log ≡ log.old.log }

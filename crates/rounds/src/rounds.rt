@@ -1,9 +1,10 @@
 //! The rounds of a box.
 ghost use Rattle.std.specs.Duration.{as_nanos};
-ghost use Rattle.std.specs.Prelude.{◌≡◌, ◌⊎◌, codes, false, true};
+ghost use Rattle.std.specs.Prelude.{◌≡◌, ◌⊎◌, OnErr, OnOk, codes, false, true};
+ghost use Rattle.outlets.specs.Outputs.{IsPrinted, IsUnput};
 ghost use Rattle.outlets.specs.Printed.{Prints};
 ghost use Rattle.rounds.specs.Rounds.{AreRoundsHeard, IsRound, RoundsTo, RunsTo, TellsRound};
-ghost use Rattle.rounds.specs.Rounds.{all_left, begun, box, most_rounds, wire_says};
+ghost use Rattle.rounds.specs.Rounds.{all_left, begun, box, calls, most_rounds, wire_says};
 ghost use Rattle.rounds.specs.Polls.{Asks, HasPolled, WasStopped};
 ghost use Rattle.rounds.specs.Told.{HearsRound};
 
@@ -45,7 +46,7 @@ pub const WAIT: u64 = 10;
 ///
 /// # Errors
 ///
-/// Those of writing `end`. The whole run has been had then too.
+/// Those of writing `end`, and of the flush behind it. The whole run has been had then too.
 pub fn serve<W: Wire, C: Clockwork, T: Told, S: Supervisor, O: EndLine, L: Journal>(
     alloc: Global,
     gateway: &mut Gateway,
@@ -59,13 +60,15 @@ pub fn serve<W: Wire, C: Clockwork, T: Told, S: Supervisor, O: EndLine, L: Journ
     output: &mut O,
     log: &mut Teller<'_, L>,
 ) -> io::Result<LeftOut>
-    ensures rounds { RunsTo W.does (wire_says W.waits W.failing W.lost) track identity C.reads
-        S.hears (most_rounds rounds) T.tells T.goes_on
+    ensures rounds { RunsTo (calls W.does W.answers) (wire_says W.waits W.failing W.lost) track
+        identity C.reads S.hears (most_rounds rounds) T.tells T.goes_on
         (begun gateway.old wire.old log.old.told) clock.old until.old supervisor.old
         gateway.new wire.new log.new.told clock.new until.new supervisor.new result }
     ensures same_log { log.new.log ≡ log.old.log }
     ensures ended { Prints (O.contents output.old) result (O.contents output.new)
         (codes "end\n") }
+    ensures written { OnOk result (IsPrinted output.old (codes "end\n") output.new) }
+    ensures unwritten { OnErr result (IsUnput output.old (codes "end\n") output.new) }
 {
     let left = run(
         alloc, gateway, wire, clock, until, rounds, track, identity, supervisor, log,
@@ -87,8 +90,8 @@ pub fn run_rounds<W: Wire, C: Clockwork, T: Told, S: Supervisor, L: Journal>(
     supervisor: &mut S,
     log: &mut Teller<'_, L>,
 ) -> LeftOut
-    ensures rounds { RoundsTo W.does (wire_says W.waits W.failing W.lost) track identity C.reads
-        S.hears (most_rounds rounds) T.tells T.goes_on
+    ensures rounds { RoundsTo (calls W.does W.answers) (wire_says W.waits W.failing W.lost) track
+        identity C.reads S.hears (most_rounds rounds) T.tells T.goes_on
         (begun gateway.old wire.old log.old.told) clock.old until.old supervisor.old
         gateway.new wire.new log.new.told clock.new until.new supervisor.new result }
     ensures same_log { log.new.log ≡ log.old.log }
@@ -114,12 +117,12 @@ fn run<W: Wire, C: Clockwork, T: Told, S: Supervisor, L: Journal>(
     supervisor: &mut S,
     log: &mut Teller<'_, L>,
 ) -> LeftOut
-    ensures run { RunsTo W.does (wire_says W.waits W.failing W.lost) track identity C.reads
-        S.hears (most_rounds rounds) T.tells T.goes_on
+    ensures run { RunsTo (calls W.does W.answers) (wire_says W.waits W.failing W.lost) track
+        identity C.reads S.hears (most_rounds rounds) T.tells T.goes_on
         (begun gateway.old wire.old log.old.told) clock.old until.old supervisor.old
         gateway.new wire.new log.new.told clock.new until.new supervisor.new (all_left result) }
     ensures same_log { log.new.log ≡ log.old.log }
-    ensures stopped { WasStopped W.does gateway.new wire.new }
+    ensures stopped { WasStopped (calls W.does W.answers) gateway.new wire.new }
 {
     let mut desk = Desk::new(alloc, gateway);
     all_rounds(
@@ -144,8 +147,8 @@ fn all_rounds<W: Wire, C: Clockwork, T: Told, S: Supervisor, L: Journal>(
     desk: &mut Desk,
     log: &mut Teller<'_, L>,
 )
-    ensures rounds { AreRoundsHeard W.does (wire_says W.waits W.failing W.lost) track identity
-        C.reads S.hears (most_rounds rounds) T.tells T.goes_on
+    ensures rounds { AreRoundsHeard (calls W.does W.answers)
+        (wire_says W.waits W.failing W.lost) track identity C.reads S.hears (most_rounds rounds) T.tells T.goes_on
         (box gateway.old wire.old desk.old log.old.told)
         clock.old until.old supervisor.old
         (box gateway.new wire.new desk.new log.new.told)
@@ -216,7 +219,8 @@ fn round<W: Wire, C: Clockwork, S: Supervisor, L: Journal>(
     log: &mut Teller<'_, L>,
 ) -> u64
     requires { desk.old.ending ≡ false }
-    ensures round { IsRound W.does (wire_says W.waits W.failing W.lost) track identity C.reads
+    ensures round { IsRound (calls W.does W.answers) (wire_says W.waits W.failing W.lost) track
+        identity C.reads
         (box gateway.old wire.old desk.old log.old.told) clock.old
         (box gateway.new wire.new desk.new log.new.told) clock.new }
     ensures moment { result ≡ gateway.new.moment }
@@ -257,7 +261,7 @@ fn take_what_comes<W: Wire, L: Journal>(
     desk: &mut Desk,
     log: &mut Teller<'_, L>,
 )
-    ensures polled { HasPolled W.does W.waits track 10_000_000 256
+    ensures polled { HasPolled (calls W.does W.answers) W.waits track 10_000_000 256
         (box gateway.old wire.old desk.old log.old.told)
         (box gateway.new wire.new desk.new log.new.told) }
     ensures same_log { log.new.log ≡ log.old.log }
@@ -281,7 +285,7 @@ fn take_next<W: Wire, L: Journal>(
     desk: &mut Desk,
     log: &mut Teller<'_, L>,
 ) -> bool
-    ensures asks { Asks W.does W.waits track (as_nanos limit)
+    ensures asks { Asks (calls W.does W.answers) W.waits track (as_nanos limit)
         (box gateway.old wire.old desk.old log.old.told)
         result (box gateway.new wire.new desk.new log.new.told) }
     ensures same_log { log.new.log ≡ log.old.log }

@@ -5,23 +5,23 @@ ghost use Rattle.spec_step.specs.Shown.{scene};
 ghost use Rattle.spec_step.specs.Steps.{IsStepOn};
 ghost use Rattle.spec_step.specs.declared.events.Event.TheVariants.{Stop};
 ghost use Rattle.supervision.specs.declared.notices.Notice.TheVariants.{Ending};
-ghost use Rattle.rounds.specs.Losing.{CountsOnlySent, cause_of as cause_in, cause_on};
+ghost use Rattle.rounds.specs.Losing.{cause_of as cause_in, cause_on};
 ghost use Rattle.rounds.specs.Memory.{WasLeftOut};
 ghost use Rattle.rounds.specs.Polls.{Ticks, WasPolledOut};
-ghost use Rattle.rounds.specs.Rounds.{AreMade, Takes, TakesAny, TakesLetter, all_sent, box};
+ghost use Rattle.rounds.specs.Rounds.{AreSent, IsSent, Takes, TakesAny, TakesLetter, all_sent, box, calls};
 ghost use Rattle.rounds.specs.Told.{HasHeard};
 
 use crate::Clockwork;
-use crate::desk::Desk;
+use crate::desk::{Desk, origin_at};
 use crate::letters::{event_of, reply_at};
 use crate::logs::{cause_of, tell_step};
 use crate::replies::reply;
 use crate::teller::Teller;
 use crate::views::view_of;
 use gateway::{Event, Gateway, Out, Outcome};
-use journal::{Journal, Origin};
+use journal::Journal;
 use nat_types::NoMemory;
-use reports::{Count, Counters, counters_law};
+use reports::{Count, Counters};
 use sockets::{Place, Wire};
 use supervision::Supervisor;
 
@@ -36,7 +36,7 @@ pub(crate) fn take_letter<W: Wire, L: Journal>(
     desk: &mut Desk,
     log: &mut Teller<'_, L>,
 )
-    ensures taken { TakesLetter W.does track
+    ensures taken { TakesLetter (calls W.does W.answers) track
         (box gateway.old wire.old desk.old log.old.told)
         (record { place = place; bytes = bytes.now })
         (box gateway.new wire.new desk.new log.new.told) }
@@ -58,9 +58,9 @@ pub(crate) fn tick<W: Wire, C: Clockwork, L: Journal>(
     desk: &mut Desk,
     log: &mut Teller<'_, L>,
 )
-    requires polled { WasPolledOut W.does W.waits _track
+    requires polled { WasPolledOut (calls W.does W.answers) W.waits _track
         (box gateway.old wire.old desk.old log.old.told) }
-    ensures ticks { Ticks W.does C.reads
+    ensures ticks { Ticks (calls W.does W.answers) C.reads
         (box gateway.old wire.old desk.old log.old.told) clock.old
         (box gateway.new wire.new desk.new log.new.told) clock.new }
     ensures same_log { log.new.log ≡ log.old.log }
@@ -77,7 +77,7 @@ pub(crate) fn stop<W: Wire, S: Supervisor, L: Journal>(
     log: &mut Teller<'_, L>,
 ) -> bool
     requires told { HasHeard S.hears Ending _supervisor.now }
-    ensures taken { Takes W.does result
+    ensures taken { Takes (calls W.does W.answers) result
         (box gateway.old wire.old desk.old log.old.told) Stop
         (box gateway.new wire.new desk.new log.new.told) }
     ensures same_log { log.new.log ≡ log.old.log }
@@ -93,7 +93,7 @@ fn take_event<W: Wire, L: Journal>(
     desk: &mut Desk,
     log: &mut Teller<'_, L>,
 ) -> bool
-    ensures taken { TakesAny W.does result
+    ensures taken { TakesAny (calls W.does W.answers) result
         (box gateway.old wire.old desk.old log.old.told) event.entry
         (box gateway.new wire.new desk.new log.new.told) }
     ensures same_log { log.new.log ≡ log.old.log }
@@ -113,7 +113,7 @@ fn hand_in<W: Wire, L: Journal>(
     desk: &mut Desk,
     log: &mut Teller<'_, L>,
 ) -> bool
-    ensures taken { Takes W.does result
+    ensures taken { Takes (calls W.does W.answers) result
         (box gateway.old wire.old desk.old log.old.told) event.entry
         (box gateway.new wire.new desk.new log.new.told) }
     ensures same_log { log.new.log ≡ log.old.log }
@@ -145,20 +145,25 @@ fn stepped(gateway: &mut Gateway, event: Event<'_>, out: &mut Out) -> Result<Out
     gateway.step(event, out)
 }
 
-/// Sends what was told: the frames by the wires of their sides, the datagrams by the link. What was sent is counted.
+/// Sends what was told: the frames by the wires of their sides, the datagrams by the link.
 fn send_all<W: Wire>(wire: &mut W, out: &Out, counters: &mut Counters)
-    ensures made { AreMade W.does (all_sent out.now) wire.old wire.new }
-    ensures counted { CountsOnlySent counters.old counters.new }
+    ensures sent { AreSent (calls W.does W.answers) (all_sent out.now)
+        wire.old counters.old wire.new counters.new }
 {
-    counters_law();
     for frame in out.frames() {
-        if wire.send(Place::Side(frame.side), frame.bytes).is_ok() {
-            counters.count(Origin::of(frame.side), Count::Sent);
-        }
+        send_one(wire, Place::Side(frame.side), frame.bytes, counters);
     }
     for datagram in out.datagrams() {
-        if wire.send(Place::Link, datagram).is_ok() {
-            counters.count(Origin::Link, Count::Sent);
-        }
+        send_one(wire, Place::Link, datagram, counters);
+    }
+}
+
+/// Sends a datagram. It is counted as sent, unless the wire answers that this failed.
+fn send_one<W: Wire>(wire: &mut W, place: Place, bytes: &[u8], counters: &mut Counters)
+    ensures sent { IsSent (calls W.does W.answers) (record { place = place; bytes = bytes.now })
+        wire.old counters.old wire.new counters.new }
+{
+    if wire.send(place, bytes).is_ok() {
+        counters.count(origin_at(place), Count::Sent);
     }
 }

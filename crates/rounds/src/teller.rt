@@ -1,11 +1,11 @@
-//! The log that a box tells of its run. Only here it is at hand, so that what it was told is what stands on the tape.
-ghost use Rattle.std.specs.Prelude.{◌≡◌, ◌∷◌, [], IfSome};
-ghost use Rattle.journal.specs.Handed.{AreToldOthers, IsTold};
-ghost use Rattle.journal.specs.Tally.{count_at, ended, noted, opened, second_of, turned};
-ghost use Rattle.journal.specs.declared.entries.Entry.TheVariants.{First};
+//! The log that a box tells of its run. Only here its pen is at hand, so that what it was told is what stands on the tape.
+ghost use Rattle.std.specs.Prelude.{◌≡◌, ◌∷◌, [], Some};
+ghost use Rattle.journal.specs.Handed.{IsTold, IsToldLoss, IsToldTurn, WasAskedLines};
+ghost use Rattle.journal.specs.Tally.{ended, noted, turned};
+ghost use Rattle.rounds.specs.Tellings.{IsNewTeller};
 ghost use Rattle.rounds.specs.declared.teller.Telling.TheVariants as telling;
 
-use journal::{Cause, Entry, Journal, Origin, Tally, tell, tell_end, tell_loss, tell_turn};
+use journal::{Cause, Entry, Journal, Origin, Pen, Tally};
 use std::marker::Model;
 use std::snapshot::Snapshot;
 
@@ -59,94 +59,100 @@ impl Tape {
     }
 }
 
-/// A log, how many events of this second were dropped, and what the log was told of a run. Nobody but a box's run tells it
-/// anything through that.
+/// The pen of a log, how many events of this second were dropped, and what the log was told of a run. Nobody but a box's
+/// run tells it anything through that.
 #[derive(Drop)]
 pub struct Teller<'a, L> {
-    log: &'a L,
+    pen: Pen<'a, L>,
     tally: Tally,
     tape: Tape,
 }
 
 impl<'a, L> Model for Teller<'a, L> {
+    ghost use Rattle.journal.specs.Handed.{log_of};
     ghost use Rattle.rounds.specs.Tellings.{ToldLog};
 
     ghost Value = { ToldLog L };
 
-    ghost view = { λ t. record { log = t.log.now; told = t.tape; tally = t.tally } };
+    ghost view = { λ t. record { log = log_of t.pen; pen = t.pen; told = t.tape; tally = t.tally } };
 }
 
-impl<'a, L: Journal> Teller<'a, L> {
+impl<'a, L> Teller<'a, L> {
     /// Nothing was told yet, in the second of that moment.
     pub fn new(log: &'a L, moment: u64) -> Teller<'a, L>
-        ensures { result ≡ record {
-          log = log.now;
-          told = [];
-          tally = opened (second_of moment);
-        } }
+        ensures { IsNewTeller log.now moment result }
     {
         Teller {
-            log,
+            pen: Pen::new(log),
             tally: Tally::new(moment),
             tape: Tape::new(),
         }
     }
+}
 
+impl<L: Journal> Teller<'_, L> {
     /// Tells that nothing came of an event: the first of its second there for that cause is a record.
     pub(crate) fn lose(&mut self, moment: u64, origin: Origin, cause: Cause)
         ensures told { self.new ≡ record self.old {
+          pen = self.new.pen;
           told = telling.Loss moment origin cause ∷ self.old.told;
           tally = noted origin cause (turned moment self.old.tally);
         } }
-        ensures others { IfSome (ended moment self.old.tally)
-            (AreToldOthers L.enables self.old.log moment) }
-        ensures first { count_at (turned moment self.old.tally) origin cause ≡ 0
-            → IsTold L.enables self.old.log moment (First origin cause) }
+        ensures handed { IsToldLoss L.enables self.old.pen moment self.old.tally
+            origin cause self.new.pen }
     {
-        tell_loss(self.log, &mut self.tally, moment, origin, cause);
+        self.pen.tell_loss(&mut self.tally, moment, origin, cause);
         self.tape.add(Telling::Loss(moment, origin, cause));
     }
 
     /// Tells of a change.
     pub(crate) fn change(&mut self, moment: u64, entry: Entry)
         ensures told { self.new ≡ record self.old {
+          pen = self.new.pen;
           told = telling.Change moment entry ∷ self.old.told;
         } }
-        ensures handed { IsTold L.enables self.old.log moment entry }
+        ensures handed { IsTold L.enables self.old.pen moment entry self.new.pen }
     {
-        tell(self.log, moment, entry);
+        self.pen.tell(moment, entry);
         self.tape.add(Telling::Change(moment, entry));
     }
 
     /// Tells what a second that has ended owes.
     pub(crate) fn turn(&mut self, moment: u64)
         ensures told { self.new ≡ record self.old {
+          pen = self.new.pen;
           told = telling.Turn moment ∷ self.old.told;
           tally = turned moment self.old.tally;
         } }
-        ensures others { IfSome (ended moment self.old.tally)
-            (AreToldOthers L.enables self.old.log moment) }
+        ensures handed { IsToldTurn L.enables self.old.pen moment (ended moment self.old.tally)
+            self.new.pen }
     {
-        tell_turn(self.log, &mut self.tally, moment);
+        self.pen.tell_turn(&mut self.tally, moment);
         self.tape.add(Telling::Turn(moment));
     }
 
     /// Tells what the last second owes.
     pub(crate) fn end(&mut self, moment: u64)
         ensures told { self.new ≡ record self.old {
+          pen = self.new.pen;
           told = telling.End moment ∷ self.old.told;
         } }
-        ensures others { AreToldOthers L.enables self.old.log moment self.old.tally }
+        ensures handed { IsToldTurn L.enables self.old.pen moment (Some self.old.tally)
+            self.new.pen }
     {
-        tell_end(self.log, &self.tally, moment);
+        self.pen.tell_end(&self.tally, moment);
         self.tape.add(Telling::End(moment));
     }
 
     /// Asks how many lines the log has left out.
     pub(crate) fn lines_left_out(&mut self) -> u64
-        ensures { self.new ≡ record self.old { told = telling.Asked result ∷ self.old.told } }
+        ensures told { self.new ≡ record self.old {
+          pen = self.new.pen;
+          told = telling.Asked result ∷ self.old.told;
+        } }
+        ensures asked { WasAskedLines self.old.pen result self.new.pen }
     {
-        let lines = self.log.lines_left_out();
+        let lines = self.pen.lines_left_out();
         self.tape.add(Telling::Asked(lines));
         lines
     }

@@ -14,7 +14,7 @@ returns-in_err-end-clause-rounds g c = record {
 }
 
 pub returns-in_err-end-clause-ended : goal.returns-in_err-end-clause-ended
-returns-in_err-end-clause-ended g c = err_begun c.from_residual.result _ _ _ c.from_residual.ensures.0 c.in_err-end.ensures
+returns-in_err-end-clause-ended g c = err_begun c.from_residual.result _ _ _ c.from_residual.ensures.0 c.in_err-end.ensures.ended
 
 pub returns-clause-rounds : goal.returns-clause-rounds
 returns-clause-rounds g c = record {
