@@ -56,7 +56,7 @@ fn say_sample(read: &Settings, case: &mut Case) -> Result<()> {
 }
 
 fn say_digest(read: &Settings, case: &mut Case) -> Result<()> {
-    let digest = digest(case.alloc, read)?;
+    let digest = digest(read);
     case.hex("digest: ", &digest.to_be_bytes());
     case.end();
     Ok(())

@@ -2,7 +2,9 @@
 use Rattle.std.specs.Prelude.{ℕ, Bool, if◌then◌else◌, List, [], ◌∷◌, ◌++◌, take, Option, Some, None}
 use Rattle.std.specs.Int.{w16, w32, w64, to_be_bytes, from_be_bytes}
 use Rattle.std.specs.List.{flat_map}
+use Rattle.sha2.specs.Hashers.{Holds256}
 use Rattle.sha2.specs.Sha256.{sha256}
+use Rattle.sha2.specs.declared.Sha256.{Sha256}
 use Rattle.nat_types.specs.declared.gateways.Side.{Side}
 use Rattle.nat_types.specs.declared.gateways.Side.TheVariants.{Inside, Outside}
 use Rattle.settings.specs.declared.whole.Settings.{Settings}
@@ -11,6 +13,10 @@ use Rattle.settings.specs.declared.icmp_settings.IcmpSettings.{IcmpSettings}
 use Rattle.settings.specs.declared.interfaces.InterfaceSettings.{InterfaceSettings}
 use Rattle.settings.specs.declared.gateway_settings.GatewaySettings.{GatewaySettings}
 use Rattle.settings.specs.declared.interfaces.Neighbour.{Neighbour}
+
+-- a hasher holds these bytes behind what it held
+abbrev pub Hashes : Sha256 → List ℕ → Sha256 → Type 0
+Hashes before bytes after = (message : List ℕ) → Holds256 before message → Holds256 after (message ++ bytes)
 
 -- a limit, 0 for none
 abbrev pub limit_number : Option ℕ → ℕ

@@ -7,6 +7,7 @@ pub mod Interfaces
 pub mod Saying
 pub mod Ends
 pub mod Sights
+pub mod Memory
 pub mod Reports
 pub mod Comparing
 pub mod Openings

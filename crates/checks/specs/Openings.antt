@@ -7,6 +7,7 @@ use Rattle.std.specs.declared.fs.locks.TryLockError.TheVariants.{WouldBlock}
 use Rattle.std.specs.declared.io.Error.{Error}
 use Rattle.std.specs.declared.io.ErrorKind.{ErrorKind}
 use Rattle.checks.specs.BootFiles.{found_in}
+use Rattle.checks.specs.Memory.{WasShort, WasUnread}
 use Rattle.checks.specs.declared.surroundings.Found.{Found}
 use Rattle.checks.specs.declared.surroundings.Found.TheVariants as found
 use Rattle.checks.specs.declared.surroundings.Seen.{Seen}
@@ -69,3 +70,8 @@ abbrev pub IsMtuRead : (Result (List ℕ) ErrorKind → Type 0) → Option ℕ �
 IsMtuRead answers (Some mtu) = (text : List ℕ) × (answers (Ok text) × IsMtuText text (Some mtu))
 IsMtuRead answers None =
     ((bytes : List ℕ) × (answers (Ok bytes) × (IsMtuText bytes None ⊎ ¬ (IsUtf8 bytes)))) ⊎ ((cause : ErrorKind) × answers (Err cause))
+
+-- there was no memory for it: for the file's path; or for what the file has, which was asked for, once, and not had
+abbrev pub IsUnmeasured : {R : Type 0} → (R → List ℕ → Result (List ℕ) ErrorKind → R → Type 0) → R → List ℕ → R → Type 0
+IsUnmeasured answers before name after = WasShort (mtu_path name)
+    ⊎ ((cause : ErrorKind) × (answers before (mtu_path name) (Err cause) after × WasUnread before (mtu_path name) after))

@@ -12,10 +12,11 @@ use Rattle.settings_file.specs.declared.looks.Look.TheVariants.{Held}
 use Rattle.checks.specs.BootFiles.{boot_file_faults, boot_file_text, boot_file_warnings}
 use Rattle.checks.specs.Counts.{capped, fault_count, left, status_of, stopping}
 use Rattle.checks.specs.Doubts.{warnings_of}
-use Rattle.checks.specs.Ends.{IsSaid, IsUnsaid, WasShort}
+use Rattle.checks.specs.Ends.{IsSaid, IsUnsaid}
 use Rattle.checks.specs.Interfaces.{interface_text, interface_warnings, link_faults, link_text, link_warnings}
+use Rattle.checks.specs.Memory.{IsCutShort, IsUnwarnedOf, WasUnseen}
 use Rattle.checks.specs.Saying.{faults_text, total_line, warning_line}
-use Rattle.checks.specs.Sights.{AreFoundFor, Finds, Takes, inside_of, link_of, outside_of}
+use Rattle.checks.specs.Sights.{AreFoundFor, Finds, IsSightlessFor, Takes, inside_of, link_of, outside_of}
 use Rattle.checks.specs.declared.requests.Request.{Request}
 use Rattle.checks.specs.declared.sights.Sights.{Sights}
 
@@ -95,18 +96,29 @@ pub record IsReport {P : Type 0} (finds : Finds P) (takes : Takes P) (around : P
   pub is_seen : IsSeen document look
   pub is_report : IsReportOn finds takes around look request behind text faults warnings
 
+-- Why there is no report on what is seen of a text, for want of memory: it was refused for what the request names; or that was found, and
+-- memory was refused for the warnings, or for the report
+abbrev pub IsShortOn : {P : Type 0} → Finds P → Takes P → P → Look → Request → P → Type 0
+IsShortOn finds takes around look request behind = IsSightlessFor takes around look request behind
+    ⊎ ((sights : Sights) × (AreFoundFor finds takes around look request behind sights × (IsUnwarnedOf look ⊎ IsCutShort (report_text look request sights))))
+
+-- why there is none on a text: memory was refused for what is seen of it, and it was looked nowhere; or for a report on that
+abbrev pub IsShortFor : {P : Type 0} → Finds P → Takes P → P → List ℕ → Request → P → Type 0
+IsShortFor finds takes around text request behind = (WasUnseen text × (behind ≡ around))
+    ⊎ ((look : Look) × (IsSeen (parse_document text) look × IsShortOn finds takes around look request behind))
+
 -- ---- of a check
 
 -- that was said, with the status that it leads to
-pub record HasReported {P E : Type 0} (finds : Finds P) (takes : Takes P) (tells : Telling E) (around : P) (text : List ℕ) (request : Request) (behind : P) (old new : Option (List ℕ)) (before after : E) (answer : ℕ) : Type 0 where
+pub record HasReported {P O E : Type 0} (finds : Finds P) (takes : Takes P) (holds : O → Option (List ℕ)) (tells : Telling E) (around : P) (text : List ℕ) (request : Request) (behind : P) (old new : O) (before after : E) (answer : ℕ) : Type 0 where
   pub faults : ℕ
   pub warnings : ℕ
   pub said : List ℕ
   pub is_report : IsReport finds takes around (parse_document text) request behind said faults warnings
-  pub is_said : IsSaid tells said (status_of faults warnings request.strict) old new before after answer
+  pub is_said : IsSaid holds tells said (status_of faults warnings request.strict) old new before after answer
 
 -- or memory for it was refused, whatever was looked at
 abbrev pub HasChecked : {P O E : Type 0} → Finds P → Takes P → (O → Option (List ℕ)) → Telling E → P → List ℕ → Request → P → O → O → E → E → ℕ → Type 0
 HasChecked finds takes holds tells around text request behind old new before after answer =
-    HasReported finds takes tells around text request behind (holds old) (holds new) before after answer
-    ⊎ IsUnsaid (WasShort text) tells old new before after answer
+    HasReported finds takes holds tells around text request behind old new before after answer
+    ⊎ IsUnsaid (IsShortFor finds takes around text request behind) tells old new before after answer

@@ -1,5 +1,5 @@
 -- What is found where a request looks.
-use Rattle.std.specs.Prelude.{◌≡◌, ℕ, List, Option, Some, None, IsSomeAnd, option_map, string_bytes}
+use Rattle.std.specs.Prelude.{◌≡◌, ◌⊎◌, ℕ, List, Option, Some, None, IsSomeAnd, option_map, string_bytes}
 use Rattle.std.specs.Net.Grammar.{IsIpv4Text}
 use Rattle.std.specs.Net.Addr.{ipv4_bits}
 use Rattle.std.specs.declared.net.ipv4_addr.Ipv4Addr.{Ipv4Addr}
@@ -17,18 +17,23 @@ use Rattle.checks.specs.declared.surroundings.Found.{Found}
 abbrev pub Finds : Type 0 → Type 1
 Finds P = P → List ℕ → Found → P → Type 0
 
--- which MTU the interface of a name may have, where there is one, and what is asked then
+-- what comes of a look at an interface: its MTU, where there is one; or there was no memory for that
+pub data Measure : Type 0 where
+  taken : Option ℕ → Measure
+  short : Measure
+
+-- what may come of it where the interface of a name is looked at, and what is asked then
 abbrev pub Takes : Type 0 → Type 1
-Takes P = P → List ℕ → Option ℕ → P → Type 0
+Takes P = P → List ℕ → Measure → P → Type 0
 
 -- This was found where it was looked at the path of a boot file. It is no more than a name for the call, by what is asked before
 -- and then, as is the one below it: who makes the call has it, and nobody else.
 unfoldable pub WasFound : {P : Type 0} → Finds P
 WasFound before path found after = Unit {0}
 
--- the interface of this name had this MTU when it was looked at, or there was none
+-- this came of it where the interface of this name was looked at
 unfoldable pub WasTaken : {P : Type 0} → Takes P
-WasTaken before name mtu after = Unit {0}
+WasTaken before name measure after = Unit {0}
 
 -- the names and the address that are asked for
 abbrev pub inside_of : Request → Option (List ℕ)
@@ -43,7 +48,7 @@ link_of request = option_map (λ text. text.now) request.link
 -- the MTU of the interface of this name, where one is named
 abbrev pub IsMtuOf : {P : Type 0} → Takes P → P → Option (List ℕ) → P → Option ℕ → Type 0
 IsMtuOf takes before None after mtu = (mtu ≡ None) × (after ≡ before)
-IsMtuOf takes before (Some name) after mtu = takes before name mtu after
+IsMtuOf takes before (Some name) after mtu = takes before name (taken mtu) after
 
 -- the text is this address
 abbrev pub IsAddress : List ℕ → Ip → Type 0
@@ -74,3 +79,19 @@ pub record AreFound {P : Type 0} (finds : Finds P) (takes : Takes P) (before : P
 abbrev pub AreFoundFor : {P : Type 0} → Finds P → Takes P → P → Look → Request → P → Sights → Type 0
 AreFoundFor finds takes before (Held settings keys) request after sights = AreFound finds takes before settings request after sights
 AreFoundFor finds takes before _ request after sights = after ≡ before
+
+-- ---- where there is no memory for them
+
+-- for the MTU of this interface, which is named, by what was asked before and then
+abbrev pub IsShortAt : {P : Type 0} → Takes P → P → Option (List ℕ) → P → Type 0
+IsShortAt takes before name after = IsSomeAnd name (λ it. takes before it short after)
+
+-- for that of the inside; or that was had, and there was none for that of the outside
+abbrev pub IsSightless : {P : Type 0} → Takes P → P → Request → P → Type 0
+IsSightless {P = P} takes before request after = IsShortAt takes before (inside_of request) after
+    ⊎ ((second : P) × ((mtu : Option ℕ) × (IsMtuOf takes before (inside_of request) second mtu × IsShortAt takes second (outside_of request) after)))
+
+-- and it was looked there only for a text that holds settings
+abbrev pub IsSightlessFor : {P : Type 0} → Takes P → P → Look → Request → P → Type 0
+IsSightlessFor takes before (Held settings keys) request after = IsSightless takes before request after
+IsSightlessFor takes before _ request after = ⊥

@@ -1,13 +1,15 @@
 //! Says what there is of a box's boot file.
-ghost use Rattle.std.specs.Prelude.{◌≡◌, ◌++◌, false, string_bytes, IfOk, OnOk};
+ghost use Rattle.std.specs.Prelude.{◌≡◌, ◌++◌, false, string_bytes, IfOk, OnErr, OnOk};
 ghost use Rattle.boot_store.specs.BootFile.{boot_answer};
 ghost use Rattle.checks.specs.BootFiles.{boot_file_faults, boot_file_text, boot_file_warnings};
 ghost use Rattle.checks.specs.BootFiles.{faults_of, found_text, is_open_to_others, key_of, mode_line};
 ghost use Rattle.checks.specs.BootFiles.{mode_text, number_line, open_count, open_to, seen_text};
 ghost use Rattle.checks.specs.BootFiles.{start_line, use_text};
 ghost use Rattle.checks.specs.Counts.{faults_of_start, one_if};
+ghost use Rattle.checks.specs.Memory.{IsCutShort};
 ghost use Rattle.checks.specs.Saying.{fault_at};
 
+use crate::memory::put;
 use crate::tallies::{FAULT, NOTHING, Tally, WARNING};
 use crate::{Found, Seen};
 use nat_types::GatewayId;
@@ -30,18 +32,24 @@ fn say_fault(fault: &str, key: Key, text: &mut String) -> Result<Tally, AllocErr
         (string_bytes text.new ≡ string_bytes text.old ++ fault_at fault.now key) }
     ensures faults { IfOk result (λ tally. tally.faults ≡ 1) }
     ensures warnings { IfOk result (λ tally. tally.warnings ≡ 0) }
+    ensures short { OnErr result (IsCutShort (string_bytes text.old ++ fault_at fault.now key)) }
 {
-    writeln!(text, "fault: {fault} {key}")?;
+    put(text, format_args!("fault: {fault} {key}\n"))?;
     Ok(FAULT)
 }
 
 /// Says which was the last start, if one was.
 fn say_start(boot: u64, key: Key, text: &mut String) -> Result<(), AllocError>
-    ensures { OnOk result (string_bytes text.new ≡ string_bytes text.old ++ start_line boot key) }
+    ensures text { OnOk result
+        (string_bytes text.new ≡ string_bytes text.old ++ start_line boot key) }
+    ensures short { OnErr result (IsCutShort (string_bytes text.old ++ start_line boot key)) }
 {
     match boot {
-        0 => writeln!(text, "note: {key}: no start yet"),
-        _ => writeln!(text, "note: {key}: the last start was boot {boot}"),
+        0 => put(text, format_args!("note: {key}: no start yet\n")),
+        _ => put(
+            text,
+            format_args!("note: {key}: the last start was boot {boot}\n"),
+        ),
     }
 }
 
@@ -52,6 +60,7 @@ fn say_number(number: Option<u64>, key: Key, text: &mut String) -> Result<Tally,
     ensures faults { IfOk result
         (λ tally. tally.faults ≡ faults_of_start (boot_answer false number)) }
     ensures warnings { IfOk result (λ tally. tally.warnings ≡ 0) }
+    ensures short { OnErr result (IsCutShort (string_bytes text.old ++ number_line number key)) }
 {
     match number {
         None => say_fault("boot 2 Damaged", key, text),
@@ -72,12 +81,14 @@ fn is_open_to_others(mode: u32) -> bool
 
 /// Says what mode a file has.
 fn say_mode_line(mode: u32, key: Key, text: &mut String) -> Result<(), AllocError>
-    ensures { OnOk result (string_bytes text.new ≡ string_bytes text.old ++ mode_line mode key) }
+    ensures text { OnOk result
+        (string_bytes text.new ≡ string_bytes text.old ++ mode_line mode key) }
+    ensures short { OnErr result (IsCutShort (string_bytes text.old ++ mode_line mode key)) }
 {
     let mode = mode % 0o1000;
-    writeln!(
+    put(
         text,
-        "warning: {key}: its mode is {mode:o}, and 600 keeps others from it"
+        format_args!("warning: {key}: its mode is {mode:o}, and 600 keeps others from it\n"),
     )
 }
 
@@ -87,6 +98,7 @@ fn say_mode(mode: Option<u32>, key: Key, text: &mut String) -> Result<Tally, All
         (string_bytes text.new ≡ string_bytes text.old ++ mode_text mode key) }
     ensures faults { IfOk result (λ tally. tally.faults ≡ 0) }
     ensures warnings { IfOk result (λ tally. tally.warnings ≡ open_to mode) }
+    ensures short { OnErr result (IsCutShort (string_bytes text.old ++ mode_text mode key)) }
 {
     match mode {
         Some(mode) if is_open_to_others(mode) => {
@@ -99,10 +111,12 @@ fn say_mode(mode: Option<u32>, key: Key, text: &mut String) -> Result<Tally, All
 
 /// Says whether a box runs on it.
 fn say_use(is_used: bool, key: Key, text: &mut String) -> Result<(), AllocError>
-    ensures { OnOk result (string_bytes text.new ≡ string_bytes text.old ++ use_text is_used key) }
+    ensures text { OnOk result
+        (string_bytes text.new ≡ string_bytes text.old ++ use_text is_used key) }
+    ensures short { OnErr result (IsCutShort (string_bytes text.old ++ use_text is_used key)) }
 {
     if is_used {
-        writeln!(text, "note: {key}: a gate runs on it")
+        put(text, format_args!("note: {key}: a gate runs on it\n"))
     } else {
         Ok(())
     }
@@ -115,6 +129,7 @@ fn say_seen(seen: Seen, key: Key, text: &mut String) -> Result<Tally, AllocError
     ensures faults { IfOk result
         (λ tally. tally.faults ≡ faults_of_start (boot_answer false seen.number)) }
     ensures warnings { IfOk result (λ tally. tally.warnings ≡ open_to seen.mode) }
+    ensures short { OnErr result (IsCutShort (string_bytes text.old ++ seen_text seen key)) }
 {
     let number = say_number(seen.number, key, text)?;
     let mode = say_mode(seen.mode, key, text)?;
@@ -131,6 +146,7 @@ fn say_found(found: Found, key: Key, text: &mut String) -> Result<Tally, AllocEr
         (string_bytes text.new ≡ string_bytes text.old ++ found_text found key) }
     ensures faults { IfOk result (λ tally. tally.faults ≡ faults_of found) }
     ensures warnings { IfOk result (λ tally. tally.warnings ≡ open_count found) }
+    ensures short { OnErr result (IsCutShort (string_bytes text.old ++ found_text found key)) }
 {
     match found {
         Found::Nothing => say_fault("file 1 NoFile", key, text),
@@ -149,6 +165,7 @@ pub(crate) fn say_boot_file(
         (string_bytes text.new ≡ string_bytes text.old ++ boot_file_text id found) }
     ensures faults { IfOk result (λ tally. tally.faults ≡ boot_file_faults id found) }
     ensures warnings { IfOk result (λ tally. tally.warnings ≡ boot_file_warnings id found) }
+    ensures short { OnErr result (IsCutShort (string_bytes text.old ++ boot_file_text id found)) }
 {
     match (id, found) {
         (Some(id), Some(found)) => say_found(found, key_of(id), text),

@@ -2,13 +2,15 @@
 ghost use Rattle.std.specs.Prelude.{◌≡◌, ◌⊎◌, ◌++◌, IfOk, None, OnErr, OnOk, string_bytes, true};
 ghost use Rattle.toml.specs.Parse.{parse_document};
 ghost use Rattle.checks.specs.Counts.{IsCleanText, IsGoodText};
-ghost use Rattle.checks.specs.Ends.{WasShort};
-ghost use Rattle.checks.specs.Reports.{HasChecked, IsReport, IsReportOn, faults_in, held_faults};
-ghost use Rattle.checks.specs.Reports.{held_text, held_warnings, more_faults, more_text};
+ghost use Rattle.checks.specs.Memory.{IsCutShort, IsUnwarned, IsUnwarnedOf};
+ghost use Rattle.checks.specs.Reports.{HasChecked, IsReport, IsReportOn, IsShortFor, IsShortOn};
+ghost use Rattle.checks.specs.Reports.{faults_in, held_faults, held_text, held_warnings};
+ghost use Rattle.checks.specs.Reports.{more_faults, more_text};
 ghost use Rattle.checks.specs.Reports.{more_warnings, report_text};
 
 use crate::boots::say_boot_file;
 use crate::ends::{refuse, say};
+use crate::memory::seen;
 use crate::places::say_places;
 use crate::saying::{fault_count, say_faults, say_total, say_warnings};
 use crate::sights::sights_for;
@@ -16,7 +18,7 @@ use crate::tallies::{NOTHING, Tally};
 use crate::{Request, Sights, Surroundings};
 use outlets::Tells;
 use settings::Settings;
-use settings_file::{Look, look};
+use settings_file::Look;
 use std::alloc::{AllocError, Global};
 use std::io::Write;
 
@@ -54,7 +56,6 @@ struct Report {
 }
 
 /// All that is to be said of a text, and of what the request names.
-#[tactic(auto, unfolding(crate::specs::Ends::WasShort))]
 fn report_of<P: Surroundings>(
     alloc: Global,
     around: &mut P,
@@ -70,10 +71,11 @@ fn report_of<P: Surroundings>(
     ensures report { IfOk result (λ report. IsReport P.finds P.takes around.old
         (parse_document text.now) request.now around.new (string_bytes report.text)
         report.tally.faults report.tally.warnings) }
-    ensures short { OnErr result (WasShort text.now) }
+    ensures short { OnErr result
+        (IsShortFor P.finds P.takes around.old text.now request.now around.new) }
 {
-    let seen = look(alloc, text)?;
-    report_on(alloc, around, &seen, request)
+    let look = seen(alloc, text)?;
+    report_on(alloc, around, &look, request)
 }
 
 /// The same of what is seen of a text.
@@ -83,8 +85,11 @@ fn report_on<P: Surroundings>(
     seen: &Look,
     request: &Request<'_>,
 ) -> Result<Report, AllocError>
-    ensures { IfOk result (λ report. IsReportOn P.finds P.takes around.old seen.now request.now
-        around.new (string_bytes report.text) report.tally.faults report.tally.warnings) }
+    ensures report { IfOk result (λ report. IsReportOn P.finds P.takes around.old seen.now
+        request.now around.new (string_bytes report.text) report.tally.faults
+        report.tally.warnings) }
+    ensures short { OnErr result
+        (IsShortOn P.finds P.takes around.old seen.now request.now around.new) }
 {
     let sights = sights_for(around, seen, request)?;
     let mut text = String::new(alloc);
@@ -106,6 +111,8 @@ fn say_all(
         (λ tally. tally.faults ≡ faults_in seen.now request.now sights.now) }
     ensures warnings { IfOk result
         (λ tally. tally.warnings ≡ more_warnings seen.now request.now sights.now) }
+    ensures short { OnErr result (IsUnwarnedOf seen.now ⊎ IsCutShort
+        (string_bytes text.old ++ report_text seen.now request.now sights.now)) }
 {
     say_faults(seen, text)?;
     let more = say_more(alloc, seen, request, sights, text)?;
@@ -131,6 +138,8 @@ fn say_more(
         (λ tally. tally.faults ≡ more_faults seen.now request.now sights.now) }
     ensures warnings { IfOk result
         (λ tally. tally.warnings ≡ more_warnings seen.now request.now sights.now) }
+    ensures short { OnErr result (IsUnwarnedOf seen.now ⊎ IsCutShort
+        (string_bytes text.old ++ more_text seen.now request.now sights.now)) }
 {
     match seen {
         Look::Held(settings, _) => say_held(alloc, settings, request, sights, text),
@@ -158,6 +167,8 @@ fn say_held(
         (λ tally. tally.faults ≡ held_faults settings.now request.now sights.now) }
     ensures warnings { IfOk result
         (λ tally. tally.warnings ≡ held_warnings settings.now request.now sights.now) }
+    ensures short { OnErr result (IsUnwarned settings.now ⊎ IsCutShort
+        (string_bytes text.old ++ held_text settings.now request.now sights.now)) }
 {
     let warnings = say_warnings(alloc, settings, request.id, text)?;
     let places = say_places(settings, request, sights, text)?;

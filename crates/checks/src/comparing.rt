@@ -1,14 +1,15 @@
 //! Says in what the settings of two files differ.
 ghost use Rattle.std.specs.Prelude.{◌≡◌, ◌⊎◌, ◌++◌, IfOk, OnErr, OnOk, flat_map, length, string_bytes};
-ghost use Rattle.checks.specs.Comparing.{AreCompared, AreComparedIf, HasCompared, IsReadOf};
+ghost use Rattle.checks.specs.Comparing.{AreCompared, AreComparedIf, AreUncompared, HasCompared};
+ghost use Rattle.checks.specs.Comparing.{IsReadOf};
 ghost use Rattle.checks.specs.Comparing.{differing_line, differing_total, keys_text};
 ghost use Rattle.checks.specs.Comparing.{status_of_keys};
 ghost use Rattle.checks.specs.Differences.{differing, word_of};
 ghost use Rattle.checks.specs.Counts.{AreAlike, AreTwoAlike, must_not};
-ghost use Rattle.checks.specs.Ends.{WasShort};
-ghost use Rattle.settings.specs.declared.whole.Settings.{Settings as Held};
+ghost use Rattle.checks.specs.Memory.{IsCutShort};
 
 use crate::ends::{refuse, say};
+use crate::memory::{held, put};
 use crate::{Source, differing_keys, may_differ, tell_of};
 use faults::Fault;
 use outlets::Tells;
@@ -41,7 +42,7 @@ pub fn compare<O: Write, E: Tells>(
 fn settings_in<E: Tells>(alloc: Global, source: Source<'_>, errors: &mut E) -> Option<Settings>
     ensures { IsReadOf E.tells source.entry result errors.old errors.new }
 {
-    match settings_file::read(alloc, source.text) {
+    match held(alloc, source.text) {
         Ok(settings) => Some(settings),
         Err(fault) => {
             tell_of(alloc, &Fault::from(fault), source.path, errors);
@@ -96,7 +97,6 @@ struct Differences {
 }
 
 /// All that is to be said of the keys in which two settings differ.
-#[tactic(auto, unfolding(crate::specs::Ends::WasShort))]
 fn differences_of(
     alloc: Global,
     one: &Settings,
@@ -106,7 +106,7 @@ fn differences_of(
         (λ found. string_bytes found.text ≡ keys_text (differing one.now other.now)) }
     ensures status { IfOk result
         (λ found. found.status ≡ status_of_keys (differing one.now other.now)) }
-    ensures short { OnErr result (WasShort {T = Held × Held} (one.now, other.now)) }
+    ensures short { OnErr result (AreUncompared one.now other.now) }
 {
     let keys = differing_keys(alloc, one, other)?;
     differences_in(alloc, keys.as_slice())
@@ -116,6 +116,7 @@ fn differences_of(
 fn differences_in(alloc: Global, keys: &[Key]) -> Result<Differences, AllocError>
     ensures text { IfOk result (λ found. string_bytes found.text ≡ keys_text keys.now) }
     ensures status { IfOk result (λ found. found.status ≡ status_of_keys keys.now) }
+    ensures short { OnErr result (IsCutShort (keys_text keys.now)) }
 {
     let count = must_not(keys);
     let mut text = String::new(alloc);
@@ -139,18 +140,25 @@ fn must_not(keys: &[Key]) -> usize
 
 /// Says each key, and how many they are, and how many of them must not differ.
 fn say_all(keys: &[Key], count: usize, text: &mut String) -> Result<(), AllocError>
-    ensures { OnOk result (string_bytes text.new ≡ string_bytes text.old
+    ensures text { OnOk result (string_bytes text.new ≡ string_bytes text.old
         ++ (flat_map differing_line keys.now ++ differing_total (length keys.now) count)) }
+    ensures short { OnErr result (IsCutShort (string_bytes text.old
+        ++ (flat_map differing_line keys.now ++ differing_total (length keys.now) count))) }
 {
     say_keys(keys, text)?;
     let all = keys.len();
-    writeln!(text, "{all} keys differ, {count} of them must not")
+    put(
+        text,
+        format_args!("{all} keys differ, {count} of them must not\n"),
+    )
 }
 
 /// Says each key, and whether it may differ.
 fn say_keys(keys: &[Key], text: &mut String) -> Result<(), AllocError>
-    ensures { OnOk result
+    ensures text { OnOk result
         (string_bytes text.new ≡ string_bytes text.old ++ flat_map differing_line keys.now) }
+    ensures short { OnErr result
+        (IsCutShort (string_bytes text.old ++ flat_map differing_line keys.now)) }
 {
     for key in keys {
         say_key(*key, text)?;
@@ -159,11 +167,12 @@ fn say_keys(keys: &[Key], text: &mut String) -> Result<(), AllocError>
 }
 
 fn say_key(key: Key, text: &mut String) -> Result<(), AllocError>
-    ensures { OnOk result
+    ensures text { OnOk result
         (string_bytes text.new ≡ string_bytes text.old ++ differing_line key) }
+    ensures short { OnErr result (IsCutShort (string_bytes text.old ++ differing_line key)) }
 {
     let word = word_of(key);
-    writeln!(text, "{word} differ: {key}")
+    put(text, format_args!("{word} differ: {key}\n"))
 }
 
 /// Whether a key may differ, in a word.

@@ -1,9 +1,8 @@
 //! Warnings.
-ghost use Rattle.std.specs.Prelude.{◌≡◌, Some};
-ghost use Rattle.checks.specs.Saying.{doubt_text, warning_text};
+ghost use Rattle.std.specs.Prelude.{◌≡◌};
+ghost use Rattle.checks.specs.Saying.{doubt_text};
 
 use settings_file::Key;
-use std::fmt;
 
 /// What is likely not meant, though a pair can run with it.
 #[derive(Clone, Copy)]
@@ -75,15 +74,4 @@ impl Doubt {
 pub struct Warning {
     pub key: Key,
     pub doubt: Doubt,
-}
-
-/// As `gateway_1.priority: as the other box's: the one with the greater address is Active`.
-impl fmt::Display for Warning {
-    ghost output = { λ warning. Some (warning_text warning) };
-
-    fn fmt<W: fmt::Write>(&self, f: &mut fmt::Formatter<W>) -> fmt::Result {
-        let Warning { key, doubt } = self;
-        let text = doubt.as_str();
-        write!(f, "{key}: {text}")
-    }
 }

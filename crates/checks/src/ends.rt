@@ -1,24 +1,35 @@
 //! Says a text on an output, and tells where that can't be.
-ghost use Rattle.std.specs.Prelude.{◌≡◌, ◌⊎◌};
+ghost use Rattle.std.specs.Prelude.{◌≡◌, ◌⊎◌, OnErr, OnOk};
 ghost use Rattle.checks.specs.Ends.{IsSaid, not_written_line};
+ghost use Rattle.outlets.specs.Outputs.{IsPrinted, IsUnput, WasPut};
 ghost use Rattle.outlets.specs.Printed.{Prints};
 ghost use Rattle.outlets.specs.Telling.{HasTold, no_memory_line};
 
-use outlets::{Tells, put_text};
+use outlets::{Tells, told_to_flush, told_to_put};
 use std::io::{self, Write};
 
 /// Writes a text, to its end.
 fn print<O: Write>(output: &mut O, text: &str) -> io::Result<()>
-    ensures { Prints (O.contents output.old) result (O.contents output.new) text.now }
+    ensures text { Prints (O.contents output.old) result (O.contents output.new) text.now }
+    ensures put { OnOk result (IsPrinted output.old text.now output.new) }
+    ensures unput { OnErr result (IsUnput output.old text.now output.new) }
 {
     put_text(output, text)?;
-    output.flush()
+    told_to_flush(output)
+}
+
+/// Has an output take a text, all of it.
+fn put_text<O: Write>(output: &mut O, text: &str) -> io::Result<()>
+    ensures text { Prints (O.contents output.old) result (O.contents output.new) text.now }
+    ensures put { WasPut output.old text.now result output.new }
+{
+    told_to_put(output, text.as_bytes())
 }
 
 /// Writes a text, to its end. The answer is its status; or 1 where output is refused, which is told on `errors`.
 pub(crate) fn say<O: Write, E: Tells>(text: &str, status: u8, output: &mut O, errors: &mut E) -> u8
     ensures status { (result ≡ status) ⊎ (result ≡ 1) }
-    ensures said { IsSaid E.tells text.now status (O.contents output.old) (O.contents output.new)
+    ensures said { IsSaid O.contents E.tells text.now status output.old output.new
         errors.old errors.new result }
 {
     match print(output, text) {

@@ -9,6 +9,7 @@ mod differences;
 mod digests;
 mod doubts;
 mod ends;
+mod memory;
 mod openings;
 mod places;
 mod requests;

@@ -1,11 +1,13 @@
 //! Says what is wrong with the places of a box: its interfaces, and its address on the link.
-ghost use Rattle.std.specs.Prelude.{◌≡◌, ◌++◌, nat_lt, IfOk, None, OnOk, Some, option_map, string_bytes};
+ghost use Rattle.std.specs.Prelude.{◌≡◌, ◌++◌, nat_lt, IfOk, None, OnErr, OnOk, Some, option_map, string_bytes};
 ghost use Rattle.checks.specs.Counts.{capped, one_if};
 ghost use Rattle.checks.specs.Interfaces.{interface_line, interface_text, interface_warnings, is_short};
 ghost use Rattle.checks.specs.Interfaces.{lies_on, link_faults, link_line, link_on_text, link_text};
 ghost use Rattle.checks.specs.Interfaces.{link_warnings, mtu_text, no_address_line, side_name};
+ghost use Rattle.checks.specs.Memory.{IsCutShort};
 ghost use Rattle.checks.specs.Reports.{places_faults, places_text, places_warnings};
 
+use crate::memory::put;
 use crate::tallies::{FAULT, NOTHING, Tally, WARNING};
 use crate::{Request, Sights};
 use addresses::Ip;
@@ -37,6 +39,8 @@ fn say_interface(
     ensures faults { IfOk result (λ tally. tally.faults ≡ 0) }
     ensures warnings { IfOk result (λ tally. tally.warnings
         ≡ interface_warnings (option_map (λ name. name.now) name.entry) mtu) }
+    ensures short { OnErr result (IsCutShort (string_bytes text.old
+        ++ interface_text side (option_map (λ name. name.now) name.entry) mtu)) }
 {
     match name {
         Some(name) => say_mtu(side, name, mtu, text),
@@ -57,11 +61,13 @@ fn say_short(side: Side, name: &str, mtu: u32, text: &mut String) -> Result<Tall
         ++ interface_line side name.now (Some mtu)) }
     ensures faults { IfOk result (λ tally. tally.faults ≡ 0) }
     ensures warnings { IfOk result (λ tally. tally.warnings ≡ 1) }
+    ensures short { OnErr result (IsCutShort (string_bytes text.old
+        ++ interface_line side name.now (Some mtu))) }
 {
     let side = side_name(side);
-    writeln!(
+    put(
         text,
-        "warning: {side} {name}: its MTU is {mtu}, and frames need 1500"
+        format_args!("warning: {side} {name}: its MTU is {mtu}, and frames need 1500\n"),
     )?;
     Ok(WARNING)
 }
@@ -72,9 +78,14 @@ fn say_absent(side: Side, name: &str, text: &mut String) -> Result<Tally, AllocE
         ++ interface_line side name.now None) }
     ensures faults { IfOk result (λ tally. tally.faults ≡ 0) }
     ensures warnings { IfOk result (λ tally. tally.warnings ≡ 1) }
+    ensures short { OnErr result (IsCutShort (string_bytes text.old
+        ++ interface_line side name.now None)) }
 {
     let side = side_name(side);
-    writeln!(text, "warning: {side} {name}: no such interface")?;
+    put(
+        text,
+        format_args!("warning: {side} {name}: no such interface\n"),
+    )?;
     Ok(WARNING)
 }
 
@@ -84,6 +95,8 @@ fn say_mtu(side: Side, name: &str, mtu: Option<u32>, text: &mut String) -> Resul
         (string_bytes text.new ≡ string_bytes text.old ++ mtu_text side name.now mtu) }
     ensures faults { IfOk result (λ tally. tally.faults ≡ 0) }
     ensures warnings { IfOk result (λ tally. tally.warnings ≡ one_if (is_short mtu)) }
+    ensures short { OnErr result
+        (IsCutShort (string_bytes text.old ++ mtu_text side name.now mtu)) }
 {
     match mtu {
         Some(mtu) if is_short(mtu) => say_short(side, name, mtu, text),
@@ -102,13 +115,17 @@ fn lies_on(settings: &Settings, side: Side, ip: Ip) -> bool
 
 /// Says that the link lies in the network of a side.
 fn say_link_line(side: Side, address: &str, text: &mut String) -> Result<(), AllocError>
-    ensures { OnOk result
+    ensures text { OnOk result
         (string_bytes text.new ≡ string_bytes text.old ++ link_line side address.now) }
+    ensures short { OnErr result
+        (IsCutShort (string_bytes text.old ++ link_line side address.now)) }
 {
     let side = side_name(side);
-    writeln!(
+    put(
         text,
-        "warning: link {address}: it lies in the network of the {side}, whose cable it goes down with"
+        format_args!(
+            "warning: link {address}: it lies in the network of the {side}, whose cable it goes down with\n"
+        ),
     )
 }
 
@@ -125,6 +142,8 @@ fn say_link_on(
     ensures faults { IfOk result (λ tally. tally.faults ≡ 0) }
     ensures warnings { IfOk result
         (λ tally. tally.warnings ≡ one_if (lies_on settings.now side ip)) }
+    ensures short { OnErr result (IsCutShort (string_bytes text.old
+        ++ link_on_text settings.now side address.now ip)) }
 {
     if !lies_on(settings, side, ip) {
         return Ok(NOTHING);
@@ -145,6 +164,8 @@ fn say_address(
     ensures faults { IfOk result (λ tally. tally.faults ≡ 0) }
     ensures warnings { IfOk result (λ tally. tally.warnings
         ≡ link_warnings settings.now (Some address.now) (Some ip)) }
+    ensures short { OnErr result (IsCutShort (string_bytes text.old
+        ++ link_text settings.now (Some address.now) (Some ip))) }
 {
     let inside = say_link_on(settings, Side::Inside, address, ip, text)?;
     let outside = say_link_on(settings, Side::Outside, address, ip, text)?;
@@ -157,8 +178,13 @@ fn say_no_address(address: &str, text: &mut String) -> Result<Tally, AllocError>
         (string_bytes text.new ≡ string_bytes text.old ++ no_address_line address.now) }
     ensures faults { IfOk result (λ tally. tally.faults ≡ 1) }
     ensures warnings { IfOk result (λ tally. tally.warnings ≡ 0) }
+    ensures short { OnErr result
+        (IsCutShort (string_bytes text.old ++ no_address_line address.now)) }
 {
-    writeln!(text, "fault: link {address}: no IPv4 address")?;
+    put(
+        text,
+        format_args!("fault: link {address}: no IPv4 address\n"),
+    )?;
     Ok(FAULT)
 }
 
@@ -175,6 +201,8 @@ fn say_link(
         ≡ link_faults (option_map (λ text. text.now) address.entry) ip) }
     ensures warnings { IfOk result (λ tally. tally.warnings
         ≡ link_warnings settings.now (option_map (λ text. text.now) address.entry) ip) }
+    ensures short { OnErr result (IsCutShort (string_bytes text.old
+        ++ link_text settings.now (option_map (λ text. text.now) address.entry) ip)) }
 {
     let Some(address) = address else {
         return Ok(NOTHING);
@@ -198,6 +226,8 @@ pub(crate) fn say_places(
         (λ tally. tally.faults ≡ capped (places_faults request.now sights.now)) }
     ensures warnings { IfOk result (λ tally. tally.warnings
         ≡ capped (places_warnings settings.now request.now sights.now)) }
+    ensures short { OnErr result (IsCutShort (string_bytes text.old
+        ++ places_text settings.now request.now sights.now)) }
 {
     let inside = say_interface(Side::Inside, request.inside, sights.inside, text)?;
     let outside = say_interface(Side::Outside, request.outside, sights.outside, text)?;

@@ -1,10 +1,12 @@
 //! Says what was found in a text of settings, a line each.
-ghost use Rattle.std.specs.Prelude.{◌≡◌, ◌++◌, IfOk, OnOk, flat_map, string_bytes};
+ghost use Rattle.std.specs.Prelude.{◌≡◌, ◌⊎◌, ◌++◌, IfOk, OnErr, OnOk, flat_map, string_bytes};
 ghost use Rattle.checks.specs.Doubts.{warnings_of};
 ghost use Rattle.checks.specs.Saying.{fault_line, faults_text, key_line, path_line, total_line};
 ghost use Rattle.checks.specs.Saying.{warning_line};
 ghost use Rattle.checks.specs.Counts.{at_least_one, fault_count, is_of, left, stopping, stops};
+ghost use Rattle.checks.specs.Memory.{IsCutShort, IsUnwarned};
 
+use crate::memory::put;
 use crate::tallies::{NOTHING, Tally};
 use crate::{Doubt, Warning, warnings_of};
 use nat_types::GatewayId;
@@ -13,21 +15,25 @@ use settings_file::{Key, Look, Section};
 use std::alloc::{AllocError, Global};
 
 fn say_paths(paths: &[String], text: &mut String) -> Result<(), AllocError>
-    ensures { OnOk result (string_bytes text.new
+    ensures text { OnOk result (string_bytes text.new
         ≡ string_bytes text.old ++ flat_map path_line paths.now) }
+    ensures short { OnErr result
+        (IsCutShort (string_bytes text.old ++ flat_map path_line paths.now)) }
 {
     for path in paths {
-        writeln!(text, "fault: settings 6 UnknownKey {path}")?;
+        put(text, format_args!("fault: settings 6 UnknownKey {path}\n"))?;
     }
     Ok(())
 }
 
 fn say_keys(keys: &[Key], fault: &str, text: &mut String) -> Result<(), AllocError>
-    ensures { OnOk result (string_bytes text.new
+    ensures text { OnOk result (string_bytes text.new
         ≡ string_bytes text.old ++ flat_map (key_line fault.now) keys.now) }
+    ensures short { OnErr result
+        (IsCutShort (string_bytes text.old ++ flat_map (key_line fault.now) keys.now)) }
 {
     for key in keys {
-        writeln!(text, "fault: settings {fault} {key}")?;
+        put(text, format_args!("fault: settings {fault} {key}\n"))?;
     }
     Ok(())
 }
@@ -52,16 +58,18 @@ pub(crate) fn fault_count(look: &Look) -> usize
 
 /// Says a fault that is of no key.
 fn say_whole(fault: &str, text: &mut String) -> Result<(), AllocError>
-    ensures { OnOk result
+    ensures text { OnOk result
         (string_bytes text.new ≡ string_bytes text.old ++ fault_line fault.now) }
+    ensures short { OnErr result (IsCutShort (string_bytes text.old ++ fault_line fault.now)) }
 {
-    writeln!(text, "fault: settings {fault}")
+    put(text, format_args!("fault: settings {fault}\n"))
 }
 
 /// Says each fault of a text.
 pub(crate) fn say_faults(look: &Look, text: &mut String) -> Result<(), AllocError>
-    ensures { OnOk result
+    ensures text { OnOk result
         (string_bytes text.new ≡ string_bytes text.old ++ faults_text look.now) }
+    ensures short { OnErr result (IsCutShort (string_bytes text.old ++ faults_text look.now)) }
 {
     match look {
         Look::NotToml => say_whole("1 NotToml", text),
@@ -100,14 +108,17 @@ fn say_warning(
     warning: &Warning,
     text: &mut String,
 ) -> Result<(), AllocError>
-    ensures { OnOk result
+    ensures text { OnOk result
         (string_bytes text.new ≡ string_bytes text.old ++ warning_line id warning.now) }
+    ensures short { OnErr result
+        (IsCutShort (string_bytes text.old ++ warning_line id warning.now)) }
 {
+    let key = warning.key;
     if stops(id, warning) {
-        let key = warning.key;
-        writeln!(text, "fault: socket 2 LongPath {key}")
+        put(text, format_args!("fault: socket 2 LongPath {key}\n"))
     } else {
-        writeln!(text, "warning: {warning}")
+        let doubt = warning.doubt.as_str();
+        put(text, format_args!("warning: {key}: {doubt}\n"))
     }
 }
 
@@ -117,8 +128,10 @@ fn say_each(
     id: Option<GatewayId>,
     text: &mut String,
 ) -> Result<(), AllocError>
-    ensures { OnOk result (string_bytes text.new
+    ensures text { OnOk result (string_bytes text.new
         ≡ string_bytes text.old ++ flat_map (warning_line id) warnings.now) }
+    ensures short { OnErr result
+        (IsCutShort (string_bytes text.old ++ flat_map (warning_line id) warnings.now)) }
 {
     for warning in warnings {
         say_warning(id, warning, text)?;
@@ -153,6 +166,8 @@ pub(crate) fn say_warnings(
         ≡ string_bytes text.old ++ flat_map (warning_line id) (warnings_of settings.now)) }
     ensures faults { IfOk result (λ tally. tally.faults ≡ stopping id (warnings_of settings.now)) }
     ensures warnings { IfOk result (λ tally. tally.warnings ≡ left id (warnings_of settings.now)) }
+    ensures short { OnErr result (IsUnwarned settings.now ⊎ IsCutShort
+        (string_bytes text.old ++ flat_map (warning_line id) (warnings_of settings.now))) }
 {
     let warnings = warnings_of(alloc, settings)?;
     say_each(warnings.as_slice(), id, text)?;
@@ -161,9 +176,11 @@ pub(crate) fn say_warnings(
 
 /// Says how many faults and warnings there are.
 pub(crate) fn say_total(tally: Tally, text: &mut String) -> Result<(), AllocError>
-    ensures { OnOk result (string_bytes text.new
+    ensures text { OnOk result (string_bytes text.new
         ≡ string_bytes text.old ++ total_line tally.faults tally.warnings) }
+    ensures short { OnErr result
+        (IsCutShort (string_bytes text.old ++ total_line tally.faults tally.warnings)) }
 {
     let Tally { faults, warnings } = tally;
-    writeln!(text, "{faults} faults, {warnings} warnings")
+    put(text, format_args!("{faults} faults, {warnings} warnings\n"))
 }

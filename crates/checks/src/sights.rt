@@ -1,7 +1,8 @@
 //! What is found where a request looks.
-ghost use Rattle.std.specs.Prelude.{◌≡◌, IfOk, option_map, string_bytes};
+ghost use Rattle.std.specs.Prelude.{◌≡◌, IfOk, OnErr, Some, option_map, string_bytes};
 ghost use Rattle.settings.specs.Parts.{gateway_of};
 ghost use Rattle.checks.specs.Sights.{AreFound, AreFoundFor, IsAddressIn, IsBootFileOf, IsMtuOf};
+ghost use Rattle.checks.specs.Sights.{IsShortAt, IsSightless, IsSightlessFor};
 
 use crate::{Found, Request, Surroundings};
 use addresses::Ip;
@@ -30,8 +31,10 @@ pub(crate) fn sights_for<P: Surroundings>(
     seen: &Look,
     request: &Request<'_>,
 ) -> Result<Sights, AllocError>
-    ensures { IfOk result
+    ensures found { IfOk result
         (AreFoundFor P.finds P.takes around.old seen.now request.now around.new) }
+    ensures short { OnErr result
+        (IsSightlessFor P.takes around.old seen.now request.now around.new) }
 {
     match seen {
         Look::Held(settings, _) => sights_of(around, settings, request),
@@ -58,8 +61,9 @@ fn sights_of<P: Surroundings>(
     settings: &Settings,
     request: &Request<'_>,
 ) -> Result<Sights, AllocError>
-    ensures { IfOk result
+    ensures found { IfOk result
         (AreFound P.finds P.takes around.old settings.now request.now around.new) }
+    ensures short { OnErr result (IsSightless P.takes around.old request.now around.new) }
 {
     let inside = mtu_of(around, request.inside)?;
     let outside = mtu_of(around, request.outside)?;
@@ -75,8 +79,10 @@ fn sights_of<P: Surroundings>(
 
 /// The MTU of an interface, where one is named and there.
 fn mtu_of<P: Surroundings>(around: &mut P, name: Option<&str>) -> Result<Option<u32>, AllocError>
-    ensures { IfOk result
+    ensures taken { IfOk result
         (IsMtuOf P.takes around.old (option_map (λ name. name.now) name.entry) around.new) }
+    ensures short { OnErr result
+        (IsShortAt P.takes around.old (option_map (λ name. name.now) name.entry) around.new) }
 {
     match name {
         Some(name) => around.mtu(name),

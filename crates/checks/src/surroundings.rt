@@ -1,10 +1,11 @@
 //! What a box finds where it is to run.
-ghost use Rattle.std.specs.Prelude.{IfOk};
-ghost use Rattle.checks.specs.Openings.{IsMtuRead, IsMtuText, IsSeenAt, mtu_path};
+ghost use Rattle.std.specs.Prelude.{IfOk, OnErr};
+ghost use Rattle.checks.specs.Openings.{IsMtuRead, IsUnmeasured, IsMtuText, IsSeenAt, mtu_path};
 
+use crate::memory::{file_text, mtu_path};
 use crate::openings::{Opening, seen_in};
 use boot_file::Lockable;
-use faults::{Fault, Reads, SystemReads, text_by};
+use faults::{Fault, Reads, SystemReads};
 use std::alloc::{AllocError, Global};
 use std::fs::{self, OpenOptions};
 use std::io;
@@ -34,14 +35,15 @@ pub enum Found {
 /// What a box finds where it is to run. It is looked at alone: none of it can be
 /// changed so.
 pub trait Surroundings {
-    ghost use Rattle.std.specs.Prelude.{List, Option, ℕ};
+    ghost use Rattle.std.specs.Prelude.{List, OnErr, ℕ};
+    ghost use Rattle.checks.specs.Sights.{Measure, short, taken};
     ghost use Rattle.checks.specs.declared.surroundings.Found.{Found};
 
     /// What may be found at the path of a boot file, and what is asked then.
     ghost finds: { Self → List ℕ → Found → Self → Type 0 };
 
-    /// Which MTU the interface of a name may have, where there is one, and what is asked then.
-    ghost takes: { Self → List ℕ → Option ℕ → Self → Type 0 };
+    /// What may come of it where the interface of a name is looked at, and what is asked then.
+    ghost takes: { Self → List ℕ → Measure → Self → Type 0 };
 
     /// What there is at the path of a boot file.
     fn boot_file(&mut self, path: &str) -> Found
@@ -49,7 +51,8 @@ pub trait Surroundings {
 
     /// The MTU of the interface of this name, where there is one.
     fn mtu(&mut self, name: &str) -> Result<Option<u32>, AllocError>
-        ensures { IfOk result (λ mtu. takes self.old name.now mtu self.new) };
+        ensures taken { IfOk result (λ mtu. takes self.old name.now (taken mtu) self.new) }
+        ensures short { OnErr result (takes self.old name.now short self.new) };
 }
 
 /// This machine: what is found there has a name, and no more is known of it.
@@ -107,11 +110,12 @@ fn found_by<F: Opening + Drop>(opened: io::Result<Option<F>>) -> Found
 
 /// The MTU of the interface of a name, where there is one, by who reads files.
 fn mtu_by<R: Reads>(alloc: Global, files: &mut R, name: &str) -> Result<Option<u32>, AllocError>
-    ensures { IfOk result (IsMtuRead
+    ensures read { IfOk result (IsMtuRead
         (λ answer. R.answers files.old (mtu_path name.now) answer files.new)) }
+    ensures short { OnErr result (IsUnmeasured R.answers files.old name.now files.new) }
 {
-    let path = format!(in alloc; "/sys/class/net/{name}/mtu")?;
-    match text_by(alloc, files, path.as_str()) {
+    let path = mtu_path(alloc, name)?;
+    match file_text(alloc, files, path.as_str()) {
         Ok(text) => Ok(mtu_in(text.as_str())),
         Err(Fault::NoMemory) => Err(AllocError),
         Err(_) => Ok(None),

@@ -1,13 +1,15 @@
 //! The warnings of settings.
-ghost use Rattle.std.specs.Prelude.{◌≡◌, ◌++◌, [], map, IfOk, OnOk};
+ghost use Rattle.std.specs.Prelude.{◌≡◌, ◌++◌, [], map, IfOk, OnErr, OnOk};
 ghost use Rattle.std.specs.List.{list_any};
 ghost use Rattle.checks.specs.Doubts.{given, warning, is_martian, same_bool, has_one_port, network_doubts, gateway_doubts, pair_doubts, same_side, same_host, neighbour_doubts, port_warning, warnings_of};
+ghost use Rattle.checks.specs.Memory.{IsCutShort, IsUnwarned};
 
+use crate::memory::{add_clashes, add_warning};
 use crate::{Doubt, Warning};
 use addresses::Ip;
 use nat_types::Side;
 use settings::{GatewaySettings, Neighbour, PortRange, Settings};
-use settings_file::{Key, Name, Section, add_port_clashes, is_network_address};
+use settings_file::{Key, Name, Section, is_network_address};
 use std::alloc::{AllocError, Global};
 
 /// The longest path of a boot file beside which the control socket's has room.
@@ -143,23 +145,27 @@ fn stands_in(before: &[Neighbour], neighbour: &Neighbour) -> bool
 
 /// Adds the warnings for which there is cause.
 fn give(rows: &[(Warning, bool)], found: &mut Vec<Warning>) -> Result<(), AllocError>
-    ensures { OnOk result (found.new.items ≡ found.old.items ++ given rows.now) }
+    ensures items { OnOk result (found.new.items ≡ found.old.items ++ given rows.now) }
+    ensures short { OnErr result (IsCutShort (found.old.items ++ given rows.now)) }
 {
     for (warning, holds) in rows {
         if *holds {
-            found.push(*warning)?;
+            add_warning(found, *warning)?;
         }
     }
     Ok(())
 }
 
 fn give_neighbours(neighbours: &[Neighbour], found: &mut Vec<Warning>) -> Result<(), AllocError>
-    ensures { OnOk result
+    ensures items { OnOk result
         (found.new.items ≡ found.old.items ++ given (neighbour_doubts [] neighbours.now)) }
+    ensures short { OnErr result
+        (IsCutShort (found.old.items ++ given (neighbour_doubts [] neighbours.now))) }
 {
     for (index, neighbour) in neighbours.iter().enumerate() {
         if stands_in(&neighbours[..index], neighbour) {
-            found.push(warning(Section::Neighbour, Name::Ip, Doubt::Twice))?;
+            let twice = warning(Section::Neighbour, Name::Ip, Doubt::Twice);
+            add_warning(found, twice)?;
         }
     }
     Ok(())
@@ -167,13 +173,16 @@ fn give_neighbours(neighbours: &[Neighbour], found: &mut Vec<Warning>) -> Result
 
 /// Adds a warning at each key whose loopback port stands at an earlier key.
 fn give_clashes(keys: &[Key], found: &mut Vec<Warning>) -> Result<(), AllocError>
-    ensures { OnOk result (found.new.items ≡ found.old.items ++ map port_warning keys.now) }
+    ensures items { OnOk result
+        (found.new.items ≡ found.old.items ++ map port_warning keys.now) }
+    ensures short { OnErr result (IsCutShort (found.old.items ++ map port_warning keys.now)) }
 {
     for key in keys {
-        found.push(Warning {
+        let warning = Warning {
             key: *key,
             doubt: Doubt::SamePort,
-        })?;
+        };
+        add_warning(found, warning)?;
     }
     Ok(())
 }
@@ -181,7 +190,8 @@ fn give_clashes(keys: &[Key], found: &mut Vec<Warning>) -> Result<(), AllocError
 /// All warnings of settings.
 #[tactic(auto, unfolding(crate::specs::Doubts::warnings_of))]
 pub fn warnings_of(alloc: Global, settings: &Settings) -> Result<Vec<Warning>, AllocError>
-    ensures { IfOk result (λ v. v.items ≡ warnings_of settings.now) }
+    ensures warnings { IfOk result (λ v. v.items ≡ warnings_of settings.now) }
+    ensures short { OnErr result (IsUnwarned settings.now) }
 {
     let mut found = Vec::new(alloc);
     give(&network_doubts(settings), &mut found)?;
@@ -196,7 +206,7 @@ pub fn warnings_of(alloc: Global, settings: &Settings) -> Result<Vec<Warning>, A
     give(&pair_doubts(&settings.zero, &settings.one), &mut found)?;
     give_neighbours(settings.neighbours.as_slice(), &mut found)?;
     let mut clashes = Vec::new(alloc);
-    add_port_clashes(settings, &mut clashes)?;
+    add_clashes(settings, &mut clashes)?;
     give_clashes(clashes.as_slice(), &mut found)?;
     Ok(found)
 }

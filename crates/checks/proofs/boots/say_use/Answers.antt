@@ -1,4 +1,7 @@
 use Rattle.checks.proofs.boots.say_use.Goals as goal
 
-pub returns-then-is_used : goal.returns-then-is_used
-returns-then-is_used c = rw c.if-is_used.true c.writeln.ensures.bytes
+pub returns-then-is_used-clause-text : goal.returns-then-is_used-clause-text
+returns-then-is_used-clause-text c = rw c.if-is_used.true c.put.ensures.text
+
+pub returns-then-is_used-clause-short : goal.returns-then-is_used-clause-short
+returns-then-is_used-clause-short c = rw c.if-is_used.true c.put.ensures.short
