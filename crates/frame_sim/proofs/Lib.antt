@@ -13,3 +13,6 @@ mod Taking
 mod Runs
 mod Accounting
 mod Owning
+mod Answering
+mod Results
+pub mod Offered

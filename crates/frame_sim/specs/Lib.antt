@@ -6,3 +6,4 @@ pub mod Runs
 pub mod Status
 pub mod Tapes
 pub mod Texts
+pub mod Asked

@@ -20,3 +20,10 @@ RefusesOne takes refuses w t [] ss t2 = ⊥
 RefusesOne takes refuses w t (e ∷ es) [] t2 = ⊥
 RefusesOne {T = T} takes refuses w t (e ∷ es) (s ∷ ss) t2 =
     refuses t w e s t2 ⊎ ((next : T) × (takes t w e s next × RefusesOne takes refuses w next es ss t2))
+
+-- whatever it is asked for, it takes down; and it refuses nothing
+abbrev pub takes_any : {T : Type 0} → TakesOn T
+takes_any t w e s t2 = Unit {0}
+
+abbrev pub refuses_none : {T : Type 0} → TakesOn T
+refuses_none t w e s t2 = ⊥

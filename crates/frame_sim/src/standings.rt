@@ -1,14 +1,18 @@
 //! Prints the tables of a world.
-ghost use Rattle.std.specs.Prelude.{◌≡◌};
+ghost use Rattle.std.specs.Prelude.{◌≡◌, IfErr, IfOk, IsOk, None, Ok, OnErr, OnOk};
+ghost use Rattle.bindings.specs.Entries.{is_pair};
 ghost use Rattle.outlets.specs.Printed.{Prints};
+ghost use Rattle.printing.specs.Lines.{table_lines};
+ghost use Rattle.frame_sim.specs.Asked.{AreTabled, AreUntabled, IsTableUnput, WasPrinted, WasUnlisted};
 ghost use Rattle.frame_sim.specs.Texts.{gateway_lines, standing_of, world_lines};
-ghost use Rattle.frame_sim.specs.World.{gateway_at};
+ghost use Rattle.frame_sim.specs.World.{gateway_at, owned_by, pairs_of};
 
 use crate::World;
+use addresses::Port;
 use faults::PrintFault;
-use nat_types::GatewayId;
+use nat_types::{GatewayId, NoMemory, Pair};
 use printing::{Standing, table};
-use std::io::Write;
+use std::io::{self, Write};
 
 impl World<'_> {
     /// Prints how both gateways stand, the ports that each owns, and the pairs that it holds.
@@ -17,8 +21,11 @@ impl World<'_> {
     ///
     /// Where output is refused, or memory is: a beginning of the lines is written.
     pub fn tables<O: Write>(&self, output: &mut O) -> Result<(), PrintFault>
-        ensures { Prints (O.contents output.old) result (O.contents output.new)
+        ensures printed { Prints (O.contents output.old) result (O.contents output.new)
             (world_lines self.now) }
+        ensures put { OnOk result (AreTabled self.now output.old output.new) }
+        ensures unput { IfErr result
+            (λ why. AreUntabled self.now why output.old output.new) }
     {
         self.print_table(output, GatewayId::Zero)?;
         self.print_table(output, GatewayId::One)
@@ -26,13 +33,30 @@ impl World<'_> {
 
     /// Prints how a gateway stands.
     fn print_table<O: Write>(&self, output: &mut O, id: GatewayId) -> Result<(), PrintFault>
-        ensures { Prints (O.contents output.old) result (O.contents output.new)
+        ensures printed { Prints (O.contents output.old) result (O.contents output.new)
             (gateway_lines self.now id) }
+        ensures put { OnOk result
+            (WasPrinted output.old (gateway_lines self.now id) (Ok tt) output.new) }
+        ensures unput { IfErr result
+            (λ why. IsTableUnput self.now id why output.old output.new) }
     {
-        let (ports, pairs) = (self.owned(id)?, self.table(id)?);
-        let (ports, pairs) = (ports.as_slice(), pairs.as_slice());
-        table(output, id, self.standing(id), ports, pairs)?;
+        let lists = self.told_to_list(id)?;
+        let (ports, pairs) = (lists.0.as_slice(), lists.1.as_slice());
+        told_to_table(output, id, self.standing(id), ports, pairs)?;
         Ok(())
+    }
+
+    /// The ports that a gateway owns, and the pairs that it holds.
+    #[tactic(auto, unfolding(crate::specs::Asked::WasUnlisted))]
+    fn told_to_list(&self, id: GatewayId) -> Result<(Vec<Port>, Vec<Pair>), NoMemory>
+        ensures ports { IfOk result
+            (λ lists. lists.0.items ≡ owned_by (gateway_at self.now id)) }
+        ensures pairs { IfOk result
+            (λ lists. lists.1.items ≡ pairs_of is_pair (gateway_at self.now id)) }
+        ensures down { gateway_at self.now id ≡ None → IsOk result }
+        ensures unlisted { OnErr result (WasUnlisted self.now id) }
+    {
+        Ok((self.owned(id)?, self.table(id)?))
     }
 
     fn standing(&self, id: GatewayId) -> Standing
@@ -46,4 +70,21 @@ impl World<'_> {
             Standing::Unsynced
         }
     }
+}
+
+/// Has an output take a gateway's table.
+#[tactic(auto, unfolding(crate::specs::Asked::WasPrinted))]
+fn told_to_table<O: Write>(
+    output: &mut O,
+    id: GatewayId,
+    standing: Standing,
+    ports: &[Port],
+    pairs: &[Pair],
+) -> io::Result<()>
+    ensures printed { Prints (O.contents output.old) result (O.contents output.new)
+        (table_lines id standing ports.now pairs.now) }
+    ensures put { WasPrinted output.old (table_lines id standing ports.now pairs.now) result
+        output.new }
+{
+    table(output, id, standing, ports, pairs)
 }

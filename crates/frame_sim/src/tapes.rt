@@ -32,9 +32,11 @@ pub trait Tape {
 pub struct Untaped;
 
 impl Tape for Untaped {
-    ghost takes = { λ _ _ _ _ _. Unit {0} };
+    ghost use Rattle.frame_sim.specs.Tapes.{refuses_none, takes_any};
 
-    ghost refuses = { λ _ _ _ _ _. ⊥ };
+    ghost takes = { takes_any };
+
+    ghost refuses = { refuses_none };
 
     fn take(&mut self, _world: &World<'_>, _event: &WorldEvent, _step: &Step) -> io::Result<()> {
         Ok(())

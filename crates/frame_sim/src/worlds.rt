@@ -3,13 +3,13 @@ ghost use Rattle.std.specs.Prelude.{◌≡◌, ◌<◌, ◌++◌, ◌∷◌, [],
 ghost use Rattle.bindings.specs.Entries.{is_pair, translates};
 ghost use Rattle.spec_trace.specs.OneBox.{IsOneBox};
 ghost use Rattle.spec_trace.specs.Trace.{Fits, GoesOn, Idle, Kept, Silent};
-ghost use Rattle.output.specs.Output.{none_told, with_note};
+ghost use Rattle.output.specs.Output.{with_note};
 ghost use Rattle.nat_types.specs.declared.gateways.GatewayId.TheVariants.{Zero};
 ghost use Rattle.spec_step.specs.Founding.{begun, founded};
 ghost use Rattle.nat_types.specs.declared.events.WorldEvent.TheVariants as events;
 ghost use Rattle.frame_sim.specs.declared.events.WorldFault.TheVariants as faults;
 ghost use Rattle.frame_sim.specs.Events.{IsHandedDown, TakesAt, datagram_for, may_be_told, may_boot, may_crash};
-ghost use Rattle.frame_sim.specs.Runs.{Answers, AreSteps, fault_of};
+ghost use Rattle.frame_sim.specs.Runs.{Answers, AreSteps, Gives, WasTaken, fault_of};
 ghost use Rattle.frame_sim.specs.Scene.{IsHanded};
 ghost use Rattle.frame_sim.specs.World.{Holds, IsOwned, ShowsSynced, Translates, founding, gateway_at, half, is_up, owned_by, pairs_of, synced_at};
 
@@ -275,12 +275,22 @@ impl<'a> World<'a> {
     }
 
     /// What one event gives.
-    fn step(&mut self, event: &WorldEvent) -> Step
-        ensures { Answers self.old event.now none_told result.answer result.out self.new }
+    pub fn step(&mut self, event: &WorldEvent) -> Step
+        ensures { Gives self.old event.now result self.new }
     {
         let mut out = Out::new(self.alloc);
-        let answer = self.apply(event, &mut out);
+        let answer = self.told_to_take(event, &mut out);
         Step { answer, out }
+    }
+
+    /// It alone has the name for what was answered where the world was to take an event.
+    #[tactic(auto, unfolding(crate::specs::Runs::WasTaken))]
+    fn told_to_take(&mut self, event: &WorldEvent, out: &mut Out) -> Result<Outcome, WorldFault>
+        ensures answers { Answers self.old event.now out.old result out.new self.new }
+        ensures down { IsHandedDown self.old event.now → IsOk result }
+        ensures taken { WasTaken self.old event.now result self.new }
+    {
+        self.apply(event, out)
     }
 
     /// One of the two takes what it is handed.

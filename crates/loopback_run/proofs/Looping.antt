@@ -2,6 +2,7 @@
 use Rattle.std.proofs.Common.{refl, ℕ, List, Option, IfOk, OnOk, Result, Ok, Err, subst}
 use Rattle.settings.specs.declared.whole.Settings.{Settings}
 use Rattle.nat_types.specs.declared.events.WorldEvent.{WorldEvent}
+use Rattle.frame_sim.proofs.Offered.{in_ok}
 use Rattle.frame_sim.specs.World.{World, founding}
 use Rattle.frame_sim.specs.Status.{IsNew}
 use Rattle.frame_sim.specs.Tapes.{TakesOn}
@@ -11,11 +12,6 @@ use Rattle.loopback_run.specs.Tapes.{AreTaped, IsTapedLoop}
 use Rattle.loopback_run.specs.Turns.{AreTurns, Passes, steps_in}
 use Rattle.loopback_run.proofs.Taping.{turns_of}
 use Rattle.loopback_run.proofs.Turning.{steps_of_turns}
-
--- what holds of the value of a result holds by what follows from it
-pub in_ok : {E : Type 0} {P Q : ℕ → Type 0} (r : Result ℕ E) → ((n : ℕ) → P n → Q n) → IfOk r P → IfOk r Q
-in_ok (Ok n) f h = f n h
-in_ok (Err e) f h = tt
 
 loop_from : {P T : Type 0} (passes : Passes P) (takes : TakesOn T) (settings : Settings) (w : World) (p : P) (t : T) (events : List WorldEvent) (w2 : World) (p2 : P) (t2 : T) (output printed : Option (List ℕ)) (status : ℕ)
     → IsNew settings w → TakesTurns passes takes w p t events w2 p2 t2 output printed status → IsLoop passes settings events p p2 output printed status
@@ -48,8 +44,3 @@ unfolding IsNew
 taped_from (Ok n) passes takes settings w p t events w2 p2 t2 output printed new h =
     (h.turns, (w2, subst (λ (x : World). AreTaped passes takes x p t events h.turns w2 p2 t2) new h.taken))
 taped_from (Err e) passes takes settings w p t events w2 p2 t2 output printed new h = tt
-
--- what holds after a success holds by what follows from it
-pub when_done : {X E : Type 0} {A B : Type 0} (r : Result X E) → (A → B) → OnOk r A → OnOk r B
-when_done (Ok x) f h = f h
-when_done (Err e) f h = tt

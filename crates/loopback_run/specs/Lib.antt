@@ -3,8 +3,9 @@ pub mod Texts
 pub mod Runs
 pub mod Loops
 pub mod Stops
-pub mod Refusals
+pub mod Outputs
 pub mod Tapes
+pub mod Fails
 pub mod Parcels
 pub mod Carrying
 pub mod Held

@@ -5,13 +5,14 @@ use Rattle.nat_types.specs.declared.events.WorldEvent.{WorldEvent}
 use Rattle.frame_sim.specs.Status.{has_refusal}
 use Rattle.frame_sim.specs.Tapes.{TakesOn}
 use Rattle.frame_sim.specs.World.{World}
+use Rattle.loopback_run.specs.Stops.{Contents}
 use Rattle.loopback_run.specs.Tapes.{AreTaped, TapedTurns}
 use Rattle.loopback_run.specs.Texts.{loop_lines}
 use Rattle.loopback_run.specs.Turns.{Passes, Turn, steps_in}
 
 -- these events have had their turns so, and one was refused or none
-pub record HasTurned {P T : Type 0} (passes : Passes P) (takes : TakesOn T) (w : World) (p : P) (t : T) (es : List WorldEvent) (w2 : World) (p2 : P) (t2 : T) (output printed : Option (List ℕ)) (refused : Bool) : Type 0 where
-  pub had : TapedTurns passes takes w p t es w2 p2 t2 output printed
+pub record HasTurned {P T O : Type 0} (passes : Passes P) (takes : TakesOn T) (contents : Contents O) (w : World) (p : P) (t : T) (es : List WorldEvent) (w2 : World) (p2 : P) (t2 : T) (output printed : O) (refused : Bool) : Type 0 where
+  pub had : TapedTurns passes takes contents w p t es w2 p2 t2 output printed
   pub refusals : refused ≡ has_refusal (steps_in had.turns)
 
 -- the same, with the world's tables behind their text, and the status

@@ -3,6 +3,7 @@ use Rattle.std.specs.Prelude.{◌≡◌, ◌⊎◌, ℕ, List, [], ◌∷◌, �
 use Rattle.std.specs.Io.KnownBytes.{Appends}
 use Rattle.settings.specs.declared.whole.Settings.{Settings}
 use Rattle.nat_types.specs.declared.events.WorldEvent.{WorldEvent}
+use Rattle.faults.specs.Faults.{of_print}
 use Rattle.faults.specs.declared.faults.Fault.{Fault}
 use Rattle.faults.specs.declared.faults.Fault.TheVariants.{NotWritten, NoMemory}
 use Rattle.faults.specs.declared.jobs.Job.{Job}
@@ -10,15 +11,14 @@ use Rattle.faults.specs.Jobs.{IsJobOf}
 use Rattle.outlets.specs.Printed.{IsBegun}
 use Rattle.printing.specs.Lines.{Counts, no_counts}
 use Rattle.scripts.specs.Script.{first_bad_line}
+use Rattle.frame_sim.specs.Asked.{IsEndUnput, IsUnprinted, WasUnfounded}
 use Rattle.frame_sim.specs.declared.events.Step.{Step}
 use Rattle.frame_sim.specs.Texts.{world_lines}
 use Rattle.frame_sim.specs.World.{World, founding}
 use Rattle.frame_sim.specs.Tapes.{TakesOn}
 use Rattle.faults.specs.declared.prints.PrintFault.{PrintFault}
-use Rattle.faults.specs.declared.prints.PrintFault.TheVariants as prints
-use Rattle.loopback_run.specs.declared.ports.PortFault.TheVariants as ports
-use Rattle.loopback_run.specs.Refusals.{AreUntold, WasUnfounded, WasUnprinted, WasUnread}
-use Rattle.loopback_run.specs.Stops.{Contents, HoldJob, IsRefused, Opens, Refuses, Untouched}
+use Rattle.loopback_run.specs.Outputs.{ArePut}
+use Rattle.loopback_run.specs.Stops.{Contents, HoldJob, IsUnbegun, Opens, Refuses, Untouched}
 use Rattle.loopback_run.specs.Texts.{counts_through, turn_lines, turns_lines}
 use Rattle.loopback_run.specs.Turns.{IsTurn, Passes, Turn, step_of}
 
@@ -64,21 +64,24 @@ pub record TapesScript {P T : Type 0} (opens : Opens P) (passes : Passes P) (tak
 
 -- ---- where a fault ends it
 
--- these events have had their turns, in order, and each was taken down once, behind its turn; and just their text was printed
-pub record TapedTurns {P T : Type 0} (passes : Passes P) (takes : TakesOn T) (w : World) (p : P) (t : T) (es : List WorldEvent) (w2 : World) (p2 : P) (t2 : T) (output printed : Option (List ℕ)) : Type 0 where
+-- these events have had their turns, in order, and each was taken down once, behind its turn; and just their text was printed: the output was asked
+-- for nothing else
+pub record TapedTurns {P T O : Type 0} (passes : Passes P) (takes : TakesOn T) (contents : Contents O) (w : World) (p : P) (t : T) (es : List WorldEvent) (w2 : World) (p2 : P) (t2 : T) (output printed : O) : Type 0 where
   pub turns : List Turn
   pub taken : AreTaped passes takes w p t es turns w2 p2 t2
-  pub text : Appends output printed (turns_lines no_counts es turns)
+  pub text : Appends (contents output) (contents printed) (turns_lines no_counts es turns)
+  pub put : ArePut no_counts es turns output printed
 
 -- how a run breaks off at an event that had its turn, where lines have counted so far: the tape refuses it, once, and nothing of
--- it is printed; or it is taken down, unless it is lost, and a beginning of its lines is printed
-abbrev pub BreaksOff : {T : Type 0} → TakesOn T → TakesOn T → T → World → WorldEvent → Option Step → T → Counts → Option (List ℕ) → Option (List ℕ) → Type 0
-BreaksOff takes refuses t w e step t2 counts output printed =
+-- it is printed; or it is taken down, unless it is lost, and a beginning of its lines is printed, which the output refuses
+abbrev pub BreaksOff : {T O : Type 0} → TakesOn T → TakesOn T → Contents O → T → World → WorldEvent → Option Step → T → Counts → O → O → Type 0
+BreaksOff takes refuses contents t w e step t2 counts output printed =
     (RefusesTurn refuses t w e step t2 × (printed ≡ output))
-    ⊎ (TapesTurn takes t w e step t2 × (IsBegun output printed (turn_lines counts e step) × WasUnprinted (turn_lines counts e step) output printed))
+    ⊎ (TapesTurn takes t w e step t2
+    × (IsBegun (contents output) (contents printed) (turn_lines counts e step) × IsUnprinted output (turn_lines counts e step) printed))
 
 -- the first of these events have had their turns so, and at the next one, which had its turn, the run broke off; no more followed
-pub record TapedBroken {P T : Type 0} (passes : Passes P) (takes refuses : TakesOn T) (w : World) (p : P) (t : T) (es : List WorldEvent) (p2 : P) (t2 : T) (output printed : Option (List ℕ)) : Type 0 where
+pub record TapedBroken {P T O : Type 0} (passes : Passes P) (takes refuses : TakesOn T) (contents : Contents O) (w : World) (p : P) (t : T) (es : List WorldEvent) (p2 : P) (t2 : T) (output printed : O) : Type 0 where
   pub first : List WorldEvent
   pub event : WorldEvent
   pub rest : List WorldEvent
@@ -86,37 +89,33 @@ pub record TapedBroken {P T : Type 0} (passes : Passes P) (takes refuses : Takes
   pub world : World
   pub passage : P
   pub tape : T
-  pub some : Option (List ℕ)
-  pub before : TapedTurns passes takes w p t first world passage tape output some
+  pub some : O
+  pub before : TapedTurns passes takes contents w p t first world passage tape output some
   pub turn : Turn
   pub last : World
   pub taken : IsTurn passes world passage event turn last p2
-  pub broken : BreaksOff takes refuses tape last event (step_of turn) t2 (counts_through no_counts first before.turns) some printed
+  pub broken : BreaksOff takes refuses contents tape last event (step_of turn) t2 (counts_through no_counts first before.turns) some printed
 
 -- all of them have had their turns so, and behind their text a beginning of the world's tables was printed, which or whose end was refused so
-pub record TapedEnded {P T : Type 0} (passes : Passes P) (takes : TakesOn T) (w : World) (p : P) (t : T) (es : List WorldEvent) (p2 : P) (t2 : T) (output printed : Option (List ℕ)) (why : PrintFault) : Type 0 where
+pub record TapedEnded {P T O : Type 0} (passes : Passes P) (takes : TakesOn T) (contents : Contents O) (w : World) (p : P) (t : T) (es : List WorldEvent) (p2 : P) (t2 : T) (output printed : O) (cause : PrintFault) : Type 0 where
   pub world : World
-  pub some : Option (List ℕ)
-  pub turned : TapedTurns passes takes w p t es world p2 t2 output some
-  pub tables : IsBegun some printed (world_lines world)
-  pub refused : AreUntold world why some printed
+  pub some : O
+  pub turned : TapedTurns passes takes contents w p t es world p2 t2 output some
+  pub tables : IsBegun (contents some) (contents printed) (world_lines world)
+  pub refused : IsEndUnput world cause some printed
 
--- how far events have come from one world where a fault ends their run: the tape or output is refused at one of them, or output
--- behind them all; and memory, which the tables want, behind them all
-abbrev pub StopsTaped : {P T : Type 0} → Passes P → TakesOn T → TakesOn T → World → P → T → List WorldEvent → P → T → Option (List ℕ) → Option (List ℕ) → Fault → Type 0
-StopsTaped passes takes refuses w p t es p2 t2 output printed NotWritten =
-    TapedBroken passes takes refuses w p t es p2 t2 output printed ⊎ TapedEnded passes takes w p t es p2 t2 output printed prints.NotWritten
-StopsTaped passes takes refuses w p t es p2 t2 output printed NoMemory = TapedEnded passes takes w p t es p2 t2 output printed prints.NoMemory
-StopsTaped passes takes refuses w p t es p2 t2 output printed others = ⊥
+-- how far events have come from one world where a fault ends their run: the tape or the output refuses at one of them; or the output behind them
+-- all, or memory, which the tables want
+abbrev pub StopsTaped : {P T O : Type 0} → Passes P → TakesOn T → TakesOn T → Contents O → World → P → T → List WorldEvent → P → T → O → O → Fault → Type 0
+StopsTaped passes takes refuses contents w p t es p2 t2 output printed why =
+    ((why ≡ NotWritten) × TapedBroken passes takes refuses contents w p t es p2 t2 output printed)
+    ⊎ ((cause : PrintFault) × ((why ≡ of_print cause) × TapedEnded passes takes contents w p t es p2 t2 output printed cause))
 
--- the same on a new world of these settings; for want of memory there may be none, and then nothing is touched
+-- the same on a new world of these settings; there may be no memory for that, and then nothing is touched
 abbrev pub StopsTapedLoop : {P T O : Type 0} → Passes P → TakesOn T → TakesOn T → Contents O → Settings → List WorldEvent → P → P → T → T → O → O → Fault → Type 0
-StopsTapedLoop passes takes refuses contents settings es p p2 t t2 output printed NotWritten =
-    StopsTaped passes takes refuses (founding settings) p t es p2 t2 (contents output) (contents printed) NotWritten
-StopsTapedLoop passes takes refuses contents settings es p p2 t t2 output printed NoMemory =
-    ((Untouched p p2 output printed × (t2 ≡ t)) × WasUnfounded settings)
-    ⊎ StopsTaped passes takes refuses (founding settings) p t es p2 t2 (contents output) (contents printed) NoMemory
-StopsTapedLoop passes takes refuses contents settings es p p2 t t2 output printed others = ⊥
+StopsTapedLoop passes takes refuses contents settings es p p2 t t2 output printed why =
+    ((why ≡ NoMemory) × (WasUnfounded settings × (Untouched p p2 output printed × (t2 ≡ t))))
+    ⊎ StopsTaped passes takes refuses contents (founding settings) p t es p2 t2 output printed why
 
 -- both texts are good, the passage got its ports, and then this fault ended the run that the tape took down
 pub record IsTapedUntil {P T O : Type 0} (opens : Opens P) (passes : Passes P) (takes refuses : TakesOn T) (contents : Contents O) (text script : List ℕ) (before after : P) (t t2 : T) (output printed : O) (fault : Fault) : Type 0 where
@@ -125,18 +124,8 @@ pub record IsTapedUntil {P T O : Type 0} (opens : Opens P) (passes : Passes P) (
   pub opened : opens before texts.job.settings open_passage
   pub stopped : StopsTapedLoop passes takes refuses contents texts.job.settings texts.job.events.items open_passage after t t2 output printed fault
 
--- for want of memory the run hasn't begun: the tape was asked for nothing; nothing is touched, or the passage was refused its ports
--- for this
-abbrev pub IsUnbegun : {P T O : Type 0} → Refuses P → List ℕ → List ℕ → P → P → T → T → O → O → Type 0
-IsUnbegun unopens text script before after t t2 output printed = (t2 ≡ t)
-    × ((Untouched before after output printed × WasUnread text script) ⊎ IsRefused unopens text script before after output printed ports.NoMemory)
-
--- what a fault leaves of a tape: refused output, or a refused tape, a run that has begun; memory may be wanted before it, too; and
--- for other faults it is asked for nothing
+-- that; or the run didn't begin, and the tape was asked for nothing
 abbrev pub StopsTapedScript : {P T O : Type 0} → Opens P → Refuses P → Passes P → TakesOn T → TakesOn T → Contents O → List ℕ → List ℕ → P → P → T → T → O → O → Fault → Type 0
-StopsTapedScript opens unopens passes takes refuses contents text script before after t t2 output printed NotWritten =
-    IsTapedUntil opens passes takes refuses contents text script before after t t2 output printed NotWritten
-StopsTapedScript opens unopens passes takes refuses contents text script before after t t2 output printed NoMemory =
-    IsUnbegun unopens text script before after t t2 output printed
-    ⊎ IsTapedUntil opens passes takes refuses contents text script before after t t2 output printed NoMemory
-StopsTapedScript opens unopens passes takes refuses contents text script before after t t2 output printed others = t2 ≡ t
+StopsTapedScript opens unopens passes takes refuses contents text script before after t t2 output printed fault =
+    ((t2 ≡ t) × IsUnbegun unopens text script before after output printed fault)
+    ⊎ IsTapedUntil opens passes takes refuses contents text script before after t t2 output printed fault

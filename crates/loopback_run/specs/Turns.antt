@@ -2,13 +2,12 @@
 use Rattle.std.specs.Prelude.{◌≡◌, Bool, true, false, List, [], ◌∷◌, Option, Some, None, is_err, option_map}
 use Rattle.std.specs.List.{filter_map}
 use Rattle.sockets.specs.declared.places.Place.TheVariants.{Link, Side}
-use Rattle.output.specs.Output.{none_told}
 use Rattle.frame_sim.specs.declared.events.Step.{Step}
 use Rattle.nat_types.specs.declared.events.WorldEvent.{WorldEvent}
 use Rattle.nat_types.specs.declared.events.WorldEvent.TheVariants.{Frame, Deliver}
 use Rattle.frame_sim.specs.World.{World}
 use Rattle.frame_sim.specs.Events.{datagram_for}
-use Rattle.frame_sim.specs.Runs.{Answers}
+use Rattle.frame_sim.specs.Runs.{Gives}
 use Rattle.faults.specs.declared.faults.Fault.{Fault}
 use Rattle.faults.specs.declared.faults.Fault.TheVariants as faults
 use Rattle.loopback_run.specs.declared.ports.PortFault.{PortFault}
@@ -47,9 +46,9 @@ Passes P = P → Message → Passed → P → Type 0
 -- The event is answered; or what it hands in is lost, and nothing changes.
 abbrev pub IsTurn : {P : Type 0} → Passes P → World → P → WorldEvent → Turn → World → P → Type 0
 IsTurn passes w p e (without s) w2 p2 =
-    (handed w e ≡ None) × (p2 ≡ p) × Answers w e none_told s.answer s.out w2
+    (handed w e ≡ None) × (p2 ≡ p) × Gives w e s w2
 IsTurn passes w p e (received parcel s) w2 p2 =
-    (handed w e ≡ Some parcel) × passes p parcel Received p2 × Answers w e none_told s.answer s.out w2
+    (handed w e ≡ Some parcel) × passes p parcel Received p2 × Gives w e s w2
 IsTurn passes w p e (lost parcel) w2 p2 =
     (handed w e ≡ Some parcel) × passes p parcel Lost p2 × (w2 ≡ w)
 

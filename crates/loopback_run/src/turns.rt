@@ -1,30 +1,25 @@
 //! A script's run in which what each event hands in is first sent through a passage.
-ghost use Rattle.std.specs.Prelude.{◌≡◌, ◌≢◌, ◌⊎◌, ◌||◌, None, IfOk, IfErr, OnOk, OnErr, IsSome, if◌then◌else◌};
-ghost use Rattle.output.specs.Output.{none_told};
-ghost use Rattle.frame_sim.specs.Runs.{Answers};
-ghost use Rattle.frame_sim.specs.Status.{IsNew};
-ghost use Rattle.frame_sim.specs.Texts.{world_lines};
-ghost use Rattle.std.specs.Io.KnownBytes.{Keeps};
+ghost use Rattle.std.specs.Prelude.{◌≡◌, ◌⊎◌, ◌||◌, None, IfOk, IfErr, OnOk, OnErr, IsSome, if◌then◌else◌};
 ghost use Rattle.faults.specs.Faults.{status_of};
-ghost use Rattle.faults.specs.Jobs.{IsJobOf, TellsRun};
 ghost use Rattle.faults.specs.Texts.{fault_text};
 ghost use Rattle.scripts.specs.Script.{first_bad_line};
 ghost use Rattle.faults.specs.declared.faults.Fault.TheVariants as faults;
+ghost use Rattle.frame_sim.specs.Asked.{WasPrinted};
 ghost use Rattle.outlets.specs.Printed.{Prints};
 ghost use Rattle.outlets.specs.Telling.{IsToldOf};
-ghost use Rattle.loopback_run.specs.Refusals.{TapeRefuses, WasUnflushed, WasUnfounded, WasUnprinted, WasUnread, WasUntabled};
+ghost use Rattle.loopback_run.specs.Fails.{FailsBy, FailsScript, Leaves};
+ghost use Rattle.loopback_run.specs.Outputs.{HasPut, HasPutFrom, PutsScript};
 ghost use Rattle.loopback_run.specs.Runs.{HasTurned, TakesTurns};
 ghost use Rattle.loopback_run.specs.Texts.{counts_then, turn_lines};
 ghost use Rattle.loopback_run.specs.Turns.{HasSent, TakesTurn, handed, is_lost, is_refusal, of_port};
 ghost use Rattle.loopback_run.specs.Loops.{IsLoop, LoopsScript, TellsLoop};
 ghost use Rattle.loopback_run.specs.Tapes.{IsTapedLoop, RefusesTurn, StopsTaped, StopsTapedLoop, StopsTapedScript, TapedBroken, TapesScript, TapesTurn};
-ghost use Rattle.loopback_run.specs.Stops.{FailsBy, FailsScript, HoldJob, Leaves, StopsLoop, Untouched};
+ghost use Rattle.loopback_run.specs.Stops.{HoldJob, Untouched};
 
 use crate::{Channel, Passed, PortFault};
-use faults::{Fault, Job, PrintFault, job_of};
-use frame_sim::{Step, Tape, Untaped, World};
-use gateway::Out;
-use nat_types::{NoMemory, WorldEvent};
+use faults::Fault;
+use frame_sim::{Step, Tape, Untaped, World, put_end, read_job};
+use nat_types::WorldEvent;
 use outlets::Tells;
 use printing::Printer;
 use settings::Settings;
@@ -49,6 +44,8 @@ pub fn run_loop<P: Channel, O: Write, E: Tells>(
     ensures bad { IsSome (first_bad_line script.now) → result ≡ 1 }
     ensures run { (result ≡ 0) ⊎ (result ≡ 3) → LoopsScript P.opens P.passes settings.now
         script.now passage.old passage.new (O.contents output.old) (O.contents output.new) result }
+    ensures put { (result ≡ 0) ⊎ (result ≡ 3) → PutsScript P.opens P.passes settings.now
+        script.now passage.old passage.new output.old output.new }
     ensures fault { result ≡ 1 → FailsScript P.opens P.refuses P.passes O.contents settings.now
         script.now passage.old passage.new output.old output.new }
     ensures untouched { (HoldJob settings.now script.now → ⊥)
@@ -86,7 +83,9 @@ pub fn loop_script<P: Channel, O: Write>(
     ensures run { IfOk result (LoopsScript P.opens P.passes settings.now script.now passage.old
         passage.new (O.contents output.old) (O.contents output.new)) }
     ensures status { IfOk result (λ status. (status ≡ 0) ⊎ (status ≡ 3)) }
-    ensures leaves { IfErr result (Leaves ⊥ P.opens P.refuses P.passes O.contents settings.now
+    ensures put { OnOk result (PutsScript P.opens P.passes settings.now script.now passage.old
+        passage.new output.old output.new) }
+    ensures leaves { IfErr result (Leaves P.opens P.refuses P.passes O.contents settings.now
         script.now passage.old passage.new output.old output.new) }
     ensures untouched { (HoldJob settings.now script.now → ⊥)
         → Untouched passage.old passage.new output.old output.new }
@@ -113,8 +112,8 @@ pub fn loop_captured<P: Channel, T: Tape, O: Write>(
     ensures run { IfOk result (LoopsScript P.opens P.passes settings.now script.now passage.old
         passage.new (O.contents output.old) (O.contents output.new)) }
     ensures status { IfOk result (λ status. (status ≡ 0) ⊎ (status ≡ 3)) }
-    ensures leaves { IfErr result (Leaves (TapeRefuses T.refuses) P.opens P.refuses P.passes
-        O.contents settings.now script.now passage.old passage.new output.old output.new) }
+    ensures put { OnOk result (PutsScript P.opens P.passes settings.now script.now passage.old
+        passage.new output.old output.new) }
     ensures untouched { (HoldJob settings.now script.now → ⊥)
         → Untouched passage.old passage.new output.old output.new }
     ensures taped { OnOk result (TapesScript P.opens P.passes T.takes settings.now script.now
@@ -123,7 +122,7 @@ pub fn loop_captured<P: Channel, T: Tape, O: Write>(
         O.contents settings.now script.now passage.old passage.new tape.old tape.new
         output.old output.new) }
 {
-    let job = read(alloc, settings, script)?;
+    let job = read_job(alloc, settings, script)?;
     if let Some(key) = port_clash_of_both(&job.settings) {
         return Err(Fault::Setting(SettingFault::CantWork(key)));
     }
@@ -138,20 +137,6 @@ pub fn loop_captured<P: Channel, T: Tape, O: Write>(
         ),
         Err(fault) => Err(of_port(fault)),
     }
-}
-
-/// The job of two texts, as [`job_of`] gives it.
-#[tactic(auto, unfolding(crate::specs::Refusals::WasUnread))]
-fn read(alloc: Global, settings: &str, script: &str) -> Result<Job, Fault>
-    ensures job { IfOk result (IsJobOf settings.now script.now) }
-    ensures good { OnOk result (first_bad_line script.now ≡ None) }
-    ensures told { IfErr result (TellsRun settings.now script.now) }
-    ensures known { IfErr result (λ fault. status_of fault ≡ 1) }
-    ensures read { IfErr result (λ fault. fault ≢ faults.NotWritten) }
-    ensures unread { IfErr result
-        (λ fault. fault ≡ faults.NoMemory → WasUnread settings.now script.now) }
-{
-    job_of(alloc, settings, script)
 }
 
 fn of_port(fault: PortFault) -> Fault
@@ -183,17 +168,17 @@ pub fn play<P: Channel, T: Tape, O: Write>(
     ensures status { IfOk result (λ status. (status ≡ 0) ⊎ (status ≡ 3)) }
     ensures fault { IfErr result
         (λ fault. (fault ≡ faults.NotWritten) ⊎ (fault ≡ faults.NoMemory)) }
-    ensures stops { IfErr result (StopsLoop (TapeRefuses T.refuses) P.passes O.contents
-        settings.now events.now passage.old passage.new output.old output.new) }
+    ensures put { OnOk result (HasPut P.passes settings.now events.now passage.old passage.new
+        output.old output.new) }
     ensures taped { OnOk result (IsTapedLoop P.passes T.takes settings.now events.now
         passage.old passage.new tape.old tape.new) }
     ensures broken { IfErr result (StopsTapedLoop P.passes T.takes T.refuses O.contents
         settings.now events.now passage.old passage.new tape.old tape.new
         output.old output.new) }
 {
-    match founded(alloc, settings) {
+    match World::founded(alloc, settings) {
         Ok(mut world) => {
-            let status = played(alloc, &mut world, events, passage, tape, output);
+            let status = played(&mut world, events, passage, tape, output);
             world.end();
             status
         }
@@ -201,18 +186,8 @@ pub fn play<P: Channel, T: Tape, O: Write>(
     }
 }
 
-/// A new world of these settings.
-#[tactic(auto, unfolding(crate::specs::Refusals::WasUnfounded))]
-fn founded(alloc: Global, settings: &Settings) -> Result<World<'_>, NoMemory>
-    ensures new { IfOk result (IsNew settings.now) }
-    ensures unfounded { OnErr result (WasUnfounded settings.now) }
-{
-    World::founded(alloc, settings)
-}
-
 /// Runs events on a world, has a tape take them down, and prints what they gave and its tables.
 fn played<P: Channel, T: Tape, O: Write>(
-    alloc: Global,
     world: &mut World<'_>,
     events: &[WorldEvent],
     passage: &mut P,
@@ -224,56 +199,33 @@ fn played<P: Channel, T: Tape, O: Write>(
     ensures status { IfOk result (λ status. (status ≡ 0) ⊎ (status ≡ 3)) }
     ensures fault { IfErr result
         (λ fault. (fault ≡ faults.NotWritten) ⊎ (fault ≡ faults.NoMemory)) }
-    ensures stops { IfErr result (StopsTaped P.passes T.takes T.refuses world.old passage.old
-        tape.old events.now passage.new tape.new (O.contents output.old)
-        (O.contents output.new)) }
+    ensures put { OnOk result (HasPutFrom P.passes world.old passage.old events.now passage.new
+        output.old output.new) }
+    ensures stops { IfErr result (StopsTaped P.passes T.takes T.refuses O.contents world.old
+        passage.old tape.old events.now passage.new tape.new output.old output.new) }
 {
-    let refused = turned(alloc, world, events, passage, tape, output)?;
-    put_tables(world, output)?;
-    flush(output)?;
+    let refused = turned(world, events, passage, tape, output)?;
+    put_end(world, output)?;
     Ok(status_of(refused))
-}
-
-/// Prints a world's tables.
-#[tactic(auto, unfolding(crate::specs::Refusals::WasUntabled))]
-fn put_tables<O: Write>(world: &World<'_>, output: &mut O) -> Result<(), PrintFault>
-    ensures printed { Prints (O.contents output.old) result (O.contents output.new)
-        (world_lines world.now) }
-    ensures refused { IfErr result (λ why. WasUntabled world.now why
-        (O.contents output.old) (O.contents output.new)) }
-{
-    world.tables(output)
-}
-
-/// Hands on what was printed.
-#[tactic(auto, unfolding(crate::specs::Refusals::WasUnflushed))]
-fn flush<O: Write>(output: &mut O) -> io::Result<()>
-    ensures kept { Keeps (O.contents output.old) (O.contents output.new) }
-    ensures refused { OnErr result
-        (WasUnflushed (O.contents output.old) (O.contents output.new)) }
-{
-    output.flush()
 }
 
 /// Gives each event its turn, has a tape take it down, and prints what it gave. The answer says whether one was refused.
 fn turned<P: Channel, T: Tape, O: Write>(
-    alloc: Global,
     world: &mut World<'_>,
     events: &[WorldEvent],
     passage: &mut P,
     tape: &mut T,
     output: &mut O,
 ) -> io::Result<bool>
-    ensures had { IfOk result (HasTurned P.passes T.takes world.old passage.old tape.old events.now
-        world.new passage.new tape.new (O.contents output.old) (O.contents output.new)) }
-    ensures broken { OnErr result (TapedBroken P.passes T.takes T.refuses world.old passage.old
-        tape.old events.now passage.new tape.new (O.contents output.old)
-        (O.contents output.new)) }
+    ensures had { IfOk result (HasTurned P.passes T.takes O.contents world.old passage.old tape.old
+        events.now world.new passage.new tape.new output.old output.new) }
+    ensures broken { OnErr result (TapedBroken P.passes T.takes T.refuses O.contents world.old
+        passage.old tape.old events.now passage.new tape.new output.old output.new) }
 {
     let mut printer = Printer::new();
     let mut refused = false;
     for event in events {
-        let step = turn(alloc, world, event, passage);
+        let step = turn(world, event, passage);
         refused = has_refused(refused, &step);
         take_down(tape, world, event, &step)?;
         print(&mut printer, output, event, &step)?;
@@ -323,8 +275,8 @@ fn take_down<T: Tape>(
     }
 }
 
-/// Prints what an event gave, or that it is lost.
-#[tactic(auto, unfolding(crate::specs::Refusals::WasUnprinted))]
+/// Has an output take the lines of what an event gave, or that it is lost.
+#[tactic(auto, unfolding(frame_sim::specs::Asked::WasPrinted))]
 fn print<O: Write>(
     printer: &mut Printer,
     output: &mut O,
@@ -334,8 +286,8 @@ fn print<O: Write>(
     ensures printed { Prints (O.contents output.old) result (O.contents output.new)
         (turn_lines printer.old event.now step.now) }
     ensures counted { OnOk result (printer.new ≡ counts_then printer.old event.now step.now) }
-    ensures refused { OnErr result (WasUnprinted (turn_lines printer.old event.now step.now)
-        (O.contents output.old) (O.contents output.new)) }
+    ensures put { WasPrinted output.old (turn_lines printer.old event.now step.now) result
+        output.new }
 {
     match step {
         Some(step) => printer.step(output, event, &step.answer, &step.out),
@@ -344,19 +296,14 @@ fn print<O: Write>(
 }
 
 /// What an event gives, where what it hands in isn't lost.
-fn turn<P: Channel>(
-    alloc: Global,
-    world: &mut World<'_>,
-    event: &WorldEvent,
-    passage: &mut P,
-) -> Option<Step>
+fn turn<P: Channel>(world: &mut World<'_>, event: &WorldEvent, passage: &mut P) -> Option<Step>
     ensures { TakesTurn P.passes world.old passage.old event.now result world.new passage.new }
 {
     let passed = sent(world, event, passage);
     if is_lost(&passed) {
         None
     } else {
-        Some(step(alloc, world, event))
+        Some(world.step(event))
     }
 }
 
@@ -389,13 +336,4 @@ fn sent<P: Channel>(world: &World<'_>, event: &WorldEvent, passage: &mut P) -> O
         | WorldEvent::PeerOff(_, _)
         | WorldEvent::Side(_, _, _) => None,
     }
-}
-
-/// What an event gives.
-fn step(alloc: Global, world: &mut World<'_>, event: &WorldEvent) -> Step
-    ensures { Answers world.old event.now none_told result.answer result.out world.new }
-{
-    let mut out = Out::new(alloc);
-    let answer = world.apply(event, &mut out);
-    Step { answer, out }
 }

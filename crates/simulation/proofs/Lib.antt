@@ -1,4 +1,5 @@
 mod Playing
 mod Taking
+mod Putting
 mod Telling
 mod Blocks

@@ -1,6 +1,5 @@
 -- A run on a new world.
-use Rattle.std.proofs.Common.{◌≡◌, ◌≢◌, ◌⊎◌, inl, inr, ◌++◌, ◌∙◌, ℕ, List, [], ◌∷◌, Option, None, IfErr, IfOk, OnErr, OnOk, Result, Ok, Err, take, drop, ap, sym, subst, refl}
-use Rattle.std.specs.Prelude.{IsErrAnd}
+use Rattle.std.proofs.Common.{◌≡◌, ◌⊎◌, inl, inr, ◌++◌, ◌∙◌, ℕ, List, [], ◌∷◌, Option, None, IfErr, IfOk, OnErr, OnOk, Result, Ok, Err, take, drop, ap, sym, subst, refl}
 use Rattle.std.proofs.lemmas.List.{append_assoc, append-nil, take-append-drop}
 use Rattle.settings.specs.declared.whole.Settings.{Settings}
 use Rattle.frame_sim.specs.declared.events.Step.{Step}
@@ -8,29 +7,18 @@ use Rattle.nat_types.specs.declared.events.WorldEvent.{WorldEvent}
 use Rattle.frame_sim.specs.World.{World}
 use Rattle.frame_sim.specs.Runs.{AreSteps}
 use Rattle.frame_sim.specs.Status.{IsNew}
+use Rattle.frame_sim.proofs.Offered.{in_ok}
 use Rattle.frame_sim.specs.Tapes.{TakesOn}
 use Rattle.faults.specs.declared.faults.Fault.{Fault}
-use Rattle.faults.specs.declared.faults.Fault.TheVariants.{Words, Setting, BadLine, File, NotWritten, NotText, NoSocket, NoMemory}
-use Rattle.faults.specs.Faults.{of_print}
-use Rattle.faults.specs.declared.prints.PrintFault.{PrintFault}
-use Rattle.faults.specs.declared.prints.PrintFault.TheVariants as print
 use Rattle.faults.specs.declared.jobs.Job.{Job}
-use Rattle.faults.specs.Jobs.{IsJobOf, TellsRun}
+use Rattle.faults.specs.Jobs.{IsJobOf}
 use Rattle.scripts.specs.Script.{first_bad_line}
 use Rattle.frame_sim.specs.World.{founding}
-use Rattle.simulation.specs.Refusals.{AreUntabled, IsRefused, IsShort, IsUnprinted, WasUnread}
+use Rattle.frame_sim.specs.declared.tapes.Untaped.{Untaped}
+use Rattle.frame_sim.specs.Tapes.{refuses_none, takes_any}
+use Rattle.simulation.specs.Refusals.{AreUnkept, IsUnrun, WasUnrun}
 use Rattle.simulation.specs.Stops.{Begins, BeginsScript, Leaves}
-use Rattle.simulation.specs.Tapes.{IsTapedRun, StopsTaped, StopsTapedScript, TapesSteps}
-
--- what holds of the value of a result holds by what follows from it
-pub in_ok : {E : Type 0} {P Q : ℕ → Type 0} (r : Result ℕ E) → ((n : ℕ) → P n → Q n) → IfOk r P → IfOk r Q
-in_ok (Ok n) f h = f n h
-in_ok (Err e) f h = tt
-
--- what holds after a success holds by what follows from it
-pub when_done : {X E A B : Type 0} (r : Result X E) → (A → B) → OnOk r A → OnOk r B
-when_done (Ok x) f h = f h
-when_done (Err e) f h = tt
+use Rattle.simulation.specs.Tapes.{HasPut, HasPutFrom, IsTapedRun, PutsScript, StopsFrom, StopsSteps, StopsTaped, StopsTapedScript, TapesSteps}
 
 run_from : {T : Type 0} (takes : TakesOn T) (settings : Settings) (w : World) (events : List WorldEvent) (w2 : World) (t t2 : T) (o o2 : Option (List ℕ)) (status : ℕ)
     → IsNew settings w → TapesSteps takes w events w2 t t2 o o2 status → IsTapedRun takes settings events t t2 o o2 status
@@ -50,91 +38,67 @@ pub runs_from : {E : Type 0} {T : Type 0} (r : Result ℕ E) (takes : TakesOn T)
     → IsNew settings w → IfOk r (TapesSteps takes w events w2 t t2 o o2) → IfOk r (IsTapedRun takes settings events t t2 o o2)
 runs_from r takes settings w events w2 t t2 o o2 new h = in_ok r (λ n p. run_from takes settings w events w2 t t2 o o2 n new p) h
 
--- a run from a new world stops as one from the world that it is
-pub begins_from : {X E : Type 0} (r : Result X E) (settings : Settings) (w : World) (events : List WorldEvent) (o o2 : Option (List ℕ))
-    → IsNew settings w → OnErr r (Begins w events o o2) → OnErr r (Begins (founding settings) events o o2)
+-- what was put of a run from a new world
+pub put_from : {X E O : Type 0} (r : Result X E) (settings : Settings) (w : World) (events : List WorldEvent) (o o2 : O)
+    → IsNew settings w → OnOk r (HasPutFrom w events o o2) → OnOk r (HasPut settings events o o2)
 unfolding IsNew
-begins_from r settings w events o o2 new h = subst (λ (x : World). OnErr r (Begins x events o o2)) new h
+put_from r settings w events o o2 new h = subst (λ (x : World). OnOk r (HasPutFrom x events o o2)) new h
+
+-- and of one of a script
+pub puts_script : {X E O : Type 0} (r : Result X E) (text script : List ℕ) (job : Job) (o o2 : O) → IsJobOf text script job → first_bad_line script ≡ None
+    → OnOk r (HasPut job.settings job.events.items o o2) → OnOk r (PutsScript text script o o2)
+puts_script (Ok x) text script job o o2 is good h = record { job = job; is = is; good = good; put = h }
+puts_script (Err e) text script job o o2 is good h = tt
+
+-- ---- a run that is taken down, and that a fault ends
+
+-- a run from a new world stops as one from the world that it is
+pub stops_from : {X T O : Type 0} (r : Result X Fault) (takes refuses : TakesOn T) (prints : O → Option (List ℕ)) (settings : Settings) (w : World) (events : List WorldEvent) (t t2 : T) (o o2 : O)
+    → IsNew settings w → IfErr r (StopsFrom takes refuses prints w events t t2 o o2) → IfErr r (StopsTaped takes refuses prints settings events t t2 o o2)
+unfolding IsNew
+stops_from (Ok x) takes refuses prints settings w events t t2 o o2 new h = tt
+stops_from (Err why) takes refuses prints settings w events t t2 o o2 new h =
+    inr (subst (λ (x : World). StopsFrom takes refuses prints x events t t2 o o2 why) new h)
 
 -- and so does one of a script
+pub stops_script : {X T O : Type 0} (r : Result X Fault) (takes refuses : TakesOn T) (prints : O → Option (List ℕ)) (text script : List ℕ) (job : Job) (t t2 : T) (o o2 : O)
+    → IsJobOf text script job → first_bad_line script ≡ None → IfErr r (StopsTaped takes refuses prints job.settings job.events.items t t2 o o2)
+    → IfErr r (StopsTapedScript takes refuses prints text script t t2 o o2)
+stops_script (Ok x) takes refuses prints text script job t t2 o o2 is good h = tt
+stops_script (Err e) takes refuses prints text script job t t2 o o2 is good h = inr (record { job = job; is = is; good = good; stopped = h })
+
+-- its output is as it was, or has a beginning of its text
+steps_begin : {T O : Type 0} (takes refuses : TakesOn T) (prints : O → Option (List ℕ)) (w : World) (events : List WorldEvent) (t t2 : T) (o o2 : O) (why : Fault)
+    → (h : StopsSteps takes refuses prints w events t t2 o o2 why) → Begins w events (prints o) (prints o2)
+steps_begin takes refuses prints w events t t2 o o2 why h =
+    elim h.stopped [
+      | inl tape ↦ inl (ap prints tape.1.0)
+      | inr output ↦ inr (record { steps = h.steps; last = h.last; answers = h.answers; begun = output.1.0 })
+    ]
+
+run_begins : {T O : Type 0} (takes refuses : TakesOn T) (prints : O → Option (List ℕ)) (settings : Settings) (events : List WorldEvent) (t t2 : T) (o o2 : O) (why : Fault)
+    → StopsTaped takes refuses prints settings events t t2 o o2 why → Begins (founding settings) events (prints o) (prints o2)
+run_begins takes refuses prints settings events t t2 o o2 why (inl none) = inl (ap prints none.1.1.1)
+run_begins takes refuses prints settings events t t2 o o2 why (inr (inl none)) = inl (ap prints none.1.1.1)
+run_begins takes refuses prints settings events t t2 o o2 why (inr (inr some)) = steps_begin takes refuses prints (founding settings) events t t2 o o2 why some
+
 script_begins : (text script : List ℕ) (job : Job) (o o2 : Option (List ℕ))
     → IsJobOf text script job → Begins (founding job.settings) job.events.items o o2 → BeginsScript text script o o2
 script_begins text script job o o2 is (inl same) = inl same
 script_begins text script job o o2 is (inr h) = inr (record { job = job; is = is; begun = h })
 
-pub begins_script : {X E : Type 0} (r : Result X E) (text script : List ℕ) (job : Job) (o o2 : Option (List ℕ))
-    → IsJobOf text script job → OnErr r (Begins (founding job.settings) job.events.items o o2) → OnErr r (BeginsScript text script o o2)
-begins_script (Ok x) text script job o o2 is h = tt
-begins_script (Err e) text script job o o2 is h = script_begins text script job o o2 is h
+pub begins_script : {X T O : Type 0} (r : Result X Fault) (takes refuses : TakesOn T) (prints : O → Option (List ℕ)) (text script : List ℕ) (t t2 : T) (o o2 : O)
+    → IfErr r (StopsTapedScript takes refuses prints text script t t2 o o2) → OnErr r (BeginsScript text script (prints o) (prints o2))
+begins_script (Ok x) takes refuses prints text script t t2 o o2 h = tt
+begins_script (Err e) takes refuses prints text script t t2 o o2 (inl none) = inl (ap prints none.1.1)
+begins_script (Err e) takes refuses prints text script t t2 o o2 (inr h) =
+    script_begins text script h.job (prints o) (prints o2) h.is (run_begins takes refuses prints h.job.settings h.job.events.items t t2 o o2 e h.stopped)
 
--- a fault of the texts leaves the output as it was
-pub leaves_texts : (text script : List ℕ) (o : Option (List ℕ)) (fault : Fault) → TellsRun text script fault → fault ≢ NotWritten
-    → (fault ≡ NoMemory → WasUnread text script) → Leaves text script o o fault
-leaves_texts text script o Words told read unread = absurd told
-leaves_texts text script o (Setting why) told read unread = refl
-leaves_texts text script o (BadLine n) told read unread = refl
-leaves_texts text script o (File why) told read unread = absurd told
-leaves_texts text script o NotWritten told read unread = absurd (read refl)
-leaves_texts text script o NotText told read unread = absurd told
-leaves_texts text script o (NoSocket port) told read unread = absurd told
-leaves_texts text script o NoMemory told read unread = (inl refl, inl (unread refl))
-
--- and one of the run of good texts a beginning
-pub leaves_begun : {X : Type 0} (r : Result X Fault) (text script : List ℕ) (job : Job) (o o2 : Option (List ℕ)) → IsJobOf text script job → first_bad_line script ≡ None
-    → IfErr r (IsRefused o2) → OnErr r (Begins (founding job.settings) job.events.items o o2) → IfErr r (Leaves text script o o2)
-leaves_begun (Ok x) text script job o o2 is good refused h = tt
-leaves_begun (Err Words) text script job o o2 is good refused h = absurd refused
-leaves_begun (Err (Setting why)) text script job o o2 is good refused h = absurd refused
-leaves_begun (Err (BadLine n)) text script job o o2 is good refused h = absurd refused
-leaves_begun (Err (File why)) text script job o o2 is good refused h = absurd refused
-leaves_begun (Err NotWritten) text script job o o2 is good refused h = record { job = job; is = is; good = good; begun = h; refused = refused }
-leaves_begun (Err NotText) text script job o o2 is good refused h = absurd refused
-leaves_begun (Err (NoSocket port)) text script job o o2 is good refused h = absurd refused
-leaves_begun (Err NoMemory) text script job o o2 is good refused h = (script_begins text script job o o2 is h, inr refused)
-
--- tables that weren't printed end the printing
-pub untabled_print : (after : Option (List ℕ)) (why : PrintFault) → AreUntabled why after → IsUnprinted after (of_print why)
-untabled_print after print.NotWritten h = inr (inl h)
-untabled_print after print.NoMemory h = h
-
--- what ended the printing ended the run
-pub refused_print : (after : Option (List ℕ)) (why : PrintFault) → IsUnprinted after (of_print why) → IsRefused after (of_print why)
-refused_print after print.NotWritten h = inr h
-refused_print after print.NoMemory h = inr h
-
--- what is so after every Err
-pub on_err : {X E Q : Type 0} (r : Result X E) → Q → OnErr r Q
-on_err (Ok x) q = tt
-on_err (Err e) q = q
-
--- what holds of the fault that is handed on holds of the end by it
-pub handed_on : {X F : Type 0} (r : Result X F) (P : F → Type 0) (why : F) → IsErrAnd r (λ e. e ≡ why) → P why → IfErr r P
-handed_on (Ok x) P why is p = tt
-handed_on (Err e) P why is p = subst P (sym is) p
-
--- ---- a run that is taken down, and that a fault ends
-
-isnt_refused : NoMemory ≢ NotWritten
-isnt_refused same = absurd (let bad : NoMemory ≡ NotWritten = same in cc)
-
--- there was no memory, and nothing was taken down
-pub none_taped : {T O : Type 0} (takes refuses : TakesOn T) (prints : O → Option (List ℕ)) (w : World) (events : List WorldEvent) (t : T) (o : O) (why : Fault)
-    → IsShort → why ≡ NoMemory → StopsTaped takes refuses prints w events t t o o why
-none_taped takes refuses prints w events t o why short is = rw is (inl (isnt_refused, ((λ same. short), (refl, refl))))
-
--- a run from a new world stops as one from the world that it is
-pub stops_from : {X T O : Type 0} (r : Result X Fault) (takes refuses : TakesOn T) (prints : O → Option (List ℕ)) (settings : Settings) (w : World) (events : List WorldEvent) (t t2 : T) (o o2 : O)
-    → IsNew settings w → IfErr r (StopsTaped takes refuses prints w events t t2 o o2) → IfErr r (StopsTaped takes refuses prints (founding settings) events t t2 o o2)
-unfolding IsNew
-stops_from r takes refuses prints settings w events t t2 o o2 new h = subst (λ (x : World). IfErr r (StopsTaped takes refuses prints x events t t2 o o2)) new h
-
--- and so does one of a script
-pub stops_script : {X T O : Type 0} (r : Result X Fault) (takes refuses : TakesOn T) (prints : O → Option (List ℕ)) (text script : List ℕ) (job : Job) (t t2 : T) (o o2 : O)
-    → IsJobOf text script job → IfErr r (StopsTaped takes refuses prints (founding job.settings) job.events.items t t2 o o2)
-    → IfErr r (StopsTapedScript takes refuses prints text script t t2 o o2)
-stops_script (Ok x) takes refuses prints text script job t t2 o o2 is h = tt
-stops_script (Err e) takes refuses prints text script job t t2 o o2 is (inl none) = inl none
-stops_script (Err e) takes refuses prints text script job t t2 o o2 is (inr some) = inr (job, (is, some))
+-- without a tape
+pub leaves_of : {X O : Type 0} (r : Result X Fault) (prints : O → Option (List ℕ)) (text script : List ℕ) (tape last : Untaped) (o o2 : O)
+    → IfErr r (StopsTapedScript takes_any refuses_none prints text script tape last o o2) → IfErr r (Leaves prints text script o o2)
+leaves_of (Ok x) prints text script tape last o o2 h = tt
+leaves_of (Err e) prints text script tape last o o2 h = (tape, (last, h))
 
 -- 0 and 3 aren't 1
 pub isnt_1 : {A : Type 0} (n : ℕ) → (n ≡ 0) ⊎ (n ≡ 3) → n ≡ 1 → A
@@ -176,3 +140,17 @@ two-parts rest next others n front back = rw (front, back) (sym (take-append-dro
 -- none is left
 pub all-done : (w w2 : World) (events : List WorldEvent) (ss : List Step) → IsUnderWay w events [] ss w2 → AreSteps w events ss w2
 all-done w w2 events ss h = subst (λ (xs : List WorldEvent). AreSteps w xs ss w2) (sym (h.split ∙ append-nil h.done)) h.so_far
+
+-- there is no memory for the next few
+pub cut-short : (w mid : World) (events rest next others : List WorldEvent) (ss : List Step) → rest ≡ next ++ others
+    → IsUnderWay w events rest ss mid → WasUnrun mid next ⊎ AreUnkept mid next ss → IsUnrun w events
+cut-short w mid events rest next others ss parts h lacks = inr (record {
+  done = h.done;
+  next = next;
+  others = others;
+  all = h.split ∙ ap (λ (xs : List WorldEvent). h.done ++ xs) parts;
+  steps = ss;
+  middle = mid;
+  answers = h.so_far;
+  lacks = lacks;
+})

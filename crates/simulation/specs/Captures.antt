@@ -1,22 +1,55 @@
 -- A capture of a run, as it is written.
-use Rattle.std.specs.Prelude.{◌≡◌, ℕ, Bool, true, List, Option, is_ok}
+use Rattle.std.specs.Prelude.{◌≡◌, ◌⊎◌, ℕ, Bool, true, false, List, [], ◌∷◌, Option, Result, Ok, Err, is_ok}
 use Rattle.std.specs.Io.KnownBytes.{Appends}
+use Rattle.std.specs.declared.io.Error.{Error}
+use Rattle.outlets.specs.Outputs.{WasFlushed}
 use Rattle.nat_types.specs.declared.events.WorldEvent.{WorldEvent}
+use Rattle.frame_sim.specs.Asked.{IsUnprinted, WasPrinted}
 use Rattle.frame_sim.specs.declared.events.Step.{Step}
 use Rattle.frame_sim.specs.World.{World}
-use Rattle.captures.specs.Captures.{head, packet_blocks}
+use Rattle.captures.specs.Captures.{Captured, head, packet_block, packet_blocks}
 use Rattle.simulation.specs.Clocks.{Moments, founding_moments, moments_after}
 use Rattle.simulation.specs.Packets.{packets_of}
+
+-- ---- what an output is asked
+
+-- it took the blocks of these packets, one after the other, and was asked for nothing else
+abbrev pub ArePut : {W : Type 0} → List Captured → W → W → Type 0
+ArePut [] before after = after ≡ before
+ArePut {W = W} (p ∷ ps) before after = (next : W) × (WasPrinted before (packet_block p) (Ok tt) next × ArePut ps next after)
+
+-- one of them it refused, behind those before it, which it took; and it was asked for nothing behind that
+abbrev pub IsOneUnput : {W : Type 0} → List Captured → W → W → Type 0
+IsOneUnput [] before after = ⊥
+IsOneUnput {W = W} (p ∷ ps) before after =
+    IsUnprinted before (packet_block p) after ⊎ ((next : W) × (WasPrinted before (packet_block p) (Ok tt) next × IsOneUnput ps next after))
+
+-- the one or the other, by what is answered
+abbrev pub Puts : {W : Type 0} → List Captured → W → Result (Unit {0}) Error → W → Type 0
+Puts packets before (Ok done) after = ArePut packets before after
+Puts packets before (Err error) after = IsOneUnput packets before after
+
+-- ---- a capture
 
 -- the head was written, and the clocks stand as a world is founded
 abbrev pub Begins : Option (List ℕ) → Option (List ℕ) → Moments → Type 0
 Begins before after moments = Appends before after head × (moments ≡ founding_moments)
 
--- the clocks followed an event, and then its packets were written
-abbrev pub Records : Option (List ℕ) → Moments → World → WorldEvent → Step → Option (List ℕ) → Moments → Type 0
-Records before m w e s after m2 =
-    (m2 ≡ moments_after m e (is_ok s.answer)) × Appends before after (packet_blocks (packets_of m2 w e s))
+-- the head was refused
+abbrev pub IsUnbegun : {W : Type 0} → W → Type 0
+IsUnbegun {W = W} before = (after : W) × IsUnprinted before head after
 
--- the clocks followed an event, and not all of its packets were written, which is marked
-abbrev pub Refuses : Moments → WorldEvent → Step → Moments → Bool → Type 0
-Refuses m e s m2 marked = (m2 ≡ moments_after m e (is_ok s.answer)) × (marked ≡ true)
+-- the clocks followed an event, and then its packets were written: the output was asked for just these
+abbrev pub Records : {W : Type 0} → (W → Option (List ℕ)) → W → Moments → World → WorldEvent → Step → W → Moments → Type 0
+Records contents before m w e s after m2 = (m2 ≡ moments_after m e (is_ok s.answer))
+    × (Appends (contents before) (contents after) (packet_blocks (packets_of m2 w e s)) × ArePut (packets_of m2 w e s) before after)
+
+-- the clocks followed an event, and the output refused one of its packets, which is marked
+abbrev pub Refuses : {W : Type 0} → W → Moments → World → WorldEvent → Step → W → Moments → Bool → Type 0
+Refuses before m w e s after m2 marked =
+    (m2 ≡ moments_after m e (is_ok s.answer)) × ((marked ≡ true) × IsOneUnput (packets_of m2 w e s) before after)
+
+-- the output was to hand on what it keeps, once; and what it answered is the answer, where nothing was refused before
+abbrev pub IsHandedOn : {W : Type 0} → W → Bool → Result (Unit {0}) Error → W → Type 0
+IsHandedOn before is_refused result after =
+    (answer : Result (Unit {0}) Error) × (WasFlushed before answer after × (is_refused ≡ false → result ≡ answer))

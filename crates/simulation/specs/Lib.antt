@@ -1,5 +1,6 @@
 pub mod Texts
 pub mod Status
+pub mod Outputs
 pub mod Refusals
 pub mod Stops
 pub mod Tapes

@@ -1,16 +1,16 @@
 -- What is printed where a fault ends a run.
-use Rattle.std.specs.Prelude.{◌≡◌, ◌⊎◌, ℕ, List, Option, None}
+use Rattle.std.specs.Prelude.{◌≡◌, ◌⊎◌, ℕ, List, Option}
 use Rattle.nat_types.specs.declared.events.WorldEvent.{WorldEvent}
 use Rattle.faults.specs.declared.faults.Fault.{Fault}
-use Rattle.faults.specs.declared.faults.Fault.TheVariants.{Setting, BadLine, NotWritten, NoMemory}
 use Rattle.faults.specs.declared.jobs.Job.{Job}
 use Rattle.faults.specs.Jobs.{IsJobOf, TellsRun}
-use Rattle.scripts.specs.Script.{first_bad_line}
 use Rattle.frame_sim.specs.declared.events.Step.{Step}
+use Rattle.frame_sim.specs.declared.tapes.Untaped.{Untaped}
 use Rattle.frame_sim.specs.Runs.{AreSteps}
+use Rattle.frame_sim.specs.Tapes.{refuses_none, takes_any}
 use Rattle.frame_sim.specs.World.{World, founding}
 use Rattle.outlets.specs.Printed.{IsBegun}
-use Rattle.simulation.specs.Refusals.{IsRefused, WasUnread}
+use Rattle.simulation.specs.Tapes.{StopsTapedScript}
 use Rattle.simulation.specs.Texts.{run_lines}
 
 -- a beginning of the text of the steps that these events take, in order, from a world
@@ -34,28 +34,13 @@ pub record HasBegunScript (text script : List ℕ) (before after : Option (List 
 abbrev pub BeginsScript : List ℕ → List ℕ → Option (List ℕ) → Option (List ℕ) → Type 0
 BeginsScript text script before after = (after ≡ before) ⊎ HasBegunScript text script before after
 
--- both texts are good, and of the run of their events the output has a beginning, or is as it was; and the tape or the output refused something
-pub record IsStopped (text script : List ℕ) (before after : Option (List ℕ)) : Type 0 where
-  pub job : Job
-  pub is : IsJobOf text script job
-  pub good : first_bad_line script ≡ None
-  pub begun : Begins (founding job.settings) job.events.items before after
-  pub refused : IsRefused after NotWritten
-
--- there was no memory for what two texts hold, or for their run
-abbrev pub LacksMemory : List ℕ → List ℕ → Option (List ℕ) → Type 0
-LacksMemory text script after = WasUnread text script ⊎ IsRefused after NoMemory
-
--- What a fault leaves: one of the texts the output as it was, and refused output a run that was stopped. Memory may be
--- refused before it or in it.
-abbrev pub Leaves : List ℕ → List ℕ → Option (List ℕ) → Option (List ℕ) → Fault → Type 0
-Leaves text script before after (Setting fault) = after ≡ before
-Leaves text script before after (BadLine n) = after ≡ before
-Leaves text script before after NotWritten = IsStopped text script before after
-Leaves text script before after NoMemory = BeginsScript text script before after × LacksMemory text script after
-Leaves text script before after others = ⊥
+-- What a fault leaves where no tape takes the run down, which is as with one that refuses nothing: so it is refused by the output, or for want of
+-- memory, or is one of the texts.
+abbrev pub Leaves : {O : Type 0} → (O → Option (List ℕ)) → List ℕ → List ℕ → O → O → Fault → Type 0
+Leaves prints text script old new why =
+    (tape : Untaped) × ((last : Untaped) × StopsTapedScript takes_any refuses_none prints text script tape last old new why)
 
 -- this fault ended the run: it is told, and this is what it leaves
-pub record FailsBy (text script : List ℕ) (before after : Option (List ℕ)) (fault : Fault) : Type 0 where
-  pub told : TellsRun text script fault
-  pub leaves : Leaves text script before after fault
+pub record FailsBy {O : Type 0} (prints : O → Option (List ℕ)) (text script : List ℕ) (old new : O) (why : Fault) : Type 0 where
+  pub told : TellsRun text script why
+  pub leaves : Leaves prints text script old new why

@@ -1,7 +1,10 @@
 //! Prints the steps of a run.
-ghost use Rattle.std.specs.Prelude.{◌≡◌, length};
-ghost use Rattle.printing.specs.Lines.{no_counts};
+ghost use Rattle.std.specs.Prelude.{◌≡◌, OnErr, OnOk, length};
+ghost use Rattle.printing.specs.Lines.{counts_after, no_counts, step_lines};
 ghost use Rattle.outlets.specs.Printed.{Prints};
+ghost use Rattle.frame_sim.specs.Asked.{WasPrinted};
+ghost use Rattle.frame_sim.specs.Texts.{refusal_text};
+ghost use Rattle.simulation.specs.Outputs.{AreLinesPut, AreLinesUnput};
 ghost use Rattle.simulation.specs.Texts.{steps_lines};
 
 use frame_sim::Step;
@@ -15,8 +18,12 @@ pub(crate) fn print_steps<O: Write>(
     events: &[WorldEvent],
     steps: &[Step],
 ) -> io::Result<()>
-    ensures { Prints (O.contents output.old) result (O.contents output.new)
+    ensures printed { Prints (O.contents output.old) result (O.contents output.new)
         (steps_lines no_counts events.now steps.now) }
+    ensures put { OnOk result
+        (AreLinesPut no_counts events.now steps.now output.old output.new) }
+    ensures unput { OnErr result
+        (AreLinesUnput no_counts events.now steps.now output.old output.new) }
 {
     let mut printer = Printer::new();
     let mut rest = steps;
@@ -24,8 +31,26 @@ pub(crate) fn print_steps<O: Write>(
         let Some((step, others)) = rest.split_first() else {
             return Ok(());
         };
-        printer.step(output, event, &step.answer, &step.out)?;
+        put_step(&mut printer, output, event, step)?;
         rest = others;
     }
     Ok(())
+}
+
+/// Has an output take the lines of what an event gave.
+#[tactic(auto, unfolding(frame_sim::specs::Asked::WasPrinted))]
+fn put_step<O: Write>(
+    printer: &mut Printer,
+    output: &mut O,
+    event: &WorldEvent,
+    step: &Step,
+) -> io::Result<()>
+    ensures printed { Prints (O.contents output.old) result (O.contents output.new)
+        (step_lines refusal_text printer.old event.now step.now.answer step.now.out) }
+    ensures counted { OnOk result (printer.new ≡ counts_after printer.old event.now step.now.out) }
+    ensures put { WasPrinted output.old
+        (step_lines refusal_text printer.old event.now step.now.answer step.now.out) result
+        output.new }
+{
+    printer.step(output, event, &step.answer, &step.out)
 }

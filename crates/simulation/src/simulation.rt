@@ -1,31 +1,27 @@
 //! A script's run: its events on a new world, their steps and the tables at its end printed.
-ghost use Rattle.std.specs.Io.KnownBytes.{Keeps};
-ghost use Rattle.std.specs.Prelude.{◌≡◌, ◌≢◌, ◌⊎◌, ◌++◌, [], None, IfOk, IfErr, OnOk, OnErr, IsSome, length};
+ghost use Rattle.std.specs.Prelude.{◌≡◌, ◌⊎◌, ◌++◌, [], None, IfOk, IfErr, OnOk, OnErr, IsSome, length};
 ghost use Rattle.frame_sim.specs.Runs.{AreSteps};
-ghost use Rattle.faults.specs.Faults.{of_print, status_of};
+ghost use Rattle.faults.specs.Faults.{status_of};
 ghost use Rattle.scripts.specs.Script.{first_bad_line};
-ghost use Rattle.faults.specs.Jobs.{IsJobOf, TellsRun};
+ghost use Rattle.faults.specs.Jobs.{TellsRun};
 ghost use Rattle.faults.specs.Texts.{fault_text};
-ghost use Rattle.frame_sim.specs.Status.{IsNew, has_refusal, run_status};
+ghost use Rattle.frame_sim.specs.Status.{has_refusal, run_status};
 ghost use Rattle.frame_sim.specs.Tapes.{AreTaken, RefusesOne};
 ghost use Rattle.outlets.specs.Printed.{Prints};
 ghost use Rattle.outlets.specs.Telling.{IsToldOf};
-ghost use Rattle.frame_sim.specs.Texts.{world_lines};
-ghost use Rattle.frame_sim.specs.World.{founding};
-ghost use Rattle.printing.specs.Lines.{no_counts};
-ghost use Rattle.simulation.specs.Refusals.{IsRefused, IsUnprinted, IsUnrun, IsUntaken};
-ghost use Rattle.simulation.specs.Refusals.{WasUnflushed, WasUnfounded, WasUnput, WasUnread, WasUnrun, WasUntabled, WasUntaken};
+ghost use Rattle.simulation.specs.Outputs.{IsPut, IsUnput};
+ghost use Rattle.simulation.specs.Refusals.{IsUnrun, WasUnkept, WasUnroomed, WasUnrun};
 ghost use Rattle.simulation.specs.Status.{RunsScript};
-ghost use Rattle.simulation.specs.Tapes.{IsTapedRun, StopsTaped, StopsTapedScript, TapesScript, TapesSteps};
-ghost use Rattle.simulation.specs.Texts.{run_lines, steps_lines};
+ghost use Rattle.simulation.specs.Tapes.{HasPut, HasPutFrom, IsTapedRun, PutsScript, StopsFrom, StopsTaped, StopsTapedScript, TapesScript, TapesSteps};
+ghost use Rattle.simulation.specs.Texts.{run_lines};
 ghost use Rattle.simulation.specs.Watched.{IsToldAll, IsToldPart, IsToldSome, OverhearsScript, WatchesScript};
-ghost use Rattle.simulation.specs.Stops.{Begins, BeginsScript, FailsBy, Leaves};
+ghost use Rattle.simulation.specs.Stops.{BeginsScript, FailsBy, Leaves};
 ghost use Rattle.faults.specs.declared.faults.Fault.TheVariants as faults;
 
 use crate::shown::print_steps;
 use crate::{Progress, Unwatched};
-use faults::{Fault, Job, PrintFault, job_of};
-use frame_sim::{Step, Tape, Untaped, World};
+use faults::{Fault, PrintFault};
+use frame_sim::{Step, Tape, Untaped, World, put_end, read_job};
 use nat_types::{NoMemory, WorldEvent};
 use outlets::Tells;
 use settings::Settings;
@@ -46,11 +42,13 @@ pub fn simulate<O: Write, E: Tells>(
     ensures bad { IsSome (first_bad_line script.now) → result ≡ 1 }
     ensures run { (result ≡ 0) ⊎ (result ≡ 3) → RunsScript settings.now script.now
         (O.contents output.old) (O.contents output.new) result }
+    ensures put { (result ≡ 0) ⊎ (result ≡ 3)
+        → PutsScript settings.now script.now output.old output.new }
     ensures begun { result ≡ 1 → BeginsScript settings.now script.now (O.contents output.old)
         (O.contents output.new) }
     ensures quiet { (result ≡ 0) ⊎ (result ≡ 3) → errors.new ≡ errors.old }
     ensures told { result ≡ 1 → IsToldOf E.tells fault_text
-        (FailsBy settings.now script.now (O.contents output.old) (O.contents output.new))
+        (FailsBy O.contents settings.now script.now output.old output.new)
         errors.old errors.new }
 {
     match simulate_watched(alloc, settings, script, &mut Unwatched, output) {
@@ -77,10 +75,11 @@ pub fn simulate_watched<P: Progress, O: Write>(
     ensures good { OnOk result (first_bad_line script.now ≡ None) }
     ensures run { IfOk result (RunsScript settings.now script.now (O.contents output.old)
         (O.contents output.new)) }
+    ensures put { OnOk result (PutsScript settings.now script.now output.old output.new) }
     ensures begun { OnErr result (BeginsScript settings.now script.now (O.contents output.old)
         (O.contents output.new)) }
-    ensures leaves { IfErr result (Leaves settings.now script.now (O.contents output.old)
-        (O.contents output.new)) }
+    ensures leaves { IfErr result
+        (Leaves O.contents settings.now script.now output.old output.new) }
     ensures status { IfOk result (λ status. (status ≡ 0) ⊎ (status ≡ 3)) }
     ensures watched { OnOk result
         (WatchesScript P.hears settings.now script.now progress.old progress.new) }
@@ -109,9 +108,8 @@ pub fn simulate_captured<P: Progress, T: Tape, O: Write>(
     ensures good { OnOk result (first_bad_line script.now ≡ None) }
     ensures run { IfOk result (TapesScript T.takes settings.now script.now tape.old tape.new
         (O.contents output.old) (O.contents output.new)) }
+    ensures put { OnOk result (PutsScript settings.now script.now output.old output.new) }
     ensures begun { OnErr result (BeginsScript settings.now script.now (O.contents output.old)
-        (O.contents output.new)) }
-    ensures leaves { IfErr result (Leaves settings.now script.now (O.contents output.old)
         (O.contents output.new)) }
     ensures stopped { IfErr result (StopsTapedScript T.takes T.refuses O.contents settings.now
         script.now tape.old tape.new output.old output.new) }
@@ -122,7 +120,7 @@ pub fn simulate_captured<P: Progress, T: Tape, O: Write>(
     ensures part { OnErr result
         (OverhearsScript P.hears settings.now script.now progress.old progress.new) }
 {
-    let job = read(alloc, settings, script)?;
+    let job = read_job(alloc, settings, script)?;
     play(
         alloc,
         &job.settings,
@@ -131,20 +129,6 @@ pub fn simulate_captured<P: Progress, T: Tape, O: Write>(
         tape,
         output,
     )
-}
-
-/// The job of two texts, as [`job_of`] gives it.
-#[tactic(auto, unfolding(crate::specs::Refusals::WasUnread))]
-fn read(alloc: Global, settings: &str, script: &str) -> Result<Job, Fault>
-    ensures job { IfOk result (IsJobOf settings.now script.now) }
-    ensures good { OnOk result (first_bad_line script.now ≡ None) }
-    ensures told { IfErr result (TellsRun settings.now script.now) }
-    ensures known { IfErr result (λ fault. status_of fault ≡ 1) }
-    ensures read { IfErr result (λ fault. fault ≢ faults.NotWritten) }
-    ensures unread { IfErr result
-        (λ fault. fault ≡ faults.NoMemory → WasUnread settings.now script.now) }
-{
-    job_of(alloc, settings, script)
 }
 
 /// Runs events on a new world of these settings, tells how far it is before every few of them, and has a tape take them down
@@ -163,21 +147,19 @@ pub fn play<P: Progress, T: Tape, O: Write>(
 ) -> Result<u8, Fault>
     ensures run { IfOk result (IsTapedRun T.takes settings.now events.now tape.old tape.new
         (O.contents output.old) (O.contents output.new)) }
-    ensures begun { OnErr result (Begins (founding settings.now) events.now (O.contents output.old)
-        (O.contents output.new)) }
+    ensures put { OnOk result (HasPut settings.now events.now output.old output.new) }
     ensures stopped { IfErr result (StopsTaped T.takes T.refuses O.contents
-        (founding settings.now) events.now tape.old tape.new output.old output.new) }
+        settings.now events.now tape.old tape.new output.old output.new) }
     ensures status { IfOk result (λ status. (status ≡ 0) ⊎ (status ≡ 3)) }
     ensures fault { IfErr result
         (λ fault. (fault ≡ faults.NotWritten) ⊎ (fault ≡ faults.NoMemory)) }
-    ensures refused { IfErr result (IsRefused (O.contents output.new)) }
     ensures watched { OnOk result
         (IsToldAll P.hears (length events.now) progress.old progress.new) }
     ensures overheard { OnErr result (IsToldSome P.hears progress.old progress.new) }
     ensures part { OnErr result
         (IsToldPart P.hears (length events.now) progress.old progress.new) }
 {
-    match founded(alloc, settings) {
+    match World::founded(alloc, settings) {
         Ok(mut world) => {
             let status = played(alloc, &mut world, events, progress, tape, output);
             world.end();
@@ -185,15 +167,6 @@ pub fn play<P: Progress, T: Tape, O: Write>(
         }
         Err(fault) => Err(Fault::from(fault)),
     }
-}
-
-/// A new world of these settings.
-#[tactic(auto, unfolding(crate::specs::Refusals::WasUnfounded))]
-fn founded(alloc: Global, settings: &Settings) -> Result<World<'_>, NoMemory>
-    ensures new { IfOk result (IsNew settings.now) }
-    ensures unfounded { OnErr result (WasUnfounded settings.now) }
-{
-    World::founded(alloc, settings)
 }
 
 /// Runs events on a world, has a tape take them down, and prints their steps and its tables.
@@ -208,14 +181,12 @@ fn played<P: Progress, T: Tape, O: Write>(
     ensures run { IfOk result
         (TapesSteps T.takes world.old events.now world.new tape.old tape.new
         (O.contents output.old) (O.contents output.new)) }
-    ensures begun { OnErr result (Begins world.old events.now (O.contents output.old)
-        (O.contents output.new)) }
-    ensures stopped { IfErr result (StopsTaped T.takes T.refuses O.contents world.old events.now
+    ensures put { OnOk result (HasPutFrom world.old events.now output.old output.new) }
+    ensures stopped { IfErr result (StopsFrom T.takes T.refuses O.contents world.old events.now
         tape.old tape.new output.old output.new) }
     ensures status { IfOk result (λ status. (status ≡ 0) ⊎ (status ≡ 3)) }
     ensures fault { IfErr result
         (λ fault. (fault ≡ faults.NotWritten) ⊎ (fault ≡ faults.NoMemory)) }
-    ensures refused { IfErr result (IsRefused (O.contents output.new)) }
     ensures watched { OnOk result
         (IsToldAll P.hears (length events.now) progress.old progress.new) }
     ensures overheard { OnErr result
@@ -238,30 +209,19 @@ fn take_down<T: Tape>(
         (AreTaken T.takes world.now tape.old events.now steps.now tape.new) }
     ensures refused { OnErr result
         (RefusesOne T.takes T.refuses world.now tape.old events.now steps.now tape.new) }
-    ensures untaken { OnErr result IsUntaken }
 {
     let mut rest = steps;
     for event in events {
         let Some((step, others)) = rest.split_first() else {
             return Ok(());
         };
-        take(tape, world, event, step)?;
+        tape.take(world, event, step)?;
         rest = others;
     }
     Ok(())
 }
 
-/// Has a tape take an event down.
-#[tactic(auto, unfolding(crate::specs::Refusals::WasUntaken))]
-fn take<T: Tape>(tape: &mut T, world: &World<'_>, event: &WorldEvent, step: &Step) -> io::Result<()>
-    ensures taken { OnOk result (T.takes tape.old world.now event.now step.now tape.new) }
-    ensures refused { OnErr result (T.refuses tape.old world.now event.now step.now tape.new) }
-    ensures untaken { OnErr result (WasUntaken event.now step.now) }
-{
-    tape.take(world, event, step)
-}
-
-/// Prints steps, and the tables of the world to which they led.
+/// Prints steps, and the tables of the world to which they led, and hands all of it on.
 fn print<O: Write>(
     world: &World<'_>,
     events: &[WorldEvent],
@@ -270,45 +230,13 @@ fn print<O: Write>(
 ) -> Result<(), PrintFault>
     ensures printed { Prints (O.contents output.old) result (O.contents output.new)
         (run_lines events.now steps.now world.now) }
-    ensures refused { IfErr result
-        (λ why. IsUnprinted (O.contents output.new) (of_print why)) }
+    ensures put { OnOk result
+        (IsPut events.now steps.now world.now output.old output.new) }
+    ensures unput { IfErr result
+        (λ why. IsUnput events.now steps.now world.now why output.old output.new) }
 {
-    put_steps(events, steps, output)?;
-    put_tables(world, output)?;
-    flush(output)?;
-    Ok(())
-}
-
-/// Prints steps.
-#[tactic(auto, unfolding(crate::specs::Refusals::WasUnput))]
-fn put_steps<O: Write>(events: &[WorldEvent], steps: &[Step], output: &mut O) -> io::Result<()>
-    ensures printed { Prints (O.contents output.old) result (O.contents output.new)
-        (steps_lines no_counts events.now steps.now) }
-    ensures refused { OnErr result (WasUnput events.now steps.now
-        (O.contents output.old) (O.contents output.new)) }
-{
-    print_steps(output, events, steps)
-}
-
-/// Prints a world's tables.
-#[tactic(auto, unfolding(crate::specs::Refusals::WasUntabled))]
-fn put_tables<O: Write>(world: &World<'_>, output: &mut O) -> Result<(), PrintFault>
-    ensures printed { Prints (O.contents output.old) result (O.contents output.new)
-        (world_lines world.now) }
-    ensures refused { IfErr result (λ why. WasUntabled world.now why
-        (O.contents output.old) (O.contents output.new)) }
-{
-    world.tables(output)
-}
-
-/// Hands on what was printed.
-#[tactic(auto, unfolding(crate::specs::Refusals::WasUnflushed))]
-fn flush<O: Write>(output: &mut O) -> io::Result<()>
-    ensures kept { Keeps (O.contents output.old) (O.contents output.new) }
-    ensures refused { OnErr result
-        (WasUnflushed (O.contents output.old) (O.contents output.new)) }
-{
-    output.flush()
+    print_steps(output, events, steps)?;
+    put_end(world, output)
 }
 
 /// How many events are run at a time.
@@ -326,33 +254,34 @@ fn steps_of<P: Progress>(
         (IsToldAll P.hears (length events.now) progress.old progress.new) }
     ensures overheard { OnErr result
         (IsToldPart P.hears (length events.now) progress.old progress.new) }
-    ensures unrun { OnErr result IsUnrun }
+    ensures unrun { OnErr result (IsUnrun world.old events.now) }
 {
     let mut steps = room_for(alloc, events)?;
     let mut rest = events;
     while !rest.is_empty() {
         progress.reached(steps.len(), events.len());
         let (next, others) = rest.split_at(rest.len().min(AT_A_TIME));
-        append(&mut steps, next_steps(world, next)?, next)?;
+        let more = next_steps(world, next)?;
+        append(&mut steps, more)?;
         rest = others;
     }
     Ok(steps)
 }
 
 /// Room for the steps of events.
-#[tactic(auto, unfolding(crate::specs::Refusals::WasUnrun))]
+#[tactic(auto, unfolding(crate::specs::Refusals::WasUnroomed))]
 fn room_for(alloc: Global, events: &[WorldEvent]) -> Result<Vec<Step>, NoMemory>
     ensures items { IfOk result (λ steps. steps.items ≡ []) }
-    ensures unrun { OnErr result (WasUnrun events.now) }
+    ensures unroomed { OnErr result (WasUnroomed events.now) }
 {
     Ok(Vec::with_capacity(alloc, events.len())?)
 }
 
 /// Puts the steps of events behind others.
-#[tactic(auto, unfolding(crate::specs::Refusals::WasUnrun))]
-fn append(steps: &mut Vec<Step>, more: Vec<Step>, _events: &[WorldEvent]) -> Result<(), NoMemory>
+#[tactic(auto, unfolding(crate::specs::Refusals::WasUnkept))]
+fn append(steps: &mut Vec<Step>, more: Vec<Step>) -> Result<(), NoMemory>
     ensures items { OnOk result (steps.new.items ≡ steps.old.items ++ more.items) }
-    ensures unrun { OnErr result (WasUnrun _events.now) }
+    ensures unkept { OnErr result (WasUnkept steps.old.items more.items) }
 {
     let mut more = more;
     steps.append(&mut more)?;
@@ -362,8 +291,8 @@ fn append(steps: &mut Vec<Step>, more: Vec<Step>, _events: &[WorldEvent]) -> Res
 /// What the next few events do to a world, in order.
 #[tactic(auto, unfolding(crate::specs::Refusals::WasUnrun))]
 fn next_steps(world: &mut World<'_>, events: &[WorldEvent]) -> Result<Vec<Step>, NoMemory>
-    ensures unrun { OnErr result (WasUnrun events.now) }
     ensures steps { IfOk result (λ steps. AreSteps world.old events.now steps.items world.new) }
+    ensures unrun { OnErr result (WasUnrun world.old events.now) }
 {
     world.run(events)
 }

@@ -1,16 +1,21 @@
 //! A run taken down as a capture.
-ghost use Rattle.std.specs.Prelude.{◌≡◌, true, false, OnOk, OnErr, IfOk, IsErr, IsOk};
+ghost use Rattle.std.specs.Prelude.{◌≡◌, true, false, Ok, OnOk, OnErr, IfOk, IsErr, IsErrAnd, IsOk};
 ghost use Rattle.std.specs.Io.KnownBytes.{Keeps};
 ghost use Rattle.frame_sim.specs.World.{World as Scenery};
 ghost use Rattle.frame_sim.specs.declared.events.Step.{Step as Given};
 ghost use Rattle.nat_types.specs.declared.events.WorldEvent.{WorldEvent as Happening};
-ghost use Rattle.simulation.specs.Captures.{Begins, Records, Refuses};
+ghost use Rattle.captures.specs.Captures.{head};
+ghost use Rattle.outlets.specs.Outputs.{WasFlushed};
+ghost use Rattle.frame_sim.specs.Asked.{WasPrinted};
+ghost use Rattle.simulation.specs.Captures.{Begins, IsHandedOn, IsUnbegun, Records, Refuses};
+ghost use Rattle.std.specs.IoError.{error_kind};
+ghost use Rattle.std.specs.declared.io.ErrorKind.TheVariants.{Other};
 
 use crate::Clocks;
-use crate::writing::write_event;
-use captures::write_head;
+use crate::writing::{put_head, write_event};
 use frame_sim::{Step, Tape, World};
 use nat_types::WorldEvent;
+use outlets::told_to_flush;
 use std::io::{self, ErrorKind, Write};
 
 /// A run is taken down as a capture (of `captures`): behind its head of each event first the packet that came with it, and
@@ -34,9 +39,11 @@ impl<W: Write + Drop> Capture<W> {
     pub fn begin(mut output: W) -> io::Result<Capture<W>>
         ensures begins { IfOk result (λ c. Begins (W.contents output) (W.contents c.output)
             c.clocks) }
+        ensures put { IfOk result (λ c. WasPrinted output head (Ok tt) c.output) }
+        ensures unput { OnErr result (IsUnbegun output) }
         ensures fresh { IfOk result (λ c. c.is_refused ≡ false) }
     {
-        write_head(&mut output)?;
+        put_head(&mut output)?;
         Ok(Capture {
             output,
             clocks: Clocks::founded(),
@@ -48,14 +55,16 @@ impl<W: Write + Drop> Capture<W> {
     ///
     /// # Errors
     ///
-    /// Where that is refused, or something was refused before.
+    /// Where that is refused, or something was refused before; it is asked for then, too.
     pub fn end(&mut self) -> io::Result<()>
+        ensures asked { IsHandedOn self.old.output self.old.is_refused result self.new.output }
         ensures kept { Keeps (W.contents self.old.output) (W.contents self.new.output) }
-        ensures refused { self.old.is_refused ≡ true → IsErr result }
+        ensures refused { self.old.is_refused ≡ true
+            → IsErrAnd result (λ error. error_kind error ≡ Other) }
         ensures remembered { self.new.is_refused ≡ self.old.is_refused }
         ensures clocks { self.new.clocks ≡ self.old.clocks }
     {
-        let handed_on = self.output.flush();
+        let handed_on = told_to_flush(&mut self.output);
         if self.is_refused {
             return Err(io::Error::from(ErrorKind::Other));
         }
@@ -64,15 +73,15 @@ impl<W: Write + Drop> Capture<W> {
 }
 
 impl<W: Write> Tape for Capture<W> {
-    ghost takes = { λ c w e s c2. Records (W.contents c.output) c.clocks w e s (W.contents c2.output) c2.clocks };
+    ghost takes = { λ c w e s c2. Records W.contents c.output c.clocks w e s c2.output c2.clocks };
 
-    ghost refuses = { λ c _ e s c2. Refuses c.clocks e s c2.clocks c2.is_refused };
+    ghost refuses = { λ c w e s c2. Refuses c.output c.clocks w e s c2.output c2.clocks c2.is_refused };
 
     fn take(&mut self, world: &World<'_>, event: &WorldEvent, step: &Step) -> io::Result<()>
-        ensures takes { OnOk result (Records (W.contents self.old.output) self.old.clocks world.now
-            event.now step.now (W.contents self.new.output) self.new.clocks) }
-        ensures refuses { OnErr result (Refuses self.old.clocks event.now step.now self.new.clocks
-            self.new.is_refused) }
+        ensures takes { OnOk result (Records W.contents self.old.output self.old.clocks world.now
+            event.now step.now self.new.output self.new.clocks) }
+        ensures refuses { OnErr result (Refuses self.old.output self.old.clocks world.now event.now
+            step.now self.new.output self.new.clocks self.new.is_refused) }
         ensures marked { IsErr result → self.new.is_refused ≡ true }
         ensures still { self.old.is_refused ≡ true → self.new.is_refused ≡ true }
         ensures unmarked { OnOk result (self.new.is_refused ≡ self.old.is_refused) }

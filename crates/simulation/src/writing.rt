@@ -1,12 +1,14 @@
 //! Writes the packets of an event.
-ghost use Rattle.std.specs.Prelude.{◌≡◌, map, option_map, OnOk};
+ghost use Rattle.std.specs.Prelude.{◌≡◌, ◌∷◌, [], map, option_map, OnOk};
 ghost use Rattle.std.specs.Io.KnownBytes.{Appends};
-ghost use Rattle.captures.specs.Captures.{packet_block, packet_blocks};
+ghost use Rattle.captures.specs.Captures.{captured_of, head, packet_block, packet_blocks};
+ghost use Rattle.frame_sim.specs.Asked.{WasPrinted};
+ghost use Rattle.simulation.specs.Captures.{Puts};
 ghost use Rattle.simulation.specs.Packets.{datagram_out, frame_out, gateway_of, handed_in, packet, packets_in, packets_of};
 ghost use Rattle.captures.specs.declared.interfaces.Direction.TheVariants.{Inbound};
 
 use crate::Clocks;
-use captures::{Direction, Interface, Packet, write_packet};
+use captures::{Direction, Interface, Packet, write_head, write_packet};
 use frame_sim::{Step, World, WorldFault};
 use nat_types::{GatewayId, WorldEvent};
 use output::Out;
@@ -20,8 +22,10 @@ pub(crate) fn write_event<W: Write>(
     event: &WorldEvent,
     step: &Step,
 ) -> io::Result<()>
-    ensures { OnOk result (Appends (W.contents output.old) (W.contents output.new)
+    ensures written { OnOk result (Appends (W.contents output.old) (W.contents output.new)
         (packet_blocks (packets_of clocks.now world.now event.now step.now))) }
+    ensures put { Puts (packets_of clocks.now world.now event.now step.now) output.old result
+        output.new }
 {
     let id = gateway_of(event);
     let moment = clocks.moment(id);
@@ -55,8 +59,10 @@ fn write_came<W: Write>(
     event: &WorldEvent,
     step: &Step,
 ) -> io::Result<()>
-    ensures { OnOk result (Appends (W.contents output.old) (W.contents output.new)
+    ensures written { OnOk result (Appends (W.contents output.old) (W.contents output.new)
         (packet_blocks (packets_in moment world.now event.now step.now))) }
+    ensures put { Puts (packets_in moment world.now event.now step.now) output.old result
+        output.new }
 {
     match event {
         WorldEvent::Frame(id, side, bytes) => {
@@ -96,8 +102,10 @@ fn write_inbound<W: Write>(
     moment: u64,
     bytes: &[u8],
 ) -> io::Result<()>
-    ensures { OnOk result (Appends (W.contents output.old) (W.contents output.new)
+    ensures written { OnOk result (Appends (W.contents output.old) (W.contents output.new)
         (packet_block (packet interface Inbound moment bytes.now))) }
+    ensures put { Puts (packet interface Inbound moment bytes.now ∷ []) output.old result
+        output.new }
 {
     let packet = Packet {
         interface,
@@ -105,13 +113,14 @@ fn write_inbound<W: Write>(
         moment,
         bytes,
     };
-    write_packet(output, &packet)
+    put_packet(output, &packet)
 }
 
 /// Writes the frames that a gateway sent, in order.
 fn write_frames<W: Write>(output: &mut W, id: GatewayId, moment: u64, out: &Out) -> io::Result<()>
-    ensures { OnOk result (Appends (W.contents output.old) (W.contents output.new)
+    ensures written { OnOk result (Appends (W.contents output.old) (W.contents output.new)
         (packet_blocks (map (frame_out id moment) out.now.frames))) }
+    ensures put { Puts (map (frame_out id moment) out.now.frames) output.old result output.new }
 {
     for frame in out.frames() {
         let packet = Packet {
@@ -120,7 +129,7 @@ fn write_frames<W: Write>(output: &mut W, id: GatewayId, moment: u64, out: &Out)
             moment,
             bytes: frame.bytes,
         };
-        write_packet(output, &packet)?;
+        put_packet(output, &packet)?;
     }
     Ok(())
 }
@@ -132,8 +141,10 @@ fn write_datagrams<W: Write>(
     moment: u64,
     out: &Out,
 ) -> io::Result<()>
-    ensures { OnOk result (Appends (W.contents output.old) (W.contents output.new)
+    ensures written { OnOk result (Appends (W.contents output.old) (W.contents output.new)
         (packet_blocks (map (datagram_out id moment) out.now.datagrams))) }
+    ensures put { Puts (map (datagram_out id moment) out.now.datagrams) output.old result
+        output.new }
 {
     for datagram in out.datagrams() {
         let packet = Packet {
@@ -142,7 +153,27 @@ fn write_datagrams<W: Write>(
             moment,
             bytes: datagram,
         };
-        write_packet(output, &packet)?;
+        put_packet(output, &packet)?;
     }
     Ok(())
+}
+
+/// Has an output take the block of a packet.
+#[tactic(auto, unfolding(frame_sim::specs::Asked::WasPrinted))]
+fn put_packet<W: Write>(output: &mut W, packet: &Packet<'_>) -> io::Result<()>
+    ensures written { OnOk result (Appends (W.contents output.old) (W.contents output.new)
+        (packet_block (captured_of packet.now))) }
+    ensures put { WasPrinted output.old (packet_block (captured_of packet.now)) result output.new }
+{
+    write_packet(output, packet)
+}
+
+/// Has an output take the head of a capture.
+#[tactic(auto, unfolding(frame_sim::specs::Asked::WasPrinted))]
+pub(crate) fn put_head<W: Write>(output: &mut W) -> io::Result<()>
+    ensures written { OnOk result
+        (Appends (W.contents output.old) (W.contents output.new) head) }
+    ensures put { WasPrinted output.old head result output.new }
+{
+    write_head(output)
 }

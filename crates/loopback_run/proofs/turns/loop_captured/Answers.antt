@@ -1,11 +1,10 @@
-use Rattle.std.proofs.Common.{List, inr, refl, subst, sym}
+use Rattle.std.proofs.Common.{List, inl, inr, refl, subst, sym}
+use Rattle.std.proofs.lemmas.Result.{err_from_is_err_and}
 use Rattle.nat_types.specs.declared.events.WorldEvent.{WorldEvent}
+use Rattle.frame_sim.proofs.Offered.{in_err, in_ok, when_done}
 use Rattle.loopback_run.specs.Loops.{IsLoop}
-use Rattle.loopback_run.specs.Refusals.{TapeRefuses}
-use Rattle.loopback_run.specs.Stops.{StopsLoop}
+use Rattle.loopback_run.specs.Outputs.{HasPut}
 use Rattle.loopback_run.specs.Tapes.{IsTapedLoop, StopsTapedLoop}
-use Rattle.loopback_run.proofs.Looping.{in_ok, when_done}
-use Rattle.loopback_run.proofs.Stopping.{in_err, leaves_refused, leaves_stopped, never_asked_unopened, taped_until}
 use Rattle.loopback_run.proofs.Telling.{told_port}
 use Rattle.loopback_run.proofs.turns.loop_captured.Goals as goal
 
@@ -33,24 +32,9 @@ returns-in-Ok-clause-run g c = in_ok c.play.result (λ n h. record {
   run = subst (λ (es : List WorldEvent). IsLoop g.P.Channel.passes c.in_ok-job.job.settings es c.open.new.self c.play.new.passage (g.O.Write.contents c.args.output.now) (g.O.Write.contents c.play.new.output) n) c.as_slice.ensures.value h;
 }) c.play.ensures.run
 
-pub returns-clause-leaves : goal.returns-clause-leaves
-returns-clause-leaves g c = rw c.of_port.ensures (leaves_refused _ _ _ _ _ _ _ _ _ _ _ c.in-Err.fault (record {
-  texts = record { job = c.in_ok-job.job; is = c.in_ok-job.ensures.job; good = c.in_ok-job.ensures.good; apart = sym c.in_default.ensures };
-  refused = c.in-Err.ensures.refuses;
-  unwritten = refl;
-}))
-
 pub returns-clause-untouched : goal.returns-clause-untouched
 returns-clause-untouched g c none =
     absurd (none (record { job = c.in_ok-job.job; is = c.in_ok-job.ensures.job; good = c.in_ok-job.ensures.good; apart = sym c.in_default.ensures }))
-
-pub returns-in-Ok-clause-leaves : goal.returns-in-Ok-clause-leaves
-returns-in-Ok-clause-leaves g c = in_err c.play.result (λ e h. leaves_stopped _ _ _ _ _ _ _ _ _ _ _ e (record {
-  texts = record { job = c.in_ok-job.job; is = c.in_ok-job.ensures.job; good = c.in_ok-job.ensures.good; apart = sym c.in_default.ensures };
-  open_passage = c.open.new.self;
-  opened = c.in-Ok.ensures.opens;
-  stopped = subst (λ (es : List WorldEvent). StopsLoop (TapeRefuses g.T.Tape.refuses) g.P.Channel.passes g.O.Write.contents c.in_ok-job.job.settings es c.open.new.self c.play.new.passage c.args.output.now c.play.new.output e) c.as_slice.ensures.value h;
-})) c.play.ensures.stops
 
 pub returns-in-Ok-clause-untouched : goal.returns-in-Ok-clause-untouched
 returns-in-Ok-clause-untouched g c none =
@@ -66,15 +50,57 @@ returns-in-Ok-clause-taped g c = when_done c.play.result (λ h. record {
   taped = subst (λ (es : List WorldEvent). IsTapedLoop g.P.Channel.passes g.T.Tape.takes c.in_ok-job.job.settings es c.open.new.self c.play.new.passage c.args.tape.now c.play.new.tape) c.as_slice.ensures.value h;
 }) c.play.ensures.taped
 
-pub returns-clause-broken : goal.returns-clause-broken
-returns-clause-broken g c = rw c.of_port.ensures (never_asked_unopened _ _ _ _ _ _ _ _ _ _ _ _ _ c.in-Err.fault (record {
+pub returns-in-Ok-clause-put : goal.returns-in-Ok-clause-put
+returns-in-Ok-clause-put g c = when_done c.play.result (λ h. record {
   texts = record { job = c.in_ok-job.job; is = c.in_ok-job.ensures.job; good = c.in_ok-job.ensures.good; apart = sym c.in_default.ensures };
-  refused = c.in-Err.ensures.refuses;
-  unwritten = refl;
-}))
+  open_passage = c.open.new.self;
+  opened = c.in-Ok.ensures.opens;
+  put = subst (λ (es : List WorldEvent). HasPut g.P.Channel.passes c.in_ok-job.job.settings es c.open.new.self c.play.new.passage c.args.output.now c.play.new.output) c.as_slice.ensures.value h;
+}) c.play.ensures.put
+
+pub returns-in_err-job-clause-broken : goal.returns-in_err-job-clause-broken
+returns-in_err-job-clause-broken g c =
+    let p = err_from_is_err_and c.from_residual.result c.from_residual.ensures.1 in
+    rw (p.1, p.2) (inl (refl, inl (inl c.in_err-job.ensures.unheld, (refl, refl))))
+
+pub returns-in-Some-clause-broken : goal.returns-in-Some-clause-broken
+returns-in-Some-clause-broken g c = inl (
+  refl,
+  inl (
+    inr (
+      c.in-Some.key,
+      (
+        refl,
+        record {
+          settings = c.in_ok-job.job.settings;
+          held = c.in_ok-job.ensures.job.held;
+          good = c.in_ok-job.ensures.good;
+          clash = sym c.in-Some.ensures;
+        },
+      ),
+    ),
+    (refl, refl),
+  ),
+)
+
+pub returns-clause-broken : goal.returns-clause-broken
+returns-clause-broken g c = inl (
+  refl,
+  inr (
+    c.in-Err.fault,
+    (
+      c.of_port.ensures,
+      record {
+        texts = record { job = c.in_ok-job.job; is = c.in_ok-job.ensures.job; good = c.in_ok-job.ensures.good; apart = sym c.in_default.ensures };
+        refused = c.in-Err.ensures.refuses;
+        unwritten = refl;
+      },
+    ),
+  ),
+)
 
 pub returns-in-Ok-clause-broken : goal.returns-in-Ok-clause-broken
-returns-in-Ok-clause-broken g c = in_err c.play.result (λ e h. taped_until _ _ _ _ _ _ _ _ _ _ _ _ _ _ e (record {
+returns-in-Ok-clause-broken g c = in_err c.play.result (λ e h. inr (record {
   texts = record { job = c.in_ok-job.job; is = c.in_ok-job.ensures.job; good = c.in_ok-job.ensures.good; apart = sym c.in_default.ensures };
   open_passage = c.open.new.self;
   opened = c.in-Ok.ensures.opens;

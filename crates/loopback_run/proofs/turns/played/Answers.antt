@@ -1,21 +1,34 @@
-use Rattle.std.proofs.Common.{◌∙◌, Bool, ap, inr, if◌then◌else◌}
-use Rattle.std.proofs.lemmas.Result.{err_from_is_err_and}
-use Rattle.loopback_run.proofs.Stopping.{stops_printing, tables_begun, tables_kept, tables_printed}
+use Rattle.std.proofs.Common.{◌∙◌, Bool, ap, if◌then◌else◌, inl, inr, refl}
+use Rattle.std.proofs.KnownBytes.{Appends-trans}
+use Rattle.faults.specs.Faults.{of_print}
+use Rattle.faults.specs.declared.faults.Fault.TheVariants.{NotWritten}
+use Rattle.frame_sim.proofs.Offered.{handed_on}
+use Rattle.loopback_run.specs.Tapes.{StopsTaped}
+use Rattle.loopback_run.proofs.Taping.{turns_of}
 use Rattle.loopback_run.proofs.turns.played.Goals as goal
 
-pub returns-in_err-put_tables-clause-stops : goal.returns-in_err-put_tables-clause-stops
-returns-in_err-put_tables-clause-stops g c =
-    let p = err_from_is_err_and c.from_residual-in_err-put_tables.result c.from_residual-in_err-put_tables.ensures.1 in
-    let ended = tables_begun _ _ _ _ _ _ c.turned.new.world c.turned.new.passage c.turned.new.tape _ _ _ c.in_ok-refused.refused _
-    c.in_ok-refused.ensures.had c.in_err-put_tables.ensures.printed c.in_err-put_tables.ensures.refused in
-    rw (p.1, p.2) (stops_printing _ _ _ _ _ _ _ _ _ _ _ c.in_err-put_tables.field-0.0 ended)
+pub returns-in_err-refused-clause-stops : goal.returns-in_err-refused-clause-stops
+returns-in_err-refused-clause-stops g c = handed_on c.from_residual.result
+    (StopsTaped g.P.Channel.passes g.T.Tape.takes g.T.Tape.refuses g.O.Write.contents c.args.world.now c.args.passage.now c.args.tape.now c.args.events.now c.turned.new.passage c.turned.new.tape c.args.output.now c.turned.new.output)
+    NotWritten c.from_residual.ensures.1 (inl (refl, c.in_err-refused.ensures.broken))
 
-pub returns-in_err-flush-clause-stops : goal.returns-in_err-flush-clause-stops
-returns-in_err-flush-clause-stops g c =
-    let p = err_from_is_err_and c.from_residual-in_err-flush.result c.from_residual-in_err-flush.ensures.1 in
-    let ended = tables_kept _ _ _ _ _ _ c.turned.new.world c.turned.new.passage c.turned.new.tape _ _ _ _ c.in_ok-refused.refused c.in_ok-refused.ensures.had
-    c.in_ok-put_tables.ensures.printed c.in_err-flush.ensures.kept c.in_err-flush.ensures.refused in
-    rw (p.1, p.2) (inr ended)
+pub returns-in_err-put_end-clause-stops : goal.returns-in_err-put_end-clause-stops
+returns-in_err-put_end-clause-stops g c = handed_on c.from_residual-in_err-put_end.result
+    (StopsTaped g.P.Channel.passes g.T.Tape.takes g.T.Tape.refuses g.O.Write.contents c.args.world.now c.args.passage.now c.args.tape.now c.args.events.now c.turned.new.passage c.turned.new.tape c.args.output.now c.put_end.new.output)
+    (of_print c.in_err-put_end.field-0.0) c.from_residual-in_err-put_end.ensures.1
+    (inr (
+      c.in_err-put_end.field-0.0,
+      (
+        refl,
+        record {
+          world = c.turned.new.world;
+          some = c.turned.new.output;
+          turned = c.in_ok-refused.ensures.had.had;
+          tables = c.in_err-put_end.ensures.printed;
+          refused = c.in_err-put_end.ensures.unput;
+        },
+      ),
+    ))
 
 pub returns-clause-run : goal.returns-clause-run
 returns-clause-run g c =
@@ -23,6 +36,18 @@ returns-clause-run g c =
     record {
       turns = had.turns;
       taken = had.taken;
-      text = tables_printed _ _ _ _ _ _ c.turned.new.world c.turned.new.passage c.turned.new.tape _ _ _ _ had c.in_ok-put_tables.ensures.printed c.in_ok-flush.ensures.kept;
+      text = Appends-trans _ _ _ _ _ had.text c.in_ok-put_end.ensures.printed;
       is = c.status_of.ensures ∙ ap (λ (b : Bool). if b then 3 else 0) c.in_ok-refused.ensures.had.refusals;
+    }
+
+pub returns-clause-put : goal.returns-clause-put
+returns-clause-put g c =
+    let had = c.in_ok-refused.ensures.had.had in
+    record {
+      turns = had.turns;
+      last = c.turned.new.world;
+      taken = turns_of _ _ _ _ _ _ had.turns _ _ _ had.taken;
+      middle = c.turned.new.output;
+      put = had.put;
+      ended = c.in_ok-put_end.ensures.put;
     }

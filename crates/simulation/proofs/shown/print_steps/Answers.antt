@@ -3,9 +3,11 @@ use Rattle.std.proofs.lemmas.List.{drop_all, drop_more}
 use Rattle.nat_types.specs.declared.events.WorldEvent.{WorldEvent}
 use Rattle.frame_sim.specs.declared.events.Step.{Step}
 use Rattle.frame_sim.specs.Texts.{refusal_text}
-use Rattle.printing.specs.Lines.{Counts, counts_after, step_lines}
+use Rattle.printing.specs.Lines.{Counts, counts_after, no_counts, step_lines}
 use Rattle.outlets.proofs.Offered.{begun_more, err_begun, part_more, part_none, part_whole}
+use Rattle.frame_sim.proofs.Offered.{on_err}
 use Rattle.simulation.specs.Texts.{steps_lines}
+use Rattle.simulation.proofs.Putting.{puts_end, puts_first, puts_last, puts_next, unput_next}
 use Rattle.simulation.proofs.shown.print_steps.Goals as goal
 
 -- the lines of an event and its step come first
@@ -24,28 +26,50 @@ none counts [] ss is = refl
 none counts (e ∷ es) ss is = rw is refl
 
 pub loop-event-init : goal.loop-event-init
-loop-event-init g c = rw c.new-printer.ensures (part_none _ _)
+loop-event-init g c = record {
+  part = rw c.new-printer.ensures (part_none _ _);
+  puts = puts_first _ _ _ _ _ c.new-printer.ensures;
+}
 
 pub loop-event-preserved : goal.loop-event-preserved
 loop-event-preserved g c =
     let l = c.loop-event in
     let e = c.event-item.result in
     let events = drop_more c.args.events.now l.event-index e c.loop-event-test.true ∙ ap (λ x. x ∷ drop (l.event-index + 1) c.args.events.now) (sym c.event-item.is) in
-    rw c.in_ok-step.ensures.counted (part_more _ _ _ _ _ _ _ l.invariant (next l.printer _ _ l.rest.now _ e _ events c.in-Some.ensures.cases.0) c.in_ok-step.ensures.printed)
+    record {
+      part = rw c.in_ok-put_step.ensures.counted (part_more _ _ _ _ _ _ _ l.invariant.part (next l.printer _ _ l.rest.now _ e _ events c.in-Some.ensures.cases.0) c.in_ok-put_step.ensures.printed);
+      puts = puts_next no_counts c.args.output.now c.args.events.now c.args.steps.now l.printer _ l.output _ _ l.rest.now _ e _ _ events c.in-Some.ensures.cases.0 c.in_ok-put_step.ensures.counted c.in_ok-put_step.ensures.put l.invariant.puts;
+    }
 
-pub returns-in_err-step : goal.returns-in_err-step
-returns-in_err-step g c =
+pub returns-in_err-put_step-clause-printed : goal.returns-in_err-put_step-clause-printed
+returns-in_err-put_step-clause-printed g c =
     let l = c.loop-event in
     let e = c.event-item.result in
     let events = drop_more c.args.events.now l.event-index e c.loop-event-test.true ∙ ap (λ x. x ∷ drop (l.event-index + 1) c.args.events.now) (sym c.event-item.is) in
     err_begun c.from_residual.result _ _ _ c.from_residual.ensures.0
-    (begun_more _ _ _ _ _ _ _ l.invariant (next l.printer _ _ l.rest.now _ e _ events c.in-Some.ensures.cases.0) c.in_err-step.ensures.printed)
+    (begun_more _ _ _ _ _ _ _ l.invariant.part (next l.printer _ _ l.rest.now _ e _ events c.in-Some.ensures.cases.0) c.in_err-put_step.ensures.printed)
 
-pub returns-in_default : goal.returns-in_default
-returns-in_default g c = part_whole _ _ _ _ c.loop-event.invariant (none _ _ _ (empty _ c.in_default.ensures.cases))
+pub returns-in_err-put_step-clause-unput : goal.returns-in_err-put_step-clause-unput
+returns-in_err-put_step-clause-unput g c =
+    let l = c.loop-event in
+    let e = c.event-item.result in
+    let events = drop_more c.args.events.now l.event-index e c.loop-event-test.true ∙ ap (λ x. x ∷ drop (l.event-index + 1) c.args.events.now) (sym c.event-item.is) in
+    on_err c.from_residual.result (unput_next no_counts c.args.output.now c.args.events.now c.args.steps.now l.printer l.output _ _ l.rest.now _ e _ _ events c.in-Some.ensures.cases.0
+    (c.in_err-put_step.field-0.0, c.in_err-put_step.ensures.put) l.invariant.puts)
 
-pub returns : goal.returns
-returns g c =
+pub returns-in_default-clause-printed : goal.returns-in_default-clause-printed
+returns-in_default-clause-printed g c = part_whole _ _ _ _ c.loop-event.invariant.part (none _ _ _ (empty _ c.in_default.ensures.cases))
+
+pub returns-in_default-clause-put : goal.returns-in_default-clause-put
+returns-in_default-clause-put g c = puts_last _ _ _ _ _ _ _ c.loop-event.rest.now (empty _ c.in_default.ensures.cases) c.loop-event.invariant.puts
+
+pub returns-clause-printed : goal.returns-clause-printed
+returns-clause-printed g c =
     let l = c.loop-event in
     let none_left = drop_all c.loop-event.event-index c.args.events.now c.loop-event-test.false in
-    part_whole _ _ _ _ l.invariant (rw none_left refl)
+    part_whole _ _ _ _ l.invariant.part (rw none_left refl)
+
+pub returns-clause-put : goal.returns-clause-put
+returns-clause-put g c =
+    let l = c.loop-event in
+    puts_end _ _ _ _ _ _ _ l.rest.now (drop_all l.event-index c.args.events.now c.loop-event-test.false) l.invariant.puts

@@ -1,11 +1,10 @@
-use Rattle.std.proofs.Common.{IfErr, List, OnErr, inl, length, refl, subst}
+use Rattle.std.proofs.Common.{IfErr, List, OnErr, OnOk, inl, length, refl, subst}
 use Rattle.std.proofs.lemmas.Result.{err_from_is_err_and}
-use Rattle.frame_sim.specs.World.{founding}
 use Rattle.nat_types.specs.declared.events.WorldEvent.{WorldEvent}
-use Rattle.simulation.specs.Tapes.{IsTapedRun, StopsTaped}
+use Rattle.simulation.specs.Tapes.{HasPut, IsTapedRun, StopsTaped}
 use Rattle.simulation.specs.Watched.{IsToldAll, IsToldPart}
-use Rattle.simulation.specs.Stops.{Begins}
-use Rattle.simulation.proofs.Playing.{begins_script, in_ok, leaves_begun, leaves_texts, on_err, stops_script, when_done}
+use Rattle.frame_sim.proofs.Offered.{in_ok, on_err, when_done}
+use Rattle.simulation.proofs.Playing.{begins_script, puts_script, stops_script}
 use Rattle.simulation.proofs.Telling.{overheard}
 use Rattle.simulation.proofs.simulation.simulate_captured.Goals as goal
 
@@ -17,18 +16,9 @@ returns-clause-run g c = in_ok c.play.result (λ n h. record {
   run = subst (λ (es : List WorldEvent). IsTapedRun g.T.Tape.takes c.in_ok-job.job.settings es c.args.tape.now c.play.new.tape (g.O.Write.contents c.args.output.now) (g.O.Write.contents c.play.new.output) n) c.as_slice.ensures.value h;
 }) c.play.ensures.run
 
-pub returns-clause-begun : goal.returns-clause-begun
-returns-clause-begun g c = begins_script c.play.result _ _ c.in_ok-job.job _ _ c.in_ok-job.ensures.job
-    (subst (λ (es : List WorldEvent). OnErr c.play.result (Begins (founding c.in_ok-job.job.settings) es (g.O.Write.contents c.args.output.now) (g.O.Write.contents c.play.new.output))) c.as_slice.ensures.value c.play.ensures.begun)
-
-pub returns-in_err-job-clause-leaves : goal.returns-in_err-job-clause-leaves
-returns-in_err-job-clause-leaves g c =
-    let p = err_from_is_err_and c.from_residual.result c.from_residual.ensures.1 in
-    rw (p.1, p.2) (leaves_texts _ _ _ c.in_err-job.field-0.0 c.in_err-job.ensures.told c.in_err-job.ensures.read c.in_err-job.ensures.unread)
-
-pub returns-clause-leaves : goal.returns-clause-leaves
-returns-clause-leaves g c = leaves_begun c.play.result _ _ c.in_ok-job.job _ _ c.in_ok-job.ensures.job c.in_ok-job.ensures.good c.play.ensures.refused
-    (subst (λ (es : List WorldEvent). OnErr c.play.result (Begins (founding c.in_ok-job.job.settings) es (g.O.Write.contents c.args.output.now) (g.O.Write.contents c.play.new.output))) c.as_slice.ensures.value c.play.ensures.begun)
+pub returns-clause-put : goal.returns-clause-put
+returns-clause-put g c = puts_script c.play.result _ _ c.in_ok-job.job _ _ c.in_ok-job.ensures.job c.in_ok-job.ensures.good
+    (subst (λ (es : List WorldEvent). OnOk c.play.result (HasPut c.in_ok-job.job.settings es c.args.output.now c.play.new.output)) c.as_slice.ensures.value c.play.ensures.put)
 
 pub returns-clause-watched : goal.returns-clause-watched
 returns-clause-watched g c = when_done c.play.result (λ h. record {
@@ -50,8 +40,12 @@ returns-in_err-job-clause-overheard g c = on_err c.from_residual.result (0, (0, 
 pub returns-in_err-job-clause-stopped : goal.returns-in_err-job-clause-stopped
 returns-in_err-job-clause-stopped g c =
     let p = err_from_is_err_and c.from_residual.result c.from_residual.ensures.1 in
-    rw (p.1, p.2) (inl (c.in_err-job.ensures.read, ((λ same. inl (_, (_, c.in_err-job.ensures.unread same))), (refl, refl))))
+    rw (p.1, p.2) (inl (c.in_err-job.ensures.unheld, (refl, refl)))
 
 pub returns-clause-stopped : goal.returns-clause-stopped
-returns-clause-stopped g c = stops_script c.play.result _ _ _ _ _ c.in_ok-job.job _ _ _ _ c.in_ok-job.ensures.job
-    (subst (λ (es : List WorldEvent). IfErr c.play.result (StopsTaped g.T.Tape.takes g.T.Tape.refuses g.O.Write.contents (founding c.in_ok-job.job.settings) es c.args.tape.now c.play.new.tape c.args.output.now c.play.new.output)) c.as_slice.ensures.value c.play.ensures.stopped)
+returns-clause-stopped g c = stops_script c.play.result _ _ _ _ _ c.in_ok-job.job _ _ _ _ c.in_ok-job.ensures.job c.in_ok-job.ensures.good
+    (subst (λ (es : List WorldEvent). IfErr c.play.result (StopsTaped g.T.Tape.takes g.T.Tape.refuses g.O.Write.contents c.in_ok-job.job.settings es c.args.tape.now c.play.new.tape c.args.output.now c.play.new.output)) c.as_slice.ensures.value c.play.ensures.stopped)
+
+pub returns-clause-begun : goal.returns-clause-begun
+returns-clause-begun g c = begins_script c.play.result g.T.Tape.takes g.T.Tape.refuses g.O.Write.contents c.args.settings.now c.args.script.now
+    c.args.tape.now c.play.new.tape c.args.output.now c.play.new.output (returns-clause-stopped g c)

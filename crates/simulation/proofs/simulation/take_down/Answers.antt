@@ -1,6 +1,6 @@
 use Rattle.std.proofs.Common.{◌∙◌, ap, sym, ◌∷◌, drop, ◌+◌}
 use Rattle.std.proofs.lemmas.List.{drop_more}
-use Rattle.simulation.proofs.Playing.{on_err}
+use Rattle.frame_sim.proofs.Offered.{on_err}
 use Rattle.simulation.proofs.Taking.{leads_first, leads_next, refused_next}
 use Rattle.simulation.proofs.simulation.take_down.Goals as goal
 

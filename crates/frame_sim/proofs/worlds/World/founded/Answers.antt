@@ -1,6 +1,6 @@
 use Rattle.frame_sim.specs.Status.{IsNew}
 use Rattle.frame_sim.proofs.worlds.World.founded.Goals as goal
 
-pub returns : goal.returns
+pub returns-clause-new : goal.returns-clause-new
 unfolding IsNew
-returns c = c.new.ensures
+returns-clause-new c = c.new.ensures

@@ -1,8 +1,7 @@
 use Rattle.std.proofs.Common.{take, arith, subst}
 use Rattle.std.proofs.lemmas.List.{take_more}
-use Rattle.output.specs.Output.{none_told}
 use Rattle.nat_types.specs.declared.events.WorldEvent.{WorldEvent}
-use Rattle.frame_sim.specs.Runs.{Answers}
+use Rattle.frame_sim.specs.Runs.{Gives}
 use Rattle.frame_sim.proofs.Runs.{steps-push}
 use Rattle.frame_sim.proofs.worlds.World.run.Goals as goal
 
@@ -11,7 +10,7 @@ loop-event-preserved c =
     let e = c.event-item.result in
     let i = c.loop-event.event-index in
     let s = c.step-step.result in
-    let step = subst (λ (x : WorldEvent). Answers c.loop-event.self x none_told s.answer s.out c.step-step.new.self) c.event-item.is c.step-step.ensures in
+    let step = subst (λ (x : WorldEvent). Gives c.loop-event.self x s c.step-step.new.self) c.event-item.is c.step-step.ensures in
     let more = take_more c.args.events.now i e c.loop-event-test.true in
     record {
       room = omega (arith, c.push_reserved.ensures.len, c.push_reserved.ensures.capacity, c.loop-event.invariant.room, c.loop-event-test.true);
