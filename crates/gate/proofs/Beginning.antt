@@ -1,8 +1,11 @@
 -- The boot of a gateway that begins.
-use Rattle.std.proofs.Common.{IsErrOf, ◌≡◌, ◌⊎◌, inl, inr, ◌<◌, ◌≤◌, ℕ, Bool, true, false, Result, Ok, Err, refl, sym, ap, ◌∙◌, subst, arith, if◌then◌else◌, ◌++◌, List, [], Option, codes, decimal, append_assoc, append-nil}
+use Rattle.std.proofs.Common.{IsErrOf, ◌≡◌, ◌≢◌, ◌⊎◌, inl, inr, ◌<◌, ◌≤◌, ℕ, Bool, true, false, Result, Ok, Err, OnErr, OnOk, refl, sym, ap, ◌∙◌, subst, arith, if◌then◌else◌, ◌++◌, List, [], Option, codes, decimal, append-nil}
 use Rattle.std.proofs.lemmas.Bool.{cases_lt}
 use Rattle.std.proofs.KnownBytes.{Appends-kept}
 use Rattle.std.specs.Io.KnownBytes.{Appends, Keeps}
+use Rattle.std.specs.declared.io.Error.{Error}
+use Rattle.outlets.proofs.Offered.{begun_more, part_more, part_none, prints_rest}
+use Rattle.outlets.specs.Outputs.{WasFlushed, WasPut}
 use Rattle.outlets.specs.Printed.{IsBegun, Prints}
 use Rattle.nat_types.specs.declared.gateways.GatewayId.{GatewayId}
 use Rattle.settings.specs.declared.whole.Settings.{Settings}
@@ -14,8 +17,11 @@ use Rattle.boot_store.specs.Moment.{Moment}
 use Rattle.boot_store.specs.declared.faults.BootFault.{BootFault}
 use Rattle.boot_store.specs.declared.faults.BootFault.TheVariants as boot
 use Rattle.box_words.specs.Faults.{of_boot}
+use Rattle.faults.specs.declared.faults.Fault.TheVariants as run
 use Rattle.box_words.specs.declared.refusals.BoxFault.{BoxFault}
-use Rattle.gate.specs.Boots.{HasBoot, IsStart, TellsNumber, boot_line}
+use Rattle.box_words.specs.declared.refusals.BoxFault.TheVariants as fault
+use Rattle.gate.specs.Boots.{HasBoot, IsStart, TellsNumber}
+use Rattle.gate.specs.Printing.{HasLine, HasNumber, HasWord, IsLinePrinted, IsLineRefused}
 
 of_begun : (settings : Settings) (id : GatewayId) (hashers : Hashers) (boot : ℕ) → HasBoot boot (hashing hashers (begun settings id boot))
 unfolding HasBoot begun
@@ -70,20 +76,24 @@ tells_number found now now2 before after reason why told later failed decided = 
     by (inl less) = inl (told ∙ ap of_boot (same (failed less)), less)
     by (inr most) = inr (reason, (told, decided (omega (arith, later, most))))
 
+-- what is told of a boot file isn't told of output
+pub unasked_of_boot : (reason : BootFault) (why : BoxFault) → why ≡ of_boot reason → why ≢ fault.Run run.NotWritten
+unasked_of_boot boot.Device why is = λ e. cc
+unasked_of_boot boot.Damaged why is = λ e. cc
+unasked_of_boot boot.BootsUsedUp why is = λ e. cc
+unasked_of_boot boot.FoundTwice why is = λ e. cc
+
 -- ---- the line of a boot
 
-three : (a b c : List ℕ) → a ++ b ++ c ≡ a ++ (b ++ (c ++ []))
-three a b c = simp (append_assoc, append-nil)
+-- what is printed behind a text that was
+pub prints_behind : {T E : Type 0} (r : Result T E) (a b c : Option (List ℕ)) (first next : List ℕ) → Appends a b first → Prints b r c next
+    → Prints a r c (first ++ next)
+prints_behind r a b c first next had h =
+    prints_rest r a b c (first ++ next) next (part_more a a b (first ++ next) (first ++ next) first next (part_none a (first ++ next)) refl had) h
 
--- it is written by three texts
-pub boot_split : (boot : ℕ) (digits : List ℕ) → digits ≡ decimal boot → boot_line boot ≡ codes "boot " ++ (digits ++ (codes "\n" ++ []))
-boot_split boot digits is = rw is (three (codes "boot ") (decimal boot) (codes "\n"))
-
-pub begun_as : (a b : Option (List ℕ)) (text same : List ℕ) → text ≡ same → IsBegun a b same → IsBegun a b text
-begun_as a b text same is h = subst (λ (l : List ℕ). IsBegun a b l) (sym is) h
-
-pub appends_as : (a b : Option (List ℕ)) (text same : List ℕ) → text ≡ same → Appends a b same → Appends a b text
-appends_as a b text same is h = subst (λ (l : List ℕ). Appends a b l) (sym is) h
+-- a beginning of the first is one of both
+pub begun_before : (a b : Option (List ℕ)) (first next : List ℕ) → IsBegun a b first → IsBegun a b (first ++ next)
+begun_before a b first next h = begun_more a a b (first ++ next) (first ++ next) first next (part_none a (first ++ next)) refl h
 
 -- all of a text is a beginning of it too
 whole_begun : (a b : Option (List ℕ)) (text : List ℕ) → Appends a b text → IsBegun a b text
@@ -93,3 +103,39 @@ whole_begun a b text h = record { rest = []; part = record { written = text; spl
 pub ended : {T E : Type 0} (r : Result T E) (a b c : Option (List ℕ)) (text : List ℕ) → Appends a b text → Keeps b c → Prints a r c text
 ended (Ok x) a b c text h kept = Appends-kept a b c text h kept
 ended (Err e) a b c text h kept = whole_begun a c text (Appends-kept a b c text h kept)
+
+-- ---- what was asked for it
+
+pub on_err : {T E : Type 0} (r : Result T E) (A : Type 0) → A → OnErr r A
+on_err (Ok x) A a = tt
+on_err (Err e) A a = a
+
+pub number_put : {O : Type 0} (r : Result (Unit {0}) Error) (before middle after : O) (boot : ℕ) → HasWord before middle → WasPut middle (decimal boot) r after
+    → OnOk r (HasNumber before boot after)
+number_put (Ok x) before middle after boot word put = (middle, (word, put))
+number_put (Err e) before middle after boot word put = tt
+
+pub number_unput : {O : Type 0} (r : Result (Unit {0}) Error) (before middle after : O) (boot : ℕ) → HasWord before middle → WasPut middle (decimal boot) r after
+    → OnErr r (IsLineRefused before boot after)
+number_unput (Ok x) before middle after boot word put = tt
+number_unput (Err e) before middle after boot word put = inr (inl (middle, (word, (e, put))))
+
+pub line_put : {O : Type 0} (r : Result (Unit {0}) Error) (before middle after : O) (boot : ℕ) → HasNumber before boot middle → WasPut middle (codes "\n") r after
+    → OnOk r (HasLine before boot after)
+line_put (Ok x) before middle after boot number put = (middle, (number, put))
+line_put (Err e) before middle after boot number put = tt
+
+pub line_unput : {O : Type 0} (r : Result (Unit {0}) Error) (before middle after : O) (boot : ℕ) → HasNumber before boot middle → WasPut middle (codes "\n") r after
+    → OnErr r (IsLineRefused before boot after)
+line_unput (Ok x) before middle after boot number put = tt
+line_unput (Err e) before middle after boot number put = inr (inr (inl (middle, (number, (e, put)))))
+
+pub line_flushed : {O : Type 0} (r : Result (Unit {0}) Error) (before middle after : O) (boot : ℕ) → HasLine before boot middle → WasFlushed middle r after
+    → OnOk r (IsLinePrinted before boot after)
+line_flushed (Ok x) before middle after boot line flushed = (middle, (line, flushed))
+line_flushed (Err e) before middle after boot line flushed = tt
+
+pub line_unflushed : {O : Type 0} (r : Result (Unit {0}) Error) (before middle after : O) (boot : ℕ) → HasLine before boot middle → WasFlushed middle r after
+    → OnErr r (IsLineRefused before boot after)
+line_unflushed (Ok x) before middle after boot line flushed = tt
+line_unflushed (Err e) before middle after boot line flushed = inr (inr (inr (middle, (line, (e, flushed)))))

@@ -6,12 +6,12 @@ use Rattle.spec_step.specs.Shown.{Shown}
 use Rattle.spec_step.specs.declared.events.Event.{Event}
 use Rattle.reports.specs.declared.reports.Report.{Report}
 use Rattle.reports.specs.declared.sides.Sides.{Sides}
-use Rattle.sockets.specs.Letters.{Call, Polled, ReceivedDatagram, came, failed, nothing}
+use Rattle.sockets.specs.Letters.{Polled, ReceivedDatagram, came, failed, nothing}
 use Rattle.sockets.specs.declared.losses.Losses.{Losses}
 use Rattle.rounds.specs.Answers.{CountsLosses, IsAnswerTo, IsReportOf}
 use Rattle.rounds.specs.Clocks.{HasRead}
 use Rattle.rounds.specs.Outages.{Says}
-use Rattle.rounds.specs.Rounds.{AnswersOwed, AreMade, AreRounds, Box, Calls, IsAnswered, IsRound, Reads, Replies, Takes, TakesAll, TakesAnswer, TakesAny, TakesBy, TakesLetter, TellsRound, Waits, WireSays, all_sent, on_wire, wire_says}
+use Rattle.rounds.specs.Rounds.{AnswersOwed, AreRounds, AreSent, Box, Calls, IsAnswered, IsRound, IsSent, Reads, Replies, Sending, Takes, TakesAll, TakesAnswer, TakesAny, TakesBy, TakesLetter, TellsRound, Waits, WireSays, all_sent, calls, on_wire, wire_says}
 use Rattle.rounds.specs.Told.{AsksRounds, IsOver}
 use Rattle.rounds.specs.declared.desk.Identity.{Identity}
 use Rattle.rounds.specs.declared.judging.Question.{Question}
@@ -23,9 +23,9 @@ use Rattle.gate.specs.Named.{WasLetGo}
 use Rattle.gate.specs.Wires.{RanOn, RunsOn}
 use Rattle.gate.specs.declared.running.Start.{Start}
 
--- what a call is to the wire below
+-- what a call is to the wire below, and what that answers who has it send
 abbrev over : {T W : Type 0} → (T → W) → Calls W → Calls T
-over f does t call t2 = does (f t) call (f t2)
+over f does = calls (λ t call t2. does.call (f t) call (f t2)) (λ t place bytes is_failed t2. does.answer (f t) place bytes is_failed (f t2))
 
 -- and how long that waits
 abbrev waits_over : {T W : Type 0} → (T → W) → Waits W → Waits T
@@ -42,13 +42,19 @@ says_over f says = wire_says (waits_over f says.waits) (says_so f says.failing) 
 abbrev below : {T W : Type 0} → (T → W) → Box T → Box W
 below f b = on_wire b (f b.wire)
 
-made : {T W : Type 0} (f : T → W) (does : Calls W) (xs : List Call) (t t2 : T) → AreMade (over f does) xs t t2 → AreMade does xs (f t) (f t2)
-made f does [] t t2 h = ap f h
-made f does (x ∷ xs) t t2 h = (f h.0, (h.1.0, made f does xs h.0 t2 h.1.1))
+is_sent : {T W : Type 0} (f : T → W) (does : Calls W) (s : Sending) (t : T) (counts : List ℕ) (t2 : T) (counts2 : List ℕ) → IsSent (over f does) s t counts t2 counts2
+    → IsSent does s (f t) counts (f t2) counts2
+is_sent f does s t counts t2 counts2 h = record { is_failed = h.is_failed; handed = h.handed; answered = h.answered; counted = h.counted }
+
+are_sent : {T W : Type 0} (f : T → W) (does : Calls W) (all : List Sending) (t : T) (counts : List ℕ) (t2 : T) (counts2 : List ℕ)
+    → AreSent (over f does) all t counts t2 counts2 → AreSent does all (f t) counts (f t2) counts2
+are_sent f does [] t counts t2 counts2 h = (ap f h.0, h.1)
+are_sent f does (s ∷ rest) t counts t2 counts2 h =
+    (f h.0, (h.1.0, (is_sent f does s t counts h.0 h.1.0 h.1.1.0, are_sent f does rest h.0 h.1.0 t2 counts2 h.1.1.1)))
 
 takes_by : {T W : Type 0} (f : T → W) (does : Calls W) (is_done : Bool) (b : Box T) (e : Event) (b2 : Box T) → TakesBy (over f does) is_done b e b2
     → TakesBy does is_done (below f b) e (below f b2)
-takes_by f does true b e b2 h = (h.0, (h.1.0, (made f does (all_sent h.0) b.wire b2.wire h.1.1.0, h.1.1.1)))
+takes_by f does true b e b2 h = (h.0, (h.1.0, (h.1.1.0, (are_sent f does (all_sent h.0) b.wire b.counts b2.wire h.1.0 h.1.1.1.0, h.1.1.1.1))))
 takes_by f does false b e b2 h = (h.0, (ap f h.1.0, h.1.1))
 
 takes : {T W : Type 0} (f : T → W) (does : Calls W) (is_done : Bool) (b : Box T) (e : Event) (b2 : Box T) → Takes (over f does) is_done b e b2

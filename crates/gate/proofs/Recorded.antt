@@ -1,14 +1,18 @@
 -- What a log was handed of a start that is refused.
-use Rattle.std.proofs.Common.{◌≡◌, ◌⊎◌, inl, inr, subst, sym, ℕ, List, Option, Some, None, is_some, false, true≢false, Result, Ok, Err, IfErr, OnOk, codes}
+use Rattle.std.proofs.Common.{◌≡◌, ◌⊎◌, inl, inr, refl, subst, sym, ◌∙◌, ℕ, List, Option, Some, None, IfSome, is_some, false, true≢false, Result, Ok, Err, IfErr, OnOk, codes}
 use Rattle.std.specs.Borrow.{Bor}
 use Rattle.std.specs.Io.KnownBytes.{Appends}
+use Rattle.log.specs.Filter.{Rule}
+use Rattle.journal.specs.declared.lines.Format.{Format}
+use Rattle.rounds.specs.Tellings.{IsNewTeller, ToldLog}
 use Rattle.box_words.specs.declared.refusals.BoxFault.{BoxFault}
 use Rattle.gate.specs.Boots.{boot_line}
 use Rattle.gate.specs.Failing.{IsUnbegun, LacksOutput}
-use Rattle.gate.specs.Asked.{path_in}
-use Rattle.gate.specs.Logs.{IsRecorded, IsToldAtMost, IsToldLeftOut}
+use Rattle.gate.specs.Asked.{IsChosenBy, path_in}
+use Rattle.gate.specs.Logs.{IsLikeLog, IsOwnLog, IsRecorded, IsToldAtMost, IsToldLeftOut}
 use Rattle.gate.specs.Named.{WasRecorded}
 use Rattle.gate.specs.Orders.{IsUnrecorded}
+use Rattle.gate.specs.declared.running.Start.{Start}
 
 -- behind a run its boot's line was printed before
 pub recorded_behind : {T L : Type 0} (r : Result T BoxFault) (capture : Option (List ℕ)) (boot : ℕ) (before between after : Option (List ℕ)) (log log2 : L)
@@ -51,3 +55,17 @@ pub recorded_alone : {T E L : Type 0} (r : Result T E) (capture : Option (Bor (L
     → OnOk r (IsRecorded (path_in capture) log log2)
 recorded_alone r (Some path) log log2 none told = absurd (true≢false none)
 recorded_alone r None log log2 none told = told
+
+-- who tells of a log is new to its own
+pub new_again : {L : Type 0} (log : L) (moment : ℕ) (teller : ToldLog L) → IsNewTeller log moment teller → IsNewTeller teller.log moment teller
+new_again log moment teller new = record { of_log = refl; unhanded = new.unhanded; untold = new.untold; opened_at = new.opened_at }
+
+-- and that has the start's filter and format
+pub own_again : {L : Type 0} (passes : L → Option (List Rule)) (writes : L → Option Format) (start : Start) (log log2 : L) → log ≡ log2
+    → IsOwnLog passes writes start log → IsOwnLog passes writes start log2
+own_again passes writes start log log2 same own = subst (λ l. IsOwnLog passes writes start l) same own
+
+-- so has one with the same rules and format
+pub own_like : {L : Type 0} (passes : L → Option (List Rule)) (writes : L → Option Format) (start : Start) (log log2 : L) → IsOwnLog passes writes start log
+    → IsLikeLog passes writes log log2 → IsOwnLog passes writes start log2
+own_like passes writes start log log2 own like = (subst (λ p. IfSome p (IsChosenBy start.log)) (sym like.0) own.0, like.1 ∙ own.1)

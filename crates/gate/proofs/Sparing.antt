@@ -1,7 +1,6 @@
 -- How a start is refused, where what comes next was had.
 use Rattle.std.proofs.Common.{inr, ℕ, List, Option, None, Result, Ok, Err, IfErr}
 use Rattle.settings.specs.declared.whole.Settings.{Settings}
-use Rattle.sockets.specs.Doing.{DoesAt}
 use Rattle.sockets.specs.Inheriting.{AreUnblocked}
 use Rattle.sockets.specs.declared.sockets.Sockets.{Sockets}
 use Rattle.sockets.specs.declared.ways.Ways.{Ways}
@@ -12,13 +11,13 @@ use Rattle.gate.specs.Named.{WasGiven, WasHad, WasLetGo, own_sockets}
 use Rattle.gate.specs.Sparing.{FailsHeard, FailsHeld, FailsInherited, FailsWatched, FailsWired, IsRefusal}
 use Rattle.gate.specs.Starts.{AreHeld, AreWays}
 use Rattle.gate.specs.Told.{IsUnheard}
-use Rattle.gate.specs.Wires.{IsSpared, says_at}
+use Rattle.gate.specs.Wires.{IsSpared, does_at, says_at}
 use Rattle.gate.specs.declared.running.Start.{Start}
 
 -- the sockets
 pub behind_sockets : {T : Type 0} (r : Result T BoxFault) (start : Start) (settings : Settings) (ways : Ways) (wire : Sockets) (before after : Option (List ℕ))
     → WasGiven (own_sockets ways (box_ports settings start.id)) → WasHad (own_sockets ways (box_ports settings start.id)) wire
-    → IfErr r (FailsWired start) → IfErr r (IsSpared DoesAt says_at settings start before after wire) → IfErr r (FailsHeard start settings ways before after)
+    → IfErr r (FailsWired start) → IfErr r (IsSpared does_at says_at settings start before after wire) → IfErr r (FailsHeard start settings ways before after)
 behind_sockets (Ok x) start settings ways wire before after given had fails spared = tt
 behind_sockets (Err why) start settings ways wire before after given had fails spared = inr (given, (wire, (had, (fails, spared))))
 

@@ -28,8 +28,11 @@ unfoldable pub IsStart : Settings → GatewayId → Bool → Hashers → ℕ →
 IsStart settings id found hashers boot g = g ≡ hashing hashers (if found then founded settings boot else begun settings id boot)
 
 -- the line that tells of a boot
+abbrev pub boot_text : ℕ → List ℕ
+boot_text boot = codes "boot " ++ decimal boot
+
 abbrev pub boot_line : ℕ → List ℕ
-boot_line boot = codes "boot " ++ decimal boot ++ codes "\n"
+boot_line boot = boot_text boot ++ codes "\n"
 
 -- it begins in some boot above 0, its table hashes by keys that were drawn, and the boot's line is what was printed, and flushed
 pub record HasStarted (settings : Settings) (id : GatewayId) (found : Bool) (before after : Option (List ℕ)) (g : Shown) : Type 0 where

@@ -1,9 +1,10 @@
 -- Why each part of a start fails, by what it has at hand.
-use Rattle.std.specs.Prelude.{◌≡◌, ◌≢◌, ◌⊎◌, ℕ, List, Option, Some, None, IsSomeAnd, MatchOption, string_bytes}
+use Rattle.std.specs.Prelude.{◌≡◌, ◌≢◌, ◌⊎◌, ℕ, List, Option, Some, None, IsSomeAnd}
 use Rattle.std.specs.Borrow.{Bor}
+use Rattle.std.specs.IoError.{error_kind}
+use Rattle.std.specs.declared.io.Error.{Error}
 use Rattle.std.specs.declared.io.ErrorKind.{ErrorKind}
 use Rattle.std.specs.declared.io.ErrorKind.TheVariants.{AlreadyExists, OutOfMemory}
-use Rattle.log.specs.Filter.{invalid_spec}
 use Rattle.nat_types.specs.declared.gateways.GatewayId.{GatewayId}
 use Rattle.settings.specs.declared.whole.Settings.{Settings}
 use Rattle.settings_file.specs.Clashes.{clash_of_one}
@@ -11,24 +12,28 @@ use Rattle.settings_file.specs.declared.keys.Key.{Key}
 use Rattle.boot_store.specs.declared.faults.BootFault.{BootFault}
 use Rattle.boot_file.specs.Locks.{IsOfOpening}
 use Rattle.boot_file.specs.declared.faults.FileFault.{FileFault}
+use Rattle.boot_file.specs.declared.faults.FileFault.TheVariants as file
 use Rattle.control.specs.Paths.{socket_of}
 use Rattle.sockets.specs.Inheriting.{AreUnblocked}
+use Rattle.sockets.specs.declared.sockets.SocketFault.{SocketFault as Reason}
+use Rattle.sockets.specs.declared.sockets.SocketFault.TheVariants.{NoMemory, NoSocket}
 use Rattle.sockets.specs.declared.ways.Ways.{Ways}
 use Rattle.supervision.specs.Descriptors.{IsRefused}
 use Rattle.supervision.specs.Managers.{IsManagerText, IsNoManagerText}
-use Rattle.journal.specs.Filters.{IsNoText}
-use Rattle.journal.specs.declared.filters.TheConstants.{VARIABLE}
+use Rattle.journal.specs.Filters.{IsOfVariable, IsRefused as IsUnfit}
+use Rattle.journal.specs.declared.filters.FilterFault.{FilterFault}
 use Rattle.outlets.specs.Printed.{IsBegun}
 use Rattle.faults.specs.Faults.{IsOfFile, IsUnread, Tells}
 use Rattle.faults.specs.declared.faults.Fault.{Fault}
 use Rattle.faults.specs.declared.faults.Fault.TheVariants as run
 use Rattle.faults.specs.declared.files.Refusal.TheVariants.{Exists, NotWritten}
 use Rattle.box_words.specs.Ends.{IsFirstOf}
-use Rattle.box_words.specs.Faults.{TellsBootFile, TellsNoPath, TellsSettings, TellsSocket, of_boot, of_clash}
+use Rattle.box_words.specs.Faults.{TellsBootFile, TellsFilter, TellsNoPath, TellsSettings, TellsSocket, of_boot, of_clash}
+use Rattle.box_words.specs.Memory.{WasShort}
 use Rattle.box_words.specs.declared.refusals.BoxFault.{BoxFault}
 use Rattle.box_words.specs.declared.refusals.BoxFault.TheVariants as fault
 use Rattle.gate.specs.Asked.{IsSaid, box_ports, on_loopback}
-use Rattle.gate.specs.Named.{WasDenied, WasGiven, WasRead, WasRefused, begun_capture, boot_number, capture_file, control_socket, filter}
+use Rattle.gate.specs.Named.{WasAnswered, WasDenied, WasGiven, WasRead, WasRefused, begun_capture, boot_number, capture_file, control_socket}
 use Rattle.gate.specs.Named.{locked_file, new_gateway, output, own_sockets, path_beside, settings_in, settings_text}
 
 -- no settings are had at this path: the file gives no text; or it gave this one, which holds none, or there was no memory for them
@@ -59,7 +64,8 @@ LacksPath boot_file why = WasDenied (path_beside boot_file) why × TellsNoPath b
 
 -- the boot file at this path isn't opened and locked
 abbrev pub LacksBootFile : List ℕ → BoxFault → Type 0
-LacksBootFile path why = WasDenied (locked_file path) why × ((reason : FileFault) × (IsOfOpening reason × TellsBootFile path reason why))
+LacksBootFile path why = (reason : FileFault) × (WasAnswered (locked_file path) reason × (IsOfOpening reason
+    × (TellsBootFile path reason why × (why ≡ fault.Run run.NoMemory → (reason ≡ file.NoMemory) ⊎ WasShort path))))
 
 -- the control socket beside this boot file isn't opened
 abbrev pub LacksControl : List ℕ → BoxFault → Type 0
@@ -73,14 +79,21 @@ LacksPlace settings id ways (fault.Run why) =
     (why ≡ run.NoMemory) × WasDenied (own_sockets ways (box_ports settings id)) (fault.Run run.NoMemory)
 LacksPlace settings id ways other = ⊥
 
--- No filter of the records is had: this part is the first of the option's text that is no directive; or there is no option, and it is so of the
--- environment's text, or names the variable, which holds no text. Or there was no memory for it.
+-- what is told of sockets that aren't had, for this reason: want of memory as that, and else an end
+abbrev pub TellsPlaces : Reason → BoxFault → Type 0
+TellsPlaces NoMemory why = why ≡ fault.Run run.NoMemory
+TellsPlaces NoSocket (fault.NoSocket end) = Unit {0}
+TellsPlaces NoSocket other = ⊥
+
+-- No filter of the records is had, for this reason: the first part of the option's text is no directive, or memory was refused while that was read;
+-- or there is no option, and it is so of the environment's text, or of its variable, which holds no text, or for which memory was refused.
+abbrev pub IsNoFilter : Option (Bor (List ℕ)) → FilterFault → Type 0
+IsNoFilter (Some text) reason = IsUnfit text.now reason
+IsNoFilter None reason = IsOfVariable reason ⊎ IsSaid (λ text. IsUnfit text reason)
+
+-- and just that is told
 abbrev pub LacksFilter : Option (Bor (List ℕ)) → BoxFault → Type 0
-LacksFilter option (fault.NoFilter part) = MatchOption option
-    (((string_bytes part ≡ VARIABLE.now) × IsNoText) ⊎ IsSaid (λ text. invalid_spec text ≡ Some (string_bytes part)))
-    (λ text. invalid_spec text.now ≡ Some (string_bytes part))
-LacksFilter option (fault.Run why) = (why ≡ run.NoMemory) × WasDenied filter (fault.Run run.NoMemory)
-LacksFilter option other = ⊥
+LacksFilter option why = (reason : FilterFault) × (IsNoFilter option reason × TellsFilter reason why)
 
 -- just this is told of the capture in the file at a path, which can't be opened or begun for this cause; or there is no memory to tell it
 pub record IsOfCause (path : List ℕ) (cause : ErrorKind) (why : Fault) : Type 0 where
@@ -89,19 +102,16 @@ pub record IsOfCause (path : List ℕ) (cause : ErrorKind) (why : Fault) : Type 
   pub exists : cause ≡ AlreadyExists → Tells Exists path None why
   pub unwritten : cause ≢ OutOfMemory → cause ≢ AlreadyExists → Tells NotWritten path (Some cause) why
 
--- so it is for some cause
-abbrev pub IsOfSomeCause : List ℕ → Fault → Type 0
-IsOfSomeCause path why = (cause : ErrorKind) × IsOfCause path cause why
-
 -- the file of the capture isn't opened, where there is to be one
 abbrev pub LacksCapture : Option (List ℕ) → BoxFault → Type 0
-LacksCapture (Some path) (fault.NoCapture why) = WasDenied (capture_file path) (fault.NoCapture why) × IsOfSomeCause path why
+LacksCapture (Some path) (fault.NoCapture why) = (error : Error) × (WasAnswered (capture_file path) error
+    × (IsOfCause path (error_kind error) why × (why ≡ run.NoMemory → (error_kind error ≡ OutOfMemory) ⊎ WasShort path)))
 LacksCapture capture other = ⊥
 
 -- no capture is begun in it
 abbrev pub IsUnbegun : Option (List ℕ) → BoxFault → Type 0
-IsUnbegun (Some path) why =
-    (reason : Fault) × ((why ≡ fault.Run reason) × (WasDenied (begun_capture path) (fault.Run reason) × IsOfSomeCause path reason))
+IsUnbegun (Some path) why = (reason : Fault) × ((why ≡ fault.Run reason)
+    × ((error : Error) × (WasAnswered (begun_capture path) error × IsOfCause path (error_kind error) reason)))
 IsUnbegun None why = ⊥
 
 -- output that was handed this text refuses it: just a beginning of it is printed, and nothing behind that

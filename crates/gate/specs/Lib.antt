@@ -10,3 +10,4 @@ pub mod Sparing
 pub mod Starts
 pub mod Told
 pub mod Wires
+pub mod Printing

@@ -1,11 +1,13 @@
 -- What the log of a box is told.
-use Rattle.std.specs.Prelude.{◌≡◌, ◌⊎◌, ℕ, List, [], Option, Some, None, IfSome}
+use Rattle.std.specs.Prelude.{◌≡◌, ◌⊎◌, ℕ, List, Option, Some, None, IfSome}
 use Rattle.log.specs.Filter.{Rule}
-use Rattle.journal.specs.Tally.{opened, second_of}
+use Rattle.journal.specs.Handed.{Enables, IsTold, IsToldLeftOut as TellsLeftOut, IsUnhanded, WasPutDown, log_of}
+use Rattle.journal.specs.declared.entries.Entry.TheVariants.{Boot}
 use Rattle.journal.specs.declared.lines.Format.{Format}
-use Rattle.rounds.specs.Tellings.{ToldLog}
+use Rattle.journal.specs.declared.pens.Pen.{Pen}
+use Rattle.rounds.specs.declared.teller.Telling.{Telling}
 use Rattle.gate.specs.Asked.{IsChosenBy}
-use Rattle.gate.specs.Named.{IsUntold, WasLeftOut, WasRecorded}
+use Rattle.gate.specs.Named.{IsTellerOf, IsUntold, WasLeftOut, WasLetGo, WasRecorded}
 use Rattle.gate.specs.declared.running.Start.{Start}
 
 -- its records pass by the rules that a start's filter has, where it says by which, and are written in the start's format
@@ -16,9 +18,21 @@ IsOwnLog passes writes start log = IfSome (passes log) (IsChosenBy start.log) ×
 abbrev pub IsLikeLog : {L : Type 0} → (L → Option (List Rule)) → (L → Option Format) → L → L → Type 0
 IsLikeLog passes writes log log2 = (passes log2 ≡ passes log) × (writes log2 ≡ writes log)
 
--- who tells it of a run that begins at a moment, and told nothing yet
-abbrev pub new_teller : {L : Type 0} → L → ℕ → ToldLog L
-new_teller log moment = record { log = log; told = []; tally = opened (second_of moment) }
+-- a pen was asked just this, and then put down
+abbrev pub IsAskedOnce : {P : Type 0} → (P → Type 0) → Type 0
+IsAskedOnce {P = P} asks = (after : P) × (asks after × WasPutDown after)
+
+-- so it was of a pen of this log, of which nothing was asked before
+abbrev pub IsAskedAlone : {L : Type 0} → L → (Pen L → Pen L → Type 0) → Type 0
+IsAskedAlone {L = L} log asks = (pen : Pen L) × ((log_of pen ≡ log) × (IsUnhanded pen × IsAskedOnce (asks pen)))
+
+-- it was handed the record of this boot, at moment 0, and nothing else
+abbrev pub IsToldOfBoot : {L : Type 0} → Enables L → L → ℕ → Type 0
+IsToldOfBoot enables log boot = IsAskedAlone log (λ pen after. IsTold enables pen 0 (Boot boot) after)
+
+-- it was handed how many packets a capture left out, where it left any out, and nothing else
+abbrev pub IsToldOfLeftOut : {L : Type 0} → Enables L → L → ℕ → Type 0
+IsToldOfLeftOut enables log packets = IsAskedAlone log (λ pen after. TellsLeftOut enables pen packets after)
 
 -- it was told how many packets a capture left out, and nothing else
 abbrev pub IsToldLeftOut : {L : Type 0} → L → L → Type 0
@@ -28,6 +42,18 @@ IsToldLeftOut log log2 = (packets : ℕ) × WasLeftOut log packets log2
 abbrev pub IsRecorded : {L : Type 0} → Option (List ℕ) → L → L → Type 0
 IsRecorded None log log2 = (boot : ℕ) × WasRecorded log boot log2
 IsRecorded {L = L} (Some path) log log2 = (boot : ℕ) × ((between : L) × (WasRecorded log boot between × IsToldLeftOut between log2))
+
+-- it was told nothing when it was made, and is told of this boot since, and of nothing else
+abbrev pub IsToldOfThis : {L : Type 0} → ℕ → L → Type 0
+IsToldOfThis {L = L} boot now = (log : L) × (IsUntold log × WasRecorded log boot now)
+
+-- a run is told by this to such a log
+abbrev pub IsOwnTeller : {T : Type 0} → Type 0 → ℕ → T → Type 0
+IsOwnTeller L boot teller = (now : L) × (IsToldOfThis boot now × IsTellerOf now teller)
+
+-- who told it of a run told just this, and was let go
+abbrev pub IsToldBy : (T : Type 0) → (T → List Telling) → List Telling → Type 0
+IsToldBy T tellings told = (teller : T) × ((told ≡ tellings teller) × WasLetGo teller)
 
 -- Of a start it was told at most: nothing; or of a boot, once; or, where there is a capture, then how many packets that left out.
 abbrev pub IsToldAtMost : {L : Type 0} → Option (List ℕ) → L → L → Type 0

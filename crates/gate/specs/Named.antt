@@ -6,8 +6,8 @@ use Rattle.sockets.specs.declared.ways.Ways.{Ways}
 use Rattle.box_words.specs.declared.refusals.BoxFault.{BoxFault}
 
 -- what a start asks the system for: the text of a file of settings, memory for the settings in a text, the descriptors of ways, the service manager whose descriptor a text
--- writes, memory for the path beside a boot file, a locked boot file, a control socket, the sockets of the places, all that it needs, a filter of
--- records, the file of a capture, that a capture begins in it, a wire whose packets go there, at the interfaces of a gateway, a seed and memory for a
+-- writes, memory for the path beside a boot file, a locked boot file, a control socket, the sockets of the places, all that it needs,
+-- the file of a capture, that a capture begins in it, a wire whose packets go there, at the interfaces of a gateway, a seed and memory for a
 -- gateway, a boot number, that of the boot file at a path, output
 pub data Need : Type 0 where
   settings_text : List ℕ → Need
@@ -19,7 +19,6 @@ pub data Need : Type 0 where
   control_socket : List ℕ → Need
   own_sockets : Ways → Ports → Need
   all_sockets : Need
-  filter : Need
   capture_file : List ℕ → Need
   begun_capture : List ℕ → Need
   tapped_wire : List ℕ → GatewayId → Need
@@ -41,6 +40,10 @@ WasHad need it = Unit {0}
 unfoldable pub WasDenied : Need → BoxFault → Type 0
 WasDenied need why = Unit {0}
 
+-- it answered, for this reason, that it doesn't give it
+unfoldable pub WasAnswered : {A : Type 0} → Need → A → Type 0
+WasAnswered need reason = Unit {0}
+
 -- it gave this text of the file at this path
 unfoldable pub WasRead : List ℕ → List ℕ → Type 0
 WasRead path text = Unit {0}
@@ -60,6 +63,10 @@ WasLeftOut before packets after = Unit {0}
 -- a log was this when it was made: it was told nothing
 unfoldable pub IsUntold : {L : Type 0} → L → Type 0
 IsUntold log = Unit {0}
+
+-- this tells a run to a log that is this
+unfoldable pub IsTellerOf : {L T : Type 0} → L → T → Type 0
+IsTellerOf log teller = Unit {0}
 
 -- A log was let go that was told of a start no more than it is to be told, with a capture at this path or without (`IsToldAtMost` of Logs).
 unfoldable pub WasClosed : Option (List ℕ) → Type 0

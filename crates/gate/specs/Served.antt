@@ -5,7 +5,6 @@ use Rattle.settings.specs.declared.whole.Settings.{Settings}
 use Rattle.spec_step.specs.Shown.{Shown}
 use Rattle.rounds.specs.Rounds.{Calls, WireSays}
 use Rattle.rounds.specs.declared.desk.Identity.{Identity}
-use Rattle.sockets.specs.Doing.{DoesAt}
 use Rattle.sockets.specs.declared.sockets.Sockets.{Sockets}
 use Rattle.sockets.specs.declared.ways.Ways.{Ways}
 use Rattle.supervision.specs.declared.managers.Manager.{Manager}
@@ -15,7 +14,7 @@ use Rattle.control.specs.Paths.{socket_of}
 use Rattle.gate.specs.Named.{IsCaptured, WasClosed, WasGiven, WasLetGo, control_socket, locked_file, number_of, own_sockets}
 use Rattle.gate.specs.Starts.{CanOpen}
 use Rattle.gate.specs.Told.{HearsSome}
-use Rattle.gate.specs.Wires.{IsOfSockets, RanOn, says_at}
+use Rattle.gate.specs.Wires.{IsOfSockets, RanOn, does_at, says_at}
 use Rattle.gate.specs.declared.running.Start.{Start}
 
 -- With these settings the start's gateway begins, in some boot, whose line is printed; it has its rounds on this wire, which is that of its sockets,
@@ -40,7 +39,7 @@ pub record HasRun {W : Type 0} (does : Calls W) (says : WireSays W) (settings : 
 -- the same on the system's sockets, once those of its places were had, with a log that was told no more of the start than it is to be
 abbrev pub RunsWired : Start → Settings → Ways → Option (List ℕ) → Option (List ℕ) → Type 0
 RunsWired start settings ways before after = (WasGiven (own_sockets ways (box_ports settings start.id)) × WasClosed (path_in start.capture))
-    × ((wire : Sockets) × HasRun DoesAt says_at settings start wire before after)
+    × ((wire : Sockets) × HasRun does_at says_at settings start wire before after)
 
 -- and a control socket before,
 abbrev pub RunsLocked : Start → Settings → Ways → Option (List ℕ) → Option (List ℕ) → Type 0

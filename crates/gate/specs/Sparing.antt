@@ -3,7 +3,6 @@ use Rattle.std.specs.Prelude.{◌≡◌, ◌≤◌, ◌⊎◌, ℕ, List, Option
 use Rattle.settings.specs.declared.whole.Settings.{Settings}
 use Rattle.settings_file.specs.Clashes.{clash_of_one}
 use Rattle.control.specs.Paths.{socket_of}
-use Rattle.sockets.specs.Doing.{DoesAt}
 use Rattle.sockets.specs.Inheriting.{AreUnblocked}
 use Rattle.sockets.specs.declared.sockets.Sockets.{Sockets}
 use Rattle.sockets.specs.declared.ways.Ways.{Ways}
@@ -15,7 +14,7 @@ use Rattle.gate.specs.Failing.{LacksPlace, LacksSettings}
 use Rattle.gate.specs.Named.{IsOpened, WasClosed, WasGiven, WasHad, WasLetGo, control_socket, locked_file, own_sockets}
 use Rattle.gate.specs.Starts.{AreHeld, AreWays, LackWay}
 use Rattle.gate.specs.Told.{IsUnheard}
-use Rattle.gate.specs.Wires.{IsSpared, says_at}
+use Rattle.gate.specs.Wires.{IsSpared, does_at, says_at}
 use Rattle.gate.specs.declared.running.Start.{Start}
 
 -- Each of these says why a start is refused from there on: what comes next isn't had, for just this; or it was had, and the start is refused from
@@ -36,7 +35,7 @@ abbrev pub FailsHeard : Start → Settings → Ways → Option (List ℕ) → Op
 FailsHeard start settings ways before after why = LacksPlace settings start.id ways why
     ⊎ (WasGiven (own_sockets ways (box_ports settings start.id))
     × ((wire : Sockets) × (WasHad (own_sockets ways (box_ports settings start.id)) wire
-    × (FailsWired start why × IsSpared DoesAt says_at settings start before after wire why))))
+    × (FailsWired start why × IsSpared does_at says_at settings start before after wire why))))
 
 -- the control socket
 abbrev pub FailsLocked : Start → Settings → Ways → Option (List ℕ) → Option (List ℕ) → BoxFault → Type 0

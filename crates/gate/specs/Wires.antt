@@ -5,9 +5,10 @@ use Rattle.settings.specs.declared.whole.Settings.{Settings}
 use Rattle.spec_step.specs.Shown.{Shown}
 use Rattle.box_words.specs.declared.refusals.BoxFault.{BoxFault}
 use Rattle.rounds.specs.Clocks.{HasRead, Watch, WasNow}
-use Rattle.rounds.specs.Rounds.{Box, Calls, IsRun, WireSays, begun, most_rounds, wire_says}
+use Rattle.rounds.specs.Rounds.{Box, Calls, IsRun, WireSays, begun, calls, most_rounds, wire_says}
 use Rattle.rounds.specs.declared.desk.Identity.{Identity}
 use Rattle.rounds.specs.declared.teller.Telling.{Telling}
+use Rattle.sockets.specs.Doing.{AnswersAt, DoesAt}
 use Rattle.sockets.specs.Receiving.{WaitsAt}
 use Rattle.sockets.specs.Showing.{failing_at, losses_at}
 use Rattle.sockets.specs.declared.sockets.Sockets.{Sockets}
@@ -18,6 +19,10 @@ use Rattle.gate.specs.Named.{WasHad, WasLetGo, own_sockets, tapped_wire}
 use Rattle.gate.specs.Orders.{EndIsRefused}
 use Rattle.gate.specs.Starts.{AreWays}
 use Rattle.gate.specs.declared.running.Start.{Start}
+
+-- what a call is to sockets, and what they answer who has them send
+abbrev pub does_at : Calls Sockets
+does_at = calls DoesAt AnswersAt
 
 -- what sockets say: how long they wait, which places fail, and what was lost there
 abbrev pub says_at : WireSays Sockets

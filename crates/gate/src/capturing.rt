@@ -3,22 +3,21 @@ ghost use Rattle.std.specs.Prelude.{◌≡◌, IfErr, IfOk, IfSome, OnErr, OnOk,
 ghost use Rattle.gate.specs.Asked.{IsFilter, path_in};
 ghost use Rattle.gate.specs.Asking.{AsksUpTo, captures};
 ghost use Rattle.gate.specs.Failing.{IsUnbegun, LacksCapture};
-ghost use Rattle.gate.specs.Named.{IsOpened, WasGiven, WasHad, WasLetGo, all_sockets, begun_capture, boot_number, capture_file, tapped_wire};
+ghost use Rattle.gate.specs.Named.{IsOpened, WasAnswered, WasGiven, WasHad, WasLetGo, all_sockets, begun_capture, boot_number, capture_file, tapped_wire};
 
 use crate::machine::Machine;
 use crate::running::Start;
 use crate::wires::let_go;
 use box_words::BoxFault;
 use faults::Fault;
-use log::{Log, warn};
 use nat_types::GatewayId;
 use sockets::Wire;
 use std::alloc::Global;
 use std::fs::{Files, OpenFile};
-use std::io::{Read, Seek, Write};
+use std::io::{self, Read, Seek, Write};
 use std::net::Net;
 use std::os::fd::AsRawFd;
-use tap::{CaptureFile, Moments, Tapped, Vacant};
+use tap::{CaptureFile, Moments, Reel, Tapped, Vacant};
 
 /// A file that was opened for a capture, and its path.
 #[derive(Drop)]
@@ -54,7 +53,7 @@ pub(crate) fn capture_at<'a, R: Files + Net + AllocGlobal>(
 
 impl<F: Read + Write + Seek + OpenFile + AsRawFd + Drop> CaptureAt<'_, F> {
     /// A wire whose packets go to a capture that is begun in the file, which loses what it has; after an Err the wire was let go.
-    #[tactic(auto, unfolding(crate::specs::Named::WasGiven, crate::specs::Named::WasHad, crate::specs::Named::WasDenied))]
+    #[tactic(auto, unfolding(crate::specs::Named::WasHad))]
     pub(crate) fn begin<W: Wire + Drop, M: Moments + Drop>(
         self,
         alloc: Global,
@@ -71,7 +70,7 @@ impl<F: Read + Write + Seek + OpenFile + AsRawFd + Drop> CaptureAt<'_, F> {
         ensures let_go { OnErr result (WasLetGo wire) }
     {
         let CaptureAt { path, file } = self;
-        match tap::begin(alloc, file) {
+        match begun(alloc, path, file) {
             Ok(reel) => Ok(Tapped::new(wire, id, moments, reel)),
             Err(error) => {
                 let_go(wire);
@@ -81,9 +80,17 @@ impl<F: Read + Write + Seek + OpenFile + AsRawFd + Drop> CaptureAt<'_, F> {
     }
 }
 
-/// Tells how many packets a capture has left out, if it has.
-pub(crate) fn tell_left_out<L: Log>(log: &L, packets: u64) {
-    if 0 < packets {
-        warn!(log; target: "natpair::capture", packets; "capture left out {packets} packets");
-    }
+/// A capture that is begun in the file at a path, or what was answered.
+#[tactic(auto, unfolding(crate::specs::Named::WasGiven, crate::specs::Named::WasAnswered))]
+fn begun<F: Read + Write + Seek + OpenFile + AsRawFd + Drop>(
+    alloc: Global,
+    _path: &str,
+    file: Vacant<F>,
+) -> io::Result<Reel<CaptureFile<F>>>
+    requires had { WasHad (capture_file _path.now) file }
+    requires numbered { WasGiven boot_number }
+    ensures given { OnOk result (WasGiven (begun_capture _path.now)) }
+    ensures answered { IfErr result (WasAnswered (begun_capture _path.now)) }
+{
+    tap::begin(alloc, file)
 }

@@ -1,5 +1,6 @@
 //! The system, as who opens what a start needs. What it is asked has names, and no more is known of it.
-ghost use Rattle.std.specs.Prelude.{◌≤◌, ℕ, IfErr, IfOk, None, OnErr, OnOk, Option, Some, length, string_bytes};
+ghost use Rattle.std.specs.Prelude.{◌≡◌, ◌≤◌, ℕ, IfErr, IfOk, None, OnErr, OnOk, Option, Some, length, string_bytes};
+ghost use Rattle.boot_file.specs.Locks.{IsOfOpening};
 ghost use Rattle.control.specs.Opening.{WasNotOpened, WasOpened};
 ghost use Rattle.control.specs.Paths.{IsBeside, socket_of};
 ghost use Rattle.faults.specs.Faults.{IsUnread};
@@ -10,12 +11,12 @@ ghost use Rattle.box_words.specs.Ends.{IsFirstOf};
 ghost use Rattle.box_words.specs.declared.refusals.BoxFault.TheVariants as faults;
 ghost use Rattle.gate.specs.Asked.{IsFilter, IsNotified, boot_file_of, box_ports};
 ghost use Rattle.gate.specs.Asking.{SetsManager, WasAsked};
-ghost use Rattle.gate.specs.Failing.{LacksBootFile, LacksCapture, LacksControl, LacksDescriptor, LacksManager, LacksPath, LacksPlace};
-ghost use Rattle.gate.specs.Named.{WasDenied, WasGiven, WasHad, WasRead, all_sockets, capture_file, control_socket, descriptors, locked_file, own_sockets, path_beside, service_manager, settings_text};
+ghost use Rattle.gate.specs.Failing.{LacksBootFile, LacksCapture, LacksControl, LacksDescriptor, LacksManager, LacksPath, LacksPlace, TellsPlaces};
+ghost use Rattle.gate.specs.Named.{WasAnswered, WasDenied, WasGiven, WasHad, WasRead, all_sockets, capture_file, control_socket, descriptors, locked_file, own_sockets, path_beside, service_manager, settings_text};
 ghost use Rattle.gate.specs.Starts.{CanOpen};
 
 use crate::running::Start;
-use boot_file::{Blocks, FileDisk, Lockable};
+use boot_file::{Blocks, FileDisk, FileFault, Lockable};
 use box_words::{BoxFault, Machine as Ends, Refused, refused_end};
 use control::{Bound, ControlPath, Machine as Listeners};
 use faults::{Fault, text_of};
@@ -23,6 +24,7 @@ use nat_types::{GatewayId, NoMemory};
 use settings::Settings;
 use sockets::{Machine as Places, Ports, SocketFault, Sockets, Ways, ports_of};
 use std::fs::Files;
+use std::io;
 use std::net::Net;
 use supervision::{Machine as Descriptors, Manager};
 use tap::Vacant;
@@ -60,7 +62,6 @@ impl<R: Files + AllocGlobal> Machine<'_, R> {
 
     /// Has it open and lock the boot file of a start's box, once all that the start says was looked at, and its descriptors were
     /// taken over: the file could be taken for one of them.
-    #[tactic(auto, unfolding(crate::specs::Asking::WasAsked, crate::specs::Named::WasGiven, crate::specs::Named::WasHad, crate::specs::Named::WasDenied))]
     pub(crate) fn told_to_lock(
         &mut self,
         start: &Start<'_>,
@@ -80,15 +81,37 @@ impl<R: Files + AllocGlobal> Machine<'_, R> {
         ensures err { IfErr result (LacksBootFile (boot_file_of settings.now start.now.id)) }
     {
         let path = settings.gateway(start.id).boot_file.as_str();
-        match boot_file::open(self.rt, path) {
+        match self.asked_to_lock(start, settings, ways, path) {
             Ok(disk) => Ok(disk),
             Err(fault) => Err(BoxFault::of_boot_file(self.rt.alloc(), path, fault)),
         }
     }
 
+    /// The boot file at that path, opened and locked, or its answer.
+    #[tactic(auto, unfolding(crate::specs::Asking::WasAsked, crate::specs::Named::WasGiven, crate::specs::Named::WasHad, crate::specs::Named::WasAnswered))]
+    fn asked_to_lock(
+        &mut self,
+        _start: &Start<'_>,
+        _settings: &Settings,
+        _ways: &Ways,
+        path: &str,
+    ) -> Result<FileDisk<R::File>, FileFault>
+    where
+        R::File: Blocks + Lockable,
+        requires can { CanOpen _start.now _settings.now _ways.now }
+        requires own { path.now ≡ boot_file_of _settings.now _start.now.id }
+        ensures asked { WasAsked self.old (locked_file path.now) self.new }
+        ensures given { OnOk result (WasGiven (locked_file path.now)) }
+        ensures had { IfOk result (WasHad (locked_file path.now)) }
+        ensures locked { IfOk result (λ disk. ⟦<R::File as Lockable>⟧.locked disk.file) }
+        ensures answered { IfErr result (WasAnswered (locked_file path.now)) }
+        ensures kind { IfErr result IsOfOpening }
+    {
+        boot_file::open(self.rt, path)
+    }
+
     /// Has it open the file at a path for a capture, once the sockets were had, and the start's filter is one: a start that is
     /// refused before makes none.
-    #[tactic(auto, unfolding(crate::specs::Asking::WasAsked, crate::specs::Named::WasGiven, crate::specs::Named::WasHad, crate::specs::Named::WasDenied))]
     pub(crate) fn told_to_make(
         &mut self,
         start: &Start<'_>,
@@ -101,10 +124,23 @@ impl<R: Files + AllocGlobal> Machine<'_, R> {
         ensures had { IfOk result (WasHad (capture_file path.now)) }
         ensures err { IfErr result (LacksCapture (Some path.now)) }
     {
-        match tap::open(self.rt, path) {
+        match self.asked_to_make(start, path) {
             Ok(file) => Ok(file),
             Err(error) => Err(BoxFault::no_capture(self.rt.alloc(), path, &error)),
         }
+    }
+
+    /// The file at that path, opened, or its answer.
+    #[tactic(auto, unfolding(crate::specs::Asking::WasAsked, crate::specs::Named::WasGiven, crate::specs::Named::WasHad, crate::specs::Named::WasAnswered))]
+    fn asked_to_make(&mut self, _start: &Start<'_>, path: &str) -> io::Result<Vacant<R::File>>
+        requires wired { WasGiven all_sockets }
+        requires valid { IsFilter _start.now.log }
+        ensures asked { WasAsked self.old (capture_file path.now) self.new }
+        ensures given { OnOk result (WasGiven (capture_file path.now)) }
+        ensures had { IfOk result (WasHad (capture_file path.now)) }
+        ensures answered { IfErr result (WasAnswered (capture_file path.now)) }
+    {
+        tap::open(self.rt, path)
     }
 }
 
@@ -190,8 +226,9 @@ impl<R: Net + AllocGlobal> Machine<'_, R> {
         ensures opened { IfOk result
             (λ wire. Opens self.old.places ways.now (box_ports settings.now id) control wire.board
             self.new.places) }
-        ensures unopened { OnErr result ((why : Reason) × IsRefused self.old.places ways.now
-            (box_ports settings.now id) control why self.new.places) }
+        ensures unopened { IfErr result (λ fault. (why : Reason) × (IsRefused self.old.places
+            ways.now (box_ports settings.now id) control why self.new.places
+            × TellsPlaces why fault)) }
         ensures err { IfErr result (LacksPlace settings.now id ways.now) }
     {
         let ports = ports_of(settings, id);

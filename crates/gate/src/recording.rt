@@ -1,14 +1,14 @@
 //! The log of a box's records. What it is handed has names, and no more is known of it.
 ghost use Rattle.std.specs.Prelude.{◌≡◌};
-ghost use Rattle.journal.specs.Handed.{IsTold};
+ghost use Rattle.journal.specs.Handed.{IsTold, IsToldLeftOut};
 ghost use Rattle.journal.specs.declared.entries.Entry.TheVariants.{Boot};
+ghost use Rattle.rounds.specs.Tellings.{IsNewTeller};
 ghost use Rattle.gate.specs.Asked.{path_in};
-ghost use Rattle.gate.specs.Logs.{IsLikeLog, IsToldSo, new_teller};
-ghost use Rattle.gate.specs.Named.{WasClosed, WasLeftOut, WasRecorded};
+ghost use Rattle.gate.specs.Logs.{IsAskedOnce, IsLikeLog, IsToldOfBoot, IsToldOfLeftOut, IsToldSo};
+ghost use Rattle.gate.specs.Named.{IsTellerOf, WasClosed, WasLeftOut, WasRecorded};
 
-use crate::capturing::tell_left_out;
 use crate::running::Start;
-use journal::{Entry, Journal, tell};
+use journal::{Entry, Journal, Pen};
 use rounds::Teller;
 use sockets::Wire;
 use tap::{Moments, Outlet, Tapped};
@@ -37,15 +37,26 @@ impl<L: Drop> Records<L> {
     }
 }
 
+impl<L> Records<L> {
+    /// Who tells it of a run that begins at this moment.
+    #[tactic(auto, unfolding(crate::specs::Named::IsTellerOf))]
+    pub(crate) fn teller_at(&self, moment: u64) -> Teller<'_, L>
+        ensures new { IsNewTeller self.now.log moment result }
+        ensures own { IsTellerOf self.now result }
+    {
+        Teller::new(&self.log, moment)
+    }
+}
+
 impl<L: Journal> Records<L> {
     /// Hands it the first record of a box: that of its boot.
     #[tactic(auto, unfolding(crate::specs::Named::WasRecorded))]
     pub(crate) fn told_of_boot(&mut self, boot: u64)
-        ensures told { IsTold L.enables self.old.log 0 (Boot boot) }
+        ensures told { IsToldOfBoot L.enables self.old.log boot }
         ensures recorded { WasRecorded self.old boot self.new }
         ensures like { IsLikeLog L.passes L.writes self.old.log self.new.log }
     {
-        tell(&self.log, 0, Entry::Boot(boot));
+        tell_boot(Pen::new(&self.log), boot);
     }
 
     /// Hands it how many packets a capture has left out, if it has.
@@ -54,15 +65,25 @@ impl<L: Journal> Records<L> {
         &mut self,
         tapped: &Tapped<W, M, O>,
     )
-        ensures told { WasLeftOut self.old tapped.now.reel.left_out self.new }
+        ensures told { IsToldOfLeftOut L.enables self.old.log tapped.now.reel.left_out }
+        ensures left_out { WasLeftOut self.old tapped.now.reel.left_out self.new }
     {
-        tell_left_out(&self.log, tapped.left_out());
+        tell_left_out(Pen::new(&self.log), tapped.left_out());
     }
+}
 
-    /// Who tells it of a run that begins at this moment.
-    pub(crate) fn teller_at(&self, moment: u64) -> Teller<'_, L>
-        ensures { result ≡ new_teller self.now.log moment }
-    {
-        Teller::new(&self.log, moment)
-    }
+/// Tells of a boot, and of nothing else.
+fn tell_boot<L: Journal>(mut pen: Pen<'_, L>, boot: u64)
+    ensures { IsAskedOnce (IsTold L.enables pen.entry 0 (Boot boot)) }
+{
+    pen.tell(0, Entry::Boot(boot));
+    pen.put_down();
+}
+
+/// Tells how many packets a capture has left out, if it has, and nothing else.
+fn tell_left_out<L: Journal>(mut pen: Pen<'_, L>, packets: u64)
+    ensures { IsAskedOnce (IsToldLeftOut L.enables pen.entry packets) }
+{
+    pen.tell_left_out(packets);
+    pen.put_down();
 }

@@ -157,7 +157,6 @@ fn filter_by<R: Env + AllocGlobal>(rt: &R, option: Option<&str>) -> Result<Filte
 }
 
 /// The option's.
-#[tactic(auto, unfolding(crate::specs::Named::WasDenied))]
 fn as_option_says(alloc: Global, text: &str) -> Result<Filter, BoxFault>
     ensures chosen { IfOk result (λ filter. IsChosenBy (Some text.entry) (filter_rules filter)) }
     ensures valid { OnOk result (invalid_spec text.now ≡ None) }
@@ -170,24 +169,31 @@ fn as_option_says(alloc: Global, text: &str) -> Result<Filter, BoxFault>
 }
 
 /// The environment's, if it has one.
-#[tactic(auto, unfolding(crate::specs::Named::WasDenied))]
 fn as_environment_says<R: Env + AllocGlobal>(rt: &R) -> Result<Filter, BoxFault>
     ensures chosen { IfOk result (λ filter. IsChosenBy None (filter_rules filter)) }
     ensures valid { OnOk result (IsFilter None) }
     ensures err { IfErr result (LacksFilter None) }
 {
-    let said = match said_by_environment(rt) {
-        Ok(said) => said,
-        Err(fault) => return Err(fault),
-    };
-    match filtered(rt.alloc(), text_in(&said)) {
+    match said_by_environment(rt) {
+        Ok(said) => as_said(rt.alloc(), &said),
+        Err(fault) => Err(fault),
+    }
+}
+
+/// That of a text that the environment has, if it has one.
+fn as_said(alloc: Global, said: &Option<String>) -> Result<Filter, BoxFault>
+    requires said { WasSaid (option_map string_bytes said.now) }
+    ensures chosen { IfOk result (λ filter. IsChosenBy None (filter_rules filter)) }
+    ensures valid { OnOk result (IsFilter None) }
+    ensures err { IfErr result (LacksFilter None) }
+{
+    match filtered(alloc, text_in(said)) {
         Ok(filter) => Ok(filter),
-        Err(fault) => Err(BoxFault::of_filter(rt.alloc(), fault)),
+        Err(fault) => Err(BoxFault::of_filter(alloc, fault)),
     }
 }
 
 /// The text that the environment has for a filter, if it has one.
-#[tactic(auto, unfolding(crate::specs::Named::WasDenied))]
 fn said_by_environment<R: Env + AllocGlobal>(rt: &R) -> Result<Option<String>, BoxFault>
     ensures said { IfOk result (λ text. WasSaid (option_map string_bytes text)) }
     ensures err { IfErr result (LacksFilter None) }

@@ -1,28 +1,30 @@
 //! What is done at a box: its boot file and its rounds.
-ghost use Rattle.std.specs.Prelude.{◌≡◌, ◌⊎◌, ◌<◌, IfErr, IfSome, IsTrue, OnOk, Some, codes, false, is_some};
+ghost use Rattle.std.specs.Prelude.{◌≡◌, ◌⊎◌, ◌<◌, IfErr, IfSome, IsTrue, OnErr, OnOk, Some, codes, false, is_some};
 ghost use Rattle.std.specs.Io.KnownBytes.{Appends};
 ghost use Rattle.nat_types.specs.declared.gateways.GatewayId.TheVariants.{Zero};
 ghost use Rattle.inputs.specs.Inputs.{IsUnasked};
 ghost use Rattle.inputs.specs.declared.standard_input.StandardInput.{StandardInput as Source};
 ghost use Rattle.control.specs.Paths.{IsBeside, socket_of};
-ghost use Rattle.sockets.specs.Doing.{DoesAt};
 ghost use Rattle.sockets.specs.Inheriting.{AreUnblocked};
-ghost use Rattle.rounds.specs.Rounds.{wire_says};
+ghost use Rattle.rounds.specs.Rounds.{calls, wire_says};
+ghost use Rattle.rounds.specs.Tellings.{IsNewTeller, ToldLog};
 ghost use Rattle.box_words.specs.Deeds.{HasUnmade, made};
 ghost use Rattle.box_words.specs.Faults.{fault_text};
+ghost use Rattle.outlets.specs.Outputs.{IsUnput};
 ghost use Rattle.outlets.specs.Telling.{IsToldOf};
 ghost use Rattle.gate.specs.Asking.{AsksBy, AsksFor, AsksUpTo, AsksWatched, captures, listeners, openings, pathed, places};
 ghost use Rattle.gate.specs.Asked.{IsFilter, IsNotified, boot_file_of, path_in};
 ghost use Rattle.gate.specs.Boots.{IsIdentity};
 ghost use Rattle.gate.specs.Failing.{IsUnbegun, IsUnrun, IsUnstarted, LacksOutput};
-ghost use Rattle.gate.specs.Logs.{IsOwnLog, IsRecorded, IsToldAtMost, IsToldLeftOut, new_teller};
-ghost use Rattle.gate.specs.Named.{WasClosed, WasGiven, WasHad, WasLetGo, all_sockets, begun_capture, boot_number, capture_file, control_socket, locked_file};
+ghost use Rattle.gate.specs.Logs.{IsOwnLog, IsOwnTeller, IsRecorded, IsToldAtMost, IsToldBy, IsToldLeftOut, IsToldOfThis};
+ghost use Rattle.gate.specs.Named.{IsUntold, WasClosed, WasGiven, WasHad, WasLetGo, all_sockets, begun_capture, boot_number, capture_file, control_socket, locked_file};
 ghost use Rattle.gate.specs.Orders.{IsInOrder, IsInSomeOrder, IsNumbered, IsSilentOrTaken, IsUnrecorded};
 ghost use Rattle.gate.specs.Served.{HasRun, HasServed, RunsLocked, RunsOpened, RunsWired};
 ghost use Rattle.gate.specs.Sparing.{FailsHeard, FailsHeld, FailsInherited, FailsLocked, FailsLogged, FailsOpening, FailsWatched, FailsWired, IsRefusal};
 ghost use Rattle.gate.specs.Starts.{AreHeld, AreRead, AreWatched, AreWays, CanOpen};
 ghost use Rattle.gate.specs.Told.{HearsAll, HearsOne, HearsSome, IsUnheard};
-ghost use Rattle.gate.specs.Wires.{IsOfSockets, IsOwnWire, IsSpared, RanOn, RunsOn, says_at};
+ghost use Rattle.gate.specs.declared.recording.Records.{Records};
+ghost use Rattle.gate.specs.Wires.{IsOfSockets, IsOwnWire, IsSpared, RanOn, RunsOn, does_at, says_at};
 
 use crate::capturing::{CaptureAt, capture_at};
 use crate::machine::{Machine, machine_of};
@@ -417,11 +419,11 @@ where
     requires wired { WasGiven all_sockets }
     requires own { IsOfSockets settings.now start.now wire }
     ensures asks { AsksUpTo machine.old (captures (path_in start.now.capture)) machine.new }
-    ensures ok { OnOk result (HasRun DoesAt says_at settings.now start.now wire
+    ensures ok { OnOk result (HasRun does_at says_at settings.now start.now wire
         (O.contents output.old) (O.contents output.new)) }
     ensures closed { OnOk result (WasClosed (path_in start.now.capture)) }
     ensures err { IfErr result (FailsWired start.now) }
-    ensures spared { IfErr result (IsSpared DoesAt says_at settings.now start.now
+    ensures spared { IfErr result (IsSpared does_at says_at settings.now start.now
         (O.contents output.old) (O.contents output.new) wire) }
     ensures untouched { IfErr result (λ why. IsUnrun (path_in start.now.capture) why
         ⊎ ((disk.new ≡ disk.old) × (manager.new ≡ manager.old))) }
@@ -485,12 +487,14 @@ where
     requires own { IsOfSockets settings.now start.now wire }
     requires wired { WasGiven all_sockets }
     requires log { IsOwnLog L.passes L.writes start.now records.old.log }
+    requires untold { IsUntold records.old }
     ensures asks { AsksUpTo machine.old (captures (path_in start.now.capture)) machine.new }
-    ensures ok { OnOk result (HasRun W.does (wire_says W.waits W.failing W.lost) settings.now
-        start.now wire (O.contents output.old) (O.contents output.new)) }
+    ensures ok { OnOk result (HasRun (calls W.does W.answers) (wire_says W.waits W.failing W.lost)
+        settings.now start.now wire (O.contents output.old) (O.contents output.new)) }
     ensures err { IfErr result (FailsLogged start.now) }
-    ensures spared { IfErr result (IsSpared W.does (wire_says W.waits W.failing W.lost)
-        settings.now start.now (O.contents output.old) (O.contents output.new) wire) }
+    ensures spared { IfErr result (IsSpared (calls W.does W.answers)
+        (wire_says W.waits W.failing W.lost) settings.now start.now
+        (O.contents output.old) (O.contents output.new) wire) }
     ensures untouched { IfErr result (λ why. IsUnrun (path_in start.now.capture) why
         ⊎ ((disk.new ≡ disk.old) × (manager.new ≡ manager.old))) }
     ensures told { IsToldAtMost (path_in start.now.capture) records.old records.new }
@@ -547,11 +551,13 @@ fn tapped<
     requires had { WasHad (locked_file (boot_file_of settings.now start.now.id)) disk.old }
     requires file { WasHad (capture_file capture.path.now) capture.file }
     requires log { IsOwnLog L.passes L.writes start.now records.old.log }
-    ensures ok { OnOk result (HasRun W.does (wire_says W.waits W.failing W.lost) settings.now
-        start.now wire (O.contents output.old) (O.contents output.new)) }
+    requires untold { IsUntold records.old }
+    ensures ok { OnOk result (HasRun (calls W.does W.answers) (wire_says W.waits W.failing W.lost)
+        settings.now start.now wire (O.contents output.old) (O.contents output.new)) }
     ensures err { IfErr result (IsUnrun (path_in start.now.capture)) }
-    ensures spared { IfErr result (IsSpared W.does (wire_says W.waits W.failing W.lost)
-        settings.now start.now (O.contents output.old) (O.contents output.new) wire) }
+    ensures spared { IfErr result (IsSpared (calls W.does W.answers)
+        (wire_says W.waits W.failing W.lost) settings.now start.now
+        (O.contents output.old) (O.contents output.new) wire) }
     ensures told { IsToldAtMost (path_in start.now.capture) records.old records.new }
     ensures recorded { OnOk result
         (IsRecorded (path_in start.now.capture) records.old records.new) }
@@ -624,8 +630,9 @@ fn tapped_rounds<
     requires identity { IsIdentity settings.now start.now.id identity gateway.old }
     requires had { WasHad (capture_file capture.path.now) capture.file }
     requires log { IsOwnLog L.passes L.writes start.now records.old.log }
-    ensures ran { OnOk result (RanOn W.does (wire_says W.waits W.failing W.lost) identity
-        start.now gateway.old gateway.new wire) }
+    requires begun { IsToldOfThis identity.boot records.old }
+    ensures ran { OnOk result (RanOn (calls W.does W.answers) (wire_says W.waits W.failing W.lost)
+        identity start.now gateway.old gateway.new wire) }
     ensures ended { OnOk result
         (Appends (O.contents output.old) (O.contents output.new) (codes "end\n")) }
     ensures begun { OnOk result (WasGiven (begun_capture capture.entry.path.now)) }
@@ -634,7 +641,7 @@ fn tapped_rounds<
     ensures recorded { OnOk result (IsToldLeftOut records.old records.new) }
     ensures unrun { IfErr result (λ why.
         (LacksOutput (codes "end\n") (O.contents output.old) (O.contents output.new) why
-        × (RanOn W.does (wire_says W.waits W.failing W.lost) identity start.now
+        × (RanOn (calls W.does W.answers) (wire_says W.waits W.failing W.lost) identity start.now
         gateway.old gateway.new wire × HearsOne identity.boot manager.old manager.new))
         ⊎ ((IsUnbegun (Some capture.entry.path.now) why × WasLetGo wire)
         × ((output.new ≡ output.old)
@@ -675,11 +682,13 @@ fn run<
     requires had { WasHad (locked_file (boot_file_of settings.now start.now.id)) disk.old }
     requires own { IsOfSockets settings.now start.now wire }
     requires log { IsOwnLog L.passes L.writes start.now records.old.log }
-    ensures ok { OnOk result (HasRun W.does (wire_says W.waits W.failing W.lost) settings.now
-        start.now wire (O.contents output.old) (O.contents output.new)) }
+    requires untold { IsUntold records.old }
+    ensures ok { OnOk result (HasRun (calls W.does W.answers) (wire_says W.waits W.failing W.lost)
+        settings.now start.now wire (O.contents output.old) (O.contents output.new)) }
     ensures err { IfErr result IsUnstarted }
-    ensures spared { IfErr result (IsSpared W.does (wire_says W.waits W.failing W.lost)
-        settings.now start.now (O.contents output.old) (O.contents output.new) wire) }
+    ensures spared { IfErr result (IsSpared (calls W.does W.answers)
+        (wire_says W.waits W.failing W.lost) settings.now start.now
+        (O.contents output.old) (O.contents output.new) wire) }
     ensures told { IsToldAtMost (path_in start.now.capture) records.old records.new }
     ensures recorded { OnOk result
         (IsRecorded (path_in start.now.capture) records.old records.new) }
@@ -745,21 +754,25 @@ fn rounds_of<C: Clock + Input + AllocGlobal, W: Wire, O: Write, L: Journal>(
     requires own { IsOwnWire (path_in start.now.capture) settings.now start.now wire.old }
     requires identity { IsIdentity settings.now start.now.id identity gateway.old }
     requires log { IsOwnLog L.passes L.writes start.now teller.log }
-    requires fresh { teller ≡ new_teller teller.log gateway.old.moment }
-    ensures runs { (run : RunsOn (Source C) W.does (wire_says W.waits W.failing W.lost) identity
+    requires fresh { IsNewTeller teller.log gateway.old.moment teller }
+    requires teller { IsOwnTeller (Records L) identity.boot teller }
+    ensures runs { (run : RunsOn (Source C) (calls W.does W.answers)
+        (wire_says W.waits W.failing W.lost) identity
         start.now.rounds start.now.track start.now.until_eof
         gateway.old gateway.new wire.old wire.new) × (IfSome run.until IsUnasked
-        × HearsAll identity.boot run.had.all.moments manager.old manager.new) }
+        × (HearsAll identity.boot run.had.all.moments manager.old manager.new
+        × IsToldBy (ToldLog L) (λ t. t.told) run.last.told)) }
     ensures ended { OnOk result
         (Appends (O.contents output.old) (O.contents output.new) (codes "end\n")) }
     ensures err { IfErr result (LacksOutput (codes "end\n")
         (O.contents output.old) (O.contents output.new)) }
+    ensures unended { OnErr result (IsUnput output.old (codes "end\n") output.new) }
 {
     let alloc = means.alloc();
     manager.ready(identity.boot);
     let mut clock = means.stopwatch();
     let mut until = InputEnd::new(means.input(start.until_eof));
-    serve(
+    let served = serve(
         alloc,
         gateway,
         wire,
@@ -771,6 +784,8 @@ fn rounds_of<C: Clock + Input + AllocGlobal, W: Wire, O: Write, L: Journal>(
         manager,
         output,
         &mut teller,
-    )?;
+    );
+    let_go(teller);
+    served?;
     Ok(())
 }

@@ -1,17 +1,18 @@
 //! A gateway begins in the next boot of its box.
-ghost use Rattle.std.specs.Prelude.{◌≡◌, ◌<◌, ◌↔◌, IfErr, IfOk, IsTrue, None, Ok, OnErr, OnOk};
+ghost use Rattle.std.specs.Prelude.{◌≡◌, ◌≢◌, ◌<◌, ◌↔◌, IfErr, IfOk, IsTrue, None, Ok, OnErr, OnOk};
 ghost use Rattle.std.specs.Io.KnownBytes.{Appends, Keeps};
 ghost use Rattle.nat_types.specs.declared.gateways.GatewayId.TheVariants.{Zero};
-ghost use Rattle.journal.specs.Handed.{IsTold};
-ghost use Rattle.journal.specs.declared.entries.Entry.TheVariants.{Boot};
+ghost use Rattle.faults.specs.declared.faults.Fault.TheVariants.{NotWritten};
+ghost use Rattle.box_words.specs.declared.refusals.BoxFault.TheVariants.{Run};
+ghost use Rattle.outlets.specs.Outputs.{WasFlushed as WasAskedToFlush};
 ghost use Rattle.outlets.specs.Printed.{Prints};
-ghost use Rattle.checks.specs.Digests.{digest};
 ghost use Rattle.boot_store.specs.Crash.{Decides, Keeps as KeepsFile, Rises, Since};
-ghost use Rattle.gate.specs.Boots.{HasBoot, HasStarted, IsIdentity, IsStart, TellsNumber, boot_line};
+ghost use Rattle.gate.specs.Boots.{HasBoot, HasStarted, IsIdentity, IsStart, TellsNumber, boot_line, boot_text};
 ghost use Rattle.gate.specs.Failing.{IsUnstarted, LacksMemory, LacksOutput};
-ghost use Rattle.gate.specs.Logs.{IsLikeLog};
+ghost use Rattle.gate.specs.Logs.{IsLikeLog, IsToldOfBoot};
 ghost use Rattle.gate.specs.Named.{IsNumberOf, WasFlushed, WasGiven, WasRecorded, boot_number};
 ghost use Rattle.gate.specs.Orders.{IsInOrder};
+ghost use Rattle.gate.specs.Printing.{HasLine, HasNumber, IsLinePrinted, IsLineRefused, IsRefusedLine};
 
 use crate::recording::Records;
 use crate::rest::Means;
@@ -22,7 +23,7 @@ use gateway::{Gateway, Hashers};
 use itoa::Buffer;
 use journal::Journal;
 use nat_types::GatewayId;
-use outlets::put_all;
+use outlets::{told_to_flush, told_to_put};
 use rounds::Identity;
 use settings::Settings;
 use std::alloc::Global;
@@ -46,8 +47,8 @@ pub(crate) fn started<R: RandomSource + AllocGlobal, D: Disk, O: Write, L: Journ
     ensures identity { IfOk result (λ begun. IsIdentity settings.now id begun.0 begun.1) }
     ensures decided { D.honest disk.old → IfOk result (λ begun. Decides found
         (D.now disk.old) (D.now disk.new) (Ok begun.0.boot)) }
-    ensures record { IfOk result (λ begun. IsTold L.enables records.old.log 0
-        (Boot begun.0.boot)) }
+    ensures record { IfOk result
+        (λ begun. IsToldOfBoot L.enables records.old.log begun.0.boot) }
     ensures recorded { IfOk result
         (λ begun. WasRecorded records.old begun.0.boot records.new) }
     ensures unrecorded { OnErr result (records.new ≡ records.old) }
@@ -57,10 +58,14 @@ pub(crate) fn started<R: RandomSource + AllocGlobal, D: Disk, O: Write, L: Journ
     ensures err { IfErr result IsUnstarted }
     ensures printed { IfOk result (λ begun. Appends (O.contents output.old)
         (O.contents output.new) (boot_line begun.0.boot)) }
+    ensures line { IfOk result
+        (λ begun. IsLinePrinted output.old begun.0.boot output.new) }
+    ensures unprinted { IfErr result (λ why. why ≡ Run NotWritten
+        → IsRefusedLine output.old output.new) }
     ensures order { IfErr result (λ why. IsInOrder O.contents None (D.honest disk.old) found
         (D.now disk.old) (D.now disk.new) why output.old output.new) }
 {
-    let digest = digested(means.alloc(), settings)?;
+    let digest = digest(settings);
     let hashers = means.drawn()?;
     let (boot, gateway) = booted(means.alloc(), disk, settings, id, found, hashers)?;
     match announced(output, boot) {
@@ -75,22 +80,14 @@ pub(crate) fn started<R: RandomSource + AllocGlobal, D: Disk, O: Write, L: Journ
     }
 }
 
-/// What tells settings apart from those of another box.
-#[tactic(auto, unfolding(crate::specs::Named::WasDenied))]
-fn digested(alloc: Global, settings: &Settings) -> Result<u64, BoxFault>
-    ensures digest { IfOk result (λ number. number ≡ digest settings.now) }
-    ensures err { IfErr result LacksMemory }
-{
-    let number = digest(alloc, settings)?;
-    Ok(number)
-}
-
 /// Prints the number of a boot.
 #[tactic(auto, unfolding(crate::specs::Named::WasDenied, crate::specs::Named::WasRefused))]
 fn announced<O: Write>(output: &mut O, boot: u64) -> Result<(), BoxFault>
     ensures printed { OnOk result
         (Appends (O.contents output.old) (O.contents output.new) (boot_line boot)) }
     ensures flushed { OnOk result (WasFlushed (O.contents output.new)) }
+    ensures line { OnOk result (IsLinePrinted output.old boot output.new) }
+    ensures unprinted { OnErr result (IsLineRefused output.old boot output.new) }
     ensures err { IfErr result (LacksOutput (boot_line boot)
         (O.contents output.old) (O.contents output.new)) }
 {
@@ -98,15 +95,39 @@ fn announced<O: Write>(output: &mut O, boot: u64) -> Result<(), BoxFault>
     Ok(())
 }
 
-/// Writes the line of a boot, to its end.
+/// Writes the line of a boot, to its end, and has output hand on what it keeps.
 fn print_boot<O: Write>(output: &mut O, boot: u64) -> io::Result<()>
     ensures prints { Prints (O.contents output.old) result (O.contents output.new)
         (boot_line boot) }
     ensures flushed { OnOk result (WasFlushed (O.contents output.new)) }
+    ensures line { OnOk result (IsLinePrinted output.old boot output.new) }
+    ensures refused { OnErr result (IsLineRefused output.old boot output.new) }
 {
-    let mut digits = Buffer::new();
-    put_all(output, &["boot ", digits.format(boot), "\n"])?;
+    put_line(output, boot)?;
     flushed(output)
+}
+
+/// Writes the line of a boot.
+fn put_line<O: Write>(output: &mut O, boot: u64) -> io::Result<()>
+    ensures prints { Prints (O.contents output.old) result (O.contents output.new)
+        (boot_line boot) }
+    ensures line { OnOk result (HasLine output.old boot output.new) }
+    ensures refused { OnErr result (IsLineRefused output.old boot output.new) }
+{
+    put_number(output, boot)?;
+    told_to_put(output, "\n".as_bytes())
+}
+
+/// Writes what stands in that line.
+fn put_number<O: Write>(output: &mut O, boot: u64) -> io::Result<()>
+    ensures prints { Prints (O.contents output.old) result (O.contents output.new)
+        (boot_text boot) }
+    ensures number { OnOk result (HasNumber output.old boot output.new) }
+    ensures refused { OnErr result (IsLineRefused output.old boot output.new) }
+{
+    told_to_put(output, "boot ".as_bytes())?;
+    let mut digits = Buffer::new();
+    told_to_put(output, digits.format(boot).as_bytes())
 }
 
 /// Has output hand on what it keeps.
@@ -114,8 +135,9 @@ fn print_boot<O: Write>(output: &mut O, boot: u64) -> io::Result<()>
 fn flushed<O: Write>(output: &mut O) -> io::Result<()>
     ensures bytes { Keeps (O.contents output.old) (O.contents output.new) }
     ensures flushed { OnOk result (WasFlushed (O.contents output.new)) }
+    ensures asked { WasAskedToFlush output.old result output.new }
 {
-    output.flush()
+    told_to_flush(output)
 }
 
 /// The next boot number of a disk, and a gateway in just that boot. Once it is answered, the number
@@ -135,6 +157,7 @@ fn booted<D: Disk>(
     ensures given { OnOk result (WasGiven boot_number) }
     ensures own_number { OnOk result (IsNumberOf disk.old) }
     ensures err { IfErr result IsUnstarted }
+    ensures unasked { IfErr result (λ why. why ≢ Run NotWritten) }
     ensures rises { D.honest disk.old
         → IfOk result (λ start. Rises (D.now disk.old) (D.now disk.new) (Ok start.0)) }
     ensures decided { D.honest disk.old
@@ -155,6 +178,7 @@ fn numbered<D: Disk>(disk: &mut D, found: bool) -> Result<u64, BoxFault>
     ensures own_number { OnOk result (IsNumberOf disk.old) }
     ensures above_zero { IfOk result (λ boot. 0 < boot) }
     ensures err { IfErr result IsUnstarted }
+    ensures unasked { IfErr result (λ why. why ≢ Run NotWritten) }
     ensures told { D.honest disk.old → IfErr result (TellsNumber found (D.failures disk.old)
         (D.failures disk.new) (D.now disk.old) (D.now disk.new)) }
     ensures rises { D.honest disk.old

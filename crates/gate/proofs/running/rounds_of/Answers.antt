@@ -1,16 +1,21 @@
-use Rattle.std.proofs.Common.{ap}
-use Rattle.rounds.specs.Rounds.{wire_says}
+use Rattle.rounds.specs.Rounds.{calls, wire_says}
+use Rattle.gate.proofs.Beginning.{on_err}
 use Rattle.gate.proofs.Serving.{runs_on}
 use Rattle.gate.proofs.running.rounds_of.Goals as goal
 
 pub returns-clause-runs : goal.returns-clause-runs
 returns-clause-runs g c =
-    runs_on g.W.Wire.does (wire_says g.W.Wire.waits g.W.Wire.failing g.W.Wire.lost) _ _ _ _ _ _ _ _ _ _ _ _ _ _ _
-    (ap (λ t. t.told) c.requires.fresh) c.stopwatch-clock.ensures.start c.stopwatch-clock.ensures.read c.new-until.ensures c.input.ensures.watched c.input.ensures.unasked
-    c.serve.ensures.rounds.run c.serve.ensures.rounds.shown c.serve.ensures.rounds.wire_is _ (_, (c.ready.ensures, c.serve.ensures.rounds.told))
+    runs_on (calls g.W.Wire.does g.W.Wire.answers) (wire_says g.W.Wire.waits g.W.Wire.failing g.W.Wire.lost) _ _ _ _ _ _ _ _ _ _ _ _ _ _ _
+    c.requires.fresh.untold c.stopwatch-clock.ensures.start c.stopwatch-clock.ensures.read c.new-until.ensures c.input.ensures.watched c.input.ensures.unasked
+    c.serve-served.ensures.rounds.run c.serve-served.ensures.rounds.shown c.serve-served.ensures.rounds.wire_is _ (_, (c.ready.ensures, c.serve-served.ensures.rounds.told)) _
+    (_, (c.serve-served.ensures.rounds.told_is, c.let_go.ensures))
 
-pub returns-in_err-serve-clause-runs : goal.returns-in_err-serve-clause-runs
-returns-in_err-serve-clause-runs g c =
-    runs_on g.W.Wire.does (wire_says g.W.Wire.waits g.W.Wire.failing g.W.Wire.lost) _ _ _ _ _ _ _ _ _ _ _ _ _ _ _
-    (ap (λ t. t.told) c.requires.fresh) c.stopwatch-clock.ensures.start c.stopwatch-clock.ensures.read c.new-until.ensures c.input.ensures.watched c.input.ensures.unasked
-    c.serve.ensures.rounds.run c.serve.ensures.rounds.shown c.serve.ensures.rounds.wire_is _ (_, (c.ready.ensures, c.serve.ensures.rounds.told))
+pub returns-in_err-served-clause-runs : goal.returns-in_err-served-clause-runs
+returns-in_err-served-clause-runs g c =
+    runs_on (calls g.W.Wire.does g.W.Wire.answers) (wire_says g.W.Wire.waits g.W.Wire.failing g.W.Wire.lost) _ _ _ _ _ _ _ _ _ _ _ _ _ _ _
+    c.requires.fresh.untold c.stopwatch-clock.ensures.start c.stopwatch-clock.ensures.read c.new-until.ensures c.input.ensures.watched c.input.ensures.unasked
+    c.serve-served.ensures.rounds.run c.serve-served.ensures.rounds.shown c.serve-served.ensures.rounds.wire_is _ (_, (c.ready.ensures, c.serve-served.ensures.rounds.told)) _
+    (_, (c.serve-served.ensures.rounds.told_is, c.let_go.ensures))
+
+pub returns-in_err-served-clause-unended : goal.returns-in_err-served-clause-unended
+returns-in_err-served-clause-unended g c = on_err c.from_residual.result _ (rw c.in_err-served.was at c.serve-served.ensures.unwritten)

@@ -1,18 +1,18 @@
-use Rattle.std.proofs.Common.{inl, inr, refl}
-use Rattle.rounds.specs.Rounds.{wire_says}
+use Rattle.std.proofs.Common.{inl, inr, refl, sym}
+use Rattle.rounds.specs.Rounds.{calls, wire_says}
 use Rattle.gate.proofs.Below.{ran_below}
 use Rattle.gate.proofs.Heard.{unheard_behind}
-use Rattle.gate.proofs.Recorded.{recorded_alone, recorded_behind}
+use Rattle.gate.proofs.Recorded.{new_again, own_again, own_like, recorded_alone, recorded_behind}
 use Rattle.gate.proofs.Refusing.{in_order, unwritten_unstarted, with_capture}
 use Rattle.gate.proofs.Serving.{always, has_run, on_sockets, spared_behind, uncaptured}
 use Rattle.gate.proofs.running.run.Goals as goal
 
 pub returns-in-Ok-clause-ok : goal.returns-in-Ok-clause-ok
 returns-in-Ok-clause-ok g c =
-    has_run c.rounds_of-ended.result g.W.Wire.does (wire_says g.W.Wire.waits g.W.Wire.failing g.W.Wire.lost) c.args.settings.now c.args.start.now c.args.wire _ _ _ _ _ _
+    has_run c.rounds_of-ended.result (calls g.W.Wire.does g.W.Wire.answers) (wire_says g.W.Wire.waits g.W.Wire.failing g.W.Wire.lost) c.args.settings.now c.args.start.now c.args.wire _ _ _ _ _ _
     c.in-Ok.ensures.start c.in-Ok.ensures.identity c.requires.own
     (always c.rounds_of-ended.result _ (
-    ran_below (λ w. w) g.W.Wire.does (wire_says g.W.Wire.waits g.W.Wire.failing g.W.Wire.lost) _ c.args.start.now _ _ c.args.wire c.rounds_of-ended.new.wire
+    ran_below (λ w. w) (calls g.W.Wire.does g.W.Wire.answers) (wire_says g.W.Wire.waits g.W.Wire.failing g.W.Wire.lost) _ c.args.start.now _ _ c.args.wire c.rounds_of-ended.new.wire
     c.rounds_of-ended.new.wire c.args.wire refl refl c.let_go.ensures c.rounds_of-ended.ensures.runs.0
     )) c.rounds_of-ended.ensures.ended
     (c.in-Ok.ensures.own_number _ c.requires.had) (_, c.requires.notified) c.requires.valid
@@ -23,9 +23,9 @@ returns-in-Ok-clause-err g c = unwritten_unstarted c.rounds_of-ended.result _ _ 
 
 pub returns-in-Ok-clause-spared : goal.returns-in-Ok-clause-spared
 returns-in-Ok-clause-spared g c =
-    spared_behind c.rounds_of-ended.result g.W.Wire.does (wire_says g.W.Wire.waits g.W.Wire.failing g.W.Wire.lost) c.args.settings.now c.args.start.now c.args.wire _ _ _ _ _
+    spared_behind c.rounds_of-ended.result (calls g.W.Wire.does g.W.Wire.answers) (wire_says g.W.Wire.waits g.W.Wire.failing g.W.Wire.lost) c.args.settings.now c.args.start.now c.args.wire _ _ _ _ _
     _ c.in-Ok.ensures.identity (
-    ran_below (λ w. w) g.W.Wire.does (wire_says g.W.Wire.waits g.W.Wire.failing g.W.Wire.lost) _ c.args.start.now _ _ c.args.wire c.rounds_of-ended.new.wire
+    ran_below (λ w. w) (calls g.W.Wire.does g.W.Wire.answers) (wire_says g.W.Wire.waits g.W.Wire.failing g.W.Wire.lost) _ c.args.start.now _ _ c.args.wire c.rounds_of-ended.new.wire
     c.rounds_of-ended.new.wire c.args.wire refl refl c.let_go.ensures c.rounds_of-ended.ensures.runs.0
     ) c.in-Ok.ensures.printed c.rounds_of-ended.ensures.err
 
@@ -33,7 +33,7 @@ pub returns-in-Ok-clause-decided : goal.returns-in-Ok-clause-decided
 returns-in-Ok-clause-decided g c h = always c.rounds_of-ended.result _ (_, c.in-Ok.ensures.decided h)
 
 pub returns-in-Ok-clause-heard : goal.returns-in-Ok-clause-heard
-returns-in-Ok-clause-heard g c = always c.rounds_of-ended.result _ (_, (_, c.rounds_of-ended.ensures.runs.1.1))
+returns-in-Ok-clause-heard g c = always c.rounds_of-ended.result _ (_, (_, c.rounds_of-ended.ensures.runs.1.1.0))
 
 pub returns-in-Ok-clause-order : goal.returns-in-Ok-clause-order
 returns-in-Ok-clause-order g c =
@@ -51,7 +51,7 @@ rounds_of-ended-requires-clause-own g c =
 
 pub returns-in-Ok-clause-unheard : goal.returns-in-Ok-clause-unheard
 returns-in-Ok-clause-unheard g c =
-    unheard_behind c.rounds_of-ended.result _ _ _ _ _ _ c.in-Ok.ensures.printed (_, c.rounds_of-ended.ensures.runs.1.1) c.rounds_of-ended.ensures.err
+    unheard_behind c.rounds_of-ended.result _ _ _ _ _ _ c.in-Ok.ensures.printed (_, c.rounds_of-ended.ensures.runs.1.1.0) c.rounds_of-ended.ensures.err
 
 pub returns-in-Ok-clause-unrecorded : goal.returns-in-Ok-clause-unrecorded
 returns-in-Ok-clause-unrecorded g c = recorded_behind c.rounds_of-ended.result _ _ _ _ _ _ _ c.in-Ok.ensures.printed c.rounds_of-ended.ensures.err
@@ -69,3 +69,14 @@ returns-in-Ok-clause-told g c = inr (inl (_, c.in-Ok.ensures.recorded))
 
 pub returns-in-Err-clause-told : goal.returns-in-Err-clause-told
 returns-in-Err-clause-told g c = inl c.in-Err.ensures.unrecorded
+
+pub rounds_of-ended-requires-clause-fresh : goal.rounds_of-ended-requires-clause-fresh
+rounds_of-ended-requires-clause-fresh g c = rw c.moment.ensures at (new_again _ _ _ c.teller_at-teller.ensures.new)
+
+pub rounds_of-ended-requires-clause-log : goal.rounds_of-ended-requires-clause-log
+rounds_of-ended-requires-clause-log g c =
+    own_again g.L.Journal.passes g.L.Journal.writes c.args.start.now _ _ (sym c.teller_at-teller.ensures.new.of_log)
+    (own_like g.L.Journal.passes g.L.Journal.writes c.args.start.now _ _ c.requires.log c.in-Ok.ensures.like)
+
+pub rounds_of-ended-requires-clause-teller : goal.rounds_of-ended-requires-clause-teller
+rounds_of-ended-requires-clause-teller g c = (_, ((_, (c.requires.untold, c.in-Ok.ensures.recorded)), c.teller_at-teller.ensures.own))

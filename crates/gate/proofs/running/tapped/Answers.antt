@@ -1,5 +1,5 @@
 use Rattle.std.proofs.Common.{inl, inr}
-use Rattle.rounds.specs.Rounds.{wire_says}
+use Rattle.rounds.specs.Rounds.{calls, wire_says}
 use Rattle.gate.proofs.Heard.{heard_in_some, unheard_tapped}
 use Rattle.gate.proofs.Recorded.{recorded_both, recorded_tapped, told_behind}
 use Rattle.gate.proofs.Refusing.{ends_in_order, unrun_so, with_capture}
@@ -8,7 +8,7 @@ use Rattle.gate.proofs.running.tapped.Goals as goal
 
 pub returns-in-Ok-clause-ok : goal.returns-in-Ok-clause-ok
 returns-in-Ok-clause-ok g c =
-    has_run c.tapped_rounds-ended.result g.W.Wire.does (wire_says g.W.Wire.waits g.W.Wire.failing g.W.Wire.lost) c.args.settings.now c.args.start.now c.args.wire _ _ _ _ _ _
+    has_run c.tapped_rounds-ended.result (calls g.W.Wire.does g.W.Wire.answers) (wire_says g.W.Wire.waits g.W.Wire.failing g.W.Wire.lost) c.args.settings.now c.args.start.now c.args.wire _ _ _ _ _ _
     c.in-Ok.ensures.start c.in-Ok.ensures.identity c.requires.own c.tapped_rounds-ended.ensures.ran c.tapped_rounds-ended.ensures.ended
     (c.in-Ok.ensures.own_number _ c.requires.had) (_, c.requires.notified) c.requires.valid
     (captured_at c.tapped_rounds-ended.result _ _ c.requires.captured c.tapped_rounds-ended.ensures.begun)
@@ -19,7 +19,7 @@ returns-in-Ok-clause-err g c =
 
 pub returns-in-Ok-clause-spared : goal.returns-in-Ok-clause-spared
 returns-in-Ok-clause-spared g c =
-    spared_tapped c.tapped_rounds-ended.result g.W.Wire.does (wire_says g.W.Wire.waits g.W.Wire.failing g.W.Wire.lost) c.args.settings.now c.args.start.now c.args.wire _ _ _ _ _ _ _ _ _
+    spared_tapped c.tapped_rounds-ended.result (calls g.W.Wire.does g.W.Wire.answers) (wire_says g.W.Wire.waits g.W.Wire.failing g.W.Wire.lost) c.args.settings.now c.args.start.now c.args.wire _ _ _ _ _ _ _ _ _
     c.in-Ok.ensures.identity c.in-Ok.ensures.printed c.tapped_rounds-ended.ensures.unrun
 
 pub returns-in-Ok-clause-decided : goal.returns-in-Ok-clause-decided
@@ -66,3 +66,6 @@ returns-in-Ok-clause-told g c =
 
 pub returns-in-Err-clause-told : goal.returns-in-Err-clause-told
 returns-in-Err-clause-told g c = inl c.in-Err.ensures.unrecorded
+
+pub tapped_rounds-ended-requires-clause-begun : goal.tapped_rounds-ended-requires-clause-begun
+tapped_rounds-ended-requires-clause-begun g c = (_, (c.requires.untold, c.in-Ok.ensures.recorded))

@@ -1,6 +1,7 @@
-use Rattle.std.proofs.Common.{inl, inr, refl}
-use Rattle.rounds.specs.Rounds.{wire_says}
+use Rattle.std.proofs.Common.{inl, inr, refl, sym}
+use Rattle.rounds.specs.Rounds.{calls, wire_says}
 use Rattle.gate.proofs.Below.{ran_below}
+use Rattle.gate.proofs.Recorded.{new_again, own_again}
 use Rattle.gate.proofs.Refusing.{handed_on, only_this}
 use Rattle.gate.proofs.Serving.{always, on_tapped}
 use Rattle.gate.proofs.running.tapped_rounds.Goals as goal
@@ -8,21 +9,21 @@ use Rattle.gate.proofs.running.tapped_rounds.Goals as goal
 pub returns-clause-ran : goal.returns-clause-ran
 returns-clause-ran g c =
     always c.rounds_of-ended.result _
-    (ran_below (λ tapped. tapped.wire) g.W.Wire.does (wire_says g.W.Wire.waits g.W.Wire.failing g.W.Wire.lost) c.args.identity c.args.start.now _ _ _ _ c.end.new.self c.args.wire
+    (ran_below (λ tapped. tapped.wire) (calls g.W.Wire.does g.W.Wire.answers) (wire_says g.W.Wire.waits g.W.Wire.failing g.W.Wire.lost) c.args.identity c.args.start.now _ _ _ _ c.end.new.self c.args.wire
     c.in_ok-wire.ensures.tapped.0 c.end.ensures.wire c.let_go_tapped.ensures c.rounds_of-ended.ensures.runs.0)
 
 pub returns-clause-begun : goal.returns-clause-begun
 returns-clause-begun g c = always c.rounds_of-ended.result _ c.in_ok-wire.ensures.begun
 
 pub returns-clause-heard : goal.returns-clause-heard
-returns-clause-heard g c = always c.rounds_of-ended.result _ (_, c.rounds_of-ended.ensures.runs.1.1)
+returns-clause-heard g c = always c.rounds_of-ended.result _ (_, c.rounds_of-ended.ensures.runs.1.1.0)
 
 pub returns-clause-unrun : goal.returns-clause-unrun
 returns-clause-unrun g c =
     only_this c.rounds_of-ended.result _ _ _ (
-      ran_below (λ tapped. tapped.wire) g.W.Wire.does (wire_says g.W.Wire.waits g.W.Wire.failing g.W.Wire.lost) c.args.identity c.args.start.now _ _ _ _ c.end.new.self c.args.wire
+      ran_below (λ tapped. tapped.wire) (calls g.W.Wire.does g.W.Wire.answers) (wire_says g.W.Wire.waits g.W.Wire.failing g.W.Wire.lost) c.args.identity c.args.start.now _ _ _ _ c.end.new.self c.args.wire
           c.in_ok-wire.ensures.tapped.0 c.end.ensures.wire c.let_go_tapped.ensures c.rounds_of-ended.ensures.runs.0,
-      (_, c.rounds_of-ended.ensures.runs.1.1),
+      (_, c.rounds_of-ended.ensures.runs.1.1.0),
     )
     c.rounds_of-ended.ensures.err
 
@@ -36,10 +37,19 @@ rounds_of-ended-requires-clause-own g c =
     on_tapped _ c.args.capture.path.now c.args.settings.now c.args.start.now _ c.requires.captured c.in_ok-wire.ensures.had
 
 pub returns-clause-recorded : goal.returns-clause-recorded
-returns-clause-recorded g c = always c.rounds_of-ended.result _ (_, c.told_of_left_out.ensures.told)
+returns-clause-recorded g c = always c.rounds_of-ended.result _ (_, c.told_of_left_out.ensures.left_out)
 
 pub returns-clause-told : goal.returns-clause-told
-returns-clause-told g c = inr (_, c.told_of_left_out.ensures.told)
+returns-clause-told g c = inr (_, c.told_of_left_out.ensures.left_out)
 
 pub returns-in_err-wire-clause-told : goal.returns-in_err-wire-clause-told
 returns-in_err-wire-clause-told g c = inl refl
+
+pub rounds_of-ended-requires-clause-fresh : goal.rounds_of-ended-requires-clause-fresh
+rounds_of-ended-requires-clause-fresh g c = rw c.moment.ensures at (new_again _ _ _ c.teller_at-teller.ensures.new)
+
+pub rounds_of-ended-requires-clause-log : goal.rounds_of-ended-requires-clause-log
+rounds_of-ended-requires-clause-log g c = own_again g.L.Journal.passes g.L.Journal.writes c.args.start.now _ _ (sym c.teller_at-teller.ensures.new.of_log) c.requires.log
+
+pub rounds_of-ended-requires-clause-teller : goal.rounds_of-ended-requires-clause-teller
+rounds_of-ended-requires-clause-teller g c = (_, (c.requires.begun, c.teller_at-teller.ensures.own))

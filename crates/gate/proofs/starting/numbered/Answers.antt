@@ -1,6 +1,6 @@
 use Rattle.std.proofs.Common.{inr}
 use Rattle.gate.specs.Named.{WasDenied}
-use Rattle.gate.proofs.Beginning.{none_failed, tells_number}
+use Rattle.gate.proofs.Beginning.{none_failed, tells_number, unasked_of_boot}
 use Rattle.gate.proofs.starting.numbered.Goals as goal
 
 pub returns-in-Err-clause-err : goal.returns-in-Err-clause-err
@@ -14,3 +14,6 @@ returns-in-Ok-clause-decided g c h =
 pub returns-in-Err-clause-told : goal.returns-in-Err-clause-told
 returns-in-Err-clause-told g c h =
     tells_number c.args.found _ _ _ _ c.in-Err.fault _ c.from.ensures c.in-Err.ensures.later c.in-Err.ensures.device (c.in-Err.ensures.decided h)
+
+pub returns-in-Err-clause-unasked : goal.returns-in-Err-clause-unasked
+returns-in-Err-clause-unasked g c = unasked_of_boot c.in-Err.fault _ c.from.ensures

@@ -6,3 +6,6 @@ returns-in-Err-clause-err g c = inl (c.in-Err.ensures.err.is, (c.in_ok-boot.ensu
 
 pub returns-in-Err-clause-order : goal.returns-in-Err-clause-order
 returns-in-Err-clause-order g c = inr (_, (c.in_ok-boot.ensures.decided, inl (inl c.in-Err.ensures.err)))
+
+pub returns-in-Err-clause-unprinted : goal.returns-in-Err-clause-unprinted
+returns-in-Err-clause-unprinted g c = λ _. (_, c.in-Err.ensures.unprinted)

@@ -1,17 +1,15 @@
 use Rattle.std.proofs.Common.{refl}
-use Rattle.gate.specs.Named.{WasDenied}
 use Rattle.gate.proofs.capturing.CaptureAt.begin.Goals as goal
 
 pub returns-in-Err-clause-err : goal.returns-in-Err-clause-err
-unfolding WasDenied
 returns-in-Err-clause-err g c = (
   _,
   (
     refl,
     (
-      tt,
+      c.in-Err.error,
       (
-        _,
+        c.in-Err.ensures.answered,
         record {
           kind = c.of_capture.ensures.file;
           memory = c.of_capture.ensures.memory;

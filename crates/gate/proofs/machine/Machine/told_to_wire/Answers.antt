@@ -1,3 +1,4 @@
+use Rattle.std.proofs.Common.{rules}
 use Rattle.sockets.specs.Boards.{IsRefused, Opens}
 use Rattle.sockets.specs.declared.places.Ports.{Ports}
 use Rattle.box_words.specs.Ends.{IsFirstOf}
@@ -28,8 +29,11 @@ returns-in-Err-NoMemory-clause-unopened g c =
     let ports = c.ports_of-ports in
     let own = box_ports c.args.settings.now c.args.id in (
       c.in-Err-NoMemory.field-0,
-      of_ports (λ (p : Ports). IsRefused c.args.self.now.places c.args.ways.now p c.args.control c.in-Err-NoMemory.field-0 c.open.new.machine) ports.result own.link
-          own.inside own.outside ports.ensures.link ports.ensures.inside ports.ensures.outside c.in-Err-NoMemory.ensures.refused,
+      (
+        of_ports (λ (p : Ports). IsRefused c.args.self.now.places c.args.ways.now p c.args.control c.in-Err-NoMemory.field-0 c.open.new.machine) ports.result own.link
+            own.inside own.outside ports.ensures.link ports.ensures.inside ports.ensures.outside c.in-Err-NoMemory.ensures.refused,
+        rw c.in-Err-NoMemory.field-0-is (search rules),
+      ),
     )
 
 pub returns-in-Err-NoSocket-clause-unopened : goal.returns-in-Err-NoSocket-clause-unopened
@@ -37,6 +41,9 @@ returns-in-Err-NoSocket-clause-unopened g c =
     let ports = c.ports_of-ports in
     let own = box_ports c.args.settings.now c.args.id in (
       c.in-Err-NoSocket.field-0,
-      of_ports (λ (p : Ports). IsRefused c.args.self.now.places c.args.ways.now p c.args.control c.in-Err-NoSocket.field-0 c.open.new.machine) ports.result own.link
-          own.inside own.outside ports.ensures.link ports.ensures.inside ports.ensures.outside c.in-Err-NoSocket.ensures.refused,
+      (
+        of_ports (λ (p : Ports). IsRefused c.args.self.now.places c.args.ways.now p c.args.control c.in-Err-NoSocket.field-0 c.open.new.machine) ports.result own.link
+            own.inside own.outside ports.ensures.link ports.ensures.inside ports.ensures.outside c.in-Err-NoSocket.ensures.refused,
+        rw c.in-Err-NoSocket.field-0-is tt,
+      ),
     )
