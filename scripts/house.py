@@ -120,8 +120,12 @@ def without_a_sign(top, crates):
 
 
 def other_versions(top):
-    told = (top / "crates" / "command_line" / "src" / "versions.rt").read_text(encoding="utf-8")
-    version, kit = (re.search(rf'const {name}: &str = "(.*)";', told)[1] for name in ("VERSION", "KIT"))
+    said = (top / "crates" / "command_line" / "src" / "versions.rt").read_text(encoding="utf-8")
+    version = re.search(r'const VERSION: &str = "(.*)";', said)[1]
+    printed = (top / "crates" / "commands" / "src" / "versions.rt").read_text(encoding="utf-8")
+    told, kit = re.search(r'const LINE: &str = "natpair (\S*) \((.*)\)\\n";', printed).groups()
+    if told != version:
+        yield f"crates/commands/src/versions.rt: has {told}, and VERSION of command_line is {version}"
     readme = (top / "README.md").read_text(encoding="utf-8")
     for kits in sorted(set(re.findall(r"rattle-kit-\w+ logic \w+", readme))):
         # The program says a kit without the letter behind its number.
@@ -167,8 +171,8 @@ def plant(top, fault):
         path.write_text("planted = unfolding WasDone in tt\n")
         return "crates/control/proofs/Planted.antt: looks into WasDone"
     if fault == "version":
-        path = top / "crates" / "command_line" / "src" / "versions.rt"
-        path.write_text(re.sub(r'KIT: &str = ".*"', 'KIT: &str = "another"', path.read_text()))
+        path = top / "crates" / "commands" / "src" / "versions.rt"
+        path.write_text(path.read_text().replace("(rattle-kit-", "(another-kit-"))
         return "README.md: has rattle-kit"
     (top / "crates" / "planted").mkdir()
     return "crates/planted: no line"

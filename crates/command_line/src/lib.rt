@@ -13,7 +13,7 @@ mod words;
 
 pub use faults::{LineFault, ValueFault};
 pub use tasks::{Task, command};
-pub use versions::{KIT, VERSION};
+pub use versions::VERSION;
 pub use words::{
     CheckWords, Form, GateWords, PairsWords, PeerOffWords, RunWords, StatusWords, WayWords,
 };

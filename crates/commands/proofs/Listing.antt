@@ -1,5 +1,5 @@
 -- Lines that were told, as a list.
-use Rattle.std.proofs.Common.{◌≡◌, ◌∙◌, ◌⊎◌, ◌++◌, inl, inr, ℕ, List, [], ◌∷◌, Option, Some, None, Ok, ap, refl, sym, subst, append_assoc, append-nil}
+use Rattle.std.proofs.Common.{◌≡◌, ◌∙◌, ◌⊎◌, ◌++◌, inl, inr, ℕ, List, [], ◌∷◌, Option, Some, None, Ok, refl, sym, subst, append_assoc, append-nil}
 use Rattle.outlets.specs.Telling.{AreTold, IsTold, IsToldOf, Telling, line_of, no_memory_line}
 use Rattle.settings.specs.declared.whole.Settings.{Settings}
 use Rattle.checks.specs.Comparing.{AreComparedIf, HasCompared, IsReadOf}
@@ -24,33 +24,33 @@ fault_lines tells text P Q before after start h from =
     let l = text_lines tells before after (text h.0) start h.1.1 in
     (l.0, l.1, (h.0, (from h.0 h.1.0, l.2)))
 
-said_lines : {E : Type 0} (tells : Telling E) (text : List ℕ) (status : ℕ) (old new : Option (List ℕ)) (before after : E) (answer : ℕ) (start : List (List ℕ))
-    → IsSaid tells text status old new before after answer
-    → (lines : List (List ℕ)) × AreTold tells before lines after × IsSaid lists text status old new start (start ++ lines) answer
-said_lines tells text status old new before after answer start (inl whole) =
-    ([], whole.untold, inl (record { written = whole.written; untold = append-nil start; is_status = whole.is_status }))
-said_lines tells text status old new before after answer start (inr cut) = (
+said_lines : {O E : Type 0} (holds : O → Option (List ℕ)) (tells : Telling E) (text : List ℕ) (status : ℕ) (old new : O) (before after : E) (answer : ℕ)
+    (start : List (List ℕ)) → IsSaid holds tells text status old new before after answer
+    → (lines : List (List ℕ)) × AreTold tells before lines after × IsSaid holds lists text status old new start (start ++ lines) answer
+said_lines holds tells text status old new before after answer start (inl whole) =
+    ([], whole.untold, inl (record { put = whole.put; written = whole.written; untold = append-nil start; is_status = whole.is_status }))
+said_lines holds tells text status old new before after answer start (inr cut) = (
   not_written_line ∷ [],
   told_once tells before after not_written_line cut.told,
-  inr (record { begun = cut.begun; told = (Ok tt, refl); is_one = cut.is_one }),
+  inr (record { refused = cut.refused; begun = cut.begun; told = (Ok tt, refl); is_one = cut.is_one }),
 )
 
-unsaid_lines : {O E short : Type 0} (holds : O → Option (List ℕ)) (tells : Telling E) (old new : O) (before after : E) (answer : ℕ) (start : List (List ℕ))
+unsaid_lines : {O E short : Type 0} (tells : Telling E) (old new : O) (before after : E) (answer : ℕ) (start : List (List ℕ))
     → IsUnsaid short tells old new before after answer
-    → (lines : List (List ℕ)) × AreTold tells before lines after × IsUnsaid short lists (holds old) (holds new) start (start ++ lines) answer
-unsaid_lines holds tells old new before after answer start h = (
+    → (lines : List (List ℕ)) × AreTold tells before lines after × IsUnsaid short lists old new start (start ++ lines) answer
+unsaid_lines tells old new before after answer start h = (
   no_memory_line ∷ [],
   told_once tells before after no_memory_line h.told,
-  record { is_short = h.is_short; unwritten = ap holds h.unwritten; told = (Ok tt, refl); is_one = h.is_one },
+  record { is_short = h.is_short; unwritten = h.unwritten; told = (Ok tt, refl); is_one = h.is_one },
 )
 
 pub check_lines : {P O E : Type 0} (finds : Finds P) (takes : Takes P) (holds : O → Option (List ℕ)) (tells : Telling E) (around : P) (text : List ℕ)
     (request : Request) (behind : P) (old new : O) (before after : E) (answer : ℕ)
     → HasChecked finds takes holds tells around text request behind old new before after answer
     → (lines : List (List ℕ)) × AreTold tells before lines after
-    × HasChecked finds takes (λ (o : Option (List ℕ)). o) lists around text request behind (holds old) (holds new) [] lines answer
+    × HasChecked finds takes holds lists around text request behind old new [] lines answer
 check_lines finds takes holds tells around text request behind old new before after answer (inl reported) =
-    let l = said_lines tells reported.said _ (holds old) (holds new) before after answer [] reported.is_said in (
+    let l = said_lines holds tells reported.said _ old new before after answer [] reported.is_said in (
       l.0,
       l.1,
       inl (record {
@@ -62,7 +62,7 @@ check_lines finds takes holds tells around text request behind old new before af
       }),
     )
 check_lines finds takes holds tells around text request behind old new before after answer (inr unsaid) =
-    let l = unsaid_lines holds tells old new before after answer [] unsaid in
+    let l = unsaid_lines tells old new before after answer [] unsaid in
     (l.0, l.1, inr l.2)
 
 read_lines : {E : Type 0} (tells : Telling E) (source : Source) (settings : Option Settings) (before after : E) (start : List (List ℕ))
@@ -73,21 +73,19 @@ read_lines tells source None before after start h = fault_lines tells _ _ _ befo
 
 if_lines : {O E : Type 0} (holds : O → Option (List ℕ)) (tells : Telling E) (one other : Option Settings) (old new : O) (before after : E) (answer : ℕ)
     (start : List (List ℕ)) → AreComparedIf holds tells one other old new before after answer
-    → (lines : List (List ℕ)) × AreTold tells before lines after
-    × AreComparedIf (λ (o : Option (List ℕ)). o) lists one other (holds old) (holds new) start (start ++ lines) answer
+    → (lines : List (List ℕ)) × AreTold tells before lines after × AreComparedIf holds lists one other old new start (start ++ lines) answer
 if_lines holds tells (Some one) (Some other) old new before after answer start (inl said) =
-    let l = said_lines tells _ _ (holds old) (holds new) before after answer start said in
+    let l = said_lines holds tells _ _ old new before after answer start said in
     (l.0, l.1, inl l.2)
 if_lines holds tells (Some one) (Some other) old new before after answer start (inr unsaid) =
-    let l = unsaid_lines holds tells old new before after answer start unsaid in
+    let l = unsaid_lines tells old new before after answer start unsaid in
     (l.0, l.1, inr l.2)
-if_lines holds tells (Some one) None old new before after answer start h = ([], h.1, (ap holds h.0, append-nil start, h.2))
-if_lines holds tells None other old new before after answer start h = ([], h.1, (ap holds h.0, append-nil start, h.2))
+if_lines holds tells (Some one) None old new before after answer start h = ([], h.1, (h.0, append-nil start, h.2))
+if_lines holds tells None other old new before after answer start h = ([], h.1, (h.0, append-nil start, h.2))
 
 pub compare_lines : {O E : Type 0} (holds : O → Option (List ℕ)) (tells : Telling E) (one other : Source) (old new : O) (before after : E) (answer : ℕ)
     → HasCompared holds tells one other old new before after answer
-    → (lines : List (List ℕ)) × AreTold tells before lines after
-    × HasCompared (λ (o : Option (List ℕ)). o) lists one other (holds old) (holds new) [] lines answer
+    → (lines : List (List ℕ)) × AreTold tells before lines after × HasCompared holds lists one other old new [] lines answer
 compare_lines holds tells one other old new before after answer h =
     let a = read_lines tells one h.first before h.between [] h.first_read in
     let b = read_lines tells other h.second h.between h.behind a.0 h.second_read in
@@ -101,7 +99,7 @@ compare_lines holds tells one other old new before after answer h =
         behind = a.0 ++ b.0;
         first_read = a.2;
         second_read = b.2;
-        compared = subst (λ (lines : List (List ℕ)). AreComparedIf (λ (o : Option (List ℕ)). o) lists h.first h.second (holds old) (holds new) (a.0 ++ b.0) lines answer)
+        compared = subst (λ (lines : List (List ℕ)). AreComparedIf holds lists h.first h.second old new (a.0 ++ b.0) lines answer)
             (append_assoc a.0 b.0 d.0) d.2;
       },
     )

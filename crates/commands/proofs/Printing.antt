@@ -4,8 +4,7 @@ use Rattle.std.specs.declared.io.Error.{Error}
 use Rattle.std.specs.Io.KnownBytes.{Appends, Keeps}
 use Rattle.std.proofs.KnownBytes.{Appends-kept}
 use Rattle.outlets.specs.Printed.{Prints}
-use Rattle.box_words.specs.Outputs.{IsPrinted, WasFlushed, WasPut}
-use Rattle.commands.specs.Ends.{IsUnput}
+use Rattle.outlets.specs.Outputs.{IsPrinted, IsUnput, WasFlushed, WasPut}
 
 -- nothing more is written of it, whether that is refused or not
 pub ended : {T E : Type 0} (r : Result T E) (a b c : Option (List ℕ)) (text : List ℕ) → Appends a b text → Keeps b c → Prints a r c text

@@ -8,7 +8,6 @@ use Rattle.faults.specs.declared.faults.Fault.{Fault}
 use Rattle.faults.specs.Jobs.{IsJobOf}
 use Rattle.faults.specs.declared.jobs.Job.{Job}
 use Rattle.frame_sim.specs.Tapes.{TakesOn}
-use Rattle.frame_sim.specs.World.{founding}
 use Rattle.scripts.specs.Script.{first_bad_line}
 use Rattle.simulation.specs.Tapes.{IsTapedRun, StopsTaped}
 use Rattle.loopback_run.specs.Loops.{IsLoop}
@@ -16,7 +15,7 @@ use Rattle.loopback_run.specs.Stops.{Opens}
 use Rattle.loopback_run.specs.Tapes.{IsTapedLoop, StopsTapedLoop}
 use Rattle.loopback_run.specs.Turns.{Passes}
 use Rattle.commands.specs.Captures.{IsCaptured, IsClosed, IsHeldBy, IsLoopCaptured, IsOfEvents, TapesPassed, TapesSim}
-use Rattle.commands.specs.Hosts.{Begins, Closes, Written}
+use Rattle.commands.specs.Hosts.{Begins, Closes, Written, held_after, held_before}
 use Rattle.commands.proofs.Statuses.{isnt_1}
 
 -- a run that ends well has ended its tape
@@ -36,13 +35,12 @@ closed_of begins closes (Err error) host last ended unended = unended
 pub tapes_sim : {T O : Type 0} (r : Result ℕ Fault) (takes refuses : TakesOn T) (contents : O → Option (List ℕ)) (text script : List ℕ) (job : Job) (first last : T)
     (output printed : O) → IsJobOf text script job → first_bad_line script ≡ None
     → IfOk r (IsTapedRun takes job.settings job.events.items first last (contents output) (contents printed)) → IfErr r IsOfEvents
-    → IfErr r (StopsTaped takes refuses contents (founding job.settings) job.events.items first last output printed)
+    → IfErr r (StopsTaped takes refuses contents job.settings job.events.items first last output printed)
     → TapesSim takes refuses contents text script r first last output printed
 tapes_sim (Ok status) takes refuses contents text script job first last output printed held good taped events stopped =
     record { job = job; is = held; good = good; run = taped }
-tapes_sim (Err why) takes refuses contents text script job first last output printed held good taped events (inl untaped) = (events, inl untaped)
-tapes_sim (Err why) takes refuses contents text script job first last output printed held good taped events (inr stopped) =
-    (events, inr (job, (held, stopped)))
+tapes_sim (Err why) takes refuses contents text script job first last output printed held good taped events stopped =
+    (events, record { job = job; is = held; good = good; stopped = stopped })
 
 -- the same through a passage that has its ports
 pub tapes_passed : {P T O : Type 0} (r : Result ℕ Fault) (opens : Opens P) (passes : Passes P) (takes refuses : TakesOn T) (contents : O → Option (List ℕ))
@@ -66,7 +64,7 @@ tapes_passed (Err why) opens passes takes refuses contents text script job befor
 
 module _ {H T : Type 0} (takes : TakesOn T) (begins : Begins H T) (closes : Closes H T) where
   pub captured_of : {E : Type 0} (r : Result ℕ E) (path text script : List ℕ) (job : Job) (first last : T) (printed : Written) (status : ℕ) (host host2 : H)
-      → IsJobOf text script job → first_bad_line script ≡ None → begins host path (Ok first) host2 → IfOk r (IsTapedRun takes job.settings job.events.items first last printed.before printed.after)
+      → IsJobOf text script job → first_bad_line script ≡ None → begins host path (Ok first) host2 → IfOk r (IsTapedRun takes job.settings job.events.items first last (held_before printed) (held_after printed))
       → r ≡ Ok status → closes host2 last (Ok tt) → IsCaptured takes begins closes path text script printed status host host2
   captured_of {E = E} r path text script job first last printed status host host2 held good begun taped is ended = record {
     first = first;
@@ -76,7 +74,7 @@ module _ {H T : Type 0} (takes : TakesOn T) (begins : Begins H T) (closes : Clos
       job = job;
       is = held;
       good = good;
-      run = subst (λ (x : Result ℕ E). IfOk x (IsTapedRun takes job.settings job.events.items first last printed.before printed.after)) is taped;
+      run = subst (λ (x : Result ℕ E). IfOk x (IsTapedRun takes job.settings job.events.items first last (held_before printed) (held_after printed))) is taped;
     };
     ended = ended;
   }

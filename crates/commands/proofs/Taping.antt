@@ -12,7 +12,7 @@ use Rattle.outlets.specs.Telling.{Telling}
 use Rattle.scripts.specs.Script.{first_bad_line}
 use Rattle.simulation.specs.Status.{RunsScript}
 use Rattle.simulation.specs.Stops.{FailsBy, Leaves}
-use Rattle.simulation.specs.Tapes.{IsTapedRun}
+use Rattle.simulation.specs.Tapes.{HasPut, IsTapedRun, PutsScript}
 
 -- it is a run of the job of two texts
 pub run_of : {E T : Type 0} (r : Result ℕ E) (takes : TakesOn T) (text script : List ℕ) (job : Job) (before after : T) (output printed : Option (List ℕ)) (status : ℕ)
@@ -22,6 +22,17 @@ pub run_of : {E T : Type 0} (r : Result ℕ E) (takes : TakesOn T) (text script 
 run_of {E = E} r takes text script job before after output printed status held good taped is =
     let h = subst (λ (x : Result ℕ E). IfOk x (IsTapedRun takes job.settings job.events.items before after output printed)) is taped in
     record { job = job; is = held; good = good; run = h.run; printed = h.text }
+
+-- and its output was asked for just what is printed of it
+pub puts_of : {E O : Type 0} (r : Result ℕ E) (text script : List ℕ) (job : Job) (output printed : O) (status : ℕ) → IsJobOf text script job
+    → first_bad_line script ≡ None → OnOk r (HasPut job.settings job.events.items output printed) → r ≡ Ok status
+    → PutsScript text script output printed
+puts_of {E = E} r text script job output printed status held good put is = record {
+  job = job;
+  is = held;
+  good = good;
+  put = subst (λ (x : Result ℕ E). OnOk x (HasPut job.settings job.events.items output printed)) is put;
+}
 
 -- what ends one has the status 1
 pub known : {T : Type 0} (r : Result T Fault) → IfErr r IsOfEvents
@@ -47,7 +58,7 @@ heard_of {E = E} {X = X} r reads tells text script job clock before after last s
 }
 
 -- which fault ended a run, and what it leaves
-pub fails_of : (r : Result ℕ Fault) (text script : List ℕ) (output printed : Option (List ℕ)) → IfErr r (TellsRun text script)
-    → IfErr r (Leaves text script output printed) → IfErr r (FailsBy text script output printed)
-fails_of (Ok status) text script output printed told leaves = tt
-fails_of (Err why) text script output printed told leaves = record { told = told; leaves = leaves }
+pub fails_of : {O : Type 0} (r : Result ℕ Fault) (prints : O → Option (List ℕ)) (text script : List ℕ) (output printed : O) → IfErr r (TellsRun text script)
+    → IfErr r (Leaves prints text script output printed) → IfErr r (FailsBy prints text script output printed)
+fails_of (Ok status) prints text script output printed told leaves = tt
+fails_of (Err why) prints text script output printed told leaves = record { told = told; leaves = leaves }

@@ -41,10 +41,10 @@ some_then tells before between after h k = (h.0 ++ k.0, told_then tells h.0 k.0 
 
 -- ---- by `check`
 
-pub some_said : {E : Type 0} (tells : Telling E) (text : List ℕ) (status : ℕ) (old new : Option (List ℕ)) (before after : E) (answer : ℕ)
-    → IsSaid tells text status old new before after answer → SomeTold tells before after
-some_said tells text status old new before after answer (inl whole) = ([], whole.untold)
-some_said tells text status old new before after answer (inr cut) =
+pub some_said : {O E : Type 0} (holds : O → Option (List ℕ)) (tells : Telling E) (text : List ℕ) (status : ℕ) (old new : O) (before after : E) (answer : ℕ)
+    → IsSaid holds tells text status old new before after answer → SomeTold tells before after
+some_said holds tells text status old new before after answer (inl whole) = ([], whole.untold)
+some_said holds tells text status old new before after answer (inr cut) =
     (not_written_line ∷ [], told_once tells before after not_written_line cut.told)
 
 pub some_unsaid : {O E short : Type 0} (tells : Telling E) (old new : O) (before after : E) (answer : ℕ) → IsUnsaid short tells old new before after answer
@@ -52,10 +52,10 @@ pub some_unsaid : {O E short : Type 0} (tells : Telling E) (old new : O) (before
 some_unsaid tells old new before after answer h = (no_memory_line ∷ [], told_once tells before after no_memory_line h.told)
 
 -- at 0 none
-pub said_untold : {E : Type 0} (tells : Telling E) (text : List ℕ) (status : ℕ) (old new : Option (List ℕ)) (before after : E) (answer : ℕ)
-    → IsSaid tells text status old new before after answer → answer ≡ 0 → after ≡ before
-said_untold tells text status old new before after answer (inl whole) none = whole.untold
-said_untold tells text status old new before after answer (inr cut) none = absurd (let bad : 1 ≡ 0 = sym cut.is_one ∙ none in cc)
+pub said_untold : {O E : Type 0} (holds : O → Option (List ℕ)) (tells : Telling E) (text : List ℕ) (status : ℕ) (old new : O) (before after : E) (answer : ℕ)
+    → IsSaid holds tells text status old new before after answer → answer ≡ 0 → after ≡ before
+said_untold holds tells text status old new before after answer (inl whole) none = whole.untold
+said_untold holds tells text status old new before after answer (inr cut) none = absurd (let bad : 1 ≡ 0 = sym cut.is_one ∙ none in cc)
 
 pub unsaid_untold : {O E short : Type 0} (tells : Telling E) (old new : O) (before after : E) (answer : ℕ) → IsUnsaid short tells old new before after answer
     → answer ≡ 0 → after ≡ before
@@ -65,14 +65,14 @@ pub check_told : {P O E : Type 0} (finds : Finds P) (takes : Takes P) (holds : O
     (request : Request) (behind : P) (old new : O) (before after : E) (answer : ℕ)
     → HasChecked finds takes holds tells around text request behind old new before after answer → SomeTold tells before after
 check_told finds takes holds tells around text request behind old new before after answer (inl reported) =
-    some_said tells _ _ (holds old) (holds new) before after answer reported.is_said
+    some_said holds tells _ _ old new before after answer reported.is_said
 check_told finds takes holds tells around text request behind old new before after answer (inr unsaid) = some_unsaid tells old new before after answer unsaid
 
 pub check_untold : {P O E : Type 0} (finds : Finds P) (takes : Takes P) (holds : O → Option (List ℕ)) (tells : Telling E) (around : P) (text : List ℕ)
     (request : Request) (behind : P) (old new : O) (before after : E) (answer : ℕ)
     → HasChecked finds takes holds tells around text request behind old new before after answer → answer ≡ 0 → after ≡ before
 check_untold finds takes holds tells around text request behind old new before after answer (inl reported) none =
-    said_untold tells _ _ (holds old) (holds new) before after answer reported.is_said none
+    said_untold holds tells _ _ old new before after answer reported.is_said none
 check_untold finds takes holds tells around text request behind old new before after answer (inr unsaid) none =
     unsaid_untold tells old new before after answer unsaid none
 
@@ -87,13 +87,13 @@ gate_told tells text is_such before after answer (inr one) quiet failed = some_f
 
 some_compared : {O E : Type 0} (holds : O → Option (List ℕ)) (tells : Telling E) (one other : Settings) (old new : O) (before after : E) (answer : ℕ)
     → AreCompared holds tells one other old new before after answer → SomeTold tells before after
-some_compared holds tells one other old new before after answer (inl said) = some_said tells _ _ (holds old) (holds new) before after answer said
+some_compared holds tells one other old new before after answer (inl said) = some_said holds tells _ _ old new before after answer said
 some_compared holds tells one other old new before after answer (inr unsaid) = some_unsaid tells old new before after answer unsaid
 
 compared_untold : {O E : Type 0} (holds : O → Option (List ℕ)) (tells : Telling E) (one other : Settings) (old new : O) (before after : E) (answer : ℕ)
     → AreCompared holds tells one other old new before after answer → answer ≡ 0 → after ≡ before
 compared_untold holds tells one other old new before after answer (inl said) none =
-    said_untold tells _ _ (holds old) (holds new) before after answer said none
+    said_untold holds tells _ _ old new before after answer said none
 compared_untold holds tells one other old new before after answer (inr unsaid) none = unsaid_untold tells old new before after answer unsaid none
 
 some_if : {O E : Type 0} (holds : O → Option (List ℕ)) (tells : Telling E) (one other : Option Settings) (old new : O) (before after : E) (answer : ℕ)

@@ -7,17 +7,20 @@ use Rattle.checks.specs.Counts.{AreAlike, IsCleanText, IsGoodText}
 use Rattle.command_line.specs.declared.words.CheckWords.{CheckWords}
 use Rattle.command_line.specs.declared.words.StatusWords.{StatusWords}
 use Rattle.command_line.specs.declared.words.RunWords.{RunWords}
-use Rattle.faults.specs.Jobs.{TellsRun}
 use Rattle.faults.specs.Texts.{fault_text}
 use Rattle.faults.specs.declared.faults.Fault.{Fault}
 use Rattle.faults.specs.declared.faults.Fault.TheVariants.{NotWritten}
+use Rattle.frame_sim.specs.Asked.{HoldNoJob}
 use Rattle.frame_sim.specs.Tapes.{TakesOn}
 use Rattle.outlets.specs.Printed.{IsBegun}
 use Rattle.outlets.specs.Telling.{IsTold, IsToldOf, Telling}
 use Rattle.simulation.specs.Status.{RunsScript}
 use Rattle.simulation.specs.Stops.{FailsBy}
+use Rattle.simulation.specs.Tapes.{PutsScript}
 use Rattle.loopback_run.specs.Loops.{LoopsScript}
-use Rattle.loopback_run.specs.Stops.{FailsBy as FailsLoopBy, Opens, Refuses}
+use Rattle.loopback_run.specs.Fails.{FailsBy as FailsLoopBy}
+use Rattle.loopback_run.specs.Outputs.{PutsScript as PutsLoop}
+use Rattle.loopback_run.specs.Stops.{Opens, Refuses}
 use Rattle.loopback_run.specs.Turns.{Passes}
 use Rattle.box_words.specs.Deeds.{Does, HasListed, HasReported, HasSaid, HasSynced, HasTaken, HasUnlisted, HasUnmade, HasUnreported}
 use Rattle.box_words.specs.Deeds.{HasUnsaid, HasUnsynced, HasUntaken, made, read}
@@ -26,8 +29,8 @@ use Rattle.box_words.specs.Said.{said_off, said_side, said_stop}
 use Rattle.box_words.specs.declared.refusals.BoxFault.{BoxFault}
 use Rattle.commands.specs.Asked.{filter_of, form_of}
 use Rattle.commands.specs.Captures.{HasJob, IsCaptured, IsLoopCaptured, IsOpened, IsUnlooped, LeavesCapture, TapesPassed, TapesSim, Taping}
-use Rattle.box_words.specs.Outputs.{IsFlushed, IsPrinted}
-use Rattle.commands.specs.Ends.{IsUnput, version_line}
+use Rattle.outlets.specs.Outputs.{IsFlushed, IsPrinted, IsUnput}
+use Rattle.commands.specs.Ends.{version_line}
 use Rattle.commands.specs.Hosts.{Begins, Closes, HasWorked, Scene, Scope, Work, Works, compared, looked, plan_of, scope_of, served, text_at, written}
 use Rattle.commands.specs.Meters.{Hearing, IsToldBehind}
 use Rattle.commands.specs.Reading.{AreNotHad, AreRead, IsNotHad}
@@ -140,7 +143,7 @@ abbrev pub Failing : Type 0 → Type 1
 Failing O = List ℕ → List ℕ → O → O → Fault → Type 0
 
 abbrev pub FailsSim : {O : Type 0} → (O → Option (List ℕ)) → Failing O
-FailsSim prints text script output printed why = FailsBy text script (prints output) (prints printed) why
+FailsSim prints text script output printed why = FailsBy prints text script output printed why
 
 -- and a run through a passage, by what that was and is then
 abbrev pub FailsLoop : {P O : Type 0} → Opens P → Refuses P → Passes P → P → P → (O → Option (List ℕ)) → Failing O
@@ -156,13 +159,14 @@ abbrev pub Readies : Type 1
 Readies = List ℕ → List ℕ → Type 0
 
 module _ {S H T O E : Type 0} (does : Does S) (takes : TakesOn T) (begins : Begins H T) (closes : Closes H T) (prints : O → Option (List ℕ)) where
-  -- just the files that are named were read, the settings first, and the script run with this status; so much of it was told; and
-  -- it was captured just where the words name a file for that
+  -- just the files that are named were read, the settings first, and the script run with this status; the output was asked for just what is
+  -- printed of that, and took it; so much of it was told; and it was captured just where the words name a file for that
   pub record HasRunOf (hears : Hearing E) (files : RunWords) (status : ℕ) (before after : Scene S H O E) : Type 0 where
     pub text : List ℕ
     pub script : List ℕ
     pub are_read : AreRead does (string_bytes files.settings) (string_bytes files.script) text script before.site after.site
     pub run : RunsScript text script (prints before.output) (prints after.output) status
+    pub put : PutsScript text script before.output after.output
     pub told : hears text script before.errors after.errors
     pub captured : MatchOption files.capture (IsUncaptured before after)
         (λ path. IsCaptured takes begins closes (string_bytes path) text script (written prints before.output after.output) status before.host after.host)
@@ -173,6 +177,7 @@ module _ {S H T O E : Type 0} (does : Does S) (takes : TakesOn T) (begins : Begi
     pub script : List ℕ
     pub are_read : AreRead does (string_bytes files.settings) (string_bytes files.script) text script before.site after.site
     pub run : LoopsScript opens passes text script first last (prints before.output) (prints after.output) status
+    pub put : PutsLoop opens passes text script first last before.output after.output
     pub quiet : IsUntold before after
     pub captured : MatchOption files.capture (IsUncaptured before after)
         (λ path. IsLoopCaptured takes begins closes opens passes first last (string_bytes path) text script before.host after.host)
@@ -194,7 +199,7 @@ module _ {S H T O E : Type 0} (does : Does S) (takes refuses : TakesOn T) (begin
     pub script : List ℕ
     pub are_read : AreRead does (string_bytes files.settings) (string_bytes files.script) text script before.site after.site
     pub told : IsToldBehind tells (overhears text script)
-        (λ why. IsEnded (FailsSim prints) TellsRun HasJob (TapesSim takes refuses prints) files text script why before after) before.errors after.errors
+        (λ why. IsEnded (FailsSim prints) HoldNoJob HasJob (TapesSim takes refuses prints) files text script why before after) before.errors after.errors
 
   -- the same through a passage, by what that was and is then: nothing is heard, and this is the fault
   pub record IsEndedLoop {P : Type 0} (opens : Opens P) (denies : Refuses P) (passes : Passes P) (first last : P) (files : RunWords) (why : Fault) (before after : Scene S H O E) : Type 0 where
@@ -243,7 +248,7 @@ IsSpared others first last = last ≡ first
 -- of `status`, `pairs`, `sim`, `loop` and the version what was printed until then. Whatever the status, `check` looks at just what the
 -- words say, as they say it, and `gate` has just one gateway run, as they say; what the host told is told, and nothing else. Neither
 -- `gate` nor the version does anything at the site; of a host nothing is asked but by `check`, by `gate`, and for a capture; and `init`, `stop`, `peer-off`, `side` and
--- `status --until synced` print nothing. What `status`, `pairs` and the version print at 0 is flushed last of all; the version ends with 1 only where
+-- `status --until synced` print nothing. What `status`, `pairs`, `sim`, `loop` and the version print at 0 is flushed last of all; the version ends with 1 only where
 -- its output refused it, or to be flushed.
 module _ {S H T P O E : Type 0} (does : Does S) (works : Works Work H) (takes refuses : TakesOn T) (begins : Begins H T) (closes : Closes H T)
     (opens : Opens P) (denies : Refuses P) (passes : Passes P) (prints : O → Option (List ℕ)) (tells : Telling E) (hears overhears : Hearing E) where

@@ -8,26 +8,30 @@ use Rattle.settings.specs.declared.whole.Settings.{Settings}
 use Rattle.settings_file.specs.Clashes.{clash_of_both}
 use Rattle.settings_file.specs.declared.faults.SettingFault.TheVariants.{CantWork}
 use Rattle.faults.specs.Faults.{Tells}
-use Rattle.faults.specs.Jobs.{IsJobOf, TellsRun}
+use Rattle.faults.specs.Jobs.{IsJobOf}
 use Rattle.faults.specs.declared.jobs.Job.{Job}
 use Rattle.faults.specs.declared.faults.Fault.{Fault}
 use Rattle.faults.specs.declared.faults.Fault.TheVariants as fault
 use Rattle.faults.specs.declared.files.Refusal.TheVariants.{Exists, NotWritten}
+use Rattle.box_words.specs.Memory.{WasShort}
+use Rattle.frame_sim.specs.Asked.{HoldNoJob}
 use Rattle.frame_sim.specs.Tapes.{TakesOn}
 use Rattle.scripts.specs.Script.{first_bad_line}
-use Rattle.simulation.specs.Tapes.{StopsTapedScript, TapesScript}
+use Rattle.simulation.specs.Tapes.{IsTapedUntil, TapesScript}
 use Rattle.loopback_run.specs.Loops.{LoopsScript, TellsLoop}
 use Rattle.loopback_run.specs.Stops.{HoldJob, Opens, Refuses}
 use Rattle.loopback_run.specs.Turns.{Passes}
 use Rattle.loopback_run.specs.declared.ports.PortFault.TheVariants as ports
-use Rattle.loopback_run.specs.Tapes.{IsTapedUntil, TapesScript as TapesLoop}
-use Rattle.commands.specs.Hosts.{Begins, Closes, Written}
+use Rattle.loopback_run.specs.Tapes.{IsTapedUntil as IsLoopTapedUntil, TapesScript as TapesLoop}
+use Rattle.commands.specs.Hosts.{Begins, Closes, Written, held_after, held_before}
 
--- just this is told of the capture in the file at a path, which can't be begun or written for this cause; or there is no memory to tell it
+-- just this is told of the capture in the file at a path, which can't be begun or written for this cause; want of memory only where that is the
+-- cause, or there was none for the path
 pub record IsOfCapture (path : List ℕ) (cause : ErrorKind) (why : Fault) : Type 0 where
   pub memory : cause ≡ OutOfMemory → why ≡ fault.NoMemory
   pub exists : cause ≡ AlreadyExists → Tells Exists path None why
   pub unwritten : cause ≢ OutOfMemory → cause ≢ AlreadyExists → Tells NotWritten path (Some cause) why
+  pub short : why ≡ fault.NoMemory → (cause ≡ OutOfMemory) ⊎ WasShort path
 
 -- which fault is told of a run with such a capture: that it couldn't be written comes before others
 abbrev pub IsOfEnd : List ℕ → Result ℕ Fault → Result (Unit {0}) Error → Fault → Type 0
@@ -58,7 +62,7 @@ pub record IsWithoutPorts {P : Type 0} (refuses : Refuses P) (text script : List
 -- texts hold no job, and the passage isn't asked for ports; or they do, and their ports aren't had
 abbrev pub IsUnopened : {P : Type 0} → Refuses P → List ℕ → List ℕ → P → P → Fault → Type 0
 IsUnopened refuses text script before after why =
-    ((after ≡ before) × TellsRun text script why) ⊎ IsWithoutPorts refuses text script before after why
+    ((after ≡ before) × HoldNoJob text script why) ⊎ IsWithoutPorts refuses text script before after why
 
 -- Why a run of these texts has no ports, by what the passage was and is then: a fault that is told of such a run; and the texts hold no
 -- job, or just the passage that was asked for their ports refused them so
@@ -88,7 +92,7 @@ abbrev pub TapesSim : {T O : Type 0} → TakesOn T → TakesOn T → (O → Opti
 TapesSim takes refuses prints text script (Ok status) first last output printed =
     TapesScript takes text script first last (prints output) (prints printed) status
 TapesSim takes refuses prints text script (Err why) first last output printed =
-    IsOfEvents why × StopsTapedScript takes refuses prints text script first last output printed why
+    IsOfEvents why × IsTapedUntil takes refuses prints text script first last output printed why
 
 -- the same through a passage that has its ports
 abbrev pub TapesPassed : {P T O : Type 0} → Opens P → Passes P → P → P → TakesOn T → TakesOn T → (O → Option (List ℕ)) → Taping T O
@@ -96,7 +100,7 @@ TapesPassed opens passes before after takes refuses prints text script (Ok statu
     LoopsScript opens passes text script before after (prints output) (prints printed) status
     × TapesLoop opens passes takes text script before after first last
 TapesPassed opens passes before after takes refuses prints text script (Err why) first last output printed =
-    IsTapedUntil opens passes takes refuses prints text script before after first last output printed why
+    IsLoopTapedUntil opens passes takes refuses prints text script before after first last output printed why
 
 module _ {H T : Type 0} (begins : Begins H T) (closes : Closes H T) where
   -- just the capture in the file at a path was to be begun, and couldn't be, which this fault tells
@@ -136,7 +140,7 @@ module _ {H T : Type 0} (takes : TakesOn T) (begins : Begins H T) (closes : Clos
     pub first : T
     pub last : T
     pub begun : begins before path (Ok first) after
-    pub run : TapesScript takes text script first last printed.before printed.after status
+    pub run : TapesScript takes text script first last (held_before printed) (held_after printed) status
     pub ended : closes after last (Ok tt)
 
   -- and a run through a passage, by what that was and is then

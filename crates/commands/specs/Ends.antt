@@ -1,8 +1,7 @@
 -- What an exit status says of what was done.
-use Rattle.std.specs.Prelude.{◌≡◌, ◌⊎◌, ℕ, Bool, true, List, Ok, Option, MatchOption, codes}
+use Rattle.std.specs.Prelude.{◌≡◌, ℕ, Bool, true, List, Option, MatchOption, codes}
 use Rattle.std.specs.Io.KnownBytes.{Appends}
 use Rattle.command_line.specs.Tasks.{IsAnswer}
-use Rattle.box_words.specs.Outputs.{IsRefused, IsUnflushed, WasPut}
 use Rattle.checks.specs.Counts.{AreAlike, IsCleanText, IsGoodText}
 use Rattle.command_line.specs.declared.tasks.Task.{Task}
 use Rattle.command_line.specs.declared.tasks.Task.TheVariants as task
@@ -32,10 +31,6 @@ pub record HasLoop {P : Type 0} (opens : Opens P) (passes : Passes P) (first : P
 -- the line that tells the version
 abbrev pub version_line : List ℕ
 version_line = codes "natpair 0.1.0 (rattle-kit-13 logic dac8208d650f15bf)\n"
-
--- an output was to take a text, and refused; or it took it, and refused to be flushed
-abbrev pub IsUnput : {O : Type 0} → O → List ℕ → O → Type 0
-IsUnput {O = O} before text after = IsRefused before text after ⊎ ((middle : O) × (WasPut before text (Ok tt) middle × IsUnflushed middle after))
 
 -- some text is good, or, where it is strict, clean
 pub record HasGood (strict : Bool) : Type 0 where

@@ -15,7 +15,7 @@ use Rattle.gate.specs.Served.{HasServed}
 use Rattle.gate.specs.Sparing.{IsRefusal}
 use Rattle.gate.specs.declared.running.Start.{Start}
 use Rattle.simulation.specs.Clocks.{Moments, founding_moments}
-use Rattle.commands.specs.Hosts.{Work, Works, Written, compared, looked, plan_in, scope_in, served, text_in}
+use Rattle.commands.specs.Hosts.{Work, Works, Written, compared, held_after, held_before, looked, plan_in, scope_in, served, text_in}
 
 -- a list of lines, which is told one more
 abbrev pub lists : Telling (List (List ℕ))
@@ -23,14 +23,14 @@ lists before line result after = after ≡ before ++ line ∷ []
 
 -- nothing is printed before a start is refused; or the refusal is one that comes behind the number of a boot
 abbrev pub IsSilentOrBehind : Start → Written → BoxFault → Type 0
-IsSilentOrBehind start printed why = (printed.after ≡ printed.before)
-    ⊎ ((boot : ℕ) × IsBehind (λ output. output) (path_in start.capture) boot why printed.before printed.after)
+IsSilentOrBehind start printed why = (held_after printed ≡ held_before printed)
+    ⊎ ((boot : ℕ) × IsBehind (λ output. output) (path_in start.capture) boot why (held_before printed) (held_after printed))
 
 -- What comes of a start that this machine runs: at 0 a gateway was served so, and nothing is told; at 1 just one fault's line is, for which
 -- that start may be refused, and so much is printed before it.
 abbrev pub ServesHere : {G : Type 0} → Works Start G
-ServesHere before start printed lines status after = (status ≡ 0 → (lines ≡ []) × HasServed start printed.before printed.after)
-    × (status ≡ 1 → IsToldOf lists fault_text (λ why. IsRefusal start printed.before printed.after why × IsSilentOrBehind start printed why) [] lines)
+ServesHere before start printed lines status after = (status ≡ 0 → (lines ≡ []) × HasServed start (held_before printed) (held_after printed))
+    × (status ≡ 1 → IsToldOf lists fault_text (λ why. IsRefusal start (held_before printed) (held_after printed) why × IsSilentOrBehind start printed why) [] lines)
 
 -- Who runs gateways here was asked to run just this one, by what he was before and is then, and it ended with this status. It is no more
 -- than a name for the call, as are those below it: who makes the call has it, and nobody else.
@@ -45,11 +45,11 @@ HasServedHere before start printed lines status after = WasServed before start s
 -- one start, which has the plan. Around this machine it is looked for the first of these alone, by who was asked before and is then.
 abbrev pub WorksHere : {P G : Type 0} → Finds P → Takes P → P → P → Works Start G → Works Work G
 WorksHere finds takes around behind serves before (looked text scope) printed lines status after = (after ≡ before) × (request : Request)
-    × (scope_in request ≡ scope) × HasChecked finds takes (λ o. o) lists around text request behind printed.before printed.after [] lines status
+    × (scope_in request ≡ scope) × HasChecked finds takes printed.holds lists around text request behind printed.old printed.new [] lines status
 WorksHere finds takes around behind serves before (compared one other) printed lines status after = (behind ≡ around) × (after ≡ before)
     × (first : Source) × (second : Source)
     × (text_in first ≡ one) × (text_in second ≡ other)
-    × HasCompared (λ o. o) lists first second printed.before printed.after [] lines status
+    × HasCompared printed.holds lists first second printed.old printed.new [] lines status
 WorksHere finds takes around behind serves before (served plan) printed lines status after = (behind ≡ around) × (start : Start)
     × (plan_in start ≡ plan) × serves before start printed lines status after
 

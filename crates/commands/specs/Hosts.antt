@@ -108,13 +108,22 @@ pub data Work : Type 0 where
   compared : Text → Text → Work
   served : Plan → Work
 
--- what a writer held before, and what it holds then
-pub record Written : Type 0 where
-  pub before : Option (List ℕ)
-  pub after : Option (List ℕ)
+-- an output as it was before, and as it is then, and what it holds, where that is known
+pub record Written : Type 1 where
+  pub kind : Type 0
+  pub holds : kind → Option (List ℕ)
+  pub old : kind
+  pub new : kind
 
-abbrev pub written : {W : Type 0} → (W → Option (List ℕ)) → W → W → Written
-written contents before after = record { before = contents before; after = contents after }
+abbrev pub written : {O : Type 0} → (O → Option (List ℕ)) → O → O → Written
+written {O = O} holds old new = record { kind = O; holds = holds; old = old; new = new }
+
+-- what it held before, and what it holds then
+abbrev pub held_before : Written → Option (List ℕ)
+held_before printed = printed.holds printed.old
+
+abbrev pub held_after : Written → Option (List ℕ)
+held_after printed = printed.holds printed.new
 
 -- what a work may print, which lines it may tell, one after the other, with which status, and what its worker is then
 abbrev pub Works : Type 0 → Type 0 → Type 1

@@ -2,6 +2,7 @@
 use Rattle.std.specs.Prelude.{◌≡◌, ◌≤◌, ◌<◌, ◌+◌, ◌-◌, ◌^◌, ◌++◌, ◌⊎◌, min, ℕ, Bool, true, false, List, Ok, Err, codes, length}
 use Rattle.std.specs.Fmt.{decimal}
 use Rattle.std.specs.declared.io.Error.{Error}
+use Rattle.box_words.specs.Memory.{WasShort}
 use Rattle.faults.specs.Jobs.{IsJobOf}
 use Rattle.faults.specs.Texts.{fault_text}
 use Rattle.faults.specs.declared.faults.Fault.{Fault}
@@ -27,10 +28,10 @@ telling clock next is_refused errors = record { clock = clock; next = next; is_r
 abbrev pub Reads : Type 0 → Type 1
 Reads C = C → ℕ → C → Type 0
 
--- just this line was told; or, where it is refused, it couldn't be, or there was no memory for it and nothing was told
+-- just this line was told; or, where it is refused, it couldn't be, or memory was refused for just it and nothing was told
 abbrev pub IsSaid : {E : Type 0} → Tells E → List ℕ → Bool → E → E → Type 0
 IsSaid tells line false before after = tells before line (Ok tt) after
-IsSaid tells line true before after = (after ≡ before) ⊎ ((error : Error) × tells before line (Err error) after)
+IsSaid tells line true before after = ((after ≡ before) × WasShort line) ⊎ ((error : Error) × tells before line (Err error) after)
 
 -- the moment has come, and none was refused: just the line was told, or it was refused. The next one comes two seconds later
 pub record Says {C E : Type 0} (tells : Tells E) (moment taken all : ℕ) (before after : Telling C E) : Type 0 where

@@ -6,7 +6,7 @@ ghost use Rattle.commands.specs.Asked.{filter_of, form_of};
 ghost use Rattle.commands.specs.Hosts.{scene, scope_in};
 ghost use Rattle.box_words.specs.Deeds.{HasListed, HasUnlisted};
 ghost use Rattle.box_words.specs.Faults.{fault_text};
-ghost use Rattle.box_words.specs.Outputs.{IsFlushed};
+ghost use Rattle.outlets.specs.Outputs.{IsFlushed};
 
 use crate::commands::text_of;
 use crate::hosts::Host;

@@ -95,8 +95,11 @@ pub(crate) trait Host {
             → HasServed start.now (O.contents output.old) (O.contents output.new) };
 }
 
-/// This machine as a host: where captures are begun, what is found around it, and who runs gateways here. Of what it finds, and
-/// of files, nothing is known.
+/// This machine as a host: who begins captures here, what is looked at around it, who runs gateways, and where memory is asked
+/// for. The first three are asked by what they were before and are then: which capture was begun, or couldn't be, what was
+/// looked at and found, and which start was run have names (`WasBegun`, `WasUnbegun`, `WasFound`, `WasTaken`, `WasServed`), and
+/// so has that a capture was ended (`WasEnded`). Beyond that nothing is known of what the system answers, nor of what a file
+/// holds.
 #[derive(Drop)]
 pub(crate) struct ThisHost<'a, R, G> {
     captures: SystemCaptures<'a, R>,

@@ -2,15 +2,16 @@
 ghost use Rattle.std.specs.Prelude.{◌≡◌, ◌≢◌, ◌⊎◌, IfErr, IfOk, None, Ok, OnErr, OnOk, false, length, string_bytes, true};
 ghost use Rattle.faults.specs.Faults.{status_of};
 ghost use Rattle.faults.specs.declared.faults.Fault.TheVariants as faults;
-ghost use Rattle.faults.specs.Jobs.{IsJobOf, TellsRun};
+ghost use Rattle.faults.specs.Jobs.{IsJobOf};
 ghost use Rattle.faults.specs.Texts.{fault_text};
-ghost use Rattle.frame_sim.specs.World.{founding};
+ghost use Rattle.frame_sim.specs.Asked.{HoldNoJob};
 ghost use Rattle.outlets.specs.Telling.{IsToldOf};
 ghost use Rattle.loopback_run.specs.Loops.{IsLoop, LoopsScript, TellsLoop};
+ghost use Rattle.loopback_run.specs.Outputs.{HasPut as HasPutLoop, PutsScript as PutsLoop};
 ghost use Rattle.loopback_run.specs.Tapes.{IsTapedLoop, StopsTapedLoop};
 ghost use Rattle.settings_file.specs.Clashes.{clash_of_both};
 ghost use Rattle.simulation.specs.Status.{RunsScript};
-ghost use Rattle.simulation.specs.Tapes.{IsTapedRun, StopsTaped};
+ghost use Rattle.simulation.specs.Tapes.{HasPut, IsTapedRun, PutsScript, StopsTaped};
 ghost use Rattle.simulation.specs.Watched.{IsToldAll, IsToldPart, OverhearsScript, WatchesScript};
 ghost use Rattle.commands.specs.Acts.{EndsSim, FailsSim, HasRunOf, Repeats};
 ghost use Rattle.commands.specs.Captures.{HasJob, IsCaptured, IsHeldBy, IsLoopCaptured, IsOfEvents, IsOfPorts, IsOpened, IsUnlooped, IsUnopened, LeavesCapture, TapesPassed, TapesSim};
@@ -23,8 +24,8 @@ use crate::hosts::Host;
 use crate::meters::Meter;
 use box_words::Site;
 use command_line::RunWords;
-use faults::{Fault, Job, job_of};
-use frame_sim::Tape;
+use faults::{Fault, Job};
+use frame_sim::{Tape, read_job};
 use loopback_run::{Channel, PortFault, run_loop};
 use outlets::Tells;
 use rounds::Clockwork;
@@ -85,6 +86,8 @@ fn simulated<C: Clockwork + Drop, O: Write, E: Tells>(
     ensures status { (result ≡ 0) ⊎ ((result ≡ 1) ⊎ (result ≡ 3)) }
     ensures run { (result ≡ 0) ⊎ (result ≡ 3) → RunsScript settings.now script.now
         (O.contents output.old) (O.contents output.new) result }
+    ensures put { (result ≡ 0) ⊎ (result ≡ 3)
+        → PutsScript settings.now script.now output.old output.new }
     ensures heard { is_watched ≡ true → (result ≡ 0) ⊎ (result ≡ 3)
         → HasHeardScript C.reads E.tells settings.now script.now clock errors.old errors.new }
     ensures quiet { is_watched ≡ false → (result ≡ 0) ⊎ (result ≡ 3)
@@ -114,6 +117,7 @@ fn watched<C: Clockwork + Drop, O: Write, E: Tells>(
 ) -> Result<u8, Fault>
     ensures run { IfOk result (RunsScript settings.now script.now (O.contents output.old)
         (O.contents output.new)) }
+    ensures put { OnOk result (PutsScript settings.now script.now output.old output.new) }
     ensures status { IfOk result (λ status. (status ≡ 0) ⊎ (status ≡ 3)) }
     ensures known { IfErr result (λ fault. status_of fault ≡ 1) }
     ensures failed { IfErr result
@@ -137,6 +141,7 @@ fn metered<C: Clockwork, O: Write, E: Tells>(
 ) -> Result<u8, Fault>
     ensures run { IfOk result (RunsScript settings.now script.now (O.contents output.old)
         (O.contents output.new)) }
+    ensures put { OnOk result (PutsScript settings.now script.now output.old output.new) }
     ensures status { IfOk result (λ status. (status ≡ 0) ⊎ (status ≡ 3)) }
     ensures known { IfErr result (λ fault. status_of fault ≡ 1) }
     ensures failed { IfErr result
@@ -168,6 +173,8 @@ fn sim_captured<H: Host, C: Clockwork + Drop, O: Write, E: Tells>(
     ensures status { (result ≡ 0) ⊎ ((result ≡ 1) ⊎ (result ≡ 3)) }
     ensures run { (result ≡ 0) ⊎ (result ≡ 3) → RunsScript settings.now script.now
         (O.contents output.old) (O.contents output.new) result }
+    ensures put { (result ≡ 0) ⊎ (result ≡ 3)
+        → PutsScript settings.now script.now output.old output.new }
     ensures heard { is_watched ≡ true → (result ≡ 0) ⊎ (result ≡ 3)
         → HasHeardScript C.reads E.tells settings.now script.now clock errors.old errors.new }
     ensures quiet { is_watched ≡ false → (result ≡ 0) ⊎ (result ≡ 3)
@@ -177,13 +184,13 @@ fn sim_captured<H: Host, C: Clockwork + Drop, O: Write, E: Tells>(
         (written O.contents output.old output.new) result host.old host.new }
     ensures failed { result ≡ 1 → IsToldBehind E.tells
         (Overhears is_watched C.reads E.tells clock settings.now script.now)
-        (λ why. LeavesCapture H.begins H.ends path.now (TellsRun settings.now script.now)
+        (λ why. LeavesCapture H.begins H.ends path.now (HoldNoJob settings.now script.now)
         (HasJob settings.now script.now)
         (λ run first last. TapesSim H.Record.takes H.Record.refuses O.contents settings.now
         script.now run first last output.old output.new) why
         host.old host.new output.old output.new) errors.old errors.new }
 {
-    match job_of(alloc, settings, script) {
+    match read_job(alloc, settings, script) {
         Ok(job) => match host.begin(path, &job) {
             Ok(mut tape) => {
                 let run = taped(alloc, clock, &job, is_watched, &mut tape, output, errors);
@@ -208,12 +215,13 @@ fn taped<C: Clockwork + Drop, T: Tape, O: Write, E: Tells>(
 ) -> Result<u8, Fault>
     ensures run { IfOk result (IsTapedRun T.takes job.now.settings job.now.events.items
         tape.old tape.new (O.contents output.old) (O.contents output.new)) }
+    ensures put { OnOk result
+        (HasPut job.now.settings job.now.events.items output.old output.new) }
     ensures status { IfOk result (λ status. (status ≡ 0) ⊎ (status ≡ 3)) }
     ensures known { IfErr result (λ fault. status_of fault ≡ 1) }
     ensures told { IfErr result IsOfEvents }
     ensures stopped { IfErr result (StopsTaped T.takes T.refuses O.contents
-        (founding job.now.settings) job.now.events.items tape.old tape.new
-        output.old output.new) }
+        job.now.settings job.now.events.items tape.old tape.new output.old output.new) }
     ensures heard { is_watched ≡ true → OnOk result (HasHeard C.reads E.tells
         (length job.now.events.items) clock errors.old errors.new) }
     ensures overheard { is_watched ≡ true → OnErr result (HasOverheard C.reads E.tells
@@ -239,12 +247,13 @@ fn taped_metered<C: Clockwork, T: Tape, O: Write, E: Tells>(
 ) -> Result<u8, Fault>
     ensures run { IfOk result (IsTapedRun T.takes job.now.settings job.now.events.items
         tape.old tape.new (O.contents output.old) (O.contents output.new)) }
+    ensures put { OnOk result
+        (HasPut job.now.settings job.now.events.items output.old output.new) }
     ensures status { IfOk result (λ status. (status ≡ 0) ⊎ (status ≡ 3)) }
     ensures known { IfErr result (λ fault. status_of fault ≡ 1) }
     ensures told { IfErr result IsOfEvents }
     ensures stopped { IfErr result (StopsTaped T.takes T.refuses O.contents
-        (founding job.now.settings) job.now.events.items tape.old tape.new
-        output.old output.new) }
+        job.now.settings job.now.events.items tape.old tape.new output.old output.new) }
     ensures same_reference { meter.new.errors.ghost_name ≡ meter.old.errors.ghost_name }
     ensures heard { OnOk result
         (IsToldAll (Hears C.reads E.tells) (length job.now.events.items)
@@ -304,6 +313,8 @@ fn repeat_captured<H: Host, P: Channel, O: Write, E: Tells>(
     ensures status { (result ≡ 0) ⊎ ((result ≡ 1) ⊎ (result ≡ 3)) }
     ensures run { (result ≡ 0) ⊎ (result ≡ 3) → LoopsScript P.opens P.passes settings.now
         script.now passage.old passage.new (O.contents output.old) (O.contents output.new) result }
+    ensures put { (result ≡ 0) ⊎ (result ≡ 3) → PutsLoop P.opens P.passes settings.now script.now
+        passage.old passage.new output.old output.new }
     ensures quiet { (result ≡ 0) ⊎ (result ≡ 3) → errors.new ≡ errors.old }
     ensures captured { (result ≡ 0) ⊎ (result ≡ 3) → IsLoopCaptured H.Record.takes
         H.begins H.ends P.opens P.passes passage.old passage.new path.now settings.now script.now
@@ -347,7 +358,7 @@ fn opened<P: Channel>(
     ensures unopened { IfErr result
         (IsUnopened P.refuses settings.now script.now passage.old passage.new) }
 {
-    let job = job_of(alloc, settings, script)?;
+    let job = read_job(alloc, settings, script)?;
     take_ports(passage, &job.settings)?;
     Ok(job)
 }
@@ -380,6 +391,8 @@ fn looped<P: Channel, T: Tape, O: Write>(
 ) -> Result<u8, Fault>
     ensures run { IfOk result (IsLoop P.passes job.now.settings job.now.events.items
         passage.old passage.new (O.contents output.old) (O.contents output.new)) }
+    ensures put { OnOk result (HasPutLoop P.passes job.now.settings job.now.events.items
+        passage.old passage.new output.old output.new) }
     ensures status { IfOk result (λ status. (status ≡ 0) ⊎ (status ≡ 3)) }
     ensures known { IfErr result (λ fault. status_of fault ≡ 1) }
     ensures told { IfErr result IsOfEvents }

@@ -4,15 +4,17 @@ ghost use Rattle.faults.specs.Texts.{fault_text};
 ghost use Rattle.faults.specs.declared.faults.Fault.TheVariants as faults;
 ghost use Rattle.outlets.specs.Printed.{IsBegun, Prints};
 ghost use Rattle.outlets.specs.Telling.{IsTold};
-ghost use Rattle.std.specs.Io.KnownBytes.{Appends, Keeps};
-ghost use Rattle.box_words.specs.Outputs.{IsPrinted, WasFlushed, WasPut};
-ghost use Rattle.commands.specs.Ends.{IsUnput, version_line};
+ghost use Rattle.std.specs.Io.KnownBytes.{Appends};
+ghost use Rattle.outlets.specs.Outputs.{IsPrinted, IsUnput, WasPut};
+ghost use Rattle.commands.specs.Ends.{version_line};
 
-use command_line::{KIT, VERSION};
 use faults::Fault;
-use outlets::{Tells, put_all};
+use outlets::{Tells, told_to_flush, told_to_put};
 use std::alloc::Global;
 use std::io::{self, Write};
+
+/// The program's version, and the kit that it was built with.
+const LINE: &str = "natpair 0.1.0 (rattle-kit-13 logic dac8208d650f15bf)\n";
 
 /// Writes the program's version, and the kit that it was built with. The answer is the exit status: 0, or 1 where it can't
 /// be written, which is told on `errors`.
@@ -45,19 +47,9 @@ fn write_version<O: Write>(output: &mut O) -> io::Result<()>
 }
 
 /// Has an output take that line, all of it.
-#[tactic(auto, unfolding(box_words::specs::Outputs::WasPut))]
 fn told_to_put_version<O: Write>(output: &mut O) -> io::Result<()>
     ensures bytes { Prints (O.contents output.old) result (O.contents output.new) version_line }
     ensures put { WasPut output.old version_line result output.new }
 {
-    put_all(output, &["natpair ", VERSION, " (", KIT, ")\n"])
-}
-
-/// Has it hand on what it keeps.
-#[tactic(auto, unfolding(box_words::specs::Outputs::WasFlushed))]
-fn told_to_flush<O: Write>(output: &mut O) -> io::Result<()>
-    ensures bytes { Keeps (O.contents output.old) (O.contents output.new) }
-    ensures flushed { WasFlushed output.old result output.new }
-{
-    output.flush()
+    told_to_put(output, LINE.as_bytes())
 }

@@ -1,4 +1,4 @@
 use Rattle.commands.proofs.meters.line.Goals as goal
 
-pub returns : goal.returns
-returns c = c.format.ensures.ok
+pub returns-clause-text : goal.returns-clause-text
+returns-clause-text c = c.format.ensures.ok

@@ -22,4 +22,4 @@ returns-clause-overheard g c =
     on_err c.simulate_watched.result c.simulate_watched.ensures.part (λ h. told_script (λ m. telling m.clock m.next m.is_refused m.errors.now) (λ m. m.errors.ghost_name) _ (Hears g.C.Clockwork.reads g.E.Tells.tells) (λ p taken all p2 k. k) _ _ _ _ h)
 
 pub returns-clause-failed : goal.returns-clause-failed
-returns-clause-failed g c = fails_of c.simulate_watched.result _ _ _ _ c.simulate_watched.ensures.told c.simulate_watched.ensures.leaves
+returns-clause-failed g c = fails_of c.simulate_watched.result g.O.Write.contents _ _ c.args.output.now c.simulate_watched.new.output c.simulate_watched.ensures.told c.simulate_watched.ensures.leaves

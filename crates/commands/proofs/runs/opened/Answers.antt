@@ -27,7 +27,7 @@ returns-in_err-take_ports-clause-read g c =
 pub returns-in_err-job-clause-unopened : goal.returns-in_err-job-clause-unopened
 returns-in_err-job-clause-unopened g c =
     let p = err_from_is_err_and c.from_residual.result c.from_residual.ensures.1 in
-    rw (p.1, p.2) (inl (refl, c.in_err-job.ensures.told))
+    rw (p.1, p.2) (inl (refl, c.in_err-job.ensures.unheld))
 
 pub returns-in_err-take_ports-clause-unopened : goal.returns-in_err-take_ports-clause-unopened
 returns-in_err-take_ports-clause-unopened g c =

@@ -11,6 +11,7 @@ returns-in-Some-clause-repeats g c = (
     script = _;
     are_read = c.in-Ok.ensures.read;
     run = rw (c.as_str-settings.ensures.value, c.as_str-script.ensures.value) at (c.repeat_captured.ensures.run h);
+    put = rw (c.as_str-settings.ensures.value, c.as_str-script.ensures.value) at (c.repeat_captured.ensures.put h);
     quiet = c.repeat_captured.ensures.quiet h;
     captured = rw c.in-Some.is (rw (c.as_str-settings.ensures.value, c.as_str-script.ensures.value, c.as_str-path.ensures.value) at (c.repeat_captured.ensures.captured h));
   },
@@ -29,6 +30,7 @@ returns-in-Ok-clause-repeats g c = (
     script = _;
     are_read = c.in-Ok.ensures.read;
     run = rw (c.as_str-settings.ensures.value, c.as_str-script.ensures.value) at (c.run_loop.ensures.run h);
+    put = rw (c.as_str-settings.ensures.value, c.as_str-script.ensures.value) at (c.run_loop.ensures.put h);
     quiet = c.run_loop.ensures.quiet h;
     captured = rw c.in-None.is refl;
   },

@@ -1,5 +1,5 @@
 use Rattle.std.proofs.Common.{inl, inr, refl}
-use Rattle.commands.proofs.Passing.{loops_of, opened_of}
+use Rattle.commands.proofs.Passing.{loops_of, opened_of, puts_of}
 use Rattle.commands.proofs.Recording.{closed_of, ended_of, loop_captured_of, tapes_passed}
 use Rattle.faults.specs.Texts.{fault_text}
 use Rattle.commands.proofs.Telling.{told_as}
@@ -9,6 +9,10 @@ pub returns-in-Ok-begin-clause-run : goal.returns-in-Ok-begin-clause-run
 returns-in-Ok-begin-clause-run g c h =
     loops_of _ g.P.Channel.opens g.P.Channel.passes _ _ _ _ _ _ _ _ _ c.in-Ok.ensures.job c.in-Ok.ensures.held.0.good c.in-Ok.ensures.apart c.in-Ok.ensures.opened c.looped-run.ensures.run
     (c.ended.ensures.run h)
+
+pub returns-in-Ok-begin-clause-put : goal.returns-in-Ok-begin-clause-put
+returns-in-Ok-begin-clause-put g c h =
+    puts_of _ g.P.Channel.opens g.P.Channel.passes _ _ _ _ _ _ _ _ _ c.in-Ok.ensures.held c.in-Ok.ensures.opened c.looped-run.ensures.put (c.ended.ensures.run h)
 
 pub returns-in-Ok-begin-clause-captured : goal.returns-in-Ok-begin-clause-captured
 returns-in-Ok-begin-clause-captured g c h =

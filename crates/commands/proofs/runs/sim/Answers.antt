@@ -9,6 +9,7 @@ returns-in-Some-clause-named g c h = record {
   script = _;
   are_read = c.in-Ok.ensures.read;
   run = rw (c.as_str-settings.ensures.value, c.as_str-script.ensures.value) at (c.sim_captured.ensures.run h);
+  put = rw (c.as_str-settings.ensures.value, c.as_str-script.ensures.value) at (c.sim_captured.ensures.put h);
   told = (
     λ watched. rw (c.as_str-settings.ensures.value, c.as_str-script.ensures.value) at (c.sim_captured.ensures.heard watched h),
     λ unwatched. c.sim_captured.ensures.quiet unwatched h,
@@ -22,6 +23,7 @@ returns-in-Ok-clause-named g c h = record {
   script = _;
   are_read = c.in-Ok.ensures.read;
   run = rw (c.as_str-settings.ensures.value, c.as_str-script.ensures.value) at (c.simulated.ensures.run h);
+  put = rw (c.as_str-settings.ensures.value, c.as_str-script.ensures.value) at (c.simulated.ensures.put h);
   told = (
     λ watched. rw (c.as_str-settings.ensures.value, c.as_str-script.ensures.value) at (c.simulated.ensures.heard watched h),
     λ unwatched. c.simulated.ensures.quiet unwatched h,

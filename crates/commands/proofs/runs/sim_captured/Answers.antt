@@ -1,13 +1,19 @@
 use Rattle.std.proofs.Common.{◌∙◌, inl, inr, refl}
 use Rattle.commands.proofs.Hearing.{overheard_of, unheard}
 use Rattle.commands.proofs.Recording.{captured_of, closed_of, ended_of, tapes_sim}
-use Rattle.commands.proofs.Taping.{heard_of, isnt_1, run_of}
+use Rattle.commands.proofs.Taping.{heard_of, isnt_1, puts_of, run_of}
 use Rattle.faults.specs.Texts.{fault_text}
 use Rattle.commands.proofs.Telling.{told_as}
 use Rattle.commands.proofs.runs.sim_captured.Goals as goal
 
 pub returns-in-Ok-begin-clause-run : goal.returns-in-Ok-begin-clause-run
 returns-in-Ok-begin-clause-run g c h = run_of _ _ _ _ _ _ _ _ _ _ c.in-Ok.ensures.job c.in-Ok.ensures.good c.taped-run.ensures.run (c.ended.ensures.run h)
+
+pub returns-in-Ok-begin-clause-put : goal.returns-in-Ok-begin-clause-put
+returns-in-Ok-begin-clause-put g c h = puts_of _ _ _ _ _ _ _ c.in-Ok.ensures.job c.in-Ok.ensures.good c.taped-run.ensures.put (c.ended.ensures.run h)
+
+pub returns-in-Err-clause-put : goal.returns-in-Err-clause-put
+returns-in-Err-clause-put g c done = isnt_1 _ (c.tell.ensures.status ∙ c.in-Err.ensures.known) done
 
 pub returns-in-Err-clause-run : goal.returns-in-Err-clause-run
 returns-in-Err-clause-run g c done = isnt_1 _ (c.tell.ensures.status ∙ c.in-Err.ensures.known) done
@@ -74,4 +80,4 @@ returns-in-Err-begin-clause-failed g c one = (
 
 pub returns-in-Err-clause-failed : goal.returns-in-Err-clause-failed
 returns-in-Err-clause-failed g c one =
-    (c.args.errors.now, (unheard _ _ _ _ _ _ _, (c.in-Err.fault, (inl (refl, inl (refl, (c.in-Err.ensures.told, c.in-Err.ensures.read))), c.tell.ensures.told))))
+    (c.args.errors.now, (unheard _ _ _ _ _ _ _, (c.in-Err.fault, (inl (refl, inl (refl, (c.in-Err.ensures.unheld, c.in-Err.ensures.read))), c.tell.ensures.told))))

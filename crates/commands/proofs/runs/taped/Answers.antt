@@ -27,5 +27,8 @@ returns-then-is_watched-clause-overheard g c watched =
 pub returns-else-is_watched-clause-known : goal.returns-else-is_watched-clause-known
 returns-else-is_watched-clause-known g c = known c.play.result c.play.ensures.fault
 
+pub returns-else-is_watched-clause-put : goal.returns-else-is_watched-clause-put
+returns-else-is_watched-clause-put g c = rw c.as_slice-events.ensures.value at c.play.ensures.put
+
 pub returns-else-is_watched-clause-stopped : goal.returns-else-is_watched-clause-stopped
 returns-else-is_watched-clause-stopped g c = rw c.as_slice-events.ensures.value at c.play.ensures.stopped
