@@ -79,7 +79,7 @@ fn end_if_there<G: Gate>(taker: Option<Taker<G>>) {
 }
 
 /// The settings of a file.
-fn read_settings(rt: &HostRuntime, name: &str) -> Result<Settings> {
+pub(crate) fn read_settings(rt: &HostRuntime, name: &str) -> Result<Settings> {
     let text = fs::read_to_string(rt, name)?;
     Ok(settings_file::read(rt.alloc(), text.as_str())?)
 }

@@ -1,24 +1,37 @@
 //! One gateway at a time. Its report and its pages, and what is written of them; then datagrams that the other gateway
-//! never sent, and frames that were cut or changed. It does what the lines of its cases say, and prints what comes of each.
+//! never sent, and frames that were cut or changed. Then two boxes whose wires lie in memory. It does what the lines of its
+//! cases say, and prints what comes of each. At last steps whose memory is refused; with the word `refusals` these alone.
 #![tactic(auto)]
 
+mod answers;
+mod asking;
+mod boxes;
 mod broken;
 mod changing;
 mod desks;
+mod failures;
 mod gates;
 mod letters;
+mod memory;
+mod pages;
+mod refusals;
+mod shown;
 mod stations;
+mod supervisors;
 mod takers;
 mod telling;
 mod values;
+mod watched;
 mod words;
 
 use anyhow::{Result, bail};
+use boxes::Boxes;
 use cases_words::{Case, play};
-use desks::Desk;
+use desks::{Desk, read_settings};
 use gateway::Gateway;
-use stations::Station;
+use std::{env, io};
 use values::Reports;
+use watched::Watched;
 
 /// The files of datagrams and frames.
 const FORGED: [&str; 8] = [
@@ -33,20 +46,32 @@ const FORGED: [&str; 8] = [
 ];
 
 fn try_gateway(rt: &HostRuntime, case: &mut Case) -> Result<()> {
-    let Some(mut station) = Station::<Gateway>::new(rt.alloc()) else {
+    let Some(mut watched) = Watched::<Gateway>::new(rt.alloc()) else {
         bail!("no memory");
     };
-    let tried = play(rt, "gateway.cases", &mut station, case);
-    station.end();
+    let tried = play(rt, "gateway.cases", &mut watched, case);
+    watched.end();
     tried
 }
 
-fn try_forged(rt: &HostRuntime, file: &str, case: &mut Case) -> Result<()> {
+fn head(file: &str, case: &mut Case) {
     case.say("== ", file);
     case.end();
+}
+
+fn try_forged(rt: &HostRuntime, file: &str, case: &mut Case) -> Result<()> {
+    head(file, case);
     let mut desk = Desk::<Gateway>::new(*rt);
     let tried = play(rt, file, &mut desk, case);
     desk.end();
+    tried
+}
+
+fn try_boxes(rt: &HostRuntime, case: &mut Case) -> Result<()> {
+    head("rounds.cases", case);
+    let mut boxes = Boxes::<Gateway>::new(read_settings(rt, "S.toml")?);
+    let tried = play(rt, "rounds.cases", &mut boxes, case);
+    boxes.end();
     tried
 }
 
@@ -56,12 +81,32 @@ fn try_all(rt: &HostRuntime, case: &mut Case) -> Result<()> {
     for file in FORGED {
         try_forged(rt, file, case)?;
     }
-    Ok(())
+    try_boxes(rt, case)
+}
+
+fn try_others(rt: &HostRuntime) -> Result<()> {
+    let mut case = Case::new(rt.alloc());
+    let tried = try_all(rt, &mut case);
+    case.flush(rt);
+    tried
+}
+
+/// Whether the program has a word.
+fn has_word(rt: &HostRuntime) -> io::Result<bool> {
+    Ok(env::args(rt)?.nth(1).is_some())
+}
+
+/// The same, asked for once more where memory is refused.
+fn wants_refusals(rt: &HostRuntime) -> io::Result<bool> {
+    match has_word(rt) {
+        Ok(has) => Ok(has),
+        Err(_refused) => has_word(rt),
+    }
 }
 
 fn main(rt: HostRuntime) -> Result<()> {
-    let mut case = Case::new(rt.alloc());
-    let tried = try_all(&rt, &mut case);
-    case.flush(&rt);
-    tried
+    if !wants_refusals(&rt)? {
+        try_others(&rt)?;
+    }
+    refusals::try_all(&rt)
 }

@@ -1,185 +1,278 @@
-//! A gateway whose report and pages are taken.
+//! A box whose wire lies in memory.
 
 use crate::gates::Gate;
-use crate::values::blank;
-use crate::words::state_of;
-use cases_words::{Actor, Case};
-use gateway::{Event, Out};
-use nat_types::{GatewayId, Key, Side};
-use report_texts::{Filter, write_pairs, write_people};
-use reports::{GatewayReport, Page, Sides};
+use crate::memory::{Letter, Limit, Memory, Outage, Steps};
+use crate::pages::Page;
+use crate::supervisors::Alive;
+use cases_words::Case;
+use gateway::Hashers;
+use journal::{Format, Unhindered};
+use nat_types::{GatewayId, Side};
+use rounds::Identity;
 use settings::Settings;
+use sockets::{Failing, Place};
 use std::alloc::Global;
+use std::cell::RefCell;
+use std::io::{self, Write};
 
-/// A packet of 192.168.1.10 to 198.51.100.7 port 53, `hi`; its source port stands at 34.
-const FRAME: [u8; 44] = [
-    0x00, 0x00, 0x5e, 0x00, 0x01, 0x0b, 0x02, 0x00, 0x00, 0x00, 0x00, 0x0a, 0x08, 0x00, 0x45, 0x00,
-    0x00, 0x1e, 0x00, 0x01, 0x00, 0x00, 0x40, 0x11, 0x8e, 0xe1, 0xc0, 0xa8, 0x01, 0x0a, 0xc6, 0x33,
-    0x64, 0x07, 0x00, 0x00, 0x00, 0x35, 0x00, 0x0a, 0x00, 0x00, 0x68, 0x69,
-];
+/// Of the settings, as far as a box in memory is asked.
+const DIGEST: u64 = 7;
 
-/// Gateway 0 of the sample settings, founded in boot 1, and its sides as they were seen. It goes by `end`.
+/// A gateway with its wire and its clock, and who sees to it. It is let go by `end` alone.
 pub(crate) struct Station<G> {
-    alloc: Global,
-    sides: Sides,
-    out: Out,
     gateway: G,
-}
-
-/// The page behind a key, once it was written as bytes and read back.
-fn page_behind<G: Gate>(alloc: Global, gateway: &G, last: Option<Key>) -> Option<Page> {
-    let page = gateway.page_behind(alloc, last)?;
-    let bytes = page.bytes();
-    drop(page);
-    Page::read(alloc, bytes.as_slice()).ok()
+    identity: Identity,
+    pub(crate) wire: Memory,
+    clock: Steps,
+    pub(crate) alive: Alive,
 }
 
 impl<G: Gate> Station<G> {
-    /// None where there is no memory.
-    pub(crate) fn new(alloc: Global) -> Option<Station<G>> {
-        let settings = Settings::sample(alloc).ok()?;
-        let begun = G::begun(alloc, &settings, GatewayId::Zero, 1, true);
-        drop(settings);
-        let gateway = begun?;
+    /// A gateway of that number in that boot, at moment 0; none where there is no such gateway.
+    pub(crate) fn new(
+        alloc: Global,
+        settings: &Settings,
+        id: GatewayId,
+        boot: u64,
+        found: bool,
+    ) -> Option<Station<G>> {
+        let gateway = G::begun(alloc, settings, Hashers::fixed(), id, boot, found)?;
+        let digest = DIGEST;
         Some(Station {
-            alloc,
-            sides: gateway.sides(),
-            out: Out::new(alloc),
             gateway,
+            identity: Identity { id, boot, digest },
+            wire: Memory::new(alloc),
+            clock: Steps { moment: 0, pace: 0 },
+            alive: Alive::new(),
         })
     }
 
-    /// Ends its gateway, and gives its memory back.
+    /// Lets it go.
     pub(crate) fn end(self) {
         let Station {
-            alloc: _,
-            sides: _,
-            out,
             gateway,
+            identity: _,
+            wire,
+            clock,
+            alive,
         } = self;
         gateway.end();
-        drop(out);
+        drop(wire);
+        drop(clock);
+        drop(alive);
     }
 
-    fn step(&mut self, event: Event<'_>, case: &mut Case) {
-        self.gateway.step(event, &mut self.out, case);
-        self.gateway.look(&mut self.sides);
-    }
-
-    fn take(&mut self, case: &mut Case) {
-        let bytes = case.bytes();
-        self.step(Event::Datagram(bytes.as_slice()), case);
-    }
-
-    fn see(&mut self, case: &mut Case) {
-        let side = case.side();
-        let up = case.is_first("up", "down");
-        self.step(Event::Side(side, up), case);
-    }
-
-    fn send(&mut self, case: &mut Case) {
-        let first = case.number();
-        for more in 0..case.number() {
-            let frame = frame_from((first.saturating_add(more) % 65_536) as u16);
-            self.step(Event::Frame(Side::Inside, &frame), case);
-        }
-    }
-
-    fn tell(&self, case: &mut Case) {
-        match self.gateway.report() {
-            Some(state) => self.tell_state(state, case),
-            None => case.fault(),
-        }
-    }
-
-    fn tell_state(&self, state: GatewayReport, case: &mut Case) {
-        let mut report = blank();
-        report.gateway = state;
-        report.sides = self.sides;
-        let written = write_people(&mut case.out, &report);
-        case.keep(written);
-    }
-
-    /// Reads all pages, each once it was written as bytes.
-    fn list(&self, case: &mut Case) {
-        let filter = filter_of(case);
-        let mut last = None;
-        for _ in 0..10 {
-            match page_behind(self.alloc, &self.gateway, last) {
-                Some(page) => {
-                    tell_page(&page, &filter, case);
-                    last = page.last();
-                    if !page.has_more() {
-                        break;
-                    }
-                }
-                None => case.fault(),
-            }
-        }
-    }
-}
-
-impl<G: Gate> Actor for Station<G> {
-    /// Does what a line says.
+    /// Prepares the next rounds.
     ///
-    /// - `tick MOMENT`, `side SIDE up|down`, `datagram HEX`: a step, and the sides are looked at
-    /// - `udp PORT COUNT`: packets of 192.168.1.10 from that port, and the next ones
-    /// - `people`: the report's text
-    /// - `list PROTOCOL ADDRESS PORT STATE`: all pages, and the lines of the entries that are wanted; `any` wants all
-    fn act(&mut self, case: &mut Case) {
-        case.title("> ", "\n");
+    /// - `come PLACE HEX`, `come PLACE HEX N`: a datagram comes, or comes N times
+    /// - `fails PLACE N M`: a place fails in the rounds N to M of the next line of rounds
+    /// - `takes PLACE N`: a place takes at most N bytes at once from now on
+    pub(crate) fn prepare(&mut self, case: &mut Case) {
+        case.back();
         match case.word() {
-            "tick" => self.step(Event::Tick(case.number()), case),
-            "side" => self.see(case),
-            "datagram" => self.take(case),
-            "udp" => self.send(case),
-            "people" => self.tell(case),
-            "list" => self.list(case),
+            "come" => self.come(case),
+            "fails" => self.fail(case),
+            "takes" => self.limit(case),
             _ => case.fault(),
         }
     }
+
+    fn come(&mut self, case: &mut Case) {
+        let place = place_in(case);
+        let bytes = case.bytes();
+        let count = if case.left() == 0 { 1 } else { case.times() };
+        for _ in 0..count {
+            self.bring(place, bytes.as_slice(), case);
+        }
+    }
+
+    fn fail(&mut self, case: &mut Case) {
+        let outage = Outage {
+            place: place_in(case),
+            first: case.times(),
+            last: case.times(),
+        };
+        case.keep(self.wire.outages.push(outage));
+    }
+
+    fn limit(&mut self, case: &mut Case) {
+        self.wire.limit = Some(Limit {
+            place: place_in(case),
+            most: case.count(),
+        });
+    }
+
+    /// A datagram comes.
+    pub(crate) fn bring(&mut self, place: Place, bytes: &[u8], case: &mut Case) {
+        let copied = Vec::from_slice(case.alloc, bytes);
+        let bytes = case.or_none(copied);
+        case.keep(self.wire.coming.push(Letter { place, bytes }));
+    }
+
+    /// Runs so many rounds, at each of which so many centiseconds more have passed. What is answered are the lines for
+    /// the operator.
+    pub(crate) fn go_on(&mut self, rounds: u32, pace: u64, track: bool) -> Vec<u8> {
+        let lines = RefCell::new(Vec::new(self.wire.alloc));
+        self.clock.pace = pace;
+        self.wire.begin();
+        let page = Page {
+            lines: &lines,
+            is_shut: false,
+        };
+        self.gateway.go_on(
+            &mut self.wire,
+            &mut self.clock,
+            rounds,
+            track,
+            self.identity,
+            &mut self.alive,
+            &Unhindered::new(page, Format::Text),
+        );
+        self.wire.outages.clear();
+        lines.into_inner()
+    }
+
+    /// Runs as the next words say, and prints what comes of it.
+    ///
+    /// - `rounds N M`, `rounds N M untracked`: rounds, and no end
+    /// - `serves ..`: the box runs to its end (`orders_in`)
+    pub(crate) fn run(&mut self, case: &mut Case) {
+        if case.is_first("rounds", "serves") {
+            self.run_on(case);
+        } else {
+            self.serve(case);
+        }
+    }
+
+    fn run_on(&mut self, case: &mut Case) {
+        let (rounds, pace) = (case.times(), case.number());
+        let lines = self.go_on(rounds, pace, case.left() == 0);
+        self.wire.show(case);
+        case.text(lines.as_slice());
+    }
+
+    fn serve(&mut self, case: &mut Case) {
+        let lines = RefCell::new(Vec::new(self.wire.alloc));
+        let mut output = Vec::new(self.wire.alloc);
+        let orders = orders_in(case);
+        case.keep(self.serve_into(orders, &lines, false, &mut output));
+        self.wire.show(case);
+        case.text(lines.into_inner().as_slice());
+        case.text(output.as_slice());
+        self.alive.show(case);
+    }
+
+    /// Runs the box to its end, with a writer for the output, and lines for the operator, which may have no room.
+    pub(crate) fn serve_into<O: Write>(
+        &mut self,
+        orders: Orders,
+        lines: &RefCell<Vec<u8>>,
+        is_shut: bool,
+        output: &mut O,
+    ) -> io::Result<()> {
+        self.clock.pace = orders.pace;
+        self.wire.begin();
+        self.alive.begin();
+        let log = Unhindered::new(Page { lines, is_shut }, Format::Text);
+        self.gateway.serve(
+            self.wire.alloc,
+            &mut self.wire,
+            &mut self.clock,
+            self.identity,
+            &mut self.alive,
+            orders,
+            output,
+            &log,
+        )
+    }
+
+    /// The same over a wire whose call with that number fails; prints where what was sent went, and what was written.
+    pub(crate) fn serve_failing(&mut self, number: u64, orders: Orders, case: &mut Case) {
+        let lines = RefCell::new(Vec::new(self.wire.alloc));
+        let mut output = Vec::new(self.wire.alloc);
+        self.clock.pace = orders.pace;
+        self.wire.begin();
+        case.keep(serve_failing(self, number, orders, &lines, &mut output));
+        self.wire.count(case);
+        case.text(lines.into_inner().as_slice());
+        case.text(output.as_slice());
+    }
 }
 
-/// The packet from a port.
-fn frame_from(port: u16) -> [u8; 44] {
-    let mut frame = FRAME;
-    let [high, low] = port.to_be_bytes();
-    frame[34] = high;
-    frame[35] = low;
-    frame
+/// How a box is run to its end.
+#[derive(Clone, Copy)]
+pub(crate) struct Orders {
+    /// How many rounds it has at most.
+    pub(crate) rounds: Option<u32>,
+    /// How many centiseconds pass from one to the next.
+    pub(crate) pace: u64,
+    /// After how many rounds it is told to end.
+    pub(crate) told: Option<u32>,
 }
 
-fn tell_page(page: &Page, filter: &Filter, case: &mut Case) {
-    case.say("page ", page.entries().len());
-    case.say(" ", page.has_more());
-    case.end();
-    let written = write_pairs(&mut case.out, page, filter);
-    case.keep(written);
+/// As `4 360`, or `- 360 told 3`.
+fn orders_in(case: &mut Case) -> Orders {
+    let rounds = rounds_in(case);
+    let pace = case.number();
+    let told = told_in(case);
+    Orders { rounds, pace, told }
 }
 
-/// Whether the next word is `any`; another is read once more.
-fn is_any(case: &mut Case) -> bool {
-    let is_any = case.word() == "any";
-    if !is_any {
-        case.back();
+/// A number of rounds, or any for `-`.
+fn rounds_in(case: &mut Case) -> Option<u32> {
+    if case.word() == "-" {
+        return None;
     }
-    is_any
+    case.back();
+    Some(case.times())
 }
 
-/// Which entries are wanted: a protocol, an address, a port and a state, each of them or `any`.
-fn filter_of(case: &mut Case) -> Filter {
-    let mut filter = Filter::ALL;
-    if !is_any(case) {
-        filter.protocol = Some(case.protocol());
+fn told_in(case: &mut Case) -> Option<u32> {
+    if case.left() == 0 {
+        return None;
     }
-    if !is_any(case) {
-        filter.address = Some(case.ip());
+    if case.word() != "told" {
+        case.fault();
     }
-    if !is_any(case) {
-        filter.port = Some(case.port());
-    }
-    if !is_any(case) {
-        filter.state = Some(state_of(case));
-    }
-    filter
+    Some(case.times())
+}
+
+/// What a place is called.
+const PLACES: [(&str, Place); 4] = [
+    ("link", Place::Link),
+    ("inside", Place::Side(Side::Inside)),
+    ("outside", Place::Side(Side::Outside)),
+    ("operator", Place::Operator),
+];
+
+/// The place that the next word names.
+fn place_in(case: &mut Case) -> Place {
+    case.pick(&PLACES, Place::Link)
+}
+
+/// A box is run to its end over a wire whose call with that number fails.
+fn serve_failing<G: Gate>(
+    station: &mut Station<G>,
+    number: u64,
+    orders: Orders,
+    lines: &RefCell<Vec<u8>>,
+    output: &mut Vec<u8>,
+) -> io::Result<()> {
+    let page = Page {
+        lines,
+        is_shut: false,
+    };
+    let log = Unhindered::new(page, Format::Text);
+    let alloc = station.wire.alloc;
+    let mut wire = Failing::new(&mut station.wire, number);
+    station.gateway.serve(
+        alloc,
+        &mut wire,
+        &mut station.clock,
+        station.identity,
+        &mut station.alive,
+        orders,
+        output,
+        &log,
+    )
 }

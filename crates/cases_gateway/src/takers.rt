@@ -5,7 +5,7 @@ use crate::gates::Gate;
 use crate::letters::spelled;
 use crate::telling::tell;
 use cases_words::Case;
-use gateway::{Event, Out, Outcome, Reason};
+use gateway::{Event, Hashers, Out, Outcome, Reason};
 use nat_types::GatewayId;
 use settings::Settings;
 
@@ -23,7 +23,7 @@ impl<G: Gate> Taker<G> {
         let id = case.gateway();
         let boot = after("boot", case);
         let found = case.left() == 1;
-        match G::begun(case.alloc, settings, id, boot, found) {
+        match G::begun(case.alloc, settings, Hashers::fixed(), id, boot, found) {
             Some(gateway) => Some(Taker {
                 id,
                 gateway,

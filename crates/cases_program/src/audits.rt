@@ -7,22 +7,12 @@ use nat_types::{GatewayId, NoMemory, WorldEvent};
 use settings::Settings;
 use std::alloc::Global;
 
-/// Runs a script, and prints what is wrong once it is run, or that nothing is.
-pub(crate) fn after_all(settings: &str, script: &str, case: &mut Case) {
+/// Runs a script, and prints what is wrong once it is run, or that nothing is; or event by event, and prints how many events it
+/// has, or the first one after which something is wrong.
+pub(crate) fn audited(settings: &str, script: &str, after_each: bool, case: &mut Case) {
     match read(case.alloc, settings, script) {
         Ok(job) => {
-            tell_after(&job.settings, job.events.as_slice(), case);
-            drop(job);
-        }
-        Err(_) => case.fault(),
-    }
-}
-
-/// Runs a script event by event, and prints how many events it has, or the first one after which something is wrong.
-pub(crate) fn after_each(settings: &str, script: &str, case: &mut Case) {
-    match read(case.alloc, settings, script) {
-        Ok(job) => {
-            tell_first(&job.settings, job.events.as_slice(), case);
+            audit_in(&job.settings, job.events.as_slice(), after_each, case);
             drop(job);
         }
         Err(_) => case.fault(),
@@ -39,14 +29,14 @@ fn founded(alloc: Global, settings: &Settings) -> Result<World<'_>, NoMemory> {
     World::founded(alloc, settings)
 }
 
-/// Prints what is wrong once these events have happened to a new world.
-fn tell_after(settings: &Settings, events: &[WorldEvent], case: &mut Case) {
+/// The same of these events, in a new world.
+fn audit_in(settings: &Settings, events: &[WorldEvent], after_each: bool, case: &mut Case) {
     match founded(case.alloc, settings) {
         Ok(mut world) => {
-            run_on(&mut world, events, case);
-            match fault_in(&world, case) {
-                Some(fault) => case.say("audit: ", fault),
-                None => case.put("audit passed"),
+            if after_each {
+                tell_first(&mut world, events, case);
+            } else {
+                tell_after(&mut world, events, case);
             }
             case.end();
             world.end();
@@ -55,20 +45,17 @@ fn tell_after(settings: &Settings, events: &[WorldEvent], case: &mut Case) {
     }
 }
 
-/// Prints the first event after which something is wrong with a new world.
-fn tell_first(settings: &Settings, events: &[WorldEvent], case: &mut Case) {
-    match founded(case.alloc, settings) {
-        Ok(mut world) => {
-            tell_first_on(&mut world, events, case);
-            case.end();
-            world.end();
-        }
-        Err(_) => case.fault(),
+/// What is wrong once all events have happened.
+fn tell_after(world: &mut World<'_>, events: &[WorldEvent], case: &mut Case) {
+    run_on(world, events, case);
+    match fault_in(world, case) {
+        Some(fault) => case.say("audit: ", fault),
+        None => case.put("audit passed"),
     }
 }
 
 /// The number of the first event, from 1, after which something is wrong, and what it is.
-fn tell_first_on(world: &mut World<'_>, events: &[WorldEvent], case: &mut Case) {
+fn tell_first(world: &mut World<'_>, events: &[WorldEvent], case: &mut Case) {
     for (above, event) in events.chunks(1).enumerate() {
         run_on(world, event, case);
         if let Some(fault) = fault_in(world, case) {

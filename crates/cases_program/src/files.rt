@@ -1,9 +1,9 @@
 //! The files that the cases read, write and look at.
 
+use crate::edits::replaced;
 use anyhow::{Context, Result};
 use cases_words::Case;
 use faults::text_of;
-use std::alloc::{AllocError, Global};
 use std::fs;
 
 /// The text of the file of a name and a kind.
@@ -22,21 +22,9 @@ fn written(rt: &HostRuntime, text: &str) -> Result<()> {
     let (name, rest) = text.split_once(';').context("no name")?;
     let (old, new) = rest.split_once(';').context("no lines")?;
     let sample = fs::read_to_string(rt, "S.toml")?;
-    let edited = edited(rt.alloc(), sample.as_str(), old, new)?;
+    let edited = replaced(rt.alloc(), sample.as_str(), old, new)?;
     fs::write(rt, name, edited.as_str())?;
     Ok(())
-}
-
-fn edited(alloc: Global, sample: &str, old: &str, new: &str) -> Result<String, AllocError> {
-    let mut edited = String::new(alloc);
-    let mut done = false;
-    for line in sample.lines() {
-        let is_old = line == old && !done;
-        done = done || is_old;
-        edited.push_str(if is_old { new } else { line })?;
-        edited.push('\n')?;
-    }
-    Ok(edited)
 }
 
 /// Prints the bytes of a file.

@@ -2,21 +2,15 @@
 
 use crate::files::text_at;
 use crate::memory::Memory;
+use crate::rows::status_of;
 use anyhow::Result;
 use cases_words::{Actor, Case};
 use loopback_run::{Channel, Loopback, run_loop};
-use simulation::simulate;
 use std::alloc::Global;
 
 #[derive(Drop)]
 pub(crate) struct Lines {
-    rt: HostRuntime,
-}
-
-impl Lines {
-    pub(crate) fn new(rt: HostRuntime) -> Lines {
-        Lines { rt }
-    }
+    pub(crate) rt: HostRuntime,
 }
 
 impl Actor for Lines {
@@ -77,6 +71,6 @@ fn run<P: Channel>(settings: &str, script: &str, passage: &mut P, case: &mut Cas
 /// The output of a run without a passage.
 fn plain(alloc: Global, settings: &str, script: &str) -> Vec<u8> {
     let (mut plain, mut errors) = (Vec::new(alloc), Vec::new(alloc));
-    simulate(alloc, settings, script, &mut plain, &mut errors);
+    status_of(alloc, settings, script, &mut plain, &mut errors);
     plain
 }

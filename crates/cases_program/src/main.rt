@@ -1,15 +1,31 @@
-//! Runs scripts as the lines of `rows.list` say; then does what lines of words say, as `natpair`
-//! would; then runs scripts as the lines of `loops.list` say, through a channel. It prints what each
-//! prints, its faults and its status.
+//! Texts of settings, command lines and boot files (`texts`). Then it runs scripts as the lines of `rows.list` say; then does
+//! what lines of words say, as `natpair` would; then runs scripts as the lines of `loops.list` say, through a channel. It
+//! prints what each prints, its faults and its status.
 #![tactic(auto)]
 
 mod audits;
+mod blocks;
+mod boots;
+mod calls;
+mod checking;
+mod clashes;
+mod disks;
+mod edits;
 mod files;
+mod full;
 mod lines;
 mod listening;
+mod lists;
 mod memory;
+mod memory_blocks;
 mod narrow;
+mod reading;
 mod rows;
+mod sample;
+mod short;
+mod tasks;
+mod texts;
+mod trials;
 mod words;
 
 use anyhow::Result;
@@ -19,9 +35,10 @@ use rows::Rows;
 use words::Words;
 
 fn try_all(rt: &HostRuntime, case: &mut Case) -> Result<()> {
-    play(rt, "rows.list", Rows::new(*rt), case)?;
-    play(rt, "acts.cases", Words::new(*rt), case)?;
-    play(rt, "loops.list", Lines::new(*rt), case)
+    texts::try_all(rt, case)?;
+    play(rt, "rows.list", Rows { rt: *rt }, case)?;
+    play(rt, "acts.cases", Words { rt: *rt }, case)?;
+    play(rt, "loops.list", Lines { rt: *rt }, case)
 }
 
 fn main(rt: HostRuntime) -> Result<()> {

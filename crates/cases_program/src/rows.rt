@@ -1,22 +1,17 @@
 //! A line of the list: which script is run, and on what.
 
-use crate::audits::{after_all, after_each};
+use crate::audits;
 use crate::files::text_at;
 use crate::narrow::Narrow;
 use cases_words::{Actor, Case};
 use faults::text_of;
 use simulation::simulate;
 use std::alloc::{AllocError, Global};
+use std::io::Write;
 
 #[derive(Drop)]
 pub(crate) struct Rows {
-    rt: HostRuntime,
-}
-
-impl Rows {
-    pub(crate) fn new(rt: HostRuntime) -> Rows {
-        Rows { rt }
-    }
+    pub(crate) rt: HostRuntime,
 }
 
 impl Actor for Rows {
@@ -63,19 +58,24 @@ fn scripted(rt: &HostRuntime, case: &mut Case) {
     let read = text_at(rt, if has_own { name.as_str() } else { "rows" }, "toml");
     let settings = case.or_empty(read);
     match verb.as_str() {
-        "script" | "with" => audited(settings.as_str(), script.as_str(), case),
-        "each" | "each-with" => after_each(settings.as_str(), script.as_str(), case),
+        "script" | "with" => {
+            simulated(settings.as_str(), script.as_str(), case);
+            audits::audited(settings.as_str(), script.as_str(), false, case);
+        }
+        "each" | "each-with" => {
+            audits::audited(settings.as_str(), script.as_str(), true, case);
+        }
         "fault" => simulated(settings.as_str(), script.as_str(), case),
         _ => case.fault(),
     }
 }
 
 /// The status of a script. What a caller has to show stays small where this says nothing of it.
-fn status_of(
+pub(crate) fn status_of<O: Write>(
     alloc: Global,
     settings: &str,
     script: &str,
-    output: &mut Vec<u8>,
+    output: &mut O,
     errors: &mut Vec<u8>,
 ) -> u8 {
     simulate(alloc, settings, script, output, errors)
@@ -93,13 +93,6 @@ pub(crate) fn tell(status: u8, errors: &[u8], case: &mut Case) {
     case.text(errors);
     case.say("status ", status);
     case.end();
-}
-
-/// Output and status of a script, and whether the trace and the tables of its run are those of a pair that keeps its
-/// promises.
-fn audited(settings: &str, script: &str, case: &mut Case) {
-    simulated(settings, script, case);
-    after_all(settings, script, case);
 }
 
 /// A script of the same line many times.
@@ -126,7 +119,7 @@ fn crowded(rt: &HostRuntime, case: &mut Case) {
     let script = case.rest();
     let settings = sample(rt, case);
     let mut errors = Vec::new(case.alloc);
-    let status = narrow_status(
+    let status = status_of(
         case.alloc,
         settings.as_str(),
         script.as_str(),
@@ -134,16 +127,6 @@ fn crowded(rt: &HostRuntime, case: &mut Case) {
         &mut errors,
     );
     tell(status, errors.as_slice(), case);
-}
-
-fn narrow_status(
-    alloc: Global,
-    settings: &str,
-    script: &str,
-    narrow: &mut Narrow,
-    errors: &mut Vec<u8>,
-) -> u8 {
-    simulate(alloc, settings, script, narrow, errors)
 }
 
 /// A script's file that may not be one.

@@ -1,24 +1,19 @@
 //! Lines of words, done as `natpair` would: what each prints, its faults and its status.
 
 use crate::rows::tell;
+use crate::tasks::words_of;
 use crate::{files, listening};
 use anyhow::{Context, Result};
 use cases_words::{Actor, Case};
 use commands::act;
 use mio::net::UdpSocket;
-use std::alloc::{AllocError, Global};
+use std::alloc::Global;
 use std::io::Write;
 use std::os::fd::AsRawFd;
 
 #[derive(Drop)]
 pub(crate) struct Words {
-    rt: HostRuntime,
-}
-
-impl Words {
-    pub(crate) fn new(rt: HostRuntime) -> Words {
-        Words { rt }
-    }
+    pub(crate) rt: HostRuntime,
 }
 
 impl Actor for Words {
@@ -47,14 +42,6 @@ impl Actor for Words {
             }
         }
     }
-}
-
-fn words_of(alloc: Global, line: &str) -> Result<Vec<String>, AllocError> {
-    let mut words = Vec::new(alloc);
-    for word in line.split(' ') {
-        words.push(String::from_str(alloc, word)?)?;
-    }
-    Ok(words)
 }
 
 /// The status of words. What a caller has to show stays small where this says nothing of it.

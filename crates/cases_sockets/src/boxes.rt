@@ -4,8 +4,7 @@ use crate::callers::Callers;
 use anyhow::{Context, Result};
 use cases_words::Case;
 use control::{Bound, ControlPath};
-use nat_types::Side;
-use sockets::{Machine, Place, Ports, Sockets, Way, Ways};
+use sockets::{Machine, Ports, Sockets, Way, Ways};
 use std::net::UdpSocket;
 use std::os::fd::AsRawFd;
 
@@ -47,14 +46,6 @@ const PORTS: [Ports; 4] = [
         inside: (27_015, 27_016),
         outside: (27_025, 27_026),
     },
-];
-
-/// What a place is called.
-const PLACES: [(&str, Place); 4] = [
-    ("link", Place::Link),
-    ("inside", Place::Side(Side::Inside)),
-    ("outside", Place::Side(Side::Outside)),
-    ("operator", Place::Operator),
 ];
 
 impl Boxes {
@@ -155,9 +146,4 @@ pub(crate) fn controlled(rt: &HostRuntime, name: &str) -> Result<Bound> {
     let path = ControlPath::beside(rt.alloc(), name)?;
     let mut machine = control::Machine::new(rt);
     Ok(Bound::open(&mut machine, &path, rt.alloc())?)
-}
-
-/// The place that the next word names.
-pub(crate) fn place(case: &mut Case) -> Place {
-    case.pick(&PLACES, Place::Link)
 }

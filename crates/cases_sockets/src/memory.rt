@@ -120,7 +120,7 @@ impl Conduit for Memory {
 }
 
 /// Copies bytes as far as there is room, and says how many.
-fn copied(bytes: &[u8], room: &mut [u8; LONGEST]) -> usize
+pub(crate) fn copied(bytes: &[u8], room: &mut [u8; LONGEST]) -> usize
     ensures { result ≤ 4096 }
 {
     let count = bytes.len().min(LONGEST);

@@ -1,9 +1,10 @@
 //! What boxes, callers and strangers do.
 
-use crate::boxes::{Boxes, controlled, number_of, on_loopback, place};
+use crate::boxes::{Boxes, controlled, number_of, on_loopback};
 use crate::callers::Callers;
 use crate::failures;
 use crate::telling::tell_losses;
+use crate::words::place_of;
 use anyhow::Result;
 use cases_words::{Actor, Case};
 use control::{ControlPath, spelled_status};
@@ -95,15 +96,15 @@ fn handle(sockets: &mut Sockets, case: &mut Case) {
         "answers" => answer_word(sockets, case),
         "unanswered" => case.tell(sockets.unanswered()),
         "losses" => {
-            let losses = sockets.losses(place(case));
+            let losses = sockets.losses(place_of(case));
             tell_losses(case, losses);
         }
         "strangers" => {
-            let strangers = sockets.strangers(place(case));
+            let strangers = sockets.strangers(place_of(case));
             case.tell(strangers);
         }
         "failing" => {
-            let is_failing = sockets.is_failing(place(case));
+            let is_failing = sockets.is_failing(place_of(case));
             case.tell(is_failing);
         }
         _ => case.fault(),
@@ -111,7 +112,7 @@ fn handle(sockets: &mut Sockets, case: &mut Case) {
 }
 
 fn send(sockets: &mut Sockets, case: &mut Case) {
-    let place = place(case);
+    let place = place_of(case);
     let count = case.count();
     let bytes = repeated(case, count);
     match sockets.send(place, bytes.as_slice()) {

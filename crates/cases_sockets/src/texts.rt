@@ -13,13 +13,7 @@ use std::alloc::Global;
 /// Answers lines about texts.
 #[derive(Drop)]
 pub(crate) struct Texts {
-    rt: HostRuntime,
-}
-
-impl Texts {
-    pub(crate) fn new(rt: HostRuntime) -> Texts {
-        Texts { rt }
-    }
+    pub(crate) rt: HostRuntime,
 }
 
 impl Actor for Texts {

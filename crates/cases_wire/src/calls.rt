@@ -2,6 +2,7 @@
 use crate::{datagrams, errors, neighbours, own, packets, queries};
 use cases_words::{Actor, Case};
 use rewrite::RewriteFault;
+use std::fmt::Display;
 
 /// Which way a packet is rewritten.
 #[derive(Clone, Copy)]
@@ -9,6 +10,17 @@ pub(crate) enum Way {
     Outward,
     Inward,
     Hairpin,
+}
+
+/// What was read; where nothing was, why is printed.
+pub(crate) fn or_refuse<T, E: Display + Drop>(case: &mut Case, read: Result<T, E>) -> Option<T> {
+    match read {
+        Ok(value) => Some(value),
+        Err(fault) => {
+            case.refused(fault);
+            None
+        }
+    }
 }
 
 /// The bytes of a packet that was rewritten, behind the refusal where there is one.
@@ -66,8 +78,8 @@ fn answer_icmp(case: &mut Case) {
         "write-query" => queries::write_query(case),
         "ask" => own::ask(case),
         "reply" => own::reply(case),
-        "exceeded" => own::exceeded(case),
-        "too-long" => own::too_long(case),
+        "exceeded" => own::complain(case, false),
+        "too-long" => own::complain(case, true),
         _ => answer_others(case),
     }
 }

@@ -3,28 +3,27 @@ ghost use Rattle.std.specs.Prelude.{IsTrue};
 ghost use Rattle.ipv4.specs.Header.{IsIpv4};
 ghost use Rattle.icmp.specs.Packet.{IsErrorPacket};
 
-use crate::calls::{Way, tell_rewritten};
-use anyhow::Result;
+use crate::calls::{Way, or_refuse, tell_rewritten};
 use cases_words::Case;
 use icmp::{ErrorPacket, ErrorView, ErrorViewMut};
 use ipv4::{Flow, Ipv4View};
 
-fn parsed(bytes: &[u8]) -> Result<(ErrorPacket, ErrorView<'_>)> {
-    let packet = Ipv4View::parse(bytes)?;
-    let found = ErrorPacket::parse(&packet)?;
-    Ok((found, ErrorView::parse(packet.payload())?))
-}
-
 pub(crate) fn error(case: &mut Case) {
     let bytes = case.bytes();
-    match parsed(bytes.as_slice()) {
-        Ok((packet, error)) => {
-            tell_message(case, error.kind(), error.code(), error.checksum());
-            tell_parameter(case, error.parameter());
-            tell_packet(case, packet);
-            tell_inside(case, &error);
-        }
-        Err(fault) => case.refused(fault),
+    if let Some(packet) = or_refuse(case, Ipv4View::parse(bytes.as_slice())) {
+        error_in(case, &packet);
+    }
+}
+
+fn error_in(case: &mut Case, packet: &Ipv4View<'_>) {
+    let Some(found) = or_refuse(case, ErrorPacket::parse(packet)) else {
+        return;
+    };
+    if let Some(error) = or_refuse(case, ErrorView::parse(packet.payload())) {
+        tell_message(case, error.kind(), error.code(), error.checksum());
+        tell_parameter(case, error.parameter());
+        tell_packet(case, found);
+        tell_inside(case, &error);
     }
 }
 

@@ -1,32 +1,59 @@
-//! Calls the packet crates and the link with the cases of the files that its words name, and prints a line for
-//! each: what the call answers, or why it refuses. A line of a file is empty, begins with `#`, or
-//! has a name, a call and what is given to it.
+//! Calls the packet crates and the link with the lines of files, and prints a line for each: what the call answers, or why it
+//! refuses. Then it reads frames at the two interfaces of gateway 0 of the sample settings, and sends packets on, as
+//! `rules.cases` says, and hands VRRP routers the events of `routers.cases`. A line of a file is empty, begins with `#`, or
+//! has a name, a call and what is given to it; those of `routers.cases` have no name.
 #![tactic(auto)]
 
+mod both_sides;
 mod calls;
 mod datagrams;
 mod errors;
 mod neighbours;
 mod own;
 mod packets;
+mod passing;
 mod queries;
+mod routers;
+mod rules;
+mod saying;
 
 use anyhow::Result;
 use calls::Calls;
-use cases_words::{Case, play};
-use std::env;
+use cases_words::{Actor, Case, play};
+use routers::Routers;
+use rules::Rules;
 
-fn try_file(rt: &HostRuntime, file: &str, case: &mut Case) -> Result<()> {
+/// The files whose calls need nothing that the lines before have set up.
+const FILES: [&str; 10] = [
+    "sums.cases",
+    "frames.cases",
+    "ipv4.cases",
+    "icmp.cases",
+    "own.cases",
+    "rewrite.cases",
+    "arp.cases",
+    "vrrp.cases",
+    "datagrams.cases",
+    "taken.cases",
+];
+
+fn try_file<A: Actor + Drop>(
+    rt: &HostRuntime,
+    file: &str,
+    actor: A,
+    case: &mut Case,
+) -> Result<()> {
     case.say("== ", file);
     case.end();
-    play(rt, file, Calls, case)
+    play(rt, file, actor, case)
 }
 
 fn try_all(rt: &HostRuntime, case: &mut Case) -> Result<()> {
-    for file in env::args(rt)?.skip(1).collect::<Vec<String>>(rt.alloc())? {
-        try_file(rt, file.as_str(), case)?;
+    for file in FILES {
+        try_file(rt, file, Calls, case)?;
     }
-    Ok(())
+    try_file(rt, "rules.cases", Rules::new(rt.alloc())?, case)?;
+    try_file(rt, "routers.cases", Routers::new(), case)
 }
 
 fn main(rt: HostRuntime) -> Result<()> {

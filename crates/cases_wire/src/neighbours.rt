@@ -1,6 +1,6 @@
 //! ARP packets, the cache of neighbours, and VRRP advertisements.
+use crate::calls::or_refuse;
 use addresses::{Ip, Mac, Prefix};
-use anyhow::Result;
 use arp::{ArpPacket, Cache, Interface, Neighbour, is_learnable};
 use cases_words::Case;
 use ipv4::Ipv4View;
@@ -9,15 +9,23 @@ use vrrp_packet::{Advert, AdvertFault};
 pub(crate) fn arp(case: &mut Case) {
     let bytes = case.bytes();
     match arp::parse(bytes.as_slice()) {
-        Ok(packet) => tell_arp(case, packet),
+        Ok(packet) => tell_arp(case, &packet),
         Err(fault) => case.refused(fault),
     }
 }
 
-fn tell_arp(case: &mut Case, packet: ArpPacket) {
+pub(crate) fn tell_operation(case: &mut Case, packet: &ArpPacket) {
     case.show("", packet.operation);
+}
+
+pub(crate) fn tell_sender(case: &mut Case, packet: &ArpPacket) {
     case.say(" from ", packet.sender_mac);
     case.say(" ", packet.sender_ip);
+}
+
+fn tell_arp(case: &mut Case, packet: &ArpPacket) {
+    tell_operation(case, packet);
+    tell_sender(case, packet);
     case.say(" to ", packet.target_mac);
     case.say(" ", packet.target_ip);
 }
@@ -115,20 +123,16 @@ fn ask(cache: &mut Cache, case: &mut Case) {
     case.put(if asks { "asks " } else { "no " });
 }
 
-fn advertised(bytes: &[u8]) -> Result<Advert> {
-    Ok(vrrp_packet::parse(&Ipv4View::parse(bytes)?)?)
-}
-
 pub(crate) fn advert(case: &mut Case) {
     let bytes = case.bytes();
-    match advertised(bytes.as_slice()) {
-        Ok(advert) => {
-            case.say("router ", advert.router);
-            case.say(" priority ", advert.priority);
-            case.say(" interval ", advert.interval);
-            case.say(" address ", advert.address);
-        }
-        Err(fault) => case.refused(fault),
+    let Some(packet) = or_refuse(case, Ipv4View::parse(bytes.as_slice())) else {
+        return;
+    };
+    if let Some(advert) = or_refuse(case, vrrp_packet::parse(&packet)) {
+        case.say("router ", advert.router);
+        case.say(" priority ", advert.priority);
+        case.say(" interval ", advert.interval);
+        case.say(" address ", advert.address);
     }
 }
 

@@ -3,9 +3,8 @@ ghost use Rattle.std.specs.Prelude.{IsTrue};
 ghost use Rattle.ipv4.specs.Header.{IsIpv4};
 ghost use Rattle.icmp.specs.Query.{IsTranslatable};
 
-use crate::calls::{Way, tell_rewritten};
+use crate::calls::{Way, or_refuse, tell_rewritten};
 use addresses::TcpFlags;
-use anyhow::Result;
 use cases_words::Case;
 use frames::{EthView, EthViewMut, EtherType};
 use icmp::Kind;
@@ -91,13 +90,15 @@ fn tell_ends(case: &mut Case, packet: &Ipv4View<'_>) {
     case.say(" to ", packet.destination());
 }
 
-fn transport(bytes: &[u8]) -> Result<Transport<'_>> {
-    Ok(Transport::parse(&Ipv4View::parse(bytes)?)?)
-}
-
 pub(crate) fn carried(case: &mut Case) {
     let bytes = case.bytes();
-    match transport(bytes.as_slice()) {
+    if let Some(packet) = or_refuse(case, Ipv4View::parse(bytes.as_slice())) {
+        carried_by(case, &packet);
+    }
+}
+
+fn carried_by(case: &mut Case, packet: &Ipv4View<'_>) {
+    match Transport::parse(packet) {
         Ok(Transport::Udp(datagram)) => udp(case, &datagram),
         Ok(Transport::Tcp(segment)) => tcp(case, &segment),
         Err(fault) => case.refused(fault),

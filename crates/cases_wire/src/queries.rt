@@ -1,5 +1,5 @@
 //! ICMP queries, read and written.
-use anyhow::Result;
+use crate::calls::or_refuse;
 use cases_words::Case;
 use icmp::{Kind, QueryView, QueryViewMut};
 use ipv4::{Ipv4View, Packet};
@@ -12,29 +12,29 @@ fn kind(case: &mut Case) -> Kind {
     }
 }
 
-fn parsed(kind: Kind, bytes: &[u8]) -> Result<(Packet, QueryView<'_>)> {
-    let view = Ipv4View::parse(bytes)?;
-    let packet = icmp::query_packet(kind, &view)?;
-    Ok((packet, QueryView::parse(kind, view.payload())?))
-}
-
 /// What a packet says that carries a query of this kind.
 pub(crate) fn query(case: &mut Case) {
     let kind = kind(case);
     let bytes = case.bytes();
-    match parsed(kind, bytes.as_slice()) {
-        Ok((packet, query)) => {
-            tell_packet(case, packet);
-            tell_query(
-                case,
-                query.checksum(),
-                query.identifier().0,
-                query.sequence_number(),
-            );
-            case.hex(" data [", query.data());
-            case.put("]");
-        }
-        Err(fault) => case.refused(fault),
+    if let Some(view) = or_refuse(case, Ipv4View::parse(bytes.as_slice())) {
+        query_in(case, kind, &view);
+    }
+}
+
+fn query_in(case: &mut Case, kind: Kind, view: &Ipv4View<'_>) {
+    let Some(packet) = or_refuse(case, icmp::query_packet(kind, view)) else {
+        return;
+    };
+    if let Some(query) = or_refuse(case, QueryView::parse(kind, view.payload())) {
+        tell_packet(case, packet);
+        tell_query(
+            case,
+            query.checksum(),
+            query.identifier().0,
+            query.sequence_number(),
+        );
+        case.hex(" data [", query.data());
+        case.put("]");
     }
 }
 

@@ -1,0 +1,21 @@
+use Rattle.std.proofs.Common.{◌≡◌, List, length, Option, Some, None, refl, sym, ap, ◌∙◌}
+use Rattle.nat_types.specs.declared.records.Record.{Record}
+use Rattle.link.specs.Link.{Link}
+use Rattle.spec_binding.specs.Ledgers.{Ledger, rests_for}
+use Rattle.spec_binding.specs.Rows.{answered}
+use Rattle.bind_core.specs.Cores.{book_of, ledger_of}
+use Rattle.cases_bindings.proofs.side.take_promised.Goals as goal
+
+-- an answer leaves what is promised
+answer-leaves : (e : Link) (o : Option Record) → (answered e o).promised ≡ e.promised
+answer-leaves e None = refl
+answer-leaves e (Some r) = refl
+
+pub returns : goal.returns
+returns c =
+    let old = c.args.core.now in
+    let item = c.args.item.now in
+    ap (λ (l : Ledger). length l.book.coming) c.take.ensures.ledger
+    ∙ ap (λ (rs : List Record). length rs) (c.rows_leave.ensures.coming (book_of old) (rests_for c.args.now (ledger_of old) item) item)
+    ∙ c.requires.promised
+    ∙ sym (ap (λ (e : Link). e.promised) c.take.ensures.link ∙ answer-leaves c.args.link.now _)

@@ -1,0 +1,75 @@
+//! Steps whose growth is refused: a gateway takes what the lines of each file say; where memory is
+//! refused, nothing may have changed, and the step has to go when it is asked for again.
+
+use crate::asking::Asker;
+use crate::gates::Gate;
+use anyhow::Result;
+use gateway::{Gateway, Hashers};
+use slots::SystemDraws;
+use std::alloc::Global;
+use std::fs;
+use std::io::{self, Write};
+use std::rt::Files;
+
+const FILES: [&str; 3] = ["word.cases", "accepts.cases", "pairs.cases"];
+
+/// Prints at once what comes of each file's lines, at gateways whose hashers are drawn.
+pub(crate) fn try_all(rt: &HostRuntime) -> Result<()> {
+    let mut output = io::writer(rt);
+    let mut draws = SystemDraws(rt);
+    let drawn = Hashers::drawn(&mut draws);
+    let SystemDraws(_) = draws;
+    let hashers = drawn?;
+    for name in &FILES {
+        play_file(rt, name, hashers, &mut output)?;
+    }
+    Ok(())
+}
+
+/// What the lines of a file say, at a gateway of its own.
+fn play_file<R: Files + AllocGlobal, O: Write>(
+    rt: &R,
+    name: &str,
+    hashers: Hashers,
+    output: &mut O,
+) -> Result<()> {
+    let text = text_of(rt, name)?;
+    let played = play(rt.alloc(), hashers, name, text.as_str(), output);
+    drop(text);
+    played
+}
+
+/// The text of a file, asked for once more where memory is refused.
+fn text_of<R: Files + AllocGlobal>(rt: &R, name: &str) -> Result<String> {
+    match fs::read_to_string(rt, name) {
+        Ok(text) => Ok(text),
+        Err(_refused) => Ok(fs::read_to_string(rt, name)?),
+    }
+}
+
+/// What the lines of a text say, at a founded gateway, behind the text's name.
+fn play<O: Write>(
+    alloc: Global,
+    hashers: Hashers,
+    name: &str,
+    text: &str,
+    output: &mut O,
+) -> Result<()> {
+    writeln!(output, "== {name}")?;
+    let mut asker = Asker::<Gateway>::new(alloc, hashers)?;
+    let played = play_lines(&mut asker, text, output);
+    asker.end();
+    played
+}
+
+/// Does what each line says. A line is empty, begins with `#`, or is one of `Asker::act`.
+fn play_lines<G: Gate, O: Write>(asker: &mut Asker<G>, text: &str, output: &mut O) -> Result<()> {
+    for line in text.lines() {
+        if line.is_empty() || line.starts_with("#") {
+            continue;
+        }
+        writeln!(output, "{line}")?;
+        asker.act(line, output)?;
+    }
+    Ok(())
+}

@@ -1,0 +1,148 @@
+//! Cases of `check` and `compare`.
+use crate::edits::edited;
+use crate::full::Full;
+use cases_words::{Actor, Case};
+use checks::{Request, Source, ThisMachine, check, compare, tell_of};
+use faults::text_of;
+use nat_types::GatewayId;
+use std::io::Write;
+use std::{fs, mem};
+
+/// Where an edited text lies while it is checked.
+const EDITED: &str = "edited.toml";
+
+/// Where the sample settings lie.
+pub(crate) const SAMPLE: &str = "sample.toml";
+
+/// The value of an option, as `10.0.0.1` of `link=10.0.0.1`, where it stands.
+fn option<'a>(options: &'a str, name: &str) -> Option<&'a str> {
+    for word in options.split(' ') {
+        if let Some(value) = word.strip_prefix(name) {
+            return Some(value);
+        }
+    }
+    None
+}
+
+fn request(options: &str) -> Request<'_> {
+    let id = match option(options, "id=") {
+        Some("0") => Some(GatewayId::Zero),
+        Some(_) => Some(GatewayId::One),
+        None => None,
+    };
+    Request {
+        id,
+        strict: option(options, "strict").is_some(),
+        inside: option(options, "inside="),
+        outside: option(options, "outside="),
+        link: option(options, "link="),
+    }
+}
+
+/// The sample with all edits, which are pairs of an old line and its new text.
+fn all_edited(sample: &str, case: &mut Case) -> String {
+    let copied = String::from_str(case.alloc, sample);
+    let mut text = case.or_empty(copied);
+    for _ in 0..case.left() / 2 {
+        let new = edited(text.as_str(), case);
+        drop(mem::replace(&mut text, new));
+    }
+    text
+}
+
+/// The text of a file; why there is none is told on `errors`.
+fn text_at(rt: &HostRuntime, path: &str, errors: &mut Vec<u8>) -> Option<String> {
+    match text_of(rt, path) {
+        Ok(text) => Some(text),
+        Err(fault) => {
+            tell_of(rt.alloc(), &fault, path, errors);
+            None
+        }
+    }
+}
+
+/// What `check` says of the edited sample.
+fn say_checked<O: Write>(
+    rt: &HostRuntime,
+    request: &Request<'_>,
+    output: &mut O,
+    errors: &mut Vec<u8>,
+) -> u8 {
+    match text_at(rt, EDITED, errors) {
+        Some(text) => {
+            let mut around = ThisMachine::new(rt);
+            check(
+                rt.alloc(),
+                &mut around,
+                text.as_str(),
+                request,
+                output,
+                errors,
+            )
+        }
+        None => 1,
+    }
+}
+
+/// What `compare` says of another file beside the sample.
+fn say_compared<O: Write>(
+    rt: &HostRuntime,
+    path: &str,
+    output: &mut O,
+    errors: &mut Vec<u8>,
+) -> u8 {
+    match (text_at(rt, SAMPLE, errors), text_at(rt, path, errors)) {
+        (Some(sample), Some(other)) => {
+            let one = Source {
+                path: SAMPLE,
+                text: sample.as_str(),
+            };
+            let other = Source {
+                path,
+                text: other.as_str(),
+            };
+            compare(rt.alloc(), one, other, output, errors)
+        }
+        _ => 1,
+    }
+}
+
+/// What `check` says of the edited sample; with `compare` what `compare` says of it beside the sample, and with `other=PATH`
+/// of the file there.
+fn say<O: Write>(rt: &HostRuntime, options: &str, output: &mut O, errors: &mut Vec<u8>) -> u8 {
+    match (option(options, "compare"), option(options, "other=")) {
+        (Some(_), _) => say_compared(rt, EDITED, output, errors),
+        (None, Some(other)) => say_compared(rt, other, output, errors),
+        (None, None) => say_checked(rt, &request(options), output, errors),
+    }
+}
+
+/// What is said of the edited sample, and after it what is told of faults, and the status.
+fn tell(rt: &HostRuntime, options: &str, case: &mut Case) {
+    let mut errors = Vec::new(case.alloc);
+    let status = match option(options, "full") {
+        Some(_) => say(rt, options, &mut Full, &mut errors),
+        None => say(rt, options, &mut case.out, &mut errors),
+    };
+    case.text(errors.as_slice());
+    case.say("  status ", status);
+    case.end();
+}
+
+#[derive(Drop)]
+pub(crate) struct Checks<'a> {
+    pub(crate) rt: HostRuntime,
+    pub(crate) sample: &'a str,
+}
+
+impl Actor for Checks<'_> {
+    /// A line is `NAME;OPTIONS;OLD;NEW;OLD;NEW..`: what is said where the sample is edited so, and with
+    /// `full` what is told where the output is on a full disk.
+    fn act(&mut self, case: &mut Case) {
+        case.echo("\n");
+        let options = case.name();
+        let text = all_edited(self.sample, case);
+        case.keep(fs::write(&self.rt, EDITED, text.as_bytes()));
+        tell(&self.rt, options.as_str(), case);
+    }
+}

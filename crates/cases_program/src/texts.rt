@@ -1,0 +1,101 @@
+//! Texts of settings, command lines, and boot files. Reads the sample settings, and texts that differ from them, and prints why
+//! each is refused and what `check` says of them; prints the built-in settings; and reads command lines. Then it makes and
+//! starts boot files: in its folder, on a modelled disk, and on blocks in memory.
+
+use crate::blocks::BlockFile;
+use crate::calls::Calls;
+use crate::checking::{Checks, SAMPLE};
+use crate::clashes::Clashes;
+use crate::disks::Disks;
+use crate::edits::Edits;
+use crate::lists::Lists;
+use crate::reading::settings_in;
+use crate::tasks::Tasks;
+use crate::{boots, sample};
+use anyhow::Result;
+use cases_words::{Case, play};
+use checks::digest;
+use settings::Settings;
+use std::fs;
+
+/// Whether two settings are the same, as far as their texts say.
+fn are_same(one: &Settings, other: &Settings, case: &mut Case) -> bool {
+    let (one, other) = (shown(one, case), shown(other, case));
+    one == other
+}
+
+fn shown(settings: &Settings, case: &mut Case) -> String {
+    let shown = format!(in case.alloc; "{settings:?}");
+    case.or_empty(shown)
+}
+
+/// Whether the sample text says the built-in settings, and what its digest is.
+fn say_sample(read: &Settings, case: &mut Case) -> Result<()> {
+    let built = Settings::sample(case.alloc)?;
+    let same = are_same(read, &built, case);
+    drop(built);
+    case.say("sample: ", same);
+    case.end();
+    Ok(())
+}
+
+fn say_digest(read: &Settings, case: &mut Case) {
+    let digest = digest(read);
+    case.hex("digest: ", &digest.to_be_bytes());
+    case.end();
+}
+
+fn say_built(case: &mut Case) -> Result<()> {
+    let built = Settings::sample(case.alloc)?;
+    sample::print(case, &built);
+    drop(built);
+    Ok(())
+}
+
+fn try_checks(rt: &HostRuntime, sample: &str, case: &mut Case) -> Result<()> {
+    boots::make(rt)?;
+    let locked = boot_file::open(rt, "locked")?;
+    let tried = play(rt, "checks.cases", Checks { rt: *rt, sample }, case);
+    drop(locked);
+    tried
+}
+
+/// All that is said of texts, and the digest of the settings that the sample says.
+fn try_texts(rt: &HostRuntime, sample: &str, read: &Settings, case: &mut Case) -> Result<()> {
+    say_sample(read, case)?;
+    play(rt, "settings.cases", Edits { sample }, case)?;
+    play(rt, "lists.cases", Lists { sample }, case)?;
+    play(rt, "clashes.cases", Clashes { sample }, case)?;
+    say_digest(read, case);
+    Ok(())
+}
+
+fn try_sample(rt: &HostRuntime, sample: &str, case: &mut Case) -> Result<()> {
+    let read = settings_in(rt.alloc(), sample)?;
+    let tried = try_texts(rt, sample, &read, case);
+    drop(read);
+    tried
+}
+
+fn try_settings(rt: &HostRuntime, case: &mut Case) -> Result<()> {
+    let sample = fs::read_to_string(rt, SAMPLE)?;
+    case.part_by(';');
+    try_sample(rt, sample.as_str(), case)?;
+    try_checks(rt, sample.as_str(), case)?;
+    say_built(case)
+}
+
+/// Boot files in the working folder, on the modelled disk, and on blocks in memory.
+fn try_boots(rt: &HostRuntime, case: &mut Case) -> Result<()> {
+    play(rt, "boot.cases", Calls { rt: *rt }, case)?;
+    play(rt, "boots.cases", Disks::new(case.alloc), case)?;
+    play(rt, "blocks.cases", BlockFile::new(), case)
+}
+
+/// All of them.
+pub(crate) fn try_all(rt: &HostRuntime, case: &mut Case) -> Result<()> {
+    try_settings(rt, case)?;
+    case.part_by(' ');
+    play(rt, "lines.cases", Tasks, case)?;
+    try_boots(rt, case)
+}
