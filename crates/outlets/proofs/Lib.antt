@@ -1,4 +1,4 @@
 mod Parts
 mod Turns
-mod Lines
+mod Written
 pub mod Offered

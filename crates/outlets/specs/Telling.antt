@@ -1,6 +1,9 @@
 -- How who is told of faults is told of one.
-use Rattle.std.specs.Prelude.{◌≡◌, ℕ, ◌++◌, ◌∷◌, ◌⊎◌, List, [], Result, codes}
+use Rattle.std.specs.Prelude.{◌≡◌, ℕ, ◌++◌, ◌∷◌, ◌⊎◌, List, [], Result, String, codes}
+use Rattle.std.specs.declared.alloc.Global.{Global}
+use Rattle.std.specs.declared.fmt.Formatter.{Formatter}
 use Rattle.std.specs.declared.io.Error.{Error}
+use Rattle.outlets.specs.Showing.{HasRefused}
 
 -- the line of a text
 abbrev pub line_of : List ℕ → List ℕ
@@ -18,9 +21,9 @@ Telling E = E → List ℕ → Result (Unit {0}) Error → E → Type 0
 abbrev pub HasTold : {E : Type 0} → Telling E → E → List ℕ → E → Type 0
 HasTold tells before line after = (result : Result (Unit {0}) Error) × tells before line result after
 
--- Memory for this line was refused. No clause can say when that is, so this is no more than a name: who asks for it has it, and nobody else.
+-- Memory for this line was refused: a text that was to grow refused some of it. No clause can say when one does.
 unfoldable pub WasShort : List ℕ → Type 0
-WasShort line = Unit {0}
+WasShort line = (formatter : Formatter (String Global)) × HasRefused formatter
 
 -- just the line of this text was told; or memory for it was refused, and the one was that says so
 abbrev pub IsTold : {E : Type 0} → Telling E → E → List ℕ → E → Type 0

@@ -3,8 +3,12 @@
 
 mod outputs;
 mod puts;
+mod showing;
 mod tells;
+mod texts;
 
 pub use outputs::{told_to_flush, told_to_put};
-pub use puts::{Takes, put, put_all, put_in_turns, put_text};
+pub use puts::{Takes, put_in_turns};
+pub use showing::{Shows, told_to_show, told_to_show_number};
 pub use tells::{Tells, tell};
+pub use texts::{put, put_all, put_parts, put_text};

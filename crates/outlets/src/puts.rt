@@ -1,7 +1,6 @@
-//! Writes bytes and texts so that an output has all of them, or a beginning where writing fails.
+//! Writes bytes so that an output has all of them, or a beginning where writing fails.
 ghost use Rattle.std.specs.Io.KnownBytes.{WriteAppends};
 ghost use Rattle.std.specs.Io.{WritesAtMost};
-ghost use Rattle.std.specs.Prelude.{flat_map};
 ghost use Rattle.std.specs.Prelude.{◌≡◌, ◌≢◌, Err, IfErr, IfOk, IsErr, Ok, OnErr};
 ghost use Rattle.std.specs.IoError.{error_kind};
 ghost use Rattle.outlets.specs.Printed.{Prints};
@@ -132,41 +131,4 @@ pub fn put_in_turns<T: Takes>(output: &mut T, bytes: &[u8]) -> io::Result<()>
     ensures turns { IsPut T.answers output.old bytes.now result output.new }
 {
     put_by(output, bytes)
-}
-
-/// Writes bytes.
-///
-/// # Errors
-///
-/// As the output answers, but for an interruption, behind which it is asked again; `WriteZero` where it takes nothing.
-pub fn put<O: Write>(output: &mut O, bytes: &[u8]) -> io::Result<()>
-    ensures { Prints (O.contents output.old) result (O.contents output.new) bytes.now }
-{
-    put_in_turns(output, bytes)
-}
-
-/// Writes a text.
-///
-/// # Errors
-///
-/// The same.
-pub fn put_text<O: Write>(output: &mut O, text: &str) -> io::Result<()>
-    ensures { Prints (O.contents output.old) result (O.contents output.new) text.now }
-{
-    put(output, text.as_bytes())
-}
-
-/// Writes texts, one behind the other.
-///
-/// # Errors
-///
-/// The same.
-pub fn put_all<O: Write>(output: &mut O, texts: &[&str]) -> io::Result<()>
-    ensures { Prints (O.contents output.old) result (O.contents output.new)
-        (flat_map (λ text. text.now) texts.now) }
-{
-    for text in texts {
-        put_text(output, text)?;
-    }
-    Ok(())
 }

@@ -1,10 +1,13 @@
 //! Tells of faults, a line each.
-ghost use Rattle.std.specs.Prelude.{◌≡◌, ℕ, List, IfOk, OnErr, Some, string_bytes};
+ghost use Rattle.std.specs.Fmt.{WritesOnOk};
+ghost use Rattle.std.specs.Prelude.{◌≡◌, IfOk, OnErr, string_bytes};
+ghost use Rattle.outlets.specs.Showing.{HasRefused};
 ghost use Rattle.outlets.specs.Telling.{HasTold, IsTold, WasShort, line_of};
 
 use crate::puts::{Puts, put_by};
-use std::alloc::{AllocError, Global};
-use std::fmt::Display;
+use crate::showing::{Shows, told_to_show};
+use std::alloc::Global;
+use std::fmt::{self, Formatter};
 use std::io;
 
 /// Who is told of faults, a line each.
@@ -40,9 +43,8 @@ impl<P: Puts> Tells for P {
 
 /// Tells of a fault, by its text on a line behind `natpair: `; where memory for the line is refused, of that. Where it
 /// can't be told, nothing is done about it.
-pub fn tell<T: Display, E: Tells>(alloc: Global, fault: &T, errors: &mut E)
-    ensures { (text : List ℕ) → T.output fault.now ≡ Some text
-        → IsTold E.tells errors.old text errors.new }
+pub fn tell<T: Shows, E: Tells>(alloc: Global, fault: &T, errors: &mut E)
+    ensures { IsTold E.tells errors.old (T.text fault.now) errors.new }
 {
     match line_of(alloc, fault) {
         Ok(line) => told(errors, line.as_str()),
@@ -59,11 +61,21 @@ fn told<E: Tells>(errors: &mut E, line: &str)
 
 /// The line that tells of a fault.
 #[tactic(auto, unfolding(crate::specs::Telling::WasShort))]
-fn line_of<T: Display>(alloc: Global, fault: &T) -> Result<String, AllocError>
-    ensures made { (text : List ℕ) → T.output fault.now ≡ Some text
-        → IfOk result (λ line. string_bytes line ≡ line_of text) }
-    ensures short { (text : List ℕ) → T.output fault.now ≡ Some text
-        → OnErr result (WasShort (line_of text)) }
+fn line_of<T: Shows>(alloc: Global, fault: &T) -> Result<String, fmt::Error>
+    ensures made { IfOk result (λ line. string_bytes line ≡ line_of (T.text fault.now)) }
+    ensures short { OnErr result (WasShort (line_of (T.text fault.now))) }
 {
-    format!(in alloc; "natpair: {fault}\n")
+    let mut f = Formatter::new(String::new(alloc));
+    show_line(&mut f, fault)?;
+    Ok(f.into_inner())
+}
+
+/// Writes it.
+fn show_line<W: fmt::Write, T: Shows>(f: &mut Formatter<W>, fault: &T) -> fmt::Result
+    ensures shown { WritesOnOk W.write_str_gives f.old result (line_of (T.text fault.now)) f.new }
+    ensures refused { OnErr result (HasRefused f.new) }
+{
+    told_to_show(f, "natpair: ")?;
+    fault.show(f)?;
+    told_to_show(f, "\n")
 }
