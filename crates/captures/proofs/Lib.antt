@@ -1,3 +1,4 @@
 mod Writing
 mod Lengths
+mod Splits
 mod Rooms

@@ -1,10 +1,11 @@
--- Bytes that are written in turn.
-use Rattle.std.proofs.Common.{◌∙◌, ◌++◌, ℕ, List, Option, Some, None, ap}
-use Rattle.std.proofs.lemmas.List.{append_assoc}
+-- Texts that are written.
+use Rattle.std.proofs.Common.{ℕ, List, Option, Result, Ok, Err, OnOk}
 use Rattle.std.specs.Io.KnownBytes.{Appends}
+use Rattle.std.specs.declared.io.Error.{Error}
+use Rattle.outlets.specs.Written.{IsWrittenTo}
 
-pub joined : (a b c : Option (List ℕ)) (xs ys : List ℕ) → Appends a b xs → Appends b c ys → Appends a c (xs ++ ys)
-joined None b c xs ys p q = tt
-joined (Some x) None c xs ys p q = absurd p
-joined (Some x) (Some y) None xs ys p q = absurd q
-joined (Some x) (Some y) (Some z) xs ys p q = q ∙ ap (λ l. l ++ ys) p ∙ append_assoc x xs ys
+-- at Ok the whole text stands there
+pub whole : {O : Type 0} {contents : O → Option (List ℕ)} {a b : O} {text : List ℕ} {r : Result (Unit {0}) Error} → IsWrittenTo contents a text r b
+    → OnOk r (Appends (contents a) (contents b) text)
+whole {r = Ok done} h = h.printed
+whole {r = Err error} h = tt

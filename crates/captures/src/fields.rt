@@ -1,28 +1,22 @@
 //! The fields of blocks.
-ghost use Rattle.std.specs.Prelude.{◌≡◌, ◌<◌, ◌≤◌, ◌++◌, ◌^◌, length, OnOk};
-ghost use Rattle.std.specs.Io.KnownBytes.{Appends};
-ghost use Rattle.captures.specs.Fields.{half, word, option_of, padded, padding_of};
-
-use byteorder::{LittleEndian, WriteBytesExt};
-use std::io::{self, Write};
+ghost use Rattle.std.specs.Prelude.{◌≡◌, ◌∷◌, [], take};
+ghost use Rattle.captures.specs.Fields.{half, padding_of, word};
 
 /// What bytes are filled up with.
 const ZEROS: [u8; 3] = [0, 0, 0];
 
-/// Writes a number of 16 bits.
-pub(crate) fn write_half<W: Write>(output: &mut W, number: u16) -> io::Result<()>
-    ensures { OnOk result
-        (Appends (W.contents output.old) (W.contents output.new) (half number)) }
+/// A number of 16 bits.
+pub(crate) fn half(number: u16) -> [u8; 2]
+    ensures { result ≡ half number }
 {
-    output.write_u16::<LittleEndian>(number)
+    number.to_le_bytes()
 }
 
-/// Writes a number of 32 bits.
-pub(crate) fn write_word<W: Write>(output: &mut W, number: u32) -> io::Result<()>
-    ensures { OnOk result
-        (Appends (W.contents output.old) (W.contents output.new) (word number)) }
+/// A number of 32 bits.
+pub(crate) fn word(number: u32) -> [u8; 4]
+    ensures { result ≡ word number }
 {
-    output.write_u32::<LittleEndian>(number)
+    number.to_le_bytes()
 }
 
 /// How many zeros fill so many bytes up to a multiple of 4.
@@ -32,36 +26,9 @@ pub(crate) fn padding(length: usize) -> usize
     (4 - length % 4) % 4
 }
 
-/// Writes bytes in two parts, filled up.
-pub(crate) fn write_both<W: Write>(output: &mut W, front: &[u8], bytes: &[u8]) -> io::Result<()>
-    requires { length front.now ≤ 14 }
-    ensures { OnOk result
-        (Appends (W.contents output.old) (W.contents output.new) (padded (front.now ++ bytes.now))) }
+/// These zeros.
+pub(crate) fn zeros(length: usize) -> &'static [u8]
+    ensures { result.now ≡ take (padding_of length) (0 ∷ 0 ∷ 0 ∷ []) }
 {
-    output.write_all(front)?;
-    output.write_all(bytes)?;
-    output.write_all(&ZEROS[..padding(front.len() + bytes.len())])?;
-    Ok(())
-}
-
-/// Writes bytes, filled up.
-pub(crate) fn write_padded<W: Write>(output: &mut W, bytes: &[u8]) -> io::Result<()>
-    ensures { OnOk result
-        (Appends (W.contents output.old) (W.contents output.new) (padded bytes.now)) }
-{
-    output.write_all(bytes)?;
-    output.write_all(&ZEROS[..padding(bytes.len())])?;
-    Ok(())
-}
-
-/// Writes an option.
-pub(crate) fn write_option<W: Write>(output: &mut W, code: u16, value: &[u8]) -> io::Result<()>
-    requires { length value.now < 2 ^ 16 }
-    ensures { OnOk result
-        (Appends (W.contents output.old) (W.contents output.new) (option_of code value.now)) }
-{
-    write_half(output, code)?;
-    write_half(output, value.len() as u16)?;
-    write_padded(output, value)?;
-    Ok(())
+    &ZEROS[..padding(length)]
 }

@@ -1,8 +1,8 @@
 //! The files in which captures are begun.
-ghost use Rattle.std.specs.Prelude.{◌≡◌, ◌≤◌, ◌<◌, ◌↔◌, None, true, take, length, option_map, IfErr, IfOk, IfSome, IsOk, OnErr, OnOk};
+ghost use Rattle.std.specs.Prelude.{◌≡◌, ◌≤◌, ◌<◌, ◌↔◌, None, true, Ok, take, length, option_map, IfErr, IfOk, IfSome, IsOk, OnErr, OnOk};
 ghost use Rattle.std.specs.Io.KnownBytes.{Consumes, IsAtEnd};
 ghost use Rattle.std.specs.IoError.{error_kind};
-ghost use Rattle.captures.specs.Files.{Held, emptied, is_free, may_begin};
+ghost use Rattle.captures.specs.Files.{Empties, Held, IsFound, IsLookedAt, IsNoPlace, IsUnemptied, Looks, WasEmptied, WasLookedAt, emptied, found_in, is_free, may_begin};
 
 use std::fs::{self, Files, OpenFile, OpenOptions};
 use std::io::{self, ErrorKind, Read, Seek, SeekFrom};
@@ -26,6 +26,12 @@ pub trait Opened {
     /// Whether it does what the clauses say of an honest file.
     ghost honest: { Self → Type 0 };
 
+    /// What may be found at its front, or why it can't be looked at, and what it is then.
+    ghost looks: { Looks Self };
+
+    /// What may come of an emptying, and what it is then.
+    ghost empties: { Empties Self };
+
     /// Reads the first four bytes of a regular file, or as many as it has, and says how many; nothing of what is none. The
     /// next write is at the file's front.
     fn front(&mut self, room: &mut [u8; FRONT]) -> io::Result<Option<usize>>
@@ -34,6 +40,7 @@ pub trait Opened {
             option_map (λ count. take count room.new) found ≡ option_map (take 4) (held self.old)) }
         ensures same { honest self.old → held self.new ≡ held self.old }
         ensures read { honest self.old → readable self.old → IsOk result }
+        ensures looked { looks self.old (found_in room.new result) self.new }
         ensures honesty { honest self.old ↔ honest self.new };
 
     /// Lets go all that a regular file has.
@@ -44,10 +51,11 @@ pub trait Opened {
     fn empty(&mut self) -> io::Result<()>
         ensures ok { honest self.old → OnOk result (held self.new ≡ emptied (held self.old)) }
         ensures err { honest self.old → OnErr result (held self.new ≡ held self.old) }
+        ensures asked { empties self.old result self.new }
         ensures honesty { honest self.old ↔ honest self.new };
 }
 
-/// No clause can say what the system's files do, so they claim nothing.
+/// No clause can say what the system's files do, so they claim nothing. What was asked of them, and answered, has a name.
 impl<F: Read + Seek + OpenFile> Opened for F {
     ghost held = { λ _. None };
 
@@ -55,6 +63,11 @@ impl<F: Read + Seek + OpenFile> Opened for F {
 
     ghost honest = { λ _. ⊥ };
 
+    ghost looks = { WasLookedAt };
+
+    ghost empties = { WasEmptied };
+
+    #[tactic(auto, unfolding(crate::specs::Files::WasLookedAt))]
     fn front(&mut self, room: &mut [u8; FRONT]) -> io::Result<Option<usize>> {
         if !self.metadata()?.is_file() {
             return Ok(None);
@@ -64,6 +77,7 @@ impl<F: Read + Seek + OpenFile> Opened for F {
         Ok(Some(count))
     }
 
+    #[tactic(auto, unfolding(crate::specs::Files::WasEmptied))]
     fn empty(&mut self) -> io::Result<()> {
         if self.metadata()?.is_file() {
             self.set_len(0)?;
@@ -98,6 +112,7 @@ fn is_free<F: Opened>(file: &mut F) -> io::Result<bool>
     ensures free { F.honest file.old → IfOk result (λ free. free ≡ is_free (F.held file.old)) }
     ensures same { F.honest file.old → F.held file.new ≡ F.held file.old }
     ensures read { F.honest file.old → F.readable file.old → IsOk result }
+    ensures looked { IsLookedAt F.looks file.old result file.new }
     ensures honesty { F.honest file.old ↔ F.honest file.new }
 {
     let mut room = [0; FRONT];
@@ -142,8 +157,8 @@ impl<F: Opened + Drop> Vacant<F> {
     ///
     /// # Errors
     ///
-    /// `AlreadyExists` where it is a regular file that has something, and no capture; where it can't be read. It still has
-    /// what it had.
+    /// `AlreadyExists` where it is a regular file that has something, and no capture; what was answered where it can't be
+    /// read. It still has what it had.
     pub fn of(mut file: F) -> Result<Vacant<F>, Refused<F>>
         ensures free { F.honest file → IfOk result (λ vacant. is_free (F.held vacant) ≡ true) }
         ensures same { F.honest file → IfOk result (λ vacant. F.held vacant ≡ F.held file) }
@@ -153,6 +168,9 @@ impl<F: Opened + Drop> Vacant<F> {
             → IsOk result }
         ensures exists { F.honest file → F.readable file
             → IfErr result (λ refused. error_kind refused.error ≡ ErrorKind.AlreadyExists) }
+        ensures looked { IfOk result (λ vacant. IsFound F.looks file true vacant) }
+        ensures refused { IfErr result (λ refused.
+            IsNoPlace F.looks file refused.error refused.file) }
     {
         match is_free(&mut file) {
             Ok(true) => Ok(Vacant { file }),
@@ -170,7 +188,10 @@ impl<F: Opened + Drop> Vacant<F> {
     ///
     /// Where that is refused.
     pub fn clear(self) -> io::Result<F>
-        ensures { F.honest self → IfOk result (λ file. F.held file ≡ emptied (F.held self)) }
+        ensures emptied { F.honest self
+            → IfOk result (λ file. F.held file ≡ emptied (F.held self)) }
+        ensures asked { IfOk result (λ file. F.empties self (Ok tt) file) }
+        ensures refused { IfErr result (λ error. IsUnemptied F.empties self error) }
     {
         let Vacant { mut file } = self;
         file.empty()?;

@@ -1,11 +1,13 @@
 //! The head of a capture.
-ghost use Rattle.std.specs.Prelude.{OnOk};
+ghost use Rattle.std.specs.Prelude.{OnOk, flat_map};
 ghost use Rattle.std.specs.Io.KnownBytes.{Appends};
-ghost use Rattle.captures.specs.Captures.{head, interface_block, interface_body, section_block};
+ghost use Rattle.outlets.specs.Written.{IsWritten, IsWrittenTo};
+ghost use Rattle.captures.specs.Captures.{head, interface_block, section_block};
 
 use crate::Interface;
-use crate::fields::{padding, write_half, write_option, write_word};
+use crate::fields::{half, padding, word, zeros};
 use nat_types::{GatewayId, Side};
+use outlets::put_parts;
 use std::io::{self, Write};
 
 /// Writes the head of a capture: what the format is, and the six interfaces. Packets follow it.
@@ -14,58 +16,81 @@ use std::io::{self, Write};
 ///
 /// Where output is refused; part of the head may be written.
 pub fn write_head<W: Write>(output: &mut W) -> io::Result<()>
-    ensures { OnOk result (Appends (W.contents output.old) (W.contents output.new) head) }
+    ensures written { OnOk result
+        (Appends (W.contents output.old) (W.contents output.new) head) }
+    ensures put { IsWritten output.old head result output.new }
 {
     write_section(output)?;
-    write_interface(output, Interface::Side(GatewayId::Zero, Side::Inside))?;
-    write_interface(output, Interface::Side(GatewayId::Zero, Side::Outside))?;
-    write_interface(output, Interface::Side(GatewayId::One, Side::Inside))?;
-    write_interface(output, Interface::Side(GatewayId::One, Side::Outside))?;
-    write_interface(output, Interface::Link(GatewayId::Zero))?;
-    write_interface(output, Interface::Link(GatewayId::One))?;
-    Ok(())
+    write_interfaces(
+        output,
+        &[
+            Interface::Side(GatewayId::Zero, Side::Inside),
+            Interface::Side(GatewayId::Zero, Side::Outside),
+            Interface::Side(GatewayId::One, Side::Inside),
+            Interface::Side(GatewayId::One, Side::Outside),
+            Interface::Link(GatewayId::Zero),
+            Interface::Link(GatewayId::One),
+        ],
+    )
 }
 
 /// Writes the block with which a file begins.
 fn write_section<W: Write>(output: &mut W) -> io::Result<()>
-    ensures { OnOk result
-        (Appends (W.contents output.old) (W.contents output.new) section_block) }
+    ensures { IsWrittenTo W.contents output.old section_block result output.new }
 {
-    write_word(output, 0x0a0d_0d0a)?;
-    write_word(output, 28)?;
-    write_word(output, 0x1a2b_3c4d)?;
-    write_half(output, 1)?;
-    write_half(output, 0)?;
-    write_word(output, u32::MAX)?;
-    write_word(output, u32::MAX)?;
-    write_word(output, 28)?;
+    put_parts(
+        output,
+        &[
+            &word(0x0a0d_0d0a),
+            &word(28),
+            &word(0x1a2b_3c4d),
+            &half(1),
+            &half(0),
+            &word(u32::MAX),
+            &word(u32::MAX),
+            &word(28),
+        ],
+    )
+}
+
+/// Writes the descriptions of interfaces.
+fn write_interfaces<W: Write>(output: &mut W, interfaces: &[Interface]) -> io::Result<()>
+    ensures { IsWrittenTo W.contents output.old (flat_map interface_block interfaces.now) result
+        output.new }
+{
+    for interface in interfaces {
+        write_interface(output, *interface)?;
+    }
     Ok(())
 }
 
 /// Writes the description of an interface.
 fn write_interface<W: Write>(output: &mut W, interface: Interface) -> io::Result<()>
-    ensures { OnOk result
-        (Appends (W.contents output.old) (W.contents output.new) (interface_block interface)) }
+    ensures { IsWrittenTo W.contents output.old (interface_block interface) result output.new }
 {
     let name = interface.name();
     let length = (36 + name.len() + padding(name.len())) as u32;
-    write_word(output, 1)?;
-    write_word(output, length)?;
-    write_description(output, interface)?;
-    write_word(output, length)?;
-    Ok(())
-}
-
-/// Writes what stands between the lengths of that block.
-fn write_description<W: Write>(output: &mut W, interface: Interface) -> io::Result<()>
-    ensures { OnOk result
-        (Appends (W.contents output.old) (W.contents output.new) (interface_body interface)) }
-{
-    write_half(output, 1)?;
-    write_half(output, 0)?;
-    write_word(output, 65535)?;
-    write_option(output, 2, interface.name().as_bytes())?;
-    write_option(output, 9, &[6])?;
-    write_word(output, 0)?;
-    Ok(())
+    put_parts(
+        output,
+        &[
+            &word(1),
+            &word(length),
+            &half(1),
+            &half(0),
+            &word(65535),
+            // if_name
+            &half(2),
+            &half(name.len() as u16),
+            name.as_bytes(),
+            zeros(name.len()),
+            // if_tsresol
+            &half(9),
+            &half(1),
+            &[6],
+            zeros(1),
+            // opt_endofopt
+            &word(0),
+            &word(length),
+        ],
+    )
 }

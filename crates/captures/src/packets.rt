@@ -1,10 +1,13 @@
 //! The packets of a capture.
 ghost use Rattle.std.specs.Prelude.{◌≡◌, ◌≤◌, ◌-◌, ◌^◌, ◌++◌, length, min, OnOk};
 ghost use Rattle.std.specs.Io.KnownBytes.{Appends};
-ghost use Rattle.captures.specs.Captures.{captured_of, kept, microseconds, packet_block, packet_body};
+ghost use Rattle.outlets.specs.Written.{IsWritten, IsWrittenTo};
+ghost use Rattle.captures.specs.Captures.{captured_of, kept, microseconds, packet_block};
+ghost use Rattle.captures.specs.Fields.{padded};
 
-use crate::fields::{padding, write_both, write_option, write_word};
+use crate::fields::{half, padding, word, zeros};
 use crate::{Direction, Interface};
+use outlets::{put, put_parts};
 use std::io::{self, Write};
 
 /// A packet as it was seen at an interface.
@@ -28,37 +31,58 @@ const SNAP_LENGTH: usize = 65_521;
 ///
 /// Where output is refused; part of the packet may be written.
 pub fn write_packet<W: Write>(output: &mut W, packet: &Packet<'_>) -> io::Result<()>
-    ensures { OnOk result (Appends (W.contents output.old) (W.contents output.new)
+    ensures written { OnOk result (Appends (W.contents output.old) (W.contents output.new)
         (packet_block (captured_of packet.now))) }
+    ensures put { IsWritten output.old (packet_block (captured_of packet.now)) result output.new }
 {
-    let header = packet.interface.header(packet.direction);
-    let front = front(packet.bytes);
-    let size = header.len() + front.len();
-    let length = (44 + size + padding(size)) as u32;
-    write_word(output, 6)?;
-    write_word(output, length)?;
-    write_body(output, packet)?;
-    write_word(output, length)?;
-    Ok(())
+    write_block(output, packet)
 }
 
-/// Writes what stands between the lengths of that block.
-fn write_body<W: Write>(output: &mut W, packet: &Packet<'_>) -> io::Result<()>
-    ensures { OnOk result (Appends (W.contents output.old) (W.contents output.new)
-        (packet_body (captured_of packet.now))) }
+/// Writes the block of a packet.
+fn write_block<W: Write>(output: &mut W, packet: &Packet<'_>) -> io::Result<()>
+    ensures { IsWrittenTo W.contents output.old (packet_block (captured_of packet.now)) result
+        output.new }
 {
     let moment = microseconds(packet.moment);
     let header = packet.interface.header(packet.direction);
     let front = front(packet.bytes);
-    write_word(output, packet.interface.number())?;
-    write_word(output, (moment / 0x1_0000_0000) as u32)?;
-    write_word(output, (moment % 0x1_0000_0000) as u32)?;
-    write_word(output, (header.len() + front.len()) as u32)?;
-    write_word(output, whole_length(header, packet.bytes))?;
-    write_both(output, header, front)?;
-    write_option(output, 2, &packet.direction.flags().to_le_bytes())?;
-    write_word(output, 0)?;
-    Ok(())
+    let size = header.len() + front.len();
+    let length = (44 + size + padding(size)) as u32;
+    put_parts(
+        output,
+        &[
+            &word(6),
+            &word(length),
+            &word(packet.interface.number()),
+            &word((moment / 0x1_0000_0000) as u32),
+            &word((moment % 0x1_0000_0000) as u32),
+            &word(size as u32),
+            &word(whole_length(header, packet.bytes)),
+        ],
+    )?;
+    write_padded(output, header, front)?;
+    put_parts(
+        output,
+        &[
+            // epb_flags
+            &half(2),
+            &half(4),
+            &word(packet.direction.flags()),
+            // opt_endofopt
+            &word(0),
+            &word(length),
+        ],
+    )
+}
+
+/// Writes bytes in two parts, filled up.
+fn write_padded<W: Write>(output: &mut W, front: &[u8], bytes: &[u8]) -> io::Result<()>
+    requires { length front.now ≤ 14 }
+    ensures { IsWrittenTo W.contents output.old (padded (front.now ++ bytes.now)) result output.new }
+{
+    put(output, front)?;
+    put(output, bytes)?;
+    put(output, zeros(front.len() + bytes.len()))
 }
 
 /// The bytes of a packet that a capture has.

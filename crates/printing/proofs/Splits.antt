@@ -1,5 +1,5 @@
 -- Lines, as the texts that they are written by.
-use Rattle.std.proofs.Common.{◌≡◌, ◌∙◌, ◌++◌, ◌∷◌, ◌/◌, ◌%◌, ℕ, List, [], Result, codes, decimal, flat_map, ap, refl, append_assoc, append-nil}
+use Rattle.std.proofs.Common.{◌≡◌, ◌∙◌, ◌++◌, ◌∷◌, ◌/◌, ◌%◌, ℕ, List, [], Result, codes, decimal, flat_map, length, ap, arith, refl, append_assoc, append-nil}
 use Rattle.hex.specs.Hex.{encode_lower}
 use Rattle.nat_types.specs.declared.gateways.GatewayId.{GatewayId}
 use Rattle.nat_types.specs.declared.gateways.Side.{Side}
@@ -99,6 +99,10 @@ table_split i standing owned held id name is_id is_name =
 -- the first port, and those behind it
 pub owned_first : (i : GatewayId) (ps qs : List Port) (p : Port) → ps ≡ p ∷ qs → owned_lines i ps ≡ owned_from i p p qs
 owned_first i ps qs p is = rw is refl
+
+pub owned_none : (i : GatewayId) (ps : List Port) → length ps ≡ 0 → owned_lines i ps ≡ []
+owned_none i [] is = refl
+owned_none i (p ∷ ps) is = absurd (omega arith)
 
 -- ---- a step
 

@@ -1,7 +1,7 @@
 //! Prints pairs, notes, and the words of both.
 ghost use Rattle.std.specs.Prelude.{◌≡◌, ◌++◌, codes};
 ghost use Rattle.printing.specs.Lines.{id_text, note_line, pair_text, protocol_text, side_text};
-ghost use Rattle.outlets.specs.Printed.{Prints};
+ghost use Rattle.outlets.specs.Written.{IsWrittenTo};
 
 use addresses::Protocol;
 use itoa::Buffer;
@@ -39,8 +39,8 @@ fn protocol_text(protocol: Protocol) -> &'static str
 
 /// Prints a pair, and ends the line.
 pub(crate) fn end_with_pair<O: Write>(output: &mut O, pair: &Pair) -> io::Result<()>
-    ensures { Prints (O.contents output.old) result (O.contents output.new)
-        (pair_text pair.now ++ codes "\n") }
+    ensures { IsWrittenTo O.contents output.old (pair_text pair.now ++ codes "\n") result
+        output.new }
 {
     let address = pair.endpoint.address.0;
     let [mut port, mut a, mut b, mut c, mut d, mut inside] = [Buffer::new(); 6];
@@ -67,7 +67,7 @@ pub(crate) fn end_with_pair<O: Write>(output: &mut O, pair: &Pair) -> io::Result
 
 /// Prints a note.
 pub(crate) fn note<O: Write>(output: &mut O, note: &Note) -> io::Result<()>
-    ensures { Prints (O.contents output.old) result (O.contents output.new) (note_line note.now) }
+    ensures { IsWrittenTo O.contents output.old (note_line note.now) result output.new }
 {
     let id = id_text(note.by);
     match &note.what {
@@ -86,8 +86,9 @@ pub(crate) fn note<O: Write>(output: &mut O, note: &Note) -> io::Result<()>
 
 /// Prints what is noted of a pair.
 fn note_of_pair<O: Write>(output: &mut O, id: &str, name: &str, pair: &Pair) -> io::Result<()>
-    ensures { Prints (O.contents output.old) result (O.contents output.new)
-        (codes "note " ++ id.now ++ codes " " ++ name.now ++ codes " " ++ pair_text pair.now ++ codes "\n") }
+    ensures { IsWrittenTo O.contents output.old
+        (codes "note " ++ id.now ++ codes " " ++ name.now ++ codes " " ++ pair_text pair.now ++ codes "\n")
+        result output.new }
 {
     put_all(output, &["note ", id, " ", name, " "])?;
     end_with_pair(output, pair)

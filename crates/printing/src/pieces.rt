@@ -1,7 +1,7 @@
 //! Writes bytes, two digits each.
 ghost use Rattle.hex.specs.Hex.{encode_lower};
 ghost use Rattle.std.specs.Prelude.{◌≤◌, length};
-ghost use Rattle.outlets.specs.Printed.{Prints};
+ghost use Rattle.outlets.specs.Written.{IsWrittenTo};
 
 use outlets::put;
 use std::io::{self, Write};
@@ -11,8 +11,7 @@ const AT_A_TIME: usize = 128;
 
 /// Writes bytes, two digits each.
 pub(crate) fn put_hex<O: Write>(output: &mut O, bytes: &[u8]) -> io::Result<()>
-    ensures { Prints (O.contents output.old) result (O.contents output.new)
-        (encode_lower bytes.now) }
+    ensures { IsWrittenTo O.contents output.old (encode_lower bytes.now) result output.new }
 {
     let mut rest = bytes;
     while !rest.is_empty() {
@@ -26,8 +25,7 @@ pub(crate) fn put_hex<O: Write>(output: &mut O, bytes: &[u8]) -> io::Result<()>
 /// No more bytes than are printed at a time.
 fn put_few<O: Write>(output: &mut O, bytes: &[u8]) -> io::Result<()>
     requires { length bytes.now ≤ AT_A_TIME }
-    ensures { Prints (O.contents output.old) result (O.contents output.new)
-        (encode_lower bytes.now) }
+    ensures { IsWrittenTo O.contents output.old (encode_lower bytes.now) result output.new }
 {
     let mut digits = [0; 2 * AT_A_TIME];
     let digits = &mut digits[..2 * bytes.len()];

@@ -2,6 +2,7 @@
 ghost use Rattle.std.specs.Prelude.{◌≡◌, ◌⊎◌, ◌++◌, List, ℕ, OnErr, OnOk};
 ghost use Rattle.printing.specs.Lines.{answer_text, counts_after, event_line, gateway_of, lost_line, no_counts, one_more, sent_by, step_lines, with_event, with_sent};
 ghost use Rattle.outlets.specs.Printed.{Prints};
+ghost use Rattle.outlets.specs.Written.{IsWritten, IsWrittenTo};
 
 use crate::told::told;
 use itoa::Buffer;
@@ -65,6 +66,8 @@ impl Printer {
     ) -> io::Result<()>
         ensures printed { Prints (O.contents output.old) result (O.contents output.new)
             (step_lines F.text self.old event.now outcome.now out.now) }
+        ensures put { IsWritten output.old
+            (step_lines F.text self.old event.now outcome.now out.now) result output.new }
         ensures counted { OnOk result (self.new ≡ counts_after self.old event.now out.now) }
         ensures refused { OnErr result ((self.new ≡ self.old)
             ⊎ (self.new ≡ counts_after self.old event.now out.now)) }
@@ -85,6 +88,7 @@ impl Printer {
     pub fn lost<O: Write>(&mut self, output: &mut O) -> io::Result<()>
         ensures printed { Prints (O.contents output.old) result (O.contents output.new)
             (lost_line self.old) }
+        ensures put { IsWritten output.old (lost_line self.old) result output.new }
         ensures counted { self.new ≡ with_event self.old }
     {
         let number = self.count();
@@ -142,8 +146,8 @@ fn answer<O: Write, F: RefusalText>(
     number: usize,
     outcome: &Result<Outcome, F>,
 ) -> io::Result<()>
-    ensures { Prints (O.contents output.old) result (O.contents output.new)
-        (event_line number (answer_text F.text outcome.now)) }
+    ensures { IsWrittenTo O.contents output.old (event_line number (answer_text F.text outcome.now))
+        result output.new }
 {
     match outcome {
         Ok(Outcome::Sent) => event_line(output, number, "sent"),
@@ -158,16 +162,15 @@ fn answer<O: Write, F: RefusalText>(
 }
 
 fn event_line<O: Write>(output: &mut O, number: usize, text: &str) -> io::Result<()>
-    ensures { Prints (O.contents output.old) result (O.contents output.new)
-        (event_line number text.now) }
+    ensures { IsWrittenTo O.contents output.old (event_line number text.now) result output.new }
 {
     let mut buffer = Buffer::new();
     put_all(output, &["event ", buffer.format(number), " ", text, "\n"])
 }
 
 fn event_words<O: Write>(output: &mut O, number: usize, word: &str, text: &str) -> io::Result<()>
-    ensures { Prints (O.contents output.old) result (O.contents output.new)
-        (event_line number (word.now ++ text.now)) }
+    ensures { IsWrittenTo O.contents output.old (event_line number (word.now ++ text.now)) result
+        output.new }
 {
     let mut buffer = Buffer::new();
     put_all(

@@ -1,7 +1,8 @@
 //! Prints how a gateway stands.
-ghost use Rattle.std.specs.Prelude.{◌≡◌, IfOk, flat_map};
+ghost use Rattle.std.specs.Prelude.{◌≡◌, flat_map};
 ghost use Rattle.printing.specs.Lines.{begins, ended, follows, held_line, owned_line, owned_lines, standing_text, table_lines};
 ghost use Rattle.outlets.specs.Printed.{Prints};
+ghost use Rattle.outlets.specs.Written.{IsWritten, IsWrittenTo};
 
 use crate::notes::{end_with_pair, id_text};
 use addresses::Port;
@@ -44,8 +45,10 @@ pub fn table<O: Write>(
     ports: &[Port],
     pairs: &[Pair],
 ) -> io::Result<()>
-    ensures { Prints (O.contents output.old) result (O.contents output.new)
+    ensures printed { Prints (O.contents output.old) result (O.contents output.new)
         (table_lines id standing ports.now pairs.now) }
+    ensures put { IsWritten output.old (table_lines id standing ports.now pairs.now) result
+        output.new }
 {
     put_all(output, &["state ", id_text(id), " ", standing.name(), "\n"])?;
     owned(output, id, ports)?;
@@ -53,8 +56,8 @@ pub fn table<O: Write>(
 }
 
 fn held<O: Write>(output: &mut O, id: GatewayId, pairs: &[Pair]) -> io::Result<()>
-    ensures { Prints (O.contents output.old) result (O.contents output.new)
-        (flat_map (held_line id) pairs.now) }
+    ensures { IsWrittenTo O.contents output.old (flat_map (held_line id) pairs.now) result
+        output.new }
 {
     for pair in pairs {
         held_pair(output, id, pair)?;
@@ -63,8 +66,7 @@ fn held<O: Write>(output: &mut O, id: GatewayId, pairs: &[Pair]) -> io::Result<(
 }
 
 fn held_pair<O: Write>(output: &mut O, id: GatewayId, pair: &Pair) -> io::Result<()>
-    ensures { Prints (O.contents output.old) result (O.contents output.new)
-        (held_line id pair.now) }
+    ensures { IsWrittenTo O.contents output.old (held_line id pair.now) result output.new }
 {
     put_all(output, &["held ", id_text(id), " "])?;
     end_with_pair(output, pair)
@@ -72,37 +74,41 @@ fn held_pair<O: Write>(output: &mut O, id: GatewayId, pair: &Pair) -> io::Result
 
 /// The unbroken runs of rising ports, a line each.
 fn owned<O: Write>(output: &mut O, id: GatewayId, ports: &[Port]) -> io::Result<()>
-    ensures { Prints (O.contents output.old) result (O.contents output.new)
-        (owned_lines id ports.now) }
+    ensures { IsWrittenTo O.contents output.old (owned_lines id ports.now) result output.new }
 {
     let Some((first, others)) = ports.split_first() else {
         return Ok(());
     };
     let (mut first, mut last) = (*first, *first);
     for port in others {
-        first = owned_until(output, id, first, last, *port)?;
+        ended(output, id, first, last, *port)?;
+        first = begins(first, last, *port);
         last = *port;
     }
     owned_run(output, id, first, last)
 }
 
-/// Prints the run from `first` to `last` where it ends before this port, and gives the first port of this one's run.
-fn owned_until<O: Write>(
+/// Prints the run from `first` to `last` where it ends before this port.
+fn ended<O: Write>(
     output: &mut O,
     id: GatewayId,
     first: Port,
     last: Port,
     port: Port,
-) -> io::Result<Port>
-    ensures printed { Prints (O.contents output.old) result (O.contents output.new)
-        (ended id first last port) }
-    ensures first { IfOk result (λ start. start ≡ begins first last port) }
+) -> io::Result<()>
+    ensures { IsWrittenTo O.contents output.old (ended id first last port) result output.new }
 {
     if follows(last, port) {
-        return Ok(first);
+        return Ok(());
     }
-    owned_run(output, id, first, last)?;
-    Ok(port)
+    owned_run(output, id, first, last)
+}
+
+/// The first port of this one's run.
+fn begins(first: Port, last: Port, port: Port) -> Port
+    ensures { result ≡ begins first last port }
+{
+    if follows(last, port) { first } else { port }
 }
 
 fn follows(last: Port, port: Port) -> bool
@@ -112,8 +118,7 @@ fn follows(last: Port, port: Port) -> bool
 }
 
 fn owned_run<O: Write>(output: &mut O, id: GatewayId, first: Port, last: Port) -> io::Result<()>
-    ensures { Prints (O.contents output.old) result (O.contents output.new)
-        (owned_line id first last) }
+    ensures { IsWrittenTo O.contents output.old (owned_line id first last) result output.new }
 {
     let (mut front, mut back) = (Buffer::new(), Buffer::new());
     let (first, last) = (front.format(first.0), back.format(last.0));

@@ -1,7 +1,7 @@
 //! Prints what a step told.
 ghost use Rattle.std.specs.Prelude.{◌≡◌, OnOk, flat_map};
 ghost use Rattle.printing.specs.Lines.{frame_line, link_line, link_lines, more, note_line, told_lines};
-ghost use Rattle.outlets.specs.Printed.{Prints};
+ghost use Rattle.outlets.specs.Written.{IsWrittenTo};
 
 use crate::notes::{id_text, note, side_text};
 use crate::pieces::put_hex;
@@ -19,8 +19,8 @@ pub(crate) fn told<O: Write>(
     sent: &mut usize,
     out: &Out,
 ) -> io::Result<()>
-    ensures printed { Prints (O.contents output.old) result (O.contents output.new)
-        (told_lines id sent.old out.now) }
+    ensures written { IsWrittenTo O.contents output.old (told_lines id sent.old out.now) result
+        output.new }
     ensures sent { OnOk result (sent.new ≡ more sent.old out.now.datagrams) }
 {
     frames(output, id, out)?;
@@ -29,8 +29,8 @@ pub(crate) fn told<O: Write>(
 }
 
 fn frames<O: Write>(output: &mut O, id: GatewayId, out: &Out) -> io::Result<()>
-    ensures { Prints (O.contents output.old) result (O.contents output.new)
-        (flat_map (frame_line id) out.now.frames) }
+    ensures { IsWrittenTo O.contents output.old (flat_map (frame_line id) out.now.frames) result
+        output.new }
 {
     for sent in out.frames() {
         frame(output, id, sent.side, sent.bytes)?;
@@ -39,8 +39,8 @@ fn frames<O: Write>(output: &mut O, id: GatewayId, out: &Out) -> io::Result<()>
 }
 
 fn frame<O: Write>(output: &mut O, id: GatewayId, side: Side, bytes: &[u8]) -> io::Result<()>
-    ensures { Prints (O.contents output.old) result (O.contents output.new)
-        (frame_line id (record { side = side; bytes = bytes.now })) }
+    ensures { IsWrittenTo O.contents output.old
+        (frame_line id (record { side = side; bytes = bytes.now })) result output.new }
 {
     put_all(output, &["frame ", id_text(id), " ", side_text(side), " "])?;
     put_hex(output, bytes)?;
@@ -48,8 +48,8 @@ fn frame<O: Write>(output: &mut O, id: GatewayId, side: Side, bytes: &[u8]) -> i
 }
 
 fn datagrams<O: Write>(output: &mut O, id: GatewayId, sent: &mut usize, out: &Out) -> io::Result<()>
-    ensures printed { Prints (O.contents output.old) result (O.contents output.new)
-        (link_lines id sent.old out.now.datagrams) }
+    ensures written { IsWrittenTo O.contents output.old (link_lines id sent.old out.now.datagrams)
+        result output.new }
     ensures sent { OnOk result (sent.new ≡ more sent.old out.now.datagrams) }
 {
     for bytes in out.datagrams() {
@@ -60,8 +60,7 @@ fn datagrams<O: Write>(output: &mut O, id: GatewayId, sent: &mut usize, out: &Ou
 }
 
 fn datagram<O: Write>(output: &mut O, id: GatewayId, number: usize, bytes: &[u8]) -> io::Result<()>
-    ensures { Prints (O.contents output.old) result (O.contents output.new)
-        (link_line id number bytes.now) }
+    ensures { IsWrittenTo O.contents output.old (link_line id number bytes.now) result output.new }
 {
     let mut buffer = Buffer::new();
     put_all(
@@ -73,8 +72,7 @@ fn datagram<O: Write>(output: &mut O, id: GatewayId, number: usize, bytes: &[u8]
 }
 
 fn notes<O: Write>(output: &mut O, notes: &[Note]) -> io::Result<()>
-    ensures { Prints (O.contents output.old) result (O.contents output.new)
-        (flat_map note_line notes.now) }
+    ensures { IsWrittenTo O.contents output.old (flat_map note_line notes.now) result output.new }
 {
     for noted in notes {
         note(output, noted)?;

@@ -1,10 +1,22 @@
-use Rattle.captures.proofs.Writing.{joined}
-use Rattle.captures.specs.Captures.{head}
+use Rattle.outlets.proofs.Offered.{written_err, written_more, written_none, written_rest}
+use Rattle.captures.proofs.Splits.{head_split}
+use Rattle.captures.proofs.Writing.{whole}
 use Rattle.captures.proofs.heads.write_head.Goals as goal
 
-pub returns : goal.returns
-unfolding head
-returns g c =
-    let zero = joined _ _ _ _ _ (joined _ _ _ _ _ c.in_ok-write_section.ensures c.in_ok-write_interface.ensures) c.in_ok-write_interface-2.ensures in
-    let one = joined _ _ _ _ _ (joined _ _ _ _ _ zero c.in_ok-write_interface-3.ensures) c.in_ok-write_interface-4.ensures in
-    joined _ _ _ _ _ (joined _ _ _ _ _ one c.in_ok-write_interface-5.ensures) c.in_ok-write_interface-6.ensures
+pub returns-in_err-write_section-clause-written : goal.returns-in_err-write_section-clause-written
+returns-in_err-write_section-clause-written g c =
+    whole (written_err _ c.from_residual.result c.from_residual.ensures.1 (written_none g.W.Write.contents _ _) head_split
+    c.in_err-write_section.ensures)
+
+pub returns-in_err-write_section-clause-put : goal.returns-in_err-write_section-clause-put
+returns-in_err-write_section-clause-put g c =
+    (written_err _ c.from_residual.result c.from_residual.ensures.1 (written_none g.W.Write.contents _ _) head_split
+    c.in_err-write_section.ensures).put
+
+pub returns-clause-written : goal.returns-clause-written
+returns-clause-written g c =
+    whole (written_rest (written_more (written_none g.W.Write.contents _ _) head_split c.in_ok-write_section.ensures) c.write_interfaces.ensures)
+
+pub returns-clause-put : goal.returns-clause-put
+returns-clause-put g c =
+    (written_rest (written_more (written_none g.W.Write.contents _ _) head_split c.in_ok-write_section.ensures) c.write_interfaces.ensures).put

@@ -1,16 +1,15 @@
-use Rattle.std.proofs.Common.{ℕ, ◌++◌, subst}
-use Rattle.std.specs.Io.KnownBytes.{Appends}
-use Rattle.captures.specs.Captures.{interface_block, interface_body}
-use Rattle.captures.specs.Fields.{word}
+use Rattle.std.proofs.Common.{◌∙◌, ◌∷◌, [], ap, length, take}
+use Rattle.outlets.proofs.Offered.{written_as}
+use Rattle.captures.specs.Fields.{half, padding_of}
 use Rattle.captures.proofs.Lengths.{interface_size}
-use Rattle.captures.proofs.Writing.{joined}
+use Rattle.captures.proofs.Splits.{interface_split}
 use Rattle.captures.proofs.heads.write_interface.Goals as goal
 
 pub returns : goal.returns
-unfolding interface_block
 returns g c =
-    let i = c.args.interface in
-    let size = interface_size i c.name-name.result.now c.padding.result c.name-name.ensures.name c.padding.ensures in
-    let begun = joined _ _ _ _ _ c.in_ok-write_word.ensures c.in_ok-write_word-2.ensures in
-    let whole = joined _ _ _ _ _ (joined _ _ _ _ _ begun c.in_ok-write_description.ensures) c.in_ok-write_word-3.ensures in
-    subst (λ (n : ℕ). Appends (g.W.Write.contents c.args.output.now) (g.W.Write.contents c.write_word-3.new.output) (word 1 ++ word n ++ interface_body i ++ word n)) size whole
+    let name = c.name-name.ensures.name in
+    let size = interface_size c.args.interface c.name-name.result.now c.padding.result name c.padding.ensures in
+    written_as (interface_split c.args.interface _ size c.word.ensures c.word-2.ensures c.half.ensures c.half-2.ensures c.word-3.ensures c.half-3.ensures
+    (c.half-4.ensures ∙ ap (λ bs. half (length bs)) name) (c.as_bytes.ensures.value ∙ name)
+    (c.zeros.ensures ∙ ap (λ bs. take (padding_of (length bs)) (0 ∷ 0 ∷ 0 ∷ [])) name) c.half-5.ensures c.half-6.ensures c.zeros-2.ensures
+    c.word-4.ensures c.word-5.ensures) c.put_parts.ensures

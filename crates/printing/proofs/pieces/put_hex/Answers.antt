@@ -1,7 +1,7 @@
 use Rattle.std.proofs.Common.{◌≡◌, ◌∙◌, ◌++◌, ◌∷◌, [], ◌-◌, ◌/◌, ◌%◌, ℕ, List, ap, refl, rules, sym, length, take, drop, take-append-drop, drop_of_length-le, slice_index}
 use Rattle.std.proofs.lemmas.List.{take_rest}
 use Rattle.hex.specs.Hex.{encode_lower, encode_with, lower_digits}
-use Rattle.outlets.proofs.Offered.{begun_more, err_begun, part_more, part_none, part_whole}
+use Rattle.outlets.proofs.Offered.{written_err, written_more, written_none, written_whole}
 use Rattle.printing.proofs.pieces.put_hex.Goals as goal
 
 encode_append : (t xs ys : List ℕ) → encode_with t (xs ++ ys) ≡ encode_with t xs ++ encode_with t ys
@@ -20,18 +20,17 @@ unfolding encode_with
 none xs is = rw is refl
 
 pub loop-rest-init : goal.loop-rest-init
-loop-rest-init g c = part_none _ _
+loop-rest-init g c = written_none g.O.Write.contents _ _
 
 pub loop-rest-preserved : goal.loop-rest-preserved
 loop-rest-preserved g c =
-    part_more _ _ _ _ _ _ _ c.loop-rest.invariant (parts c.loop-rest.rest.now c.min-count.result) c.in_ok-put_few.ensures
+    written_more c.loop-rest.invariant (parts c.loop-rest.rest.now c.min-count.result) c.in_ok-put_few.ensures
 
 pub returns-in_err-put_few : goal.returns-in_err-put_few
-returns-in_err-put_few g c = err_begun c.from_residual.result _ _ _ c.from_residual.ensures.0
-    (begun_more _ _ _ _ _ _ _ c.loop-rest.invariant (parts c.loop-rest.rest.now c.min-count.result) c.in_err-put_few.ensures)
+returns-in_err-put_few g c = written_err _ c.from_residual.result c.from_residual.ensures.1 c.loop-rest.invariant (parts c.loop-rest.rest.now c.min-count.result) c.in_err-put_few.ensures
 
 pub returns : goal.returns
 returns g c =
     let rest = c.loop-rest.rest.now in
     let empty : rest ≡ [] = drop_of_length-le rest {i = 0} (search rules) in
-    part_whole _ _ _ _ c.loop-rest.invariant (none rest empty)
+    written_whole c.loop-rest.invariant (none rest empty)

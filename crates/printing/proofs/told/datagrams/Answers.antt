@@ -1,7 +1,7 @@
 use Rattle.std.proofs.Common.{◌≡◌, ◌∙◌, ◌++◌, ◌∷◌, ℕ, List, ap, refl, sym}
 use Rattle.nat_types.specs.declared.gateways.GatewayId.{GatewayId}
 use Rattle.printing.specs.Lines.{link_line, link_lines, more, one_more}
-use Rattle.outlets.proofs.Offered.{begun_more, err_begun, part_more, part_none, part_whole}
+use Rattle.outlets.proofs.Offered.{written_err, written_more, written_none, written_whole}
 use Rattle.printing.proofs.told.datagrams.Goals as goal
 
 -- the first datagram, and those behind it
@@ -15,25 +15,24 @@ counts sent number ds es d is counted = rw (is, counted) refl
 pub loop-bytes-init : goal.loop-bytes-init
 loop-bytes-init g c =
     let start : c.into_iter-bytes-iterator.result ≡ c.args.out.now.datagrams = cc in
-    rw start (part_none _ _, refl)
+    rw start (written_none g.O.Write.contents _ _, refl)
 
 pub loop-bytes-preserved : goal.loop-bytes-preserved
 loop-bytes-preserved g c =
     let is = rw c.in-Some.is at c.next.ensures.steps in (
-      part_more _ _ _ _ _ _ _ c.loop-bytes.invariant.0 (first c.args.id _ _ _ _ _ is c.saturating_add.ensures) c.in_ok-datagram.ensures,
+      written_more c.loop-bytes.invariant.0 (first c.args.id _ _ _ _ _ is c.saturating_add.ensures) c.in_ok-datagram.ensures,
       c.loop-bytes.invariant.1 ∙ counts _ _ _ _ _ is c.saturating_add.ensures,
     )
 
-pub returns-in_err-datagram-clause-printed : goal.returns-in_err-datagram-clause-printed
-returns-in_err-datagram-clause-printed g c =
+pub returns-in_err-datagram-clause-written : goal.returns-in_err-datagram-clause-written
+returns-in_err-datagram-clause-written g c =
     let is = rw c.in-Some.is at c.next.ensures.steps in
-    err_begun c.from_residual.result _ _ _ c.from_residual.ensures.0
-    (begun_more _ _ _ _ _ _ _ c.loop-bytes.invariant.0 (first c.args.id _ _ _ _ _ is c.saturating_add.ensures) c.in_err-datagram.ensures)
+    written_err _ c.from_residual.result c.from_residual.ensures.1 c.loop-bytes.invariant.0 (first c.args.id _ _ _ _ _ is c.saturating_add.ensures) c.in_err-datagram.ensures
 
-pub returns-clause-printed : goal.returns-clause-printed
-returns-clause-printed g c =
+pub returns-clause-written : goal.returns-clause-written
+returns-clause-written g c =
     let ended = rw c.in-None.is at c.next.ensures.steps in
-    part_whole _ _ _ _ c.loop-bytes.invariant.0 (ap (link_lines c.args.id c.loop-bytes.sent) ended.0)
+    written_whole c.loop-bytes.invariant.0 (ap (link_lines c.args.id c.loop-bytes.sent) ended.0)
 
 pub returns-clause-sent : goal.returns-clause-sent
 returns-clause-sent g c =

@@ -1,21 +1,21 @@
 use Rattle.std.proofs.Common.{refl}
-use Rattle.outlets.proofs.Offered.{begun_more, err_begun, part_more, part_none, prints_rest}
+use Rattle.outlets.proofs.Offered.{written_err, written_more, written_none, written_rest}
 use Rattle.printing.proofs.Splits.{frame_split}
 use Rattle.printing.proofs.told.frame.Goals as goal
 
 pub returns-in_err-put_all : goal.returns-in_err-put_all
 returns-in_err-put_all g c =
     let split = frame_split c.args.id c.args.side c.args.bytes.now _ _ c.id_text.ensures c.side_text.ensures in
-    err_begun c.from_residual.result _ _ _ c.from_residual.ensures.0 (begun_more _ _ _ _ _ _ _ (part_none _ _) split c.in_err-put_all.ensures)
+    written_err _ c.from_residual.result c.from_residual.ensures.1 (written_none g.O.Write.contents _ _) split c.in_err-put_all.ensures
 
 pub returns-in_err-put_hex : goal.returns-in_err-put_hex
 returns-in_err-put_hex g c =
     let split = frame_split c.args.id c.args.side c.args.bytes.now _ _ c.id_text.ensures c.side_text.ensures in
-    let front = part_more _ _ _ _ _ _ _ (part_none _ _) split c.in_ok-put_all.ensures in
-    err_begun c.from_residual-in_err-put_hex.result _ _ _ c.from_residual-in_err-put_hex.ensures.0 (begun_more _ _ _ _ _ _ _ front refl c.in_err-put_hex.ensures)
+    let front = written_more (written_none g.O.Write.contents _ _) split c.in_ok-put_all.ensures in
+    written_err _ c.from_residual-in_err-put_hex.result c.from_residual-in_err-put_hex.ensures.1 front refl c.in_err-put_hex.ensures
 
 pub returns : goal.returns
 returns g c =
     let split = frame_split c.args.id c.args.side c.args.bytes.now _ _ c.id_text.ensures c.side_text.ensures in
-    let front = part_more _ _ _ _ _ _ _ (part_none _ _) split c.in_ok-put_all.ensures in
-    prints_rest c.put_all-2.result _ _ _ _ _ (part_more _ _ _ _ _ _ _ front refl c.in_ok-put_hex.ensures) c.put_all-2.ensures
+    let front = written_more (written_none g.O.Write.contents _ _) split c.in_ok-put_all.ensures in
+    written_rest (written_more front refl c.in_ok-put_hex.ensures) c.put_all-2.ensures

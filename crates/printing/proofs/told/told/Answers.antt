@@ -1,25 +1,23 @@
 use Rattle.std.proofs.Common.{ap, flat_map, refl, sym}
 use Rattle.printing.specs.Lines.{note_line, told_lines}
-use Rattle.outlets.proofs.Offered.{begun_more, err_begun, part_more, part_none, prints_as, prints_rest}
+use Rattle.outlets.proofs.Offered.{written_as, written_err, written_more, written_none, written_rest}
 use Rattle.printing.proofs.Splits.{told_split}
 use Rattle.printing.proofs.told.told.Goals as goal
 
-pub returns-in_err-frames-clause-printed : goal.returns-in_err-frames-clause-printed
-returns-in_err-frames-clause-printed g c =
+pub returns-in_err-frames-clause-written : goal.returns-in_err-frames-clause-written
+returns-in_err-frames-clause-written g c =
     let text = told_lines c.args.id c.args.sent.now c.args.out.now in
-    err_begun c.from_residual.result _ _ _ c.from_residual.ensures.0
-    (begun_more _ _ _ text _ _ _ (part_none _ _) (told_split c.args.id c.args.sent.now c.args.out.now) c.in_err-frames.ensures)
+    written_err _ c.from_residual.result c.from_residual.ensures.1 (written_none g.O.Write.contents _ _) (told_split c.args.id c.args.sent.now c.args.out.now) c.in_err-frames.ensures
 
-pub returns-in_err-datagrams-clause-printed : goal.returns-in_err-datagrams-clause-printed
-returns-in_err-datagrams-clause-printed g c =
+pub returns-in_err-datagrams-clause-written : goal.returns-in_err-datagrams-clause-written
+returns-in_err-datagrams-clause-written g c =
     let text = told_lines c.args.id c.args.sent.now c.args.out.now in
-    let front = part_more _ _ _ text _ _ _ (part_none _ _) (told_split c.args.id c.args.sent.now c.args.out.now) c.in_ok-frames.ensures in
-    err_begun c.from_residual-in_err-datagrams.result _ _ _ c.from_residual-in_err-datagrams.ensures.0
-    (begun_more _ _ _ _ _ _ _ front refl c.in_err-datagrams.ensures.printed)
+    let front = written_more (written_none g.O.Write.contents _ _) (told_split c.args.id c.args.sent.now c.args.out.now) c.in_ok-frames.ensures in
+    written_err _ c.from_residual-in_err-datagrams.result c.from_residual-in_err-datagrams.ensures.1 front refl c.in_err-datagrams.ensures.written
 
-pub returns-clause-printed : goal.returns-clause-printed
-returns-clause-printed g c =
+pub returns-clause-written : goal.returns-clause-written
+returns-clause-written g c =
     let text = told_lines c.args.id c.args.sent.now c.args.out.now in
-    let front = part_more _ _ _ text _ _ _ (part_none _ _) (told_split c.args.id c.args.sent.now c.args.out.now) c.in_ok-frames.ensures in
-    prints_rest c.notes-2.result _ _ _ _ _ (part_more _ _ _ _ _ _ _ front refl c.in_ok-datagrams.ensures.printed)
-    (prints_as c.notes-2.result _ _ _ _ (ap (λ ns. flat_map note_line ns) (sym c.notes.ensures)) c.notes-2.ensures)
+    let front = written_more (written_none g.O.Write.contents _ _) (told_split c.args.id c.args.sent.now c.args.out.now) c.in_ok-frames.ensures in
+    written_rest (written_more front refl c.in_ok-datagrams.ensures.written)
+    (written_as (ap (λ ns. flat_map note_line ns) (sym c.notes.ensures)) c.notes-2.ensures)
