@@ -16,6 +16,9 @@ ghost use Rattle.box_words.specs.Said.{said_status};
 ghost use Rattle.reports.specs.Formats.{reading};
 ghost use Rattle.reports.specs.Reports.{page as page_format};
 ghost use Rattle.reports.specs.declared.faults.ReadFault.TheVariants as read;
+ghost use Rattle.report_texts.specs.Json.{json_text};
+ghost use Rattle.report_texts.specs.Metrics.{metrics_text};
+ghost use Rattle.report_texts.specs.People.{people_text};
 
 use crate::refusals::BoxFault;
 use crate::saying::{Line, line_to};
@@ -105,7 +108,6 @@ fn print_report<O: Write>(
 }
 
 /// The text of a report in a form.
-#[tactic(auto, unfolding(crate::specs::Memory::WasShort))]
 fn report_text(alloc: Global, form: Form, report: &Report) -> Result<Vec<u8>, NoMemory>
     ensures text { IfOk result (λ text. text.items ≡ text_of form report.now) }
     ensures short { OnErr result (WasShort (text_of form report.now)) }
@@ -119,14 +121,43 @@ fn report_text(alloc: Global, form: Form, report: &Report) -> Result<Vec<u8>, No
 
 /// Writes a report in a form.
 fn write_report<O: Write>(output: &mut O, form: Form, report: &Report) -> io::Result<()>
-    ensures { OnOk result (Appends (O.contents output.old) (O.contents output.new)
+    ensures written { OnOk result (Appends (O.contents output.old) (O.contents output.new)
         (text_of form report.now)) }
+    ensures short { OnErr result (WasShort (text_of form report.now)) }
 {
     match form {
-        Form::Plain => write_people(output, report),
-        Form::Json => write_json(output, report),
-        Form::Prometheus => write_metrics(output, report),
+        Form::Plain => told_to_write_people(output, report),
+        Form::Json => told_to_write_json(output, report),
+        Form::Prometheus => told_to_write_metrics(output, report),
     }
+}
+
+/// Writes it for people. This one and the next two have the name for memory that was refused for its text.
+#[tactic(auto, unfolding(faults::specs::Memory::WasShort))]
+fn told_to_write_people<O: Write>(output: &mut O, report: &Report) -> io::Result<()>
+    ensures written { OnOk result
+        (Appends (O.contents output.old) (O.contents output.new) (people_text report.now)) }
+    ensures short { OnErr result (WasShort (people_text report.now)) }
+{
+    write_people(output, report)
+}
+
+#[tactic(auto, unfolding(faults::specs::Memory::WasShort))]
+fn told_to_write_json<O: Write>(output: &mut O, report: &Report) -> io::Result<()>
+    ensures written { OnOk result
+        (Appends (O.contents output.old) (O.contents output.new) (json_text report.now)) }
+    ensures short { OnErr result (WasShort (json_text report.now)) }
+{
+    write_json(output, report)
+}
+
+#[tactic(auto, unfolding(faults::specs::Memory::WasShort))]
+fn told_to_write_metrics<O: Write>(output: &mut O, report: &Report) -> io::Result<()>
+    ensures written { OnOk result
+        (Appends (O.contents output.old) (O.contents output.new) (metrics_text report.now)) }
+    ensures short { OnErr result (WasShort (metrics_text report.now)) }
+{
+    write_metrics(output, report)
 }
 
 /// The report of the box at a line's end.
@@ -353,16 +384,25 @@ fn print_page<O: Write>(
 }
 
 /// The lines of a page's pairs that pass a filter.
-#[tactic(auto, unfolding(crate::specs::Memory::WasShort))]
 fn page_text(alloc: Global, page: &Page, filter: &Filter) -> Result<Vec<u8>, NoMemory>
     ensures text { IfOk result (λ text. text.items ≡ page_lines filter.now page.now) }
     ensures short { OnErr result (WasShort (page_lines filter.now page.now)) }
 {
     let mut text = Vec::new(alloc);
-    match write_pairs(&mut text, page, filter) {
+    match told_to_write_pairs(&mut text, page, filter) {
         Ok(()) => Ok(text),
         Err(_) => Err(NoMemory),
     }
+}
+
+/// Writes them. It has the name for memory that was refused for them.
+#[tactic(auto, unfolding(faults::specs::Memory::WasShort))]
+fn told_to_write_pairs<O: Write>(output: &mut O, page: &Page, filter: &Filter) -> io::Result<()>
+    ensures written { OnOk result (Appends (O.contents output.old) (O.contents output.new)
+        (page_lines filter.now page.now)) }
+    ensures short { OnErr result (WasShort (page_lines filter.now page.now)) }
+{
+    write_pairs(output, page, filter)
 }
 
 /// The key behind which the next page begins, where others follow.
@@ -397,7 +437,7 @@ fn page_behind<S: Site>(
 }
 
 /// The page that bytes spell.
-#[tactic(auto, unfolding(crate::specs::Memory::WasShort))]
+#[tactic(auto, unfolding(faults::specs::Memory::WasShort))]
 fn page_in(alloc: Global, bytes: &[u8]) -> Result<Page, ReadFault>
     ensures read { IfOk result (λ page. reading page_format bytes.now ≡ Ok page) }
     ensures unread { IfErr result (λ fault. ((fault ≡ read.NoMemory) × WasShort bytes.now)

@@ -6,6 +6,7 @@ mod ends;
 mod machine;
 mod refusals;
 mod saying;
+mod showing;
 mod sites;
 
 pub use asking::{Form, await_synced, pairs, status};

@@ -1,27 +1,32 @@
 //! Why a box ends without its work done.
-ghost use Rattle.std.specs.Prelude.{◌≡◌, ◌≢◌, ◌⊎◌, IfOk, None, OnErr, Some, string_bytes};
+ghost use Rattle.std.specs.Prelude.{◌≡◌, ◌≢◌, ◌⊎◌, ◌++◌, IfOk, None, OnErr, Some, string_bytes};
+ghost use Rattle.std.specs.Fmt.{WritesOnOk};
 ghost use Rattle.std.specs.IoError.{error_kind};
 ghost use Rattle.std.specs.declared.io.ErrorKind.TheVariants as causes;
 ghost use Rattle.box_words.specs.Faults.{IsOfCapture, IsOfFilter, IsOfSocket};
 ghost use Rattle.box_words.specs.Faults.{TellsBootFile, TellsCapture, TellsFilter, TellsSocket};
-ghost use Rattle.box_words.specs.Faults.{explained_text, fault_text};
+ghost use Rattle.box_words.specs.Faults.{explained_text, fault_text, words_of};
 ghost use Rattle.box_words.specs.Memory.{WasShort};
 ghost use Rattle.box_words.specs.declared.refusals.BoxFault.TheVariants as faults;
 ghost use Rattle.control.specs.Paths.{socket_of};
 ghost use Rattle.boot_file.specs.declared.faults.FileFault.TheVariants as files;
-ghost use Rattle.faults.specs.Faults.{IsOfFile, Tells};
 ghost use Rattle.faults.specs.declared.faults.Fault.TheVariants as reasons;
 ghost use Rattle.faults.specs.declared.files.Refusal.TheVariants as refusals;
+ghost use Rattle.outlets.specs.Showing.{HasRefused};
 ghost use Rattle.outlets.specs.Telling.{IsTold};
 
 use crate::ends::Refused;
+use crate::showing::{
+    told_to_show_descriptor, told_to_show_end, told_to_show_not_open, told_to_show_reading,
+    told_to_show_refusal,
+};
 use boot_file::FileFault;
 use boot_store::BootFault;
 use control::{PathFault, PeerOffRefusal};
 use faults::{Fault, Refusal};
 use journal::FilterFault;
 use nat_types::{NoMemory, Side};
-use outlets::{Tells, tell};
+use outlets::{Shows, Tells, tell, told_to_show};
 use reports::ReadFault;
 use settings_file::SettingFault;
 use sockets::NoDescriptor;
@@ -63,7 +68,7 @@ pub enum BoxFault {
     InUse,
     /// This part of what is to choose the lines is no directive.
     NoFilter(String),
-    /// The file of a capture can't be opened, or has something that is none.
+    /// The file of a capture can't be opened, has something that is none, or none can be begun in it.
     NoCapture(Fault),
     /// The box doesn't take the word that a boot of the other is off.
     PeerOff(Explained),
@@ -74,33 +79,64 @@ pub enum BoxFault {
 }
 
 /// What it is about, its number and its name, as `boot 2 Damaged`; some name behind it what is refused.
+impl Shows for BoxFault {
+    ghost text = { fault_text };
+
+    fn show<W: fmt::Write>(&self, f: &mut fmt::Formatter<W>) -> fmt::Result {
+        match self {
+            BoxFault::Run(fault) | BoxFault::NoCapture(fault) => fault.show(f),
+            BoxFault::NoDescriptor(fault) => told_to_show_descriptor(f, fault),
+            BoxFault::NotOpen(fault) => told_to_show_not_open(f, fault),
+            BoxFault::NoSocket(end) => {
+                told_to_show(f, "socket 1 NoSocket")?;
+                told_to_show_end(f, end)
+            }
+            BoxFault::NoControl(path) => show_named(f, "socket 1 NoSocket ", path),
+            BoxFault::NoFilter(part) => show_named(f, "log 1 NoFilter ", part),
+            BoxFault::PeerOff(why) => fmt::Display::fmt(why, f),
+            BoxFault::NoReport(why) => {
+                told_to_show(f, "status 1 NoReport: ")?;
+                told_to_show_reading(f, why)
+            }
+            BoxFault::NoWay(Side::Inside) => told_to_show(f, "way 1 NoWay inside"),
+            BoxFault::NoWay(Side::Outside) => told_to_show(f, "way 1 NoWay outside"),
+            BoxFault::NoWayOfLink => told_to_show(f, "way 1 NoWay link"),
+            BoxFault::NoManager => told_to_show(f, "notify 1 NoWay"),
+            BoxFault::LongPath => told_to_show(f, "socket 2 LongPath"),
+            BoxFault::Device => told_to_show(f, "boot 1 Device"),
+            BoxFault::Damaged => told_to_show(f, "boot 2 Damaged"),
+            BoxFault::BootsUsedUp => told_to_show(f, "boot 3 BootsUsedUp"),
+            BoxFault::FoundTwice => told_to_show(f, "boot 4 FoundTwice"),
+            BoxFault::InUse => told_to_show(f, "boot 5 InUse"),
+            BoxFault::NotSynced => told_to_show(f, "status 2 NotSynced"),
+        }
+    }
+}
+
+/// The same text.
 impl fmt::Display for BoxFault {
     ghost output = { λ fault. Some (fault_text fault) };
 
-    fn fmt<W: fmt::Write>(&self, f: &mut fmt::Formatter<W>) -> fmt::Result {
-        let text = match self {
-            BoxFault::Run(fault) | BoxFault::NoCapture(fault) => return fmt::Display::fmt(fault, f),
-            BoxFault::NoDescriptor(fault) => return fmt::Display::fmt(fault, f),
-            BoxFault::NotOpen(fault) => return fmt::Display::fmt(fault, f),
-            BoxFault::NoSocket(end) => return write!(f, "socket 1 NoSocket{end}"),
-            BoxFault::NoControl(path) => return write!(f, "socket 1 NoSocket {path}"),
-            BoxFault::NoFilter(part) => return write!(f, "log 1 NoFilter {part}"),
-            BoxFault::PeerOff(why) => return fmt::Display::fmt(why, f),
-            BoxFault::NoReport(why) => return write!(f, "status 1 NoReport: {why}"),
-            BoxFault::NoWay(Side::Inside) => "way 1 NoWay inside",
-            BoxFault::NoWay(Side::Outside) => "way 1 NoWay outside",
-            BoxFault::NoWayOfLink => "way 1 NoWay link",
-            BoxFault::NoManager => "notify 1 NoWay",
-            BoxFault::LongPath => "socket 2 LongPath",
-            BoxFault::Device => "boot 1 Device",
-            BoxFault::Damaged => "boot 2 Damaged",
-            BoxFault::BootsUsedUp => "boot 3 BootsUsedUp",
-            BoxFault::FoundTwice => "boot 4 FoundTwice",
-            BoxFault::InUse => "boot 5 InUse",
-            BoxFault::NotSynced => "status 2 NotSynced",
-        };
-        f.write_str(text)
+    fn fmt<W: fmt::Write>(&self, f: &mut fmt::Formatter<W>) -> fmt::Result
+        ensures writes { WritesOnOk W.write_str_gives f.old result (fault_text self.now) f.new }
+        ensures refused { OnErr result (HasRefused f.new) }
+    {
+        self.show(f)
     }
+}
+
+/// Writes a fault's number and name, and behind them what is refused.
+fn show_named<W: fmt::Write>(
+    f: &mut fmt::Formatter<W>,
+    fault: &str,
+    refused: &String,
+) -> fmt::Result
+    ensures writes { WritesOnOk W.write_str_gives f.old result
+        (fault.now ++ string_bytes refused.now) f.new }
+    ensures refused { OnErr result (HasRefused f.new) }
+{
+    told_to_show(f, fault)?;
+    told_to_show(f, refused.as_str())
 }
 
 /// Why a box doesn't take the word that a boot of the other is off: by its number and name, and in words.
@@ -110,15 +146,27 @@ pub struct Explained(pub PeerOffRefusal);
 impl fmt::Display for Explained {
     ghost output = { λ why. Some (explained_text why.0) };
 
-    fn fmt<W: fmt::Write>(&self, f: &mut fmt::Formatter<W>) -> fmt::Result {
-        let words = match self.0 {
-            PeerOffRefusal::NotSynced => "the box isn't synced",
-            PeerOffRefusal::NoPeer => "it knows no boot of the other box",
-            PeerOffRefusal::PastBoot => "the other box has started anew since that boot",
-            PeerOffRefusal::UnknownBoot => "it knows no such boot; --force takes it all the same",
-            PeerOffRefusal::PeerHeard => "the other box was heard within the last 3 seconds",
-        };
-        write!(f, "{}: {words}", self.0)
+    fn fmt<W: fmt::Write>(&self, f: &mut fmt::Formatter<W>) -> fmt::Result
+        ensures writes { WritesOnOk W.write_str_gives f.old result (explained_text self.now.0)
+            f.new }
+        ensures refused { OnErr result (HasRefused f.new) }
+    {
+        told_to_show_refusal(f, self.0)?;
+        told_to_show(f, ": ")?;
+        told_to_show(f, words_of(self.0))
+    }
+}
+
+/// In words why a box doesn't take it.
+fn words_of(why: PeerOffRefusal) -> &'static str
+    ensures { result.now ≡ words_of why }
+{
+    match why {
+        PeerOffRefusal::NotSynced => "the box isn't synced",
+        PeerOffRefusal::NoPeer => "it knows no boot of the other box",
+        PeerOffRefusal::PastBoot => "the other box has started anew since that boot",
+        PeerOffRefusal::UnknownBoot => "it knows no such boot; --force takes it all the same",
+        PeerOffRefusal::PeerHeard => "the other box was heard within the last 3 seconds",
     }
 }
 
@@ -162,10 +210,10 @@ impl BoxFault {
             FileFault::NotLocked => return BoxFault::Device,
             FileFault::NoMemory => return BoxFault::Run(Fault::NoMemory),
         };
-        BoxFault::Run(of_file(alloc, refusal, path, cause))
+        BoxFault::Run(Fault::of_file(alloc, refusal, path, cause))
     }
 
-    /// Of the file of a capture that can't be opened, or has something that is none.
+    /// Of the file of a capture that can't be opened, has something that is none, or in which none can be begun.
     pub fn no_capture(alloc: Global, path: &str, error: &io::Error) -> BoxFault
         ensures kind { IsOfCapture result }
         ensures memory { error_kind error.now ≡ causes.OutOfMemory
@@ -178,7 +226,7 @@ impl BoxFault {
         ensures short { result ≡ faults.NoCapture reasons.NoMemory
             → (error_kind error.now ≡ causes.OutOfMemory) ⊎ WasShort path.now }
     {
-        BoxFault::NoCapture(of_capture(alloc, path, error))
+        BoxFault::NoCapture(Fault::of_capture(alloc, path, error))
     }
 
     /// Tells of the fault on a line behind `natpair: `, and gives its exit status. Where even that
@@ -193,7 +241,7 @@ impl BoxFault {
 }
 
 /// A text of its own.
-#[tactic(auto, unfolding(crate::specs::Memory::WasShort))]
+#[tactic(auto, unfolding(faults::specs::Memory::WasShort))]
 pub(crate) fn copied(alloc: Global, text: &str) -> Result<String, AllocError>
     ensures same { IfOk result (λ copy. string_bytes copy ≡ text.now) }
     ensures short { OnErr result (WasShort text.now) }
@@ -202,7 +250,7 @@ pub(crate) fn copied(alloc: Global, text: &str) -> Result<String, AllocError>
 }
 
 /// The path of the control socket beside a boot file, to be told.
-#[tactic(auto, unfolding(crate::specs::Memory::WasShort))]
+#[tactic(auto, unfolding(faults::specs::Memory::WasShort))]
 fn socket_beside(alloc: Global, boot_file: &str) -> Result<String, AllocError>
     ensures beside { IfOk result (λ path. string_bytes path ≡ socket_of boot_file.now) }
     ensures short { OnErr result (WasShort (socket_of boot_file.now)) }
@@ -211,31 +259,6 @@ fn socket_beside(alloc: Global, boot_file: &str) -> Result<String, AllocError>
         Ok(path) => Ok(path),
         Err(error) => Err(error),
     }
-}
-
-/// The fault of the file at a path, as [`Fault::of_file`] says.
-#[tactic(auto, unfolding(crate::specs::Memory::WasShort))]
-fn of_file(alloc: Global, refusal: Refusal, path: &str, cause: Option<io::ErrorKind>) -> Fault
-    ensures told { Tells refusal path.now cause result }
-    ensures short { result ≡ reasons.NoMemory → WasShort path.now }
-{
-    Fault::of_file(alloc, refusal, path, cause)
-}
-
-/// The fault of the file of a capture, as [`Fault::of_capture`] says.
-#[tactic(auto, unfolding(crate::specs::Memory::WasShort))]
-fn of_capture(alloc: Global, path: &str, error: &io::Error) -> Fault
-    ensures memory { error_kind error.now ≡ causes.OutOfMemory → result ≡ reasons.NoMemory }
-    ensures exists { error_kind error.now ≡ causes.AlreadyExists
-        → Tells refusals.Exists path.now None result }
-    ensures told { error_kind error.now ≢ causes.OutOfMemory
-        → error_kind error.now ≢ causes.AlreadyExists
-        → Tells refusals.NotWritten path.now (Some (error_kind error.now)) result }
-    ensures file { IsOfFile result }
-    ensures short { result ≡ reasons.NoMemory
-        → (error_kind error.now ≡ causes.OutOfMemory) ⊎ WasShort path.now }
-{
-    Fault::of_capture(alloc, path, error)
 }
 
 impl From<Fault> for BoxFault {

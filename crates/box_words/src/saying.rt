@@ -226,7 +226,7 @@ pub(crate) fn line_to<S: Site>(
 }
 
 /// The settings that a text holds.
-#[tactic(auto, unfolding(crate::specs::Memory::WasShort))]
+#[tactic(auto, unfolding(faults::specs::Memory::WasShort))]
 fn settings_in(alloc: Global, text: &str) -> Result<Settings, SettingFault>
     ensures held { IfOk result (IsReadFrom (parse_document text.now)) }
     ensures none { IfErr result (TellsReason (parse_document text.now)) }
@@ -236,7 +236,7 @@ fn settings_in(alloc: Global, text: &str) -> Result<Settings, SettingFault>
 }
 
 /// Where the gateway's control socket lies: beside its boot file.
-#[tactic(auto, unfolding(crate::specs::Memory::WasShort))]
+#[tactic(auto, unfolding(faults::specs::Memory::WasShort))]
 fn control_path(alloc: Global, settings: &Settings, id: GatewayId) -> Result<ControlPath, PathFault>
     ensures beside { IfOk result
         (IsBeside (string_bytes (gateway_of settings.now id).boot_file)) }

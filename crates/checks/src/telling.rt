@@ -4,7 +4,7 @@ ghost use Rattle.checks.specs.Comparing.{names_file, text_with_path};
 ghost use Rattle.outlets.specs.Telling.{IsTold};
 
 use faults::Fault;
-use outlets::{Tells, tell};
+use outlets::{Shows, Tells, tell, told_to_show};
 use std::alloc::Global;
 use std::fmt;
 
@@ -16,20 +16,19 @@ struct WithPath<'a> {
 }
 
 /// The fault's text, with the path behind one that doesn't name its file.
-impl fmt::Display for WithPath<'_> {
-    ghost use Rattle.std.specs.Prelude.{Some};
+impl Shows for WithPath<'_> {
     ghost use Rattle.checks.specs.Comparing.{text_with_path};
 
-    ghost output = { λ told. Some (text_with_path told.fault.now told.path.now) };
+    ghost text = { λ told. text_with_path told.fault.now told.path.now };
 
-    fn fmt<W: fmt::Write>(&self, f: &mut fmt::Formatter<W>) -> fmt::Result {
-        let fault = self.fault;
-        let path = self.path;
-        if names_file(fault) {
-            write!(f, "{fault}")
-        } else {
-            write!(f, "{fault} ({path})")
+    fn show<W: fmt::Write>(&self, f: &mut fmt::Formatter<W>) -> fmt::Result {
+        self.fault.show(f)?;
+        if names_file(self.fault) {
+            return Ok(());
         }
+        told_to_show(f, " (")?;
+        told_to_show(f, self.path)?;
+        told_to_show(f, ")")
     }
 }
 

@@ -1,10 +1,11 @@
 //! Why words are no command line.
 ghost use Rattle.std.specs.Prelude.{◌≡◌, IfOk, List, OnErr, Some, string_bytes, ℕ};
 ghost use Rattle.command_line.specs.Faults.{IsSpelledTold, IsTextTold, WasSpelled, WasUnspelled};
+ghost use Rattle.outlets.specs.Showing.{HasRefused};
 ghost use Rattle.outlets.specs.Telling.{HasTold};
 
 use clap::error::ErrorKind;
-use outlets::{Tells, tell};
+use outlets::{Shows, Tells, tell, told_to_show};
 use std::alloc::{AllocError, Global};
 use std::fmt::{self, Display};
 use thiserror::Error;
@@ -40,14 +41,30 @@ impl ValueFault {
     }
 }
 
+impl Shows for ValueFault {
+    ghost use Rattle.command_line.specs.Faults.{value_text};
+
+    ghost text = { value_text };
+
+    fn show<W: fmt::Write>(&self, f: &mut fmt::Formatter<W>) -> fmt::Result {
+        told_to_show(f, self.as_str())
+    }
+}
+
+/// The same text.
 impl fmt::Display for ValueFault {
-    ghost use Rattle.std.specs.Prelude.{Some};
+    ghost use Rattle.std.specs.Fmt.{WritesOnOk};
+    ghost use Rattle.std.specs.Prelude.{OnErr, Some};
+    ghost use Rattle.outlets.specs.Showing.{HasRefused};
     ghost use Rattle.command_line.specs.Faults.{value_text};
 
     ghost output = { λ why. Some (value_text why) };
 
-    fn fmt<W: fmt::Write>(&self, f: &mut fmt::Formatter<W>) -> fmt::Result {
-        f.write_str(self.as_str())
+    fn fmt<W: fmt::Write>(&self, f: &mut fmt::Formatter<W>) -> fmt::Result
+        ensures writes { WritesOnOk W.write_str_gives f.old result (value_text self.now) f.new }
+        ensures refused { OnErr result (HasRefused f.new) }
+    {
+        self.show(f)
     }
 }
 
@@ -69,17 +86,31 @@ pub enum LineFault {
 }
 
 impl fmt::Display for LineFault {
+    ghost use Rattle.std.specs.Fmt.{DisplaysOnOk};
+    ghost use Rattle.std.specs.Prelude.{OnErr};
+    ghost use Rattle.outlets.specs.Showing.{HasRefused};
     ghost use Rattle.command_line.specs.Faults.{line_text};
 
     ghost output = { λ fault. line_text fault };
 
-    fn fmt<W: fmt::Write>(&self, f: &mut fmt::Formatter<W>) -> fmt::Result {
+    fn fmt<W: fmt::Write>(&self, f: &mut fmt::Formatter<W>) -> fmt::Result
+        ensures writes { DisplaysOnOk W.write_str_gives f.old result (line_text self.now) f.new }
+        ensures refused { OnErr result (HasRefused f.new) }
+    {
         match self {
-            LineFault::Refused(error) => fmt::Display::fmt(error, f),
-            LineFault::Values(why) => f.write_str(why.as_str()),
-            LineFault::NoMemory => f.write_str("memory 1 NoMemory"),
+            LineFault::Refused(error) => told_to_show_error(f, error),
+            LineFault::Values(why) => why.show(f),
+            LineFault::NoMemory => told_to_show(f, "memory 1 NoMemory"),
         }
     }
+}
+
+/// Has a formatter write what `clap` does of an error. It has the name for a refusal, which may be that of the error.
+#[tactic(auto, unfolding(outlets::specs::Showing::HasRefused))]
+fn told_to_show_error<W: fmt::Write>(f: &mut fmt::Formatter<W>, error: &clap::Error) -> fmt::Result
+    ensures refused { OnErr result (HasRefused f.new) }
+{
+    fmt::Display::fmt(error, f)
 }
 
 /// The same text.
@@ -112,7 +143,7 @@ impl LineFault {
         match self {
             LineFault::Refused(error) => tell_as_is(alloc, error, errors),
             LineFault::Values(why) => tell(alloc, why, errors),
-            LineFault::NoMemory => tell(alloc, self, errors),
+            LineFault::NoMemory => told(errors, "natpair: memory 1 NoMemory\n"),
         }
         self.status()
     }

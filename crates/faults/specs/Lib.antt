@@ -1,4 +1,5 @@
 pub mod Causes
 pub mod Faults
 pub mod Jobs
+pub mod Memory
 pub mod Texts

@@ -3,7 +3,7 @@ ghost use Rattle.std.specs.Prelude.{◌≡◌};
 
 use crate::{FileFault, PrintFault, Refusal};
 use nat_types::NoMemory;
-use outlets::{Tells, tell};
+use outlets::{Shows, Tells, tell, told_to_show, told_to_show_number};
 use scripts::ScriptFault;
 use settings_file::SettingFault;
 use std::alloc::{AllocError, Global};
@@ -32,31 +32,56 @@ pub enum Fault {
 }
 
 /// What it is about, its number and its name, as `memory 1 NoMemory`; some name behind it what is refused.
+impl Shows for Fault {
+    ghost use Rattle.faults.specs.Texts.{fault_text};
+
+    ghost text = { fault_text };
+
+    fn show<W: fmt::Write>(&self, f: &mut fmt::Formatter<W>) -> fmt::Result {
+        match self {
+            Fault::Setting(fault) => {
+                told_to_show(f, "settings ")?;
+                fmt::Display::fmt(fault, f)
+            }
+            Fault::BadLine(number) => {
+                told_to_show(f, "script 1 BadLine ")?;
+                told_to_show_number(f, *number as u64)
+            }
+            Fault::File(fault) => fmt::Display::fmt(fault, f),
+            Fault::NoSocket(port) => {
+                told_to_show(f, "socket 1 NoSocket 127.0.0.1:")?;
+                told_to_show_number(f, u64::from(*port))
+            }
+            Fault::Words => told_to_show(f, "words that are not text"),
+            Fault::NotWritten => told_to_show(f, "file 3 NotWritten output"),
+            Fault::NotText => told_to_show(f, "file 4 NotText"),
+            Fault::NoMemory => told_to_show(f, "memory 1 NoMemory"),
+        }
+    }
+}
+
+/// The same text.
 impl fmt::Display for Fault {
-    ghost use Rattle.std.specs.Prelude.{Some};
+    ghost use Rattle.std.specs.Fmt.{WritesOnOk};
+    ghost use Rattle.std.specs.Prelude.{OnErr, Some};
+    ghost use Rattle.outlets.specs.Showing.{HasRefused};
     ghost use Rattle.faults.specs.Texts.{fault_text};
 
     ghost output = { λ fault. Some (fault_text fault) };
 
-    fn fmt<W: fmt::Write>(&self, f: &mut fmt::Formatter<W>) -> fmt::Result {
-        let text = match self {
-            Fault::Setting(fault) => return write!(f, "settings {fault}"),
-            Fault::BadLine(number) => return write!(f, "script 1 BadLine {number}"),
-            Fault::File(fault) => return fmt::Display::fmt(fault, f),
-            Fault::NoSocket(port) => return write!(f, "socket 1 NoSocket 127.0.0.1:{port}"),
-            Fault::Words => "words that are not text",
-            Fault::NotWritten => "file 3 NotWritten output",
-            Fault::NotText => "file 4 NotText",
-            Fault::NoMemory => "memory 1 NoMemory",
-        };
-        f.write_str(text)
+    fn fmt<W: fmt::Write>(&self, f: &mut fmt::Formatter<W>) -> fmt::Result
+        ensures writes { WritesOnOk W.write_str_gives f.old result (fault_text self.now) f.new }
+        ensures refused { OnErr result (HasRefused f.new) }
+    {
+        self.show(f)
     }
 }
 
 impl Fault {
-    ghost use Rattle.std.specs.Prelude.{◌≡◌, ◌≢◌, None, Some};
+    ghost use Rattle.std.specs.Prelude.{◌≡◌, ◌≢◌, ◌⊎◌, None, Some};
     ghost use Rattle.std.specs.IoError.{error_kind};
     ghost use Rattle.faults.specs.Faults.{IsOfFile, Tells, status_of};
+    ghost use Rattle.faults.specs.Memory.{WasShort};
     ghost use Rattle.faults.specs.Texts.{fault_text};
     ghost use Rattle.outlets.specs.Telling.{IsTold};
     ghost use Rattle.faults.specs.declared.files.Refusal.TheVariants as refusals;
@@ -98,6 +123,7 @@ impl Fault {
         ensures told { Tells refusal path.now cause result }
         ensures file { IsOfFile result }
         ensures status { status_of result ≡ 1 }
+        ensures short { result ≡ faults.NoMemory → WasShort path.now }
     {
         match FileFault::at(alloc, refusal, path, cause) {
             Ok(fault) => Fault::File(fault),
@@ -112,6 +138,8 @@ impl Fault {
             → Tells refusals.NoFile path.now (Some (error_kind error.now)) result }
         ensures file { IsOfFile result }
         ensures status { status_of result ≡ 1 }
+        ensures short { result ≡ faults.NoMemory
+            → (error_kind error.now ≡ ErrorKind.OutOfMemory) ⊎ WasShort path.now }
     {
         match error.kind() {
             ErrorKind::OutOfMemory => Fault::NoMemory,
@@ -129,6 +157,8 @@ impl Fault {
             → Tells refusals.NotWritten path.now (Some (error_kind error.now)) result }
         ensures file { IsOfFile result }
         ensures status { status_of result ≡ 1 }
+        ensures short { result ≡ faults.NoMemory
+            → (error_kind error.now ≡ ErrorKind.OutOfMemory) ⊎ WasShort path.now }
     {
         match error.kind() {
             ErrorKind::OutOfMemory => Fault::NoMemory,

@@ -1,8 +1,13 @@
 //! A file that isn't had as it was wanted.
-ghost use Rattle.std.specs.Prelude.{IfOk};
+ghost use Rattle.std.specs.Fmt.{WritesOnOk};
+ghost use Rattle.std.specs.Prelude.{◌≡◌, IfOk, OnErr, string_bytes};
+ghost use Rattle.outlets.specs.Showing.{HasRefused};
 ghost use Rattle.faults.specs.Faults.{IsAbout};
+ghost use Rattle.faults.specs.Memory.{WasShort};
+ghost use Rattle.faults.specs.Texts.{why_text};
 
 use crate::causes::cause_text;
+use outlets::told_to_show;
 use std::alloc::{AllocError, Global};
 use std::fmt;
 use std::io::ErrorKind;
@@ -21,17 +26,23 @@ pub enum Refusal {
 
 /// As `file 1 NoFile`.
 impl fmt::Display for Refusal {
-    ghost use Rattle.std.specs.Prelude.{Some};
+    ghost use Rattle.std.specs.Fmt.{WritesOnOk};
+    ghost use Rattle.std.specs.Prelude.{OnErr, Some};
+    ghost use Rattle.outlets.specs.Showing.{HasRefused};
     ghost use Rattle.faults.specs.Texts.{refusal_text};
 
     ghost output = { λ refusal. Some (refusal_text refusal) };
 
-    fn fmt<W: fmt::Write>(&self, f: &mut fmt::Formatter<W>) -> fmt::Result {
-        f.write_str(match self {
+    fn fmt<W: fmt::Write>(&self, f: &mut fmt::Formatter<W>) -> fmt::Result
+        ensures writes { WritesOnOk W.write_str_gives f.old result (refusal_text self.now) f.new }
+        ensures refused { OnErr result (HasRefused f.new) }
+    {
+        let text = match self {
             Refusal::NoFile => "file 1 NoFile",
             Refusal::Exists => "file 2 Exists",
             Refusal::NotWritten => "file 3 NotWritten",
-        })
+        };
+        told_to_show(f, text)
     }
 }
 
@@ -51,9 +62,10 @@ impl FileFault {
         path: &str,
         cause: Option<ErrorKind>,
     ) -> Result<FileFault, AllocError>
-        ensures { IfOk result (λ fault. IsAbout refusal path.now cause fault) }
+        ensures about { IfOk result (λ fault. IsAbout refusal path.now cause fault) }
+        ensures short { OnErr result (WasShort path.now) }
     {
-        let path = String::from_str(alloc, path)?;
+        let path = copied(alloc, path)?;
         Ok(FileFault {
             refusal,
             path,
@@ -62,32 +74,45 @@ impl FileFault {
     }
 }
 
+/// A path of its own. It has the name for memory that was refused for it.
+#[tactic(auto, unfolding(crate::specs::Memory::WasShort))]
+fn copied(alloc: Global, path: &str) -> Result<String, AllocError>
+    ensures same { IfOk result (λ copy. string_bytes copy ≡ path.now) }
+    ensures short { OnErr result (WasShort path.now) }
+{
+    String::from_str(alloc, path)
+}
+
 /// As in `file 1 NoFile S.toml: permission denied`.
 impl fmt::Display for FileFault {
-    ghost use Rattle.std.specs.Prelude.{Some};
+    ghost use Rattle.std.specs.Fmt.{WritesOnOk};
+    ghost use Rattle.std.specs.Prelude.{OnErr, Some};
+    ghost use Rattle.outlets.specs.Showing.{HasRefused};
     ghost use Rattle.faults.specs.Texts.{file_text};
 
     ghost output = { λ fault. Some (file_text fault) };
 
-    fn fmt<W: fmt::Write>(&self, f: &mut fmt::Formatter<W>) -> fmt::Result {
-        write!(f, "{} {}{}", self.refusal, self.path, Why(self.cause))
+    fn fmt<W: fmt::Write>(&self, f: &mut fmt::Formatter<W>) -> fmt::Result
+        ensures writes { WritesOnOk W.write_str_gives f.old result (file_text self.now) f.new }
+        ensures refused { OnErr result (HasRefused f.new) }
+    {
+        fmt::Display::fmt(&self.refusal, f)?;
+        told_to_show(f, " ")?;
+        told_to_show(f, self.path.as_str())?;
+        show_why(f, self.cause)
     }
 }
 
-/// Why a file isn't had, behind a colon, where the system said so.
-#[derive(Clone, Copy)]
-struct Why(Option<ErrorKind>);
-
-impl fmt::Display for Why {
-    ghost use Rattle.std.specs.Prelude.{Some};
-    ghost use Rattle.faults.specs.Texts.{why_text};
-
-    ghost output = { λ why. Some (why_text why.0) };
-
-    fn fmt<W: fmt::Write>(&self, f: &mut fmt::Formatter<W>) -> fmt::Result {
-        match self.0 {
-            Some(cause) => write!(f, ": {}", cause_text(cause)),
-            None => Ok(()),
+/// Writes why a file isn't had, behind a colon, where the system said so.
+fn show_why<W: fmt::Write>(f: &mut fmt::Formatter<W>, cause: Option<ErrorKind>) -> fmt::Result
+    ensures writes { WritesOnOk W.write_str_gives f.old result (why_text cause) f.new }
+    ensures refused { OnErr result (HasRefused f.new) }
+{
+    match cause {
+        Some(cause) => {
+            told_to_show(f, ": ")?;
+            told_to_show(f, cause_text(cause))
         }
+        None => Ok(()),
     }
 }

@@ -1,6 +1,8 @@
 //! The text of a file.
-ghost use Rattle.std.specs.Prelude.{◌≡◌, Err, IfErr, IfOk, IsErr, IsUtf8, Ok, string_bytes};
+ghost use Rattle.std.specs.Prelude.{◌≡◌, ◌⊎◌, Err, IfErr, IfOk, IsErr, IsUtf8, Ok, string_bytes};
+ghost use Rattle.std.specs.declared.io.ErrorKind.TheVariants as kinds;
 ghost use Rattle.faults.specs.Faults.{IsUnread, TellsUnread, status_of};
+ghost use Rattle.faults.specs.Memory.{WasShort};
 ghost use Rattle.faults.specs.declared.faults.Fault.TheVariants as faults;
 
 use crate::Fault;
@@ -59,6 +61,8 @@ pub fn text_by<R: Reads>(alloc: Global, files: &mut R, path: &str) -> Result<Str
     ensures told { IfErr result
         (TellsUnread (λ answer. R.answers files.old path.now answer files.new) path.now) }
     ensures status { IfErr result (λ fault. status_of fault ≡ 1) }
+    ensures short { IfErr result (λ fault. fault ≡ faults.NoMemory
+        → R.answers files.old path.now (Err kinds.OutOfMemory) files.new ⊎ WasShort path.now) }
 {
     match files.read(path) {
         Ok(bytes) => as_text(bytes),

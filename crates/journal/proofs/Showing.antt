@@ -1,5 +1,5 @@
 -- What who writes pairs wrote.
-use Rattle.std.proofs.Common.{◌≡◌, true, ℕ, List, [], ◌∷◌, ◌++◌, Option, Some, None, IfSome, refl, sym, ap, ◌∙◌, codes, option_map}
+use Rattle.std.proofs.Common.{◌≡◌, true, ℕ, List, [], ◌∷◌, ◌++◌, Option, Some, None, IfSome, sym, ap, ◌∙◌, codes, option_map}
 use Rattle.std.proofs.Output.{has_written_append, has_written_to_eq, writes_in_calls_nil}
 use Rattle.std.specs.List.{FoldsTo}
 use Rattle.std.specs.Fmt.{HasWritten, IsPlainFormatter}

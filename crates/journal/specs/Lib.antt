@@ -2,6 +2,7 @@ pub mod Origins
 pub mod Tally
 pub mod Entries
 pub mod Texts
+pub mod Visits
 pub mod Pairs
 pub mod Fates
 pub mod Filters

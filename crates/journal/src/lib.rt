@@ -2,6 +2,7 @@
 #![tactic(auto)]
 
 mod causes;
+mod destinations;
 mod entries;
 mod filters;
 mod laws;
@@ -9,7 +10,6 @@ mod lines;
 mod names;
 mod notes;
 mod origins;
-mod outlets;
 mod pens;
 mod sink;
 mod standard_error;
@@ -17,13 +17,13 @@ mod tally;
 mod telling;
 
 pub use causes::Cause;
+pub use destinations::Outlet;
 pub use entries::{Entry, Role};
 pub use filters::{FilterFault, VARIABLE, environment, filter_of};
 pub use laws::{account_law, tellings_law};
 pub use lines::Format;
 pub use notes::{LeftOutPackets, Note};
 pub use origins::Origin;
-pub use outlets::Outlet;
 pub use pens::Pen;
 pub use sink::{Journal, Unhindered};
 pub use standard_error::StandardError;

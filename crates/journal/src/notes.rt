@@ -1,13 +1,17 @@
 //! A record's text, and its keys and values.
-ghost use Rattle.std.specs.Prelude.{Some, OnOk, decimal};
+ghost use Rattle.std.specs.Prelude.{◌++◌, OnErr, OnOk, Some, codes, decimal};
+ghost use Rattle.std.specs.Fmt.{WritesOnOk};
 ghost use Rattle.std.specs.List.{FoldsTo};
+ghost use Rattle.outlets.specs.Showing.{HasRefused};
 ghost use Rattle.journal.specs.Pairs.{cause_pairs, more_pairs, packets_pairs, pairs_of};
-ghost use Rattle.journal.specs.Texts.{cause_text, packets_text, role_name, text_of};
+ghost use Rattle.journal.specs.Texts.{cause_text, packets_text, role_name, text_of, words_of};
+ghost use Rattle.journal.specs.Visits.{HasRefusedPair};
 
 use crate::Cause;
 use crate::entries::{Entry, Role};
 use crate::names::{event_name, reason_name, role_name};
 use log::kv::{Error, Source, ToValue, VisitSource};
+use outlets::{told_to_show, told_to_show_number};
 use std::fmt::{self, Display, Formatter};
 
 /// What a record tells, and when: in centiseconds since the box's start. Its text is for people; its keys and values say
@@ -27,38 +31,77 @@ pub struct LeftOutPackets {
 impl Display for Note {
     ghost output = { λ n. Some (text_of n.moment n.entry) };
 
-    fn fmt<W: fmt::Write>(&self, f: &mut Formatter<W>) -> fmt::Result {
-        write!(f, "{} ", self.moment)?;
-        match self.entry {
-            Entry::First(_, cause) => write!(f, "{cause}"),
-            Entry::Others(_, cause, number) => write!(f, "{cause}, {number} more"),
-            Entry::Role(_, role) => write!(f, "{role}"),
-            Entry::Boot(boot) => write!(f, "boot {boot}"),
-            Entry::PeerBoot(boot) => write!(f, "peer boot {boot}"),
-            Entry::Away => f.write_str("away"),
-            Entry::Back => f.write_str("back"),
-            Entry::Synced => f.write_str("synced"),
-            Entry::Unsynced => f.write_str("unsynced"),
-            Entry::Stopped => f.write_str("stopped"),
-            Entry::PeerHeard => f.write_str("peer heard"),
-            Entry::PeerSilent => f.write_str("peer silent"),
-            Entry::Fails(_) => f.write_str("fails"),
-            Entry::Works(_) => f.write_str("works"),
-            Entry::TooLong(_) => f.write_str("takes less than a frame"),
-        }
+    fn fmt<W: fmt::Write>(&self, f: &mut Formatter<W>) -> fmt::Result
+        ensures writes { WritesOnOk W.write_str_gives f.old result
+            (text_of self.now.moment self.now.entry) f.new }
+        ensures refused { OnErr result (HasRefused f.new) }
+    {
+        told_to_show_number(f, self.moment)?;
+        told_to_show(f, " ")?;
+        show_words(f, &self.entry)
     }
+}
+
+/// Writes what an entry tells.
+fn show_words<W: fmt::Write>(f: &mut Formatter<W>, entry: &Entry) -> fmt::Result
+    ensures writes { WritesOnOk W.write_str_gives f.old result (words_of entry.now) f.new }
+    ensures refused { OnErr result (HasRefused f.new) }
+{
+    match entry {
+        Entry::First(_, cause) => Display::fmt(cause, f),
+        Entry::Others(_, cause, number) => show_others(f, cause, *number),
+        Entry::Role(_, role) => Display::fmt(role, f),
+        Entry::Boot(boot) => show_counted(f, "boot ", *boot),
+        Entry::PeerBoot(boot) => show_counted(f, "peer boot ", *boot),
+        Entry::Away => told_to_show(f, "away"),
+        Entry::Back => told_to_show(f, "back"),
+        Entry::Synced => told_to_show(f, "synced"),
+        Entry::Unsynced => told_to_show(f, "unsynced"),
+        Entry::Stopped => told_to_show(f, "stopped"),
+        Entry::PeerHeard => told_to_show(f, "peer heard"),
+        Entry::PeerSilent => told_to_show(f, "peer silent"),
+        Entry::Fails(_) => told_to_show(f, "fails"),
+        Entry::Works(_) => told_to_show(f, "works"),
+        Entry::TooLong(_) => told_to_show(f, "takes less than a frame"),
+    }
+}
+
+/// Writes a cause, and how many others there were of it.
+fn show_others<W: fmt::Write>(f: &mut Formatter<W>, cause: &Cause, number: u64) -> fmt::Result
+    ensures writes { WritesOnOk W.write_str_gives f.old result
+        (cause_text cause.now ++ codes ", " ++ decimal number ++ codes " more") f.new }
+    ensures refused { OnErr result (HasRefused f.new) }
+{
+    Display::fmt(cause, f)?;
+    show_counted(f, ", ", number)?;
+    told_to_show(f, " more")
+}
+
+/// Writes a number behind words.
+fn show_counted<W: fmt::Write>(f: &mut Formatter<W>, words: &str, number: u64) -> fmt::Result
+    ensures writes { WritesOnOk W.write_str_gives f.old result (words.now ++ decimal number)
+        f.new }
+    ensures refused { OnErr result (HasRefused f.new) }
+{
+    told_to_show(f, words)?;
+    told_to_show_number(f, number)
 }
 
 /// `dropped 15 CannotWait`, or `left out NoMemory`.
 impl Display for Cause {
     ghost output = { λ c. Some (cause_text c) };
 
-    fn fmt<W: fmt::Write>(&self, f: &mut Formatter<W>) -> fmt::Result {
+    fn fmt<W: fmt::Write>(&self, f: &mut Formatter<W>) -> fmt::Result
+        ensures writes { WritesOnOk W.write_str_gives f.old result (cause_text self.now) f.new }
+        ensures refused { OnErr result (HasRefused f.new) }
+    {
         match self {
             Cause::Dropped(reason) => {
-                write!(f, "dropped {} {}", reason.number(), reason_name(reason))
+                show_counted(f, "dropped ", u64::from(reason.number()))?;
+                told_to_show(f, " ")?;
+                told_to_show(f, reason_name(reason))
             }
-            Cause::NoMemory => f.write_str("left out NoMemory"),
+            Cause::NoMemory => told_to_show(f, "left out NoMemory"),
         }
     }
 }
@@ -66,15 +109,22 @@ impl Display for Cause {
 impl Display for Role {
     ghost output = { λ r. Some (role_name r) };
 
-    fn fmt<W: fmt::Write>(&self, f: &mut Formatter<W>) -> fmt::Result {
-        f.write_str(role_name(self))
+    fn fmt<W: fmt::Write>(&self, f: &mut Formatter<W>) -> fmt::Result
+        ensures writes { WritesOnOk W.write_str_gives f.old result (role_name self.now) f.new }
+        ensures refused { OnErr result (HasRefused f.new) }
+    {
+        told_to_show(f, role_name(self))
     }
 }
 
 impl Source for Note {
     ghost pairs = { λ n. Some (pairs_of n.moment n.entry) };
 
-    fn visit<V: VisitSource>(&self, visitor: &mut V) -> Result<(), Error> {
+    fn visit<V: VisitSource>(&self, visitor: &mut V) -> Result<(), Error>
+        ensures visits { OnOk result (FoldsTo V.visit_pair_gives visitor.old
+            (pairs_of self.now.moment self.now.entry) visitor.new) }
+        ensures refused { OnErr result (HasRefusedPair visitor.new) }
+    {
         visit_number(visitor, "at", self.moment)?;
         visit_word(visitor, "event", event_name(&self.entry))?;
         visit_more(visitor, &self.entry)
@@ -84,23 +134,33 @@ impl Source for Note {
 impl Display for LeftOutPackets {
     ghost output = { λ l. Some (packets_text l.packets) };
 
-    fn fmt<W: fmt::Write>(&self, f: &mut Formatter<W>) -> fmt::Result {
-        write!(f, "capture left out {} packets", self.packets)
+    fn fmt<W: fmt::Write>(&self, f: &mut Formatter<W>) -> fmt::Result
+        ensures writes { WritesOnOk W.write_str_gives f.old result
+            (packets_text self.now.packets) f.new }
+        ensures refused { OnErr result (HasRefused f.new) }
+    {
+        show_counted(f, "capture left out ", self.packets)?;
+        told_to_show(f, " packets")
     }
 }
 
 impl Source for LeftOutPackets {
     ghost pairs = { λ l. Some (packets_pairs l.packets) };
 
-    fn visit<V: VisitSource>(&self, visitor: &mut V) -> Result<(), Error> {
+    fn visit<V: VisitSource>(&self, visitor: &mut V) -> Result<(), Error>
+        ensures visits { OnOk result (FoldsTo V.visit_pair_gives visitor.old
+            (packets_pairs self.now.packets) visitor.new) }
+        ensures refused { OnErr result (HasRefusedPair visitor.new) }
+    {
         visit_number(visitor, "packets", self.packets)
     }
 }
 
 /// What an entry has beside its moment and the event's name.
 fn visit_more<V: VisitSource>(visitor: &mut V, entry: &Entry) -> Result<(), Error>
-    ensures { OnOk result
+    ensures visits { OnOk result
         (FoldsTo V.visit_pair_gives visitor.old (more_pairs entry.now) visitor.new) }
+    ensures refused { OnErr result (HasRefusedPair visitor.new) }
 {
     match entry {
         Entry::First(_, cause) => visit_cause(visitor, cause),
@@ -117,8 +177,9 @@ fn visit_more<V: VisitSource>(visitor: &mut V, entry: &Entry) -> Result<(), Erro
 
 /// A reason, by number and name.
 fn visit_cause<V: VisitSource>(visitor: &mut V, cause: &Cause) -> Result<(), Error>
-    ensures { OnOk result
+    ensures visits { OnOk result
         (FoldsTo V.visit_pair_gives visitor.old (cause_pairs cause.now) visitor.new) }
+    ensures refused { OnErr result (HasRefusedPair visitor.new) }
 {
     match cause {
         Cause::Dropped(reason) => {
@@ -129,14 +190,21 @@ fn visit_cause<V: VisitSource>(visitor: &mut V, cause: &Cause) -> Result<(), Err
     }
 }
 
+/// Hands on a key and a number. It has the name for a refusal, and so has the next.
+#[tactic(auto, unfolding(crate::specs::Visits::HasRefusedPair))]
 fn visit_number<V: VisitSource>(visitor: &mut V, key: &str, number: u64) -> Result<(), Error>
-    ensures { OnOk result (V.visit_pair_gives visitor.old (key.now, decimal number) visitor.new) }
+    ensures visits { OnOk result
+        (V.visit_pair_gives visitor.old (key.now, decimal number) visitor.new) }
+    ensures refused { OnErr result (HasRefusedPair visitor.new) }
 {
     visitor.visit_pair(key, number.to_value())
 }
 
+/// Hands on a key and a word.
+#[tactic(auto, unfolding(crate::specs::Visits::HasRefusedPair))]
 fn visit_word<V: VisitSource>(visitor: &mut V, key: &str, word: &str) -> Result<(), Error>
-    ensures { OnOk result (V.visit_pair_gives visitor.old (key.now, word.now) visitor.new) }
+    ensures visits { OnOk result (V.visit_pair_gives visitor.old (key.now, word.now) visitor.new) }
+    ensures refused { OnErr result (HasRefusedPair visitor.new) }
 {
     visitor.visit_pair(key, word.to_value())
 }

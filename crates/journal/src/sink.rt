@@ -7,8 +7,8 @@ ghost use Rattle.journal.specs.Sinks.{format_of};
 ghost use Rattle.journal.specs.declared.lines.Format.{Format as Writing};
 ghost use Rattle.journal.specs.declared.sink.Fate.TheVariants as fates;
 
+use crate::destinations::Outlet;
 use crate::lines::{Format, LeftOutLine, Shown};
-use crate::outlets::Outlet;
 use log::filter::FilteredLog;
 use log::kv::Source;
 use log::span::Spans;
