@@ -14,9 +14,10 @@ use Rattle.frame_sim.specs.World.{Half, World, gateway_at, half, with_half}
 use Rattle.frame_sim.specs.Events.{Comes, TakesAt, kth, since, unless}
 use Rattle.nat_types.specs.declared.events.WorldEvent.TheVariants.{Deliver}
 use Rattle.frame_sim.specs.declared.events.WorldFault.{WorldFault}
-use Rattle.frame_sim.specs.declared.events.WorldFault.TheVariants.{NoSuchDatagram}
+use Rattle.frame_sim.specs.declared.events.WorldFault.TheVariants.{NoMemory, NoSuchDatagram}
 use Rattle.frame_sim.specs.Runs.{Answers, fault_of}
 use Rattle.frame_sim.specs.Halves.{Receives, StepsAt}
+use Rattle.frame_sim.specs.Lacks.{IsUnreceived}
 use Rattle.frame_sim.specs.Scene.{IsHanded, IsSound}
 use Rattle.frame_sim.proofs.Laws.{AreRead, OthersStep, StepsAccount, StepsAnywhere, StepsGo, StepsKeep}
 use Rattle.frame_sim.proofs.Handing.{hands-datagram}
@@ -78,9 +79,10 @@ hand-takes w i (Err e) event told told2 h2 trace2 s = tt
 pub receive-answers : (w : World) (i : GatewayId) (result : Result Outcome WorldFault) (number : ℕ) (told told2 : Output) (h2 : Half) (trace2 : List Note)
     → IfOk result (λ o. Receives (half w i) (half w (other i)) number w.trace told o told2 h2 trace2)
     → IfErr result (λ fault. fault ≡ fault_of (unless (is_some (kth number (half w (other i)).sent)) NoSuchDatagram))
+    → IfErr result (λ fault. fault ≡ NoMemory → IsUnreceived (half w i) (half w (other i)) number)
     → OnErr result (h2 ≡ half w i) → OnErr result (trace2 ≡ w.trace) → OnErr result (told2 ≡ told) → Answers w (Deliver i number) told result told2 (with_half w i h2 trace2)
-receive-answers w i (Ok o) number told told2 h2 trace2 s fault same noted untold =
+receive-answers w i (Ok o) number told told2 h2 trace2 s fault short same noted untold =
     let taken = takes-so w i (gateway_at w i) (given.Datagram s.bytes) told o told2 h2 trace2 s.steps in
     let comes : Comes w i (Some s.bytes.now) told o told2 (with_half w i h2 trace2) = datagram-lent w i (gateway_at w i) s.bytes told o told2 (with_half w i h2 trace2) taken in
     (ap (λ (m : Option (List ℕ)). unless (is_some m) NoSuchDatagram) s.was_sent, subst (λ (m : Option (List ℕ)). Comes w i m told o told2 (with_half w i h2 trace2)) (sym s.was_sent) comes)
-receive-answers w i (Err e) number told told2 h2 trace2 s fault same noted untold = (fault, untold, unmoved w i h2 trace2 same noted)
+receive-answers w i (Err e) number told told2 h2 trace2 s fault short same noted untold = (fault, short, untold, unmoved w i h2 trace2 same noted)

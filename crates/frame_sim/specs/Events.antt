@@ -1,5 +1,5 @@
 -- What can happen to a world: which events are refused, and what the others do.
-use Rattle.std.specs.Prelude.{◌≡◌, ℕ, ◌-◌, ◌==◌, ◌&&◌, ◌||◌, Bool, not, nat_lt, Option, Some, None, List, [], ◌∷◌, ◌++◌, drop, length, slice_get, is_some, IsTrue, if◌then◌else◌}
+use Rattle.std.specs.Prelude.{◌≡◌, ℕ, ◌-◌, ◌==◌, ◌&&◌, ◌||◌, Bool, not, nat_lt, Option, Some, None, List, [], ◌∷◌, ◌++◌, drop, length, slice_get, is_some, if◌then◌else◌}
 use Rattle.std.specs.Borrow.{Bor}
 use Rattle.nat_types.specs.Same.{other}
 use Rattle.nat_types.specs.declared.gateways.GatewayId.{GatewayId}
@@ -60,18 +60,6 @@ refusal w (Crash i) = unless (may_crash w i) PremiseBroken
 refusal w (Boot i n) = unless (may_boot w i n) PremiseBroken
 refusal w (PeerOff i n) = unless (may_be_told w i n) PremiseBroken
 refusal w (Cable i side up) = None
-
--- it is handed to a gateway that is down, which takes nothing
-abbrev pub IsHandedDown : World → WorldEvent → Type 0
-IsHandedDown w (Frame i side bytes) = gateway_at w i ≡ None
-IsHandedDown w (Tick i moment) = gateway_at w i ≡ None
-IsHandedDown w (Stop i) = gateway_at w i ≡ None
-IsHandedDown w (Deliver i k) =
-    (gateway_at w i ≡ None) × IsTrue (is_some (datagram_for w i k))
-IsHandedDown w (Crash i) = ⊥
-IsHandedDown w (Boot i n) = ⊥
-IsHandedDown w (PeerOff i n) = ⊥
-IsHandedDown w (Cable i side up) = gateway_at w i ≡ None
 
 -- ---- what an event does
 

@@ -1,5 +1,5 @@
 -- What a run answers: a step for each event.
-use Rattle.std.specs.Prelude.{◌≡◌, Option, Some, None, Result, Ok, Err, IsOk, List, [], ◌∷◌}
+use Rattle.std.specs.Prelude.{◌≡◌, Option, Some, None, Result, Ok, Err, List, [], ◌∷◌}
 use Rattle.output.specs.Output.{Output, none_told}
 use Rattle.spec_step.specs.declared.events.Outcome.{Outcome}
 use Rattle.frame_sim.specs.declared.events.Step.{Step}
@@ -7,28 +7,28 @@ use Rattle.nat_types.specs.declared.events.WorldEvent.{WorldEvent}
 use Rattle.frame_sim.specs.declared.events.WorldFault.{WorldFault}
 use Rattle.frame_sim.specs.declared.events.WorldFault.TheVariants.{NoMemory}
 use Rattle.frame_sim.specs.World.{World}
-use Rattle.frame_sim.specs.Events.{Does, IsHandedDown, refusal}
+use Rattle.frame_sim.specs.Events.{Does, refusal}
+use Rattle.frame_sim.specs.Lacks.{Lacks}
 
 -- the fault of an event that wasn't applied: why it is refused, else want of memory
 abbrev pub fault_of : Option WorldFault → WorldFault
 fault_of None = NoMemory
 fault_of (Some fault) = fault
 
--- An event was applied; or it wasn't, and nothing changed and nothing was told.
+-- An event was applied; or it wasn't, for want of memory only where it lacked that, and nothing changed and nothing was told.
 abbrev pub Answers : World → WorldEvent → Output → Result Outcome WorldFault → Output → World → Type 0
 Answers w e told (Ok outcome) told2 w2 = (refusal w e ≡ None) × Does w e told outcome told2 w2
 Answers w e told (Err fault) told2 w2 =
-    (fault ≡ fault_of (refusal w e)) × (told2 ≡ told) × (w2 ≡ w)
+    (fault ≡ fault_of (refusal w e)) × (fault ≡ NoMemory → Lacks w e) × (told2 ≡ told) × (w2 ≡ w)
 
 -- A world was to take an event, and this is what it answered, and what it is then. It is no more than a name for the call: who makes the call has
 -- it, and nobody else.
 unfoldable pub WasTaken : World → WorldEvent → Result Outcome WorldFault → World → Type 0
 WasTaken w e answer w2 = Unit {0}
 
--- the step of an event: it is what just that world answered; and what is handed to a gateway that is down is never refused
+-- the step of an event: it is what just that world answered
 abbrev pub Gives : World → WorldEvent → Step → World → Type 0
-Gives w e s w2 =
-    Answers w e none_told s.answer s.out w2 × (WasTaken w e s.answer w2 × (IsHandedDown w e → IsOk s.answer))
+Gives w e s w2 = Answers w e none_told s.answer s.out w2 × WasTaken w e s.answer w2
 
 -- the steps of these events in order, from one world to another
 abbrev pub AreSteps : World → List WorldEvent → List Step → World → Type 0

@@ -19,15 +19,13 @@ has_refusal steps = list_any (λ s. is_err s.answer) steps
 abbrev pub run_status : List Step → ℕ
 run_status steps = if has_refusal steps then 3 else 0
 
--- the status of the steps that these events take, in order, from one world to another
-pub record TakesSteps (w : World) (events : List WorldEvent) (w2 : World) (status : ℕ) : Type 0 where
-  pub steps : List Step
-  pub answers : AreSteps w events steps w2
-  pub refusals : status ≡ run_status steps
-
--- the status of the steps that these events take, in order, on a new world of these settings
-pub record IsRun (settings : Settings) (events : List WorldEvent) (status : ℕ) : Type 0 where
+-- the steps that these events take, in order, from a world, the one to which they lead, and their status
+pub record IsRunFrom (w : World) (events : List WorldEvent) (status : ℕ) : Type 0 where
   pub steps : List Step
   pub world : World
-  pub answers : AreSteps (founding settings) events steps world
+  pub answers : AreSteps w events steps world
   pub refusals : status ≡ run_status steps
+
+-- the same on a new world of these settings
+abbrev pub IsRun : Settings → List WorldEvent → ℕ → Type 0
+IsRun settings events status = IsRunFrom (founding settings) events status

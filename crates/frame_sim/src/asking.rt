@@ -1,7 +1,7 @@
 //! What a run asks for at its beginning and at its end.
 ghost use Rattle.std.specs.Prelude.{◌≡◌, ◌≢◌, IfErr, IfOk, None, OnOk};
 ghost use Rattle.faults.specs.Faults.{status_of};
-ghost use Rattle.faults.specs.Jobs.{IsJobOf, TellsRun};
+ghost use Rattle.faults.specs.Jobs.{IsJobOf, IsJobShort, TellsRun};
 ghost use Rattle.faults.specs.declared.faults.Fault.TheVariants as faults;
 ghost use Rattle.scripts.specs.Script.{first_bad_line};
 ghost use Rattle.outlets.specs.Printed.{Prints};
@@ -38,6 +38,8 @@ fn told_to_read(alloc: Global, settings: &str, script: &str) -> Result<Job, Faul
     ensures told { IfErr result (TellsRun settings.now script.now) }
     ensures known { IfErr result (λ fault. status_of fault ≡ 1) }
     ensures read { IfErr result (λ fault. fault ≢ faults.NotWritten) }
+    ensures short { IfErr result
+        (λ fault. fault ≡ faults.NoMemory → IsJobShort settings.now script.now) }
     ensures unread { IfErr result (WasUnread settings.now script.now) }
 {
     job_of(alloc, settings, script)

@@ -11,7 +11,6 @@ use std::alloc::Global;
 impl<'a> World<'a> {
     /// A new world of these settings, as `new` gives it: what it is has one name here (`IsNew`), and so has that there is no
     /// memory for it.
-    #[tactic(auto, unfolding(crate::specs::Asked::WasUnfounded))]
     pub fn founded(alloc: Global, settings: &'a Settings) -> Result<World<'a>, NoMemory>
         ensures new { IfOk result (IsNew settings.now) }
         ensures unfounded { OnErr result (WasUnfounded settings.now) }

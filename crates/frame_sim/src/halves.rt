@@ -1,8 +1,10 @@
 //! One of the two gateways, with all that it sent.
-ghost use Rattle.std.specs.Prelude.{◌≡◌, ◌<◌, ◌≤◌, ◌+◌, ◌++◌, ℕ, List, [], Some, None, drop, length, option_map, slice_get, vec_len, vec_capacity, IfOk, IfErr, IsOk, IsTrue, OnOk, OnErr, is_some};
+ghost use Rattle.std.specs.Prelude.{◌≡◌, ◌<◌, ◌≤◌, ◌+◌, ◌++◌, ◌⊎◌, ℕ, false, List, [], Some, None, drop, length, option_map, slice_get, vec_len, vec_capacity, IfOk, IfErr, IsOk, OnOk, OnErr, is_some};
 ghost use Rattle.bindings.specs.Entries.{is_pair, translates};
 ghost use Rattle.link.specs.Link.{IsLink};
+ghost use Rattle.spec_binding.specs.Books.{is_synced};
 ghost use Rattle.spec_step.specs.Machine.{HasBytes};
+ghost use Rattle.spec_step.specs.Rests.{most_notes};
 ghost use Rattle.spec_step.specs.Shown.{scene};
 ghost use Rattle.spec_step.specs.Steps.{IsStepOn, outcome_on};
 ghost use Rattle.spec_step.specs.Truly.{Tells, hand_of};
@@ -11,6 +13,7 @@ ghost use Rattle.frame_sim.specs.World.{is_up, moment_of, owned_by, pairs_of, sy
 ghost use Rattle.frame_sim.specs.declared.events.WorldFault.TheVariants as faults;
 ghost use Rattle.frame_sim.specs.Events.{kth, since, unless};
 ghost use Rattle.frame_sim.specs.Halves.{IsShort, Receives, StepsAt, items_of};
+ghost use Rattle.frame_sim.specs.Lacks.{IsUnowned, IsUnpaired, IsUnreceived, IsUnstepped, IsUntranslated, WasUnowned, WasUnpaired, WasUnready, WasUnstepped, WasUntranslated};
 ghost use Rattle.frame_sim.specs.Runs.{fault_of};
 ghost use Rattle.frame_sim.specs.World.{HasKeys};
 
@@ -90,6 +93,44 @@ fn append_datagram(sent: &mut Vec<Vec<u8>>, letter: Vec<u8>, out: &Out, told: us
     }
 }
 
+/// Room for what a gateway may send and note in a step: a list that has it for a datagram, its place among those that it sent,
+/// and room on the trace. It alone has the name for it that there is none.
+#[tactic(auto, unfolding(crate::specs::Lacks::WasUnready))]
+fn room_for_step(
+    alloc: Global,
+    gateway: &Gateway,
+    sent: &mut Vec<Vec<u8>>,
+    trace: &mut Vec<Note>,
+) -> Result<Vec<u8>, NoMemory>
+    ensures empty { IfOk result (λ letter. letter.items ≡ []) }
+    ensures room { IfOk result (λ letter. vec_len letter + 2214 ≤ vec_capacity letter) }
+    ensures place { OnOk result (vec_len sent.new < vec_capacity sent.new) }
+    ensures notes { OnOk result
+        (vec_len trace.new + most_notes gateway.now ≤ vec_capacity trace.new) }
+    ensures sent { sent.new.items ≡ sent.old.items }
+    ensures trace { trace.new.items ≡ trace.old.items }
+    ensures unready { OnErr result (WasUnready gateway.now) }
+{
+    let letter = Vec::with_capacity(alloc, LONGEST_DATAGRAM)?;
+    sent.reserve(1)?;
+    trace.reserve(gateway.most_notes())?;
+    Ok(letter)
+}
+
+/// Has a gateway step. It alone has the name for it that there was no memory for that.
+#[tactic(auto, unfolding(crate::specs::Lacks::WasUnstepped))]
+fn told_to_step(gateway: &mut Gateway, event: Event<'_>, out: &mut Out) -> Result<Outcome, NoMemory>
+    ensures outcome { IfOk result (λ o. o ≡ outcome_on gateway.old event.entry) }
+    ensures step { OnOk result (IsStepOn (scene gateway.old out.old) event.entry
+        (scene gateway.new out.new)) }
+    ensures bytes { HasBytes event.entry }
+    ensures err { OnErr result (gateway.new ≡ gateway.old) }
+    ensures untold { OnErr result (out.new ≡ out.old) }
+    ensures unstepped { OnErr result (WasUnstepped gateway.old event.entry) }
+{
+    gateway.step(event, out)
+}
+
 /// The step of a gateway that is up. Its notes come behind the trace, its datagram behind those that
 /// it sent.
 fn step_up(
@@ -116,22 +157,49 @@ fn step_up(
     ensures unsent { OnErr result (items_of sent.new.items ≡ items_of sent.old.items) }
     ensures unnoted { OnErr result (trace.new.items ≡ trace.old.items) }
     ensures untold { OnErr result (out.new ≡ out.old) }
+    ensures short { OnErr result (WasUnready gateway.old ⊎ WasUnstepped gateway.old event.entry) }
 {
     steps_go();
     steps_tell();
     steps_note();
     limits_law();
     gateway.recall();
-    let letter = Vec::with_capacity(alloc, LONGEST_DATAGRAM)?;
-    sent.reserve(1)?;
-    trace.reserve(gateway.most_notes())?;
+    let letter = room_for_step(alloc, gateway, sent, trace)?;
     let noted = out.notes().len();
     let told = out.datagram_count();
-    let outcome = gateway.step(event, out)?;
+    let outcome = told_to_step(gateway, event, out)?;
     gateway.recall();
     append_notes(trace, out, noted);
     append_datagram(sent, letter, out, told);
     Ok(outcome)
+}
+
+/// Asks a gateway for its pairs. It alone has the name for it that there is no memory for them, as the two below it for theirs.
+#[tactic(auto, unfolding(crate::specs::Lacks::WasUnpaired))]
+fn told_pairs(gateway: &Gateway) -> Result<Vec<Pair>, NoMemory>
+    ensures pairs { IfOk result (λ v. v.items ≡ pairs_of is_pair (Some gateway.now)) }
+    ensures unpaired { OnErr result (WasUnpaired gateway.now) }
+{
+    gateway.pairs()
+}
+
+/// For those that translate.
+#[tactic(auto, unfolding(crate::specs::Lacks::WasUntranslated))]
+fn told_translating(gateway: &Gateway) -> Result<Vec<Pair>, NoMemory>
+    ensures pairs { IfOk result (λ v. v.items ≡ pairs_of translates (Some gateway.now)) }
+    ensures untranslated { OnErr result (WasUntranslated gateway.now) }
+{
+    gateway.translating()
+}
+
+/// For the ports that it owns.
+#[tactic(auto, unfolding(crate::specs::Lacks::WasUnowned))]
+fn told_ports(gateway: &Gateway) -> Result<Vec<Port>, NoMemory>
+    ensures ports { IfOk result (λ v. v.items ≡ owned_by (Some gateway.now)) }
+    ensures none { is_synced gateway.now.ledger.book.stage ≡ false → IsOk result }
+    ensures unowned { OnErr result (WasUnowned gateway.now) }
+{
+    gateway.owned()
 }
 
 impl Half {
@@ -161,7 +229,7 @@ impl Half {
         ensures unnoted { OnErr result (trace.new.items ≡ trace.old.items) }
         ensures untold { OnErr result (out.new ≡ out.old) }
         // One that is down takes no memory.
-        ensures down { self.old.gateway ≡ None → IsOk result }
+        ensures short { OnErr result (IsUnstepped self.old.gateway event.entry) }
     {
         match &mut self.gateway {
             Some(gateway) => {
@@ -214,8 +282,8 @@ impl Half {
         ensures err { OnErr result (self.new ≡ self.old) }
         ensures unnoted { OnErr result (trace.new.items ≡ trace.old.items) }
         ensures untold { OnErr result (out.new ≡ out.old) }
-        ensures down { self.old.gateway ≡ None
-            → IsTrue (is_some (kth number other.now.sent)) → IsOk result }
+        ensures short { IfErr result
+            (λ fault. fault ≡ faults.NoMemory → IsUnreceived self.old other.now number) }
     {
         let Some(bytes) = other.datagram(number) else {
             return Err(WorldFault::NoSuchDatagram);
@@ -249,10 +317,10 @@ impl Half {
     /// The pairs of its table, none while it is down.
     pub(crate) fn pairs(&self, alloc: Global) -> Result<Vec<Pair>, NoMemory>
         ensures pairs { IfOk result (λ v. v.items ≡ pairs_of is_pair self.now.gateway) }
-        ensures down { self.now.gateway ≡ None → IsOk result }
+        ensures unlisted { OnErr result (IsUnpaired self.now.gateway) }
     {
         match &self.gateway {
-            Some(gateway) => gateway.pairs(),
+            Some(gateway) => told_pairs(gateway),
             None => Ok(Vec::new(alloc)),
         }
     }
@@ -260,10 +328,10 @@ impl Half {
     /// The pairs that translate.
     pub(crate) fn translating(&self, alloc: Global) -> Result<Vec<Pair>, NoMemory>
         ensures pairs { IfOk result (λ v. v.items ≡ pairs_of translates self.now.gateway) }
-        ensures down { self.now.gateway ≡ None → IsOk result }
+        ensures unlisted { OnErr result (IsUntranslated self.now.gateway) }
     {
         match &self.gateway {
-            Some(gateway) => gateway.translating(),
+            Some(gateway) => told_translating(gateway),
             None => Ok(Vec::new(alloc)),
         }
     }
@@ -271,10 +339,10 @@ impl Half {
     /// The ports that it owns.
     pub(crate) fn owned(&self, alloc: Global) -> Result<Vec<Port>, NoMemory>
         ensures ports { IfOk result (λ v. v.items ≡ owned_by self.now.gateway) }
-        ensures down { self.now.gateway ≡ None → IsOk result }
+        ensures unlisted { OnErr result (IsUnowned self.now.gateway) }
     {
         match &self.gateway {
-            Some(gateway) => gateway.owned(),
+            Some(gateway) => told_ports(gateway),
             None => Ok(Vec::new(alloc)),
         }
     }

@@ -1,9 +1,10 @@
 //! Prints the tables of a world.
-ghost use Rattle.std.specs.Prelude.{◌≡◌, IfErr, IfOk, IsOk, None, Ok, OnErr, OnOk};
+ghost use Rattle.std.specs.Prelude.{◌≡◌, ◌⊎◌, IfErr, IfOk, Ok, OnErr, OnOk};
 ghost use Rattle.bindings.specs.Entries.{is_pair};
 ghost use Rattle.outlets.specs.Printed.{Prints};
-ghost use Rattle.printing.specs.Lines.{table_lines};
-ghost use Rattle.frame_sim.specs.Asked.{AreTabled, AreUntabled, IsTableUnput, WasPrinted, WasUnlisted};
+ghost use Rattle.outlets.specs.Written.{IsWritten};
+ghost use Rattle.frame_sim.specs.Asked.{AreTabled, AreUntabled, IsTableUnput};
+ghost use Rattle.frame_sim.specs.Lacks.{IsUnowned, IsUnpaired};
 ghost use Rattle.frame_sim.specs.Texts.{gateway_lines, standing_of, world_lines};
 ghost use Rattle.frame_sim.specs.World.{gateway_at, owned_by, pairs_of};
 
@@ -12,7 +13,7 @@ use addresses::Port;
 use faults::PrintFault;
 use nat_types::{GatewayId, NoMemory, Pair};
 use printing::{Standing, table};
-use std::io::{self, Write};
+use std::io::Write;
 
 impl World<'_> {
     /// Prints how both gateways stand, the ports that each owns, and the pairs that it holds.
@@ -36,25 +37,24 @@ impl World<'_> {
         ensures printed { Prints (O.contents output.old) result (O.contents output.new)
             (gateway_lines self.now id) }
         ensures put { OnOk result
-            (WasPrinted output.old (gateway_lines self.now id) (Ok tt) output.new) }
+            (IsWritten output.old (gateway_lines self.now id) (Ok tt) output.new) }
         ensures unput { IfErr result
             (λ why. IsTableUnput self.now id why output.old output.new) }
     {
-        let lists = self.told_to_list(id)?;
+        let lists = self.lists_of(id)?;
         let (ports, pairs) = (lists.0.as_slice(), lists.1.as_slice());
-        told_to_table(output, id, self.standing(id), ports, pairs)?;
+        table(output, id, self.standing(id), ports, pairs)?;
         Ok(())
     }
 
     /// The ports that a gateway owns, and the pairs that it holds.
-    #[tactic(auto, unfolding(crate::specs::Asked::WasUnlisted))]
-    fn told_to_list(&self, id: GatewayId) -> Result<(Vec<Port>, Vec<Pair>), NoMemory>
+    fn lists_of(&self, id: GatewayId) -> Result<(Vec<Port>, Vec<Pair>), NoMemory>
         ensures ports { IfOk result
             (λ lists. lists.0.items ≡ owned_by (gateway_at self.now id)) }
         ensures pairs { IfOk result
             (λ lists. lists.1.items ≡ pairs_of is_pair (gateway_at self.now id)) }
-        ensures down { gateway_at self.now id ≡ None → IsOk result }
-        ensures unlisted { OnErr result (WasUnlisted self.now id) }
+        ensures unlisted { OnErr result
+            (IsUnowned (gateway_at self.now id) ⊎ IsUnpaired (gateway_at self.now id)) }
     {
         Ok((self.owned(id)?, self.table(id)?))
     }
@@ -70,21 +70,4 @@ impl World<'_> {
             Standing::Unsynced
         }
     }
-}
-
-/// Has an output take a gateway's table.
-#[tactic(auto, unfolding(crate::specs::Asked::WasPrinted))]
-fn told_to_table<O: Write>(
-    output: &mut O,
-    id: GatewayId,
-    standing: Standing,
-    ports: &[Port],
-    pairs: &[Pair],
-) -> io::Result<()>
-    ensures printed { Prints (O.contents output.old) result (O.contents output.new)
-        (table_lines id standing ports.now pairs.now) }
-    ensures put { WasPrinted output.old (table_lines id standing ports.now pairs.now) result
-        output.new }
-{
-    table(output, id, standing, ports, pairs)
 }

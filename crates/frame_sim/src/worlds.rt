@@ -1,5 +1,5 @@
 //! The world of a script: two gateways, what happens to them, and the trace of their notes.
-ghost use Rattle.std.specs.Prelude.{◌≡◌, ◌<◌, ◌++◌, ◌∷◌, [], true, None, option_map, is_some, vec_len, vec_capacity, IfOk, IsOk, IsTrue, OnOk, OnErr, if◌then◌else◌};
+ghost use Rattle.std.specs.Prelude.{◌≡◌, ◌<◌, ◌≤◌, ◌+◌, ◌++◌, ◌∷◌, [], true, length, option_map, vec_len, vec_capacity, IfOk, IsTrue, OnOk, OnErr, if◌then◌else◌};
 ghost use Rattle.bindings.specs.Entries.{is_pair, translates};
 ghost use Rattle.spec_trace.specs.OneBox.{IsOneBox};
 ghost use Rattle.spec_trace.specs.Trace.{Fits, GoesOn, Idle, Kept, Silent};
@@ -8,7 +8,8 @@ ghost use Rattle.nat_types.specs.declared.gateways.GatewayId.TheVariants.{Zero};
 ghost use Rattle.spec_step.specs.Founding.{begun, founded};
 ghost use Rattle.nat_types.specs.declared.events.WorldEvent.TheVariants as events;
 ghost use Rattle.frame_sim.specs.declared.events.WorldFault.TheVariants as faults;
-ghost use Rattle.frame_sim.specs.Events.{IsHandedDown, TakesAt, datagram_for, may_be_told, may_boot, may_crash};
+ghost use Rattle.frame_sim.specs.Events.{TakesAt, datagram_for, may_be_told, may_boot, may_crash};
+ghost use Rattle.frame_sim.specs.Lacks.{IsUnnoted, IsUnowned, IsUnpaired, IsUnstepped, IsUntranslated, WasUnbegun, WasUnrun, WasUntold, WasUntraced};
 ghost use Rattle.frame_sim.specs.Runs.{Answers, AreSteps, Gives, WasTaken, fault_of};
 ghost use Rattle.frame_sim.specs.Scene.{IsHanded};
 ghost use Rattle.frame_sim.specs.World.{Holds, IsOwned, ShowsSynced, Translates, founding, gateway_at, half, is_up, owned_by, pairs_of, synced_at};
@@ -61,10 +62,12 @@ impl<'a> Model for World<'a> {
     }) };
 }
 
-/// Tells a note more.
+/// Tells a note more. It alone has the name for it that there is no room.
+#[tactic(auto, unfolding(crate::specs::Lacks::WasUntold))]
 fn tell(out: &mut Out, note: &Note) -> Result<(), NoMemory>
     ensures ok { OnOk result (out.new ≡ with_note out.old note.now) }
     ensures err { OnErr result (out.new ≡ out.old) }
+    ensures unroomed { OnErr result (WasUntold note.now) }
 {
     out.page.ready(Room {
         frames: 0,
@@ -75,14 +78,26 @@ fn tell(out: &mut Out, note: &Note) -> Result<(), NoMemory>
     Ok(())
 }
 
+/// Room on the trace for a note more. It alone has the name for it that there is none.
+#[tactic(auto, unfolding(crate::specs::Lacks::WasUntraced))]
+fn room_on_trace(trace: &mut Vec<Note>, note: &Note) -> Result<(), NoMemory>
+    ensures items { trace.new.items ≡ trace.old.items }
+    ensures room { OnOk result (vec_len trace.new < vec_capacity trace.new) }
+    ensures unroomed { OnErr result (WasUntraced note.now) }
+{
+    let _note = note;
+    Ok(trace.reserve(1)?)
+}
+
 /// Notes it on the trace, too.
 fn note_both(trace: &mut Vec<Note>, out: &mut Out, note: &Note) -> Result<(), NoMemory>
     ensures trace { OnOk result (trace.new.items ≡ trace.old.items ++ note.now ∷ []) }
     ensures out { OnOk result (out.new ≡ with_note out.old note.now) }
     ensures unnoted { OnErr result (trace.new.items ≡ trace.old.items) }
     ensures untold { OnErr result (out.new ≡ out.old) }
+    ensures short { OnErr result (IsUnnoted note.now) }
 {
-    trace.reserve(1)?;
+    room_on_trace(trace, note)?;
     tell(out, note)?;
     match trace.extend_from_slice(slice::from_ref(note)) {
         Ok(()) => {}
@@ -91,7 +106,20 @@ fn note_both(trace: &mut Vec<Note>, out: &mut Out, note: &Note) -> Result<(), No
     Ok(())
 }
 
-/// A gateway that begins, by the fixed hashers: a script's run is the same each time.
+/// Room for the steps of events. It alone has the name for it that there is none.
+#[tactic(auto, unfolding(crate::specs::Lacks::WasUnrun))]
+fn room_for_steps(alloc: Global, events: &[WorldEvent]) -> Result<Vec<Step>, NoMemory>
+    ensures empty { IfOk result (λ steps. steps.items ≡ []) }
+    ensures room { IfOk result
+        (λ steps. vec_len steps + length events.now ≤ vec_capacity steps) }
+    ensures unrun { OnErr result (WasUnrun events.now) }
+{
+    Ok(Vec::with_capacity(alloc, events.len())?)
+}
+
+/// A gateway that begins, by the fixed hashers: a script's run is the same each time. It alone has the name for it that there
+/// is no memory for one.
+#[tactic(auto, unfolding(crate::specs::Lacks::WasUnbegun))]
 fn begin(
     alloc: Global,
     settings: &Settings,
@@ -101,8 +129,9 @@ fn begin(
 ) -> Result<Gateway, NoMemory>
     requires boot { 0 < boot }
     requires found { IsTrue found → id ≡ Zero }
-    ensures { IfOk result (λ g. g
+    ensures begins { IfOk result (λ g. g
         ≡ (if found then founded settings.now boot else begun settings.now id boot)) }
+    ensures unbegun { OnErr result (WasUnbegun settings.now id boot) }
 {
     Gateway::new(alloc, settings, id, boot, found, Hashers::fixed())
 }
@@ -110,7 +139,8 @@ fn begin(
 impl<'a> World<'a> {
     /// Gateway 0 founded with boot 1, and gateway 1 down.
     pub fn new(alloc: Global, settings: &'a Settings) -> Result<World<'a>, NoMemory>
-        ensures { IfOk result (λ w. w ≡ founding settings.now) }
+        ensures founding { IfOk result (λ w. w ≡ founding settings.now) }
+        ensures unbegun { OnErr result (WasUnbegun settings.now Zero 1) }
     {
         begins();
         books_begin();
@@ -187,7 +217,7 @@ impl<'a> World<'a> {
     pub fn table(&self, id: GatewayId) -> Result<Vec<Pair>, NoMemory>
         ensures pairs { IfOk result (λ v. v.items ≡ pairs_of is_pair (gateway_at self.now id)) }
         // Of one that is down there is none to list, and no memory is taken.
-        ensures down { gateway_at self.now id ≡ None → IsOk result }
+        ensures unlisted { OnErr result (IsUnpaired (gateway_at self.now id)) }
     {
         self.half(id).pairs(self.alloc)
     }
@@ -196,7 +226,7 @@ impl<'a> World<'a> {
     pub fn translating(&self, id: GatewayId) -> Result<Vec<Pair>, NoMemory>
         ensures pairs { IfOk result (λ v. v.items
             ≡ pairs_of translates (gateway_at self.now id)) }
-        ensures down { gateway_at self.now id ≡ None → IsOk result }
+        ensures unlisted { OnErr result (IsUntranslated (gateway_at self.now id)) }
     {
         self.half(id).translating(self.alloc)
     }
@@ -204,7 +234,7 @@ impl<'a> World<'a> {
     /// The ports that a gateway owns, rising; none where it isn't synced.
     pub fn owned(&self, id: GatewayId) -> Result<Vec<Port>, NoMemory>
         ensures ports { IfOk result (λ v. v.items ≡ owned_by (gateway_at self.now id)) }
-        ensures down { gateway_at self.now id ≡ None → IsOk result }
+        ensures unlisted { OnErr result (IsUnowned (gateway_at self.now id)) }
     {
         self.half(id).owned(self.alloc)
     }
@@ -232,9 +262,7 @@ impl<'a> World<'a> {
 
     /// Takes one event. What the gateway sends and notes is appended to `out`.
     pub fn apply(&mut self, event: &WorldEvent, out: &mut Out) -> Result<Outcome, WorldFault>
-        ensures answers { Answers self.old event.now out.old result out.new self.new }
-        // A gateway that is down takes nothing, and no memory.
-        ensures down { IsHandedDown self.old event.now → IsOk result }
+        ensures { Answers self.old event.now out.old result out.new self.new }
     {
         match event {
             WorldEvent::Frame(id, side, bytes) => {
@@ -263,9 +291,10 @@ impl<'a> World<'a> {
         ensures owned_ports { IsOwned self.new }
         ensures steps { IfOk result (λ ss. AreSteps self.old events.now ss.items self.new) }
         ensures err { OnErr result (self.new ≡ self.old) }
+        ensures unrun { OnErr result (WasUnrun events.now) }
     {
         self.recall();
-        let mut steps = Vec::with_capacity(self.alloc, events.len())?;
+        let mut steps = room_for_steps(self.alloc, events)?;
         for event in events {
             let step = self.step(event);
             steps.push_reserved(step);
@@ -287,7 +316,6 @@ impl<'a> World<'a> {
     #[tactic(auto, unfolding(crate::specs::Runs::WasTaken))]
     fn told_to_take(&mut self, event: &WorldEvent, out: &mut Out) -> Result<Outcome, WorldFault>
         ensures answers { Answers self.old event.now out.old result out.new self.new }
-        ensures down { IsHandedDown self.old event.now → IsOk result }
         ensures taken { WasTaken self.old event.now result self.new }
     {
         self.apply(event, out)
@@ -300,7 +328,7 @@ impl<'a> World<'a> {
             out.old o out.new self.new) }
         ensures err { OnErr result (self.new ≡ self.old) }
         ensures untold { OnErr result (out.new ≡ out.old) }
-        ensures down { gateway_at self.old id ≡ None → IsOk result }
+        ensures short { OnErr result (IsUnstepped (gateway_at self.old id) event.entry) }
     {
         steps_go();
         one_spelling();
@@ -316,10 +344,7 @@ impl<'a> World<'a> {
 
     /// One of the two takes a datagram that the other sent.
     fn deliver(&mut self, id: GatewayId, number: u64, out: &mut Out) -> Result<Outcome, WorldFault>
-        ensures answers { Answers self.old (events.Deliver id number) out.old result
-            out.new self.new }
-        ensures down { gateway_at self.old id ≡ None
-            → IsTrue (is_some (datagram_for self.old id number)) → IsOk result }
+        ensures { Answers self.old (events.Deliver id number) out.old result out.new self.new }
     {
         steps_go();
         one_spelling();

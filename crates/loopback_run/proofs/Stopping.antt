@@ -1,5 +1,5 @@
 -- How far a run came, and what its fault leaves.
-use Rattle.std.proofs.Common.{◌≡◌, ◌∙◌, ◌⊎◌, inl, inr, ℕ, List, Result, Ok, Err, IfErr, OnOk, sym, subst}
+use Rattle.std.proofs.Common.{◌≡◌, ◌∙◌, ◌⊎◌, inl, inr, ℕ, List, Result, Ok, Err, IfErr, sym, subst}
 use Rattle.settings.specs.declared.whole.Settings.{Settings}
 use Rattle.nat_types.specs.declared.events.WorldEvent.{WorldEvent}
 use Rattle.frame_sim.proofs.Offered.{in_err}
@@ -9,7 +9,6 @@ use Rattle.frame_sim.specs.World.{World}
 use Rattle.frame_sim.specs.declared.tapes.Untaped.{Untaped}
 use Rattle.faults.specs.declared.faults.Fault.{Fault}
 use Rattle.loopback_run.specs.Fails.{Leaves}
-use Rattle.loopback_run.specs.Outputs.{HasPut, HasPutFrom}
 use Rattle.loopback_run.specs.Stops.{Contents, Opens, Refuses}
 use Rattle.loopback_run.specs.Tapes.{StopsTaped, StopsTapedLoop, StopsTapedScript}
 use Rattle.loopback_run.specs.Turns.{Passes}
@@ -27,12 +26,6 @@ pub loops_stop : {P T O : Type 0} (r : Result ℕ Fault) (passes : Passes P) (ta
     → IsNew settings w → IfErr r (StopsTaped passes takes refuses contents w p t es p2 t2 o o2) → IfErr r (StopsTapedLoop passes takes refuses contents settings es p p2 t t2 o o2)
 loops_stop r passes takes refuses contents settings w p t es p2 t2 o o2 new h =
     in_err r (λ e s. loop_stops passes takes refuses contents settings w p t es p2 t2 o o2 e new s) h
-
--- what was put of it
-pub put_from : {X E P O : Type 0} (r : Result X E) (passes : Passes P) (settings : Settings) (w : World) (p : P) (es : List WorldEvent) (p2 : P) (o o2 : O)
-    → IsNew settings w → OnOk r (HasPutFrom passes w p es p2 o o2) → OnOk r (HasPut passes settings es p p2 o o2)
-unfolding IsNew
-put_from r passes settings w p es p2 o o2 new h = subst (λ (x : World). OnOk r (HasPutFrom passes x p es p2 o o2)) new h
 
 -- ---- without a tape
 

@@ -12,7 +12,7 @@ use Rattle.loopback_run.specs.declared.passage.Passed.{Passed}
 use Rattle.loopback_run.specs.declared.passage.Passed.TheVariants.{Received, Lost}
 use Rattle.loopback_run.specs.Parcels.{Message}
 use Rattle.printing.specs.Lines.{Counts, no_counts}
-use Rattle.frame_sim.specs.Asked.{WasPrinted}
+use Rattle.outlets.specs.Written.{IsWritten}
 use Rattle.frame_sim.specs.Tapes.{TakesOn}
 use Rattle.loopback_run.specs.Outputs.{ArePut}
 use Rattle.loopback_run.specs.Runs.{HasTurned}
@@ -106,10 +106,10 @@ counts_given counts through e step of one other = rw (one, other) refl
 
 -- one turn's lines more
 put-push : {O : Type 0} (counts : Counts) (es : List WorldEvent) (ts : List Turn) (before mid : O) (e : WorldEvent) (t : Turn) (next : O)
-    → ArePut counts es ts before mid → WasPrinted mid (turn_lines (counts_through counts es ts) e (step_of t)) (Ok tt) next
+    → ArePut counts es ts before mid → IsWritten mid (turn_lines (counts_through counts es ts) e (step_of t)) (Ok tt) next
     → ArePut counts (es ++ e ∷ []) (ts ++ t ∷ []) before next
 put-push {O = O} counts [] [] before mid e t next h put =
-    (next, (subst (λ (x : O). WasPrinted x (turn_lines counts e (step_of t)) (Ok tt) next) h put, refl))
+    (next, (subst (λ (x : O). IsWritten x (turn_lines counts e (step_of t)) (Ok tt) next) h put, refl))
 put-push counts [] (u ∷ ts) before mid e t next h put = absurd h
 put-push counts (f ∷ es) [] before mid e t next h put = absurd h
 put-push counts (f ∷ es) (u ∷ ts) before mid e t next h put =
@@ -137,7 +137,7 @@ none_turned passes takes contents w p t output counts none = record {
 pub one_turned : {P T O : Type 0} (passes : Passes P) (takes : TakesOn T) (contents : Contents O) (w : World) (p : P) (t : T) (es : List WorldEvent) (mid : World) (q : P) (u : T)
     (output some : O) (refused : Bool) (counts : Counts) (e : WorldEvent) (step : Option Step) (w2 : World) (p2 : P) (t2 : T)
     (more : O) (then : Counts) → Turned passes takes contents w p t es mid q u output some refused counts → TakesTurn passes mid q e step w2 p2
-    → TapesTurn takes u w2 e step t2 → Appends (contents some) (contents more) (turn_lines counts e step) → WasPrinted some (turn_lines counts e step) (Ok tt) more
+    → TapesTurn takes u w2 e step t2 → Appends (contents some) (contents more) (turn_lines counts e step) → IsWritten some (turn_lines counts e step) (Ok tt) more
     → then ≡ counts_then counts e step
     → Turned passes takes contents w p t (es ++ e ∷ []) w2 p2 t2 output more (refused || is_refusal step) then
 one_turned passes takes contents w p t es mid q u output some refused counts e step w2 p2 t2 more then before last taped written put same =
@@ -155,7 +155,7 @@ one_turned passes takes contents w p t es mid q u output some refused counts e s
           taken = taped-push passes takes w p t es had.turns mid q u e last.turn w2 p2 t2 had.taken last.is
               (subst (λ (o : Option Step). TapesTurn takes u w2 e o t2) last.gives taped);
           text = subst (λ (l : List ℕ). Appends (contents output) (contents more) l) (sym lines) whole;
-          put = put-push no_counts es had.turns output some e last.turn more had.put (subst (λ (l : List ℕ). WasPrinted some l (Ok tt) more) (sym given) put);
+          put = put-push no_counts es had.turns output some e last.turn more had.put (subst (λ (l : List ℕ). IsWritten some l (Ok tt) more) (sym given) put);
         };
         refusals = flags ∙ sym (refused-push had.turns last.turn);
       };

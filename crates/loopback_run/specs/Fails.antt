@@ -17,9 +17,3 @@ Leaves opens refuses passes contents text script before after output printed why
 pub record FailsBy {P O : Type 0} (opens : Opens P) (refuses : Refuses P) (passes : Passes P) (contents : Contents O) (text script : List ℕ) (before after : P) (output printed : O) (fault : Fault) : Type 0 where
   pub told : TellsLoop text script fault
   pub leaves : Leaves opens refuses passes contents text script before after output printed fault
-
--- a fault ended the run: which, and what it leaves
-pub record FailsScript {P O : Type 0} (opens : Opens P) (refuses : Refuses P) (passes : Passes P) (contents : Contents O) (text script : List ℕ) (before after : P) (output printed : O) : Type 0 where
-  pub fault : Fault
-  pub told : TellsLoop text script fault
-  pub leaves : Leaves opens refuses passes contents text script before after output printed fault

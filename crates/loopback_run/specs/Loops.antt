@@ -4,7 +4,7 @@ use Rattle.std.specs.Io.KnownBytes.{Appends}
 use Rattle.toml.specs.Parse.{parse_document}
 use Rattle.settings.specs.declared.whole.Settings.{Settings}
 use Rattle.settings_file.specs.Clashes.{clash_of_both}
-use Rattle.settings_file.specs.Settings.{IsReadFrom, Tells}
+use Rattle.settings_file.specs.Settings.{IsReadFrom}
 use Rattle.settings_file.specs.declared.faults.SettingFault.{SettingFault}
 use Rattle.settings_file.specs.declared.faults.SettingFault.TheVariants.{CantWork}
 use Rattle.settings_file.specs.declared.keys.Key.{Key}
@@ -14,7 +14,7 @@ use Rattle.faults.specs.declared.faults.Fault.{Fault}
 use Rattle.faults.specs.declared.faults.Fault.TheVariants.{NoSocket, Setting}
 use Rattle.faults.specs.declared.jobs.Job.{Job}
 use Rattle.scripts.specs.Script.{first_bad_line}
-use Rattle.faults.specs.Jobs.{IsJobOf, TellsRun}
+use Rattle.faults.specs.Jobs.{IsJobOf, TellsRun, TellsSettings}
 use Rattle.frame_sim.specs.Status.{IsRun}
 use Rattle.loopback_run.specs.Texts.{loop_lines}
 use Rattle.loopback_run.specs.Turns.{AreTurns, Passes, Turn, left, steps_in}
@@ -54,7 +54,7 @@ Clash text script other = ⊥
 -- why a script isn't run so to its end: as without a passage; or, where both texts are good, the ports of the settings
 -- can't be had together, or one isn't had
 abbrev pub TellsLoop : List ℕ → List ℕ → Fault → Type 0
-TellsLoop text script (Setting fault) = Tells (parse_document text) fault ⊎ Clash text script fault
+TellsLoop text script (Setting fault) = TellsSettings (parse_document text) fault ⊎ Clash text script fault
 TellsLoop text script (NoSocket port) =
     ((settings : Settings) × IsReadFrom (parse_document text) settings) × (first_bad_line script ≡ None)
 TellsLoop text script fault = TellsRun text script fault

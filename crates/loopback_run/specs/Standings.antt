@@ -24,20 +24,20 @@ pub record Passage (B S : Type 0) : Type 0 where
 abbrev pub IsUnasked : {B S : Type 0} → Passage B S → Type 0
 IsUnasked p = p.standing ≡ unasked
 
--- a passage that stood so was let go, and nothing was sent through its ports, if it had some, behind that. It is no more than a name: who lets it
--- go has it, and nobody else.
-unfoldable pub WasLetGo : {S : Type 0} → Standing S → Type 0
-WasLetGo standing = Unit {0}
+-- A passage that stood so was let go, by what who binds its ports was before and is then; and nothing was sent through its ports, if it had some,
+-- behind that. It is no more than a name: who lets it go has it, and nobody else.
+unfoldable pub WasLetGo : {B S : Type 0} → B → Standing S → B → Type 0
+WasLetGo before standing after = Unit {0}
 
--- what was had before was let go as it was; the ports of these settings were asked for, each once, and these are had
+-- what was had before was let go as it was; then the ports of these settings were asked for, each once, and these are had
 abbrev pub HasPorts : {B S : Type 0} → Binds B S → Passage B S → Settings → Passage B S → Type 0
-HasPorts {S = S} binds before settings after =
-    WasLetGo before.standing × ((both : Both S) × ((after.standing ≡ bound settings both) × BindsBoth binds settings before.system (Ok both) after.system))
+HasPorts {B = B} {S = S} binds before settings after = (freed : B) × (WasLetGo before.system before.standing freed
+    × ((both : Both S) × ((after.standing ≡ bound settings both) × BindsBoth binds settings freed (Ok both) after.system)))
 
 -- the same, but the first of them that isn't had is refused, or memory, and just that is told
 abbrev pub LacksPorts : {B S : Type 0} → Binds B S → Passage B S → Settings → PortFault → Passage B S → Type 0
-LacksPorts binds before settings why after =
-    WasLetGo before.standing × ((after.standing ≡ refused why) × BindsBoth binds settings before.system (Err why) after.system)
+LacksPorts {B = B} binds before settings why after = (freed : B) × (WasLetGo before.system before.standing freed
+    × ((after.standing ≡ refused why) × BindsBoth binds settings freed (Err why) after.system))
 
 -- What becomes of a parcel: just the port of its gateway and place, which has the number of those settings, is asked once to send it, and
 -- each other port is what it was; without ports it is lost.

@@ -6,18 +6,16 @@ use Rattle.nat_types.specs.declared.events.WorldEvent.{WorldEvent}
 use Rattle.faults.specs.Faults.{of_print}
 use Rattle.faults.specs.declared.faults.Fault.{Fault}
 use Rattle.faults.specs.declared.faults.Fault.TheVariants.{NotWritten, NoMemory}
-use Rattle.faults.specs.declared.jobs.Job.{Job}
-use Rattle.faults.specs.Jobs.{IsJobOf}
 use Rattle.outlets.specs.Printed.{IsBegun}
 use Rattle.printing.specs.Lines.{Counts, no_counts}
-use Rattle.scripts.specs.Script.{first_bad_line}
 use Rattle.frame_sim.specs.Asked.{IsEndUnput, IsUnprinted, WasUnfounded}
 use Rattle.frame_sim.specs.declared.events.Step.{Step}
 use Rattle.frame_sim.specs.Texts.{world_lines}
 use Rattle.frame_sim.specs.World.{World, founding}
 use Rattle.frame_sim.specs.Tapes.{TakesOn}
 use Rattle.faults.specs.declared.prints.PrintFault.{PrintFault}
-use Rattle.loopback_run.specs.Outputs.{ArePut}
+use Rattle.loopback_run.specs.Loops.{IsLoop, LoopsScript}
+use Rattle.loopback_run.specs.Outputs.{ArePut, IsPut}
 use Rattle.loopback_run.specs.Stops.{Contents, HoldJob, IsUnbegun, Opens, Refuses, Untouched}
 use Rattle.loopback_run.specs.Texts.{counts_through, turn_lines, turns_lines}
 use Rattle.loopback_run.specs.Turns.{IsTurn, Passes, Turn, step_of}
@@ -48,19 +46,17 @@ AreTaped passes takes w p t (e ∷ es) [] w2 p2 t2 = ⊥
 AreTaped passes takes w p t (e ∷ es) (turn ∷ turns) w2 p2 t2 =
     (first : TapedTurn passes takes w p t e turn) × AreTaped passes takes first.world first.passage first.tape es turns w2 p2 t2
 
--- the same on a new world of these settings
-abbrev pub IsTapedLoop : {P T : Type 0} → Passes P → TakesOn T → Settings → List WorldEvent → P → P → T → T → Type 0
-IsTapedLoop passes takes settings es p p2 t t2 =
-    (turns : List Turn) × ((w2 : World) × AreTaped passes takes (founding settings) p t es turns w2 p2 t2)
+-- a run of these events on a new world of these settings: just its turns a tape took down, and just their lines the output was asked for, and took
+pub record IsTapedLoop {P T O : Type 0} (passes : Passes P) (takes : TakesOn T) (contents : Contents O) (settings : Settings) (events : List WorldEvent) (before after : P) (t t2 : T) (output printed : O) (status : ℕ) : Type 0 where
+  pub loop : IsLoop passes settings events before after (contents output) (contents printed) status
+  pub taped : AreTaped passes takes (founding settings) before t events loop.turns loop.run.world after t2
+  pub put : IsPut events loop.turns loop.run.world output printed
 
 -- such a run of the events of a script in which no line is bad, with the settings that a text holds, for which the passage had its ports
-pub record TapesScript {P T : Type 0} (opens : Opens P) (passes : Passes P) (takes : TakesOn T) (text script : List ℕ) (before after : P) (t t2 : T) : Type 0 where
-  pub job : Job
-  pub is : IsJobOf text script job
-  pub good : first_bad_line script ≡ None
-  pub open_passage : P
-  pub opened : opens before job.settings open_passage
-  pub taped : IsTapedLoop passes takes job.settings job.events.items open_passage after t t2
+pub record TapesScript {P T O : Type 0} (opens : Opens P) (passes : Passes P) (takes : TakesOn T) (contents : Contents O) (text script : List ℕ) (before after : P) (t t2 : T) (output printed : O) (status : ℕ) : Type 0 where
+  pub run : LoopsScript opens passes text script before after (contents output) (contents printed) status
+  pub taped : AreTaped passes takes (founding run.job.settings) run.open_passage t run.job.events.items run.run.turns run.run.run.world after t2
+  pub put : IsPut run.job.events.items run.run.turns run.run.run.world output printed
 
 -- ---- where a fault ends it
 

@@ -148,12 +148,13 @@ impl<S: Drop> Hold<S> {
     ghost use Rattle.loopback_run.specs.Holds.{standing_of};
     ghost use Rattle.loopback_run.specs.Standings.{WasLetGo, unasked};
 
-    /// Lets go what was answered, and the ports, if they are had, as they are.
+    /// Lets go what was answered, and the ports, if they are had, as they are, before who binds others is asked for these.
     #[tactic(auto, unfolding(crate::specs::Standings::WasLetGo))]
-    fn let_go(&mut self)
-        ensures let_go { WasLetGo (standing_of self.old) }
+    fn let_go<B>(&mut self, system: &mut B)
+        ensures let_go { WasLetGo system.old (standing_of self.old) system.new }
         ensures unasked { standing_of self.new ≡ unasked }
     {
+        let _system = system;
         *self = Hold::Unasked;
     }
 }
@@ -177,7 +178,7 @@ impl<B: Binds<S>, S: Carries + Drop> Holding<B, S> {
             (λ fault. LacksPorts B.binds (passage_of self.old) settings.now fault
             (passage_of self.new)) }
     {
-        self.hold.let_go();
+        self.hold.let_go(&mut self.system);
         match Both::bind(&mut self.system, settings) {
             Ok(both) => {
                 let settings = Snapshot::of(settings);

@@ -1,5 +1,7 @@
 //! Why a passage hasn't its ports.
 
+use crate::turns::of_port;
+use outlets::Shows;
 use std::fmt;
 use thiserror::Error;
 
@@ -12,17 +14,32 @@ pub enum PortFault {
 }
 
 /// As the fault that ends a run for it: `socket 1 NoSocket 127.0.0.1:7001`.
+impl Shows for PortFault {
+    ghost use Rattle.faults.specs.Texts.{fault_text};
+    ghost use Rattle.loopback_run.specs.Turns.{of_port};
+
+    ghost text = { λ fault. fault_text (of_port fault) };
+
+    fn show<W: fmt::Write>(&self, f: &mut fmt::Formatter<W>) -> fmt::Result {
+        of_port(*self).show(f)
+    }
+}
+
+/// The same text.
 impl fmt::Display for PortFault {
-    ghost use Rattle.std.specs.Prelude.{Some};
+    ghost use Rattle.std.specs.Fmt.{WritesOnOk};
+    ghost use Rattle.std.specs.Prelude.{OnErr, Some};
+    ghost use Rattle.outlets.specs.Showing.{HasRefused};
     ghost use Rattle.faults.specs.Texts.{fault_text};
     ghost use Rattle.loopback_run.specs.Turns.{of_port};
 
     ghost output = { λ fault. Some (fault_text (of_port fault)) };
 
-    fn fmt<W: fmt::Write>(&self, f: &mut fmt::Formatter<W>) -> fmt::Result {
-        match self {
-            PortFault::NoPort(number) => write!(f, "socket 1 NoSocket 127.0.0.1:{number}"),
-            PortFault::NoMemory => f.write_str("memory 1 NoMemory"),
-        }
+    fn fmt<W: fmt::Write>(&self, f: &mut fmt::Formatter<W>) -> fmt::Result
+        ensures writes { WritesOnOk W.write_str_gives f.old result (fault_text (of_port self.now))
+            f.new }
+        ensures refused { OnErr result (HasRefused f.new) }
+    {
+        self.show(f)
     }
 }

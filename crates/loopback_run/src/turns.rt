@@ -4,15 +4,15 @@ ghost use Rattle.faults.specs.Faults.{status_of};
 ghost use Rattle.faults.specs.Texts.{fault_text};
 ghost use Rattle.scripts.specs.Script.{first_bad_line};
 ghost use Rattle.faults.specs.declared.faults.Fault.TheVariants as faults;
-ghost use Rattle.frame_sim.specs.Asked.{WasPrinted};
 ghost use Rattle.outlets.specs.Printed.{Prints};
 ghost use Rattle.outlets.specs.Telling.{IsToldOf};
-ghost use Rattle.loopback_run.specs.Fails.{FailsBy, FailsScript, Leaves};
-ghost use Rattle.loopback_run.specs.Outputs.{HasPut, HasPutFrom, PutsScript};
+ghost use Rattle.outlets.specs.Written.{IsWritten};
+ghost use Rattle.loopback_run.specs.Fails.{FailsBy, Leaves};
+ghost use Rattle.loopback_run.specs.Outputs.{PutsScript};
 ghost use Rattle.loopback_run.specs.Runs.{HasTurned, TakesTurns};
 ghost use Rattle.loopback_run.specs.Texts.{counts_then, turn_lines};
 ghost use Rattle.loopback_run.specs.Turns.{HasSent, TakesTurn, handed, is_lost, is_refusal, of_port};
-ghost use Rattle.loopback_run.specs.Loops.{IsLoop, LoopsScript, TellsLoop};
+ghost use Rattle.loopback_run.specs.Loops.{TellsLoop};
 ghost use Rattle.loopback_run.specs.Tapes.{IsTapedLoop, RefusesTurn, StopsTaped, StopsTapedLoop, StopsTapedScript, TapedBroken, TapesScript, TapesTurn};
 ghost use Rattle.loopback_run.specs.Stops.{HoldJob, Untouched};
 
@@ -42,12 +42,8 @@ pub fn run_loop<P: Channel, O: Write, E: Tells>(
 ) -> u8
     ensures status { (result ≡ 0) ⊎ ((result ≡ 1) ⊎ (result ≡ 3)) }
     ensures bad { IsSome (first_bad_line script.now) → result ≡ 1 }
-    ensures run { (result ≡ 0) ⊎ (result ≡ 3) → LoopsScript P.opens P.passes settings.now
-        script.now passage.old passage.new (O.contents output.old) (O.contents output.new) result }
-    ensures put { (result ≡ 0) ⊎ (result ≡ 3) → PutsScript P.opens P.passes settings.now
-        script.now passage.old passage.new output.old output.new }
-    ensures fault { result ≡ 1 → FailsScript P.opens P.refuses P.passes O.contents settings.now
-        script.now passage.old passage.new output.old output.new }
+    ensures run { (result ≡ 0) ⊎ (result ≡ 3) → PutsScript P.opens P.passes O.contents
+        settings.now script.now passage.old passage.new output.old output.new result }
     ensures untouched { (HoldJob settings.now script.now → ⊥)
         → Untouched passage.old passage.new output.old output.new }
     ensures quiet { (result ≡ 0) ⊎ (result ≡ 3) → errors.new ≡ errors.old }
@@ -80,11 +76,9 @@ pub fn loop_script<P: Channel, O: Write>(
     ensures told { IfErr result (TellsLoop settings.now script.now) }
     ensures known { IfErr result (λ fault. status_of fault ≡ 1) }
     ensures good { OnOk result (first_bad_line script.now ≡ None) }
-    ensures run { IfOk result (LoopsScript P.opens P.passes settings.now script.now passage.old
-        passage.new (O.contents output.old) (O.contents output.new)) }
+    ensures run { IfOk result (PutsScript P.opens P.passes O.contents settings.now script.now
+        passage.old passage.new output.old output.new) }
     ensures status { IfOk result (λ status. (status ≡ 0) ⊎ (status ≡ 3)) }
-    ensures put { OnOk result (PutsScript P.opens P.passes settings.now script.now passage.old
-        passage.new output.old output.new) }
     ensures leaves { IfErr result (Leaves P.opens P.refuses P.passes O.contents settings.now
         script.now passage.old passage.new output.old output.new) }
     ensures untouched { (HoldJob settings.now script.now → ⊥)
@@ -109,15 +103,11 @@ pub fn loop_captured<P: Channel, T: Tape, O: Write>(
     ensures told { IfErr result (TellsLoop settings.now script.now) }
     ensures known { IfErr result (λ fault. status_of fault ≡ 1) }
     ensures good { OnOk result (first_bad_line script.now ≡ None) }
-    ensures run { IfOk result (LoopsScript P.opens P.passes settings.now script.now passage.old
-        passage.new (O.contents output.old) (O.contents output.new)) }
+    ensures run { IfOk result (TapesScript P.opens P.passes T.takes O.contents settings.now
+        script.now passage.old passage.new tape.old tape.new output.old output.new) }
     ensures status { IfOk result (λ status. (status ≡ 0) ⊎ (status ≡ 3)) }
-    ensures put { OnOk result (PutsScript P.opens P.passes settings.now script.now passage.old
-        passage.new output.old output.new) }
     ensures untouched { (HoldJob settings.now script.now → ⊥)
         → Untouched passage.old passage.new output.old output.new }
-    ensures taped { OnOk result (TapesScript P.opens P.passes T.takes settings.now script.now
-        passage.old passage.new tape.old tape.new) }
     ensures broken { IfErr result (StopsTapedScript P.opens P.refuses P.passes T.takes T.refuses
         O.contents settings.now script.now passage.old passage.new tape.old tape.new
         output.old output.new) }
@@ -139,7 +129,8 @@ pub fn loop_captured<P: Channel, T: Tape, O: Write>(
     }
 }
 
-fn of_port(fault: PortFault) -> Fault
+/// The fault that ends a run for ports that aren't had.
+pub(crate) fn of_port(fault: PortFault) -> Fault
     ensures { result ≡ of_port fault }
 {
     match fault {
@@ -163,15 +154,11 @@ pub fn play<P: Channel, T: Tape, O: Write>(
     tape: &mut T,
     output: &mut O,
 ) -> Result<u8, Fault>
-    ensures run { IfOk result (IsLoop P.passes settings.now events.now passage.old passage.new
-        (O.contents output.old) (O.contents output.new)) }
+    ensures run { IfOk result (IsTapedLoop P.passes T.takes O.contents settings.now events.now
+        passage.old passage.new tape.old tape.new output.old output.new) }
     ensures status { IfOk result (λ status. (status ≡ 0) ⊎ (status ≡ 3)) }
     ensures fault { IfErr result
         (λ fault. (fault ≡ faults.NotWritten) ⊎ (fault ≡ faults.NoMemory)) }
-    ensures put { OnOk result (HasPut P.passes settings.now events.now passage.old passage.new
-        output.old output.new) }
-    ensures taped { OnOk result (IsTapedLoop P.passes T.takes settings.now events.now
-        passage.old passage.new tape.old tape.new) }
     ensures broken { IfErr result (StopsTapedLoop P.passes T.takes T.refuses O.contents
         settings.now events.now passage.old passage.new tape.old tape.new
         output.old output.new) }
@@ -194,13 +181,11 @@ fn played<P: Channel, T: Tape, O: Write>(
     tape: &mut T,
     output: &mut O,
 ) -> Result<u8, Fault>
-    ensures run { IfOk result (TakesTurns P.passes T.takes world.old passage.old tape.old events.now
-        world.new passage.new tape.new (O.contents output.old) (O.contents output.new)) }
+    ensures run { IfOk result (TakesTurns P.passes T.takes O.contents world.old passage.old tape.old
+        events.now passage.new tape.new output.old output.new) }
     ensures status { IfOk result (λ status. (status ≡ 0) ⊎ (status ≡ 3)) }
     ensures fault { IfErr result
         (λ fault. (fault ≡ faults.NotWritten) ⊎ (fault ≡ faults.NoMemory)) }
-    ensures put { OnOk result (HasPutFrom P.passes world.old passage.old events.now passage.new
-        output.old output.new) }
     ensures stops { IfErr result (StopsTaped P.passes T.takes T.refuses O.contents world.old
         passage.old tape.old events.now passage.new tape.new output.old output.new) }
 {
@@ -276,7 +261,6 @@ fn take_down<T: Tape>(
 }
 
 /// Has an output take the lines of what an event gave, or that it is lost.
-#[tactic(auto, unfolding(frame_sim::specs::Asked::WasPrinted))]
 fn print<O: Write>(
     printer: &mut Printer,
     output: &mut O,
@@ -286,7 +270,7 @@ fn print<O: Write>(
     ensures printed { Prints (O.contents output.old) result (O.contents output.new)
         (turn_lines printer.old event.now step.now) }
     ensures counted { OnOk result (printer.new ≡ counts_then printer.old event.now step.now) }
-    ensures put { WasPrinted output.old (turn_lines printer.old event.now step.now) result
+    ensures put { IsWritten output.old (turn_lines printer.old event.now step.now) result
         output.new }
 {
     match step {

@@ -9,7 +9,8 @@ use Rattle.nat_types.specs.declared.events.WorldEvent.{WorldEvent}
 use Rattle.frame_sim.specs.declared.events.Step.{Step}
 use Rattle.frame_sim.specs.World.{World}
 use Rattle.captures.specs.Captures.{Captured, packet_block, packet_blocks}
-use Rattle.frame_sim.specs.Asked.{IsUnprinted, WasPrinted}
+use Rattle.frame_sim.specs.Asked.{IsUnprinted}
+use Rattle.outlets.specs.Written.{IsWritten}
 use Rattle.simulation.specs.Captures.{ArePut, IsOneUnput, Puts}
 use Rattle.simulation.specs.Clocks.{Moments, moment_of}
 use Rattle.simulation.specs.Packets.{datagram_out, frame_out, gateway_of, packets_in, packets_of}
@@ -36,9 +37,9 @@ next_written f ys y before mid after h more = subst (λ (l : List ℕ). Appends 
     (Appends-trans before mid after (packet_blocks (map f ys)) (packet_block (f y)) h more)
 
 pub next_put : {A W : Type 0} (f : A → Captured) (ys : List A) (y : A) (before mid after : W) → ArePut (map f ys) before mid
-    → WasPrinted mid (packet_block (f y)) (Ok tt) after → ArePut (map f (ys ++ y ∷ [])) before after
+    → IsWritten mid (packet_block (f y)) (Ok tt) after → ArePut (map f (ys ++ y ∷ [])) before after
 next_put {W = W} f [] y before mid after h put =
-    (after, (subst (λ (w : W). WasPrinted w (packet_block (f y)) (Ok tt) after) h put, refl))
+    (after, (subst (λ (w : W). IsWritten w (packet_block (f y)) (Ok tt) after) h put, refl))
 next_put f (x ∷ xs) y before mid after h put = (h.0, (h.1.0, next_put f xs y h.0 mid after h.1.1 put))
 
 -- one of them isn't, behind those
@@ -77,7 +78,7 @@ packets_are clocks w e s id moment is_id is_moment = rw (is_moment, is_id) refl
 
 -- ---- by what is answered
 
-pub puts_one : {W : Type 0} (r : Result (Unit {0}) Error) (p : Captured) (a b : W) → WasPrinted a (packet_block p) r b → Puts (p ∷ []) a r b
+pub puts_one : {W : Type 0} (r : Result (Unit {0}) Error) (p : Captured) (a b : W) → IsWritten a (packet_block p) r b → Puts (p ∷ []) a r b
 puts_one (Ok done) p a b h = (b, (h, refl))
 puts_one (Err error) p a b h = inl (error, h)
 

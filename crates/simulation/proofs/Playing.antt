@@ -1,104 +1,143 @@
 -- A run on a new world.
-use Rattle.std.proofs.Common.{◌≡◌, ◌⊎◌, inl, inr, ◌++◌, ◌∙◌, ℕ, List, [], ◌∷◌, Option, None, IfErr, IfOk, OnErr, OnOk, Result, Ok, Err, take, drop, ap, sym, subst, refl}
+use Rattle.std.proofs.Common.{◌≡◌, ◌⊎◌, inl, inr, ◌++◌, ◌∙◌, ℕ, List, [], ◌∷◌, Option, None, IfErr, IfOk, Result, Ok, Err, take, drop, length, ap, sym, subst, refl, arith}
+use Rattle.std.specs.Io.KnownBytes.{Appends}
 use Rattle.std.proofs.lemmas.List.{append_assoc, append-nil, take-append-drop}
 use Rattle.settings.specs.declared.whole.Settings.{Settings}
 use Rattle.frame_sim.specs.declared.events.Step.{Step}
 use Rattle.nat_types.specs.declared.events.WorldEvent.{WorldEvent}
 use Rattle.frame_sim.specs.World.{World}
+use Rattle.frame_sim.specs.Lacks.{WasUnrun}
 use Rattle.frame_sim.specs.Runs.{AreSteps}
-use Rattle.frame_sim.specs.Status.{IsNew}
-use Rattle.frame_sim.proofs.Offered.{in_ok}
-use Rattle.frame_sim.specs.Tapes.{TakesOn}
-use Rattle.faults.specs.declared.faults.Fault.{Fault}
-use Rattle.faults.specs.declared.jobs.Job.{Job}
-use Rattle.faults.specs.Jobs.{IsJobOf}
-use Rattle.scripts.specs.Script.{first_bad_line}
-use Rattle.frame_sim.specs.World.{founding}
+use Rattle.frame_sim.specs.Status.{IsNew, run_status}
 use Rattle.frame_sim.specs.declared.tapes.Untaped.{Untaped}
-use Rattle.frame_sim.specs.Tapes.{refuses_none, takes_any}
-use Rattle.simulation.specs.Refusals.{AreUnkept, IsUnrun, WasUnrun}
-use Rattle.simulation.specs.Stops.{Begins, BeginsScript, Leaves}
-use Rattle.simulation.specs.Tapes.{HasPut, HasPutFrom, IsTapedRun, PutsScript, StopsFrom, StopsSteps, StopsTaped, StopsTapedScript, TapesSteps}
+use Rattle.frame_sim.specs.Tapes.{AreTaken, RefusesOne, TakesOn, refuses_none, takes_any}
+use Rattle.faults.specs.Faults.{of_print}
+use Rattle.faults.specs.declared.faults.Fault.{Fault}
+use Rattle.faults.specs.declared.faults.Fault.TheVariants.{NoMemory, NotWritten}
+use Rattle.faults.specs.declared.jobs.Job.{Job}
+use Rattle.faults.specs.declared.prints.PrintFault.{PrintFault}
+use Rattle.faults.specs.Jobs.{IsJobOf}
+use Rattle.outlets.specs.Printed.{IsBegun}
+use Rattle.scripts.specs.Script.{first_bad_line}
+use Rattle.simulation.specs.Outputs.{IsPut, IsUnput}
+use Rattle.simulation.specs.Refusals.{AreUnkept, IsToldUnrun}
+use Rattle.simulation.specs.Stops.{Leaves}
+use Rattle.simulation.specs.Tapes.{IsTapedRun, StopsFrom, StopsTaped, StopsTapedScript, TapesRun, TapesScript}
+use Rattle.simulation.specs.Texts.{run_lines}
+use Rattle.simulation.specs.Watched.{Hears, IsToldAll, Overhears, OverhearsScript}
+use Rattle.simulation.proofs.Telling.{IsToldBefore, as-many}
 
-run_from : {T : Type 0} (takes : TakesOn T) (settings : Settings) (w : World) (events : List WorldEvent) (w2 : World) (t t2 : T) (o o2 : Option (List ℕ)) (status : ℕ)
-    → IsNew settings w → TapesSteps takes w events w2 t t2 o o2 status → IsTapedRun takes settings events t t2 o o2 status
-unfolding IsNew
-run_from takes settings w events w2 t t2 o o2 status new h = record {
-  run = record {
-    steps = h.run.steps;
-    world = w2;
-    answers = subst (λ (x : World). AreSteps x events h.run.steps w2) new h.run.answers;
-    refusals = h.run.refusals;
-  };
-  taken = h.taken;
-  text = h.text;
+-- ---- a run from a world
+
+-- its steps, what a tape took down, what was printed of it and its status, by the lists that were handed on
+pub run_whole : {T O : Type 0} (takes : TakesOn T) (prints : O → Option (List ℕ)) (w : World) (events : List WorldEvent) (steps taped put counted : List Step) (last : World) (t t2 : T) (o o2 : O) (status : ℕ)
+    → taped ≡ steps → put ≡ steps → counted ≡ steps → AreSteps w events steps last → AreTaken takes last t events taped t2
+    → Appends (prints o) (prints o2) (run_lines events put last) → IsPut events put last o o2 → status ≡ run_status counted
+    → TapesRun takes prints w events t t2 o o2 status
+run_whole takes prints w events steps taped put counted last t t2 o o2 status is_taped is_put is_counted answers taken text was_put is_status = record {
+  run = record { steps = steps; world = last; answers = answers; refusals = is_status ∙ ap (λ (ss : List Step). run_status ss) is_counted };
+  taken = subst (λ (ss : List Step). AreTaken takes last t events ss t2) is_taped taken;
+  text = subst (λ (ss : List Step). Appends (prints o) (prints o2) (run_lines events ss last)) is_put text;
+  put = subst (λ (ss : List Step). IsPut events ss last o o2) is_put was_put;
 }
 
-pub runs_from : {E : Type 0} {T : Type 0} (r : Result ℕ E) (takes : TakesOn T) (settings : Settings) (w : World) (events : List WorldEvent) (w2 : World) (t t2 : T) (o o2 : Option (List ℕ))
-    → IsNew settings w → IfOk r (TapesSteps takes w events w2 t t2 o o2) → IfOk r (IsTapedRun takes settings events t t2 o o2)
-runs_from r takes settings w events w2 t t2 o o2 new h = in_ok r (λ n p. run_from takes settings w events w2 t t2 o o2 n new p) h
+-- there is no memory for its steps
+pub stops_unrun : {P T O : Type 0} (hears : Hears P) (takes refuses : TakesOn T) (prints : O → Option (List ℕ)) (w : World) (events : List WorldEvent) (p p2 : P) (t : T) (o : O)
+    → IsToldUnrun hears w events p p2 → Overhears hears (length events) p p2 (StopsFrom takes refuses prints w events t t o o) NoMemory
+stops_unrun hears takes refuses prints w events p p2 t o unrun =
+    record { times = unrun.0; told = unrun.1.0; ended = inl (refl, (unrun.1.1, (refl, refl))) }
 
--- what was put of a run from a new world
-pub put_from : {X E O : Type 0} (r : Result X E) (settings : Settings) (w : World) (events : List WorldEvent) (o o2 : O)
-    → IsNew settings w → OnOk r (HasPutFrom w events o o2) → OnOk r (HasPut settings events o o2)
+-- a tape refuses one of them
+pub stops_tape : {P T O : Type 0} (hears : Hears P) (takes refuses : TakesOn T) (prints : O → Option (List ℕ)) (w : World) (events : List WorldEvent) (steps taped : List Step) (last : World) (p p2 : P) (t t2 : T) (o : O)
+    → taped ≡ steps → AreSteps w events steps last → IsToldAll hears (length events) p p2 → RefusesOne takes refuses last t events taped t2
+    → Overhears hears (length events) p p2 (StopsFrom takes refuses prints w events t t2 o o) NotWritten
+stops_tape hears takes refuses prints w events steps taped last p p2 t t2 o is_taped answers told refused = record {
+  times = told.times;
+  told = told.told;
+  ended = inr (record {
+    steps = steps;
+    last = last;
+    answers = answers;
+    whole = told.whole;
+    stopped = inl (subst (λ (ss : List Step). RefusesOne takes refuses last t events ss t2) is_taped refused, (refl, refl));
+  });
+}
+
+-- the output refuses their text, or there is no memory for the tables
+pub stops_put : {P T O : Type 0} (hears : Hears P) (takes refuses : TakesOn T) (prints : O → Option (List ℕ)) (w : World) (events : List WorldEvent) (steps taped put : List Step) (last : World) (p p2 : P) (t t2 : T) (o o2 : O) (cause : PrintFault)
+    → taped ≡ steps → put ≡ steps → AreSteps w events steps last → IsToldAll hears (length events) p p2 → AreTaken takes last t events taped t2
+    → IsBegun (prints o) (prints o2) (run_lines events put last) → IsUnput events put last cause o o2
+    → Overhears hears (length events) p p2 (StopsFrom takes refuses prints w events t t2 o o2) (of_print cause)
+stops_put hears takes refuses prints w events steps taped put last p p2 t t2 o o2 cause is_taped is_put answers told taken begun unput = record {
+  times = told.times;
+  told = told.told;
+  ended = inr (record {
+    steps = steps;
+    last = last;
+    answers = answers;
+    whole = told.whole;
+    stopped = inr (
+      subst (λ (ss : List Step). AreTaken takes last t events ss t2) is_taped taken,
+      (
+        subst (λ (ss : List Step). IsBegun (prints o) (prints o2) (run_lines events ss last)) is_put begun,
+        (cause, (refl, subst (λ (ss : List Step). IsUnput events ss last cause o o2) is_put unput)),
+      ),
+    );
+  });
+}
+
+-- ---- on a new world
+
+-- a run from a new world is one from the world that it is
+pub runs_from : {X T O : Type 0} (r : Result ℕ X) (takes : TakesOn T) (prints : O → Option (List ℕ)) (settings : Settings) (w : World) (events : List WorldEvent) (t t2 : T) (o o2 : O)
+    → IsNew settings w → IfOk r (TapesRun takes prints w events t t2 o o2) → IfOk r (IsTapedRun takes prints settings events t t2 o o2)
 unfolding IsNew
-put_from r settings w events o o2 new h = subst (λ (x : World). OnOk r (HasPutFrom x events o o2)) new h
+runs_from r takes prints settings w events t t2 o o2 new h = subst (λ (x : World). IfOk r (TapesRun takes prints x events t t2 o o2)) new h
 
--- and of one of a script
-pub puts_script : {X E O : Type 0} (r : Result X E) (text script : List ℕ) (job : Job) (o o2 : O) → IsJobOf text script job → first_bad_line script ≡ None
-    → OnOk r (HasPut job.settings job.events.items o o2) → OnOk r (PutsScript text script o o2)
-puts_script (Ok x) text script job o o2 is good h = record { job = job; is = is; good = good; put = h }
-puts_script (Err e) text script job o o2 is good h = tt
-
--- ---- a run that is taken down, and that a fault ends
-
--- a run from a new world stops as one from the world that it is
-pub stops_from : {X T O : Type 0} (r : Result X Fault) (takes refuses : TakesOn T) (prints : O → Option (List ℕ)) (settings : Settings) (w : World) (events : List WorldEvent) (t t2 : T) (o o2 : O)
-    → IsNew settings w → IfErr r (StopsFrom takes refuses prints w events t t2 o o2) → IfErr r (StopsTaped takes refuses prints settings events t t2 o o2)
+-- and stops so
+pub stops_from : {X P T O : Type 0} (r : Result X Fault) (hears : Hears P) (takes refuses : TakesOn T) (prints : O → Option (List ℕ)) (settings : Settings) (w : World) (events : List WorldEvent) (p p2 : P) (t t2 : T) (o o2 : O)
+    → IsNew settings w → IfErr r (Overhears hears (length events) p p2 (StopsFrom takes refuses prints w events t t2 o o2))
+    → IfErr r (Overhears hears (length events) p p2 (StopsTaped takes refuses prints settings events t t2 o o2))
 unfolding IsNew
-stops_from (Ok x) takes refuses prints settings w events t t2 o o2 new h = tt
-stops_from (Err why) takes refuses prints settings w events t t2 o o2 new h =
-    inr (subst (λ (x : World). StopsFrom takes refuses prints x events t t2 o o2 why) new h)
+stops_from (Ok x) hears takes refuses prints settings w events p p2 t t2 o o2 new h = tt
+stops_from (Err why) hears takes refuses prints settings w events p p2 t t2 o o2 new h = record {
+  times = h.times;
+  told = h.told;
+  ended = inr (subst (λ (x : World). StopsFrom takes refuses prints x events t t2 o o2 h.times why) new h.ended);
+}
 
--- and so does one of a script
-pub stops_script : {X T O : Type 0} (r : Result X Fault) (takes refuses : TakesOn T) (prints : O → Option (List ℕ)) (text script : List ℕ) (job : Job) (t t2 : T) (o o2 : O)
-    → IsJobOf text script job → first_bad_line script ≡ None → IfErr r (StopsTaped takes refuses prints job.settings job.events.items t t2 o o2)
-    → IfErr r (StopsTapedScript takes refuses prints text script t t2 o o2)
-stops_script (Ok x) takes refuses prints text script job t t2 o o2 is good h = tt
-stops_script (Err e) takes refuses prints text script job t t2 o o2 is good h = inr (record { job = job; is = is; good = good; stopped = h })
+-- ---- of a script
 
--- its output is as it was, or has a beginning of its text
-steps_begin : {T O : Type 0} (takes refuses : TakesOn T) (prints : O → Option (List ℕ)) (w : World) (events : List WorldEvent) (t t2 : T) (o o2 : O) (why : Fault)
-    → (h : StopsSteps takes refuses prints w events t t2 o o2 why) → Begins w events (prints o) (prints o2)
-steps_begin takes refuses prints w events t t2 o o2 why h =
-    elim h.stopped [
-      | inl tape ↦ inl (ap prints tape.1.0)
-      | inr output ↦ inr (record { steps = h.steps; last = h.last; answers = h.answers; begun = output.1.0 })
-    ]
+-- a run of the job of two texts is one of the texts
+pub script_run : {X T O : Type 0} (r : Result ℕ X) (takes : TakesOn T) (prints : O → Option (List ℕ)) (text script : List ℕ) (job : Job) (events : List WorldEvent) (t t2 : T) (o o2 : O)
+    → events ≡ job.events.items → IsJobOf text script job → first_bad_line script ≡ None
+    → IfOk r (IsTapedRun takes prints job.settings events t t2 o o2) → IfOk r (TapesScript takes prints text script t t2 o o2)
+script_run (Err e) takes prints text script job events t t2 o o2 same is good h = tt
+script_run (Ok status) takes prints text script job events t t2 o o2 same is good h =
+    let run = subst (λ (es : List WorldEvent). IsTapedRun takes prints job.settings es t t2 o o2 status) same h in
+    record { run = record { job = job; is = is; good = good; run = run.run; printed = run.text }; taken = run.taken; put = run.put }
 
-run_begins : {T O : Type 0} (takes refuses : TakesOn T) (prints : O → Option (List ℕ)) (settings : Settings) (events : List WorldEvent) (t t2 : T) (o o2 : O) (why : Fault)
-    → StopsTaped takes refuses prints settings events t t2 o o2 why → Begins (founding settings) events (prints o) (prints o2)
-run_begins takes refuses prints settings events t t2 o o2 why (inl none) = inl (ap prints none.1.1.1)
-run_begins takes refuses prints settings events t t2 o o2 why (inr (inl none)) = inl (ap prints none.1.1.1)
-run_begins takes refuses prints settings events t t2 o o2 why (inr (inr some)) = steps_begin takes refuses prints (founding settings) events t t2 o o2 why some
+-- and stops so
+pub script_stops : {X P T O : Type 0} (r : Result X Fault) (hears : Hears P) (takes refuses : TakesOn T) (prints : O → Option (List ℕ)) (text script : List ℕ) (job : Job) (events : List WorldEvent) (p p2 : P) (t t2 : T) (o o2 : O)
+    → events ≡ job.events.items → IsJobOf text script job → first_bad_line script ≡ None
+    → IfErr r (Overhears hears (length events) p p2 (StopsTaped takes refuses prints job.settings events t t2 o o2))
+    → IfErr r (OverhearsScript hears text script p p2 (StopsTapedScript takes refuses prints text script t t2 o o2))
+script_stops (Ok x) hears takes refuses prints text script job events p p2 t t2 o o2 same is good h = tt
+script_stops (Err why) hears takes refuses prints text script job events p p2 t t2 o o2 same is good h =
+    let ends = subst (λ (es : List WorldEvent). Overhears hears (length es) p p2 (StopsTaped takes refuses prints job.settings es t t2 o o2) why) same h in
+    record {
+      times = ends.times;
+      told = inr (job, (is, ends.told));
+      ended = inr (record { job = job; is = is; good = good; stopped = ends.ended });
+    }
 
-script_begins : (text script : List ℕ) (job : Job) (o o2 : Option (List ℕ))
-    → IsJobOf text script job → Begins (founding job.settings) job.events.items o o2 → BeginsScript text script o o2
-script_begins text script job o o2 is (inl same) = inl same
-script_begins text script job o o2 is (inr h) = inr (record { job = job; is = is; begun = h })
+-- ---- without a tape
 
-pub begins_script : {X T O : Type 0} (r : Result X Fault) (takes refuses : TakesOn T) (prints : O → Option (List ℕ)) (text script : List ℕ) (t t2 : T) (o o2 : O)
-    → IfErr r (StopsTapedScript takes refuses prints text script t t2 o o2) → OnErr r (BeginsScript text script (prints o) (prints o2))
-begins_script (Ok x) takes refuses prints text script t t2 o o2 h = tt
-begins_script (Err e) takes refuses prints text script t t2 o o2 (inl none) = inl (ap prints none.1.1)
-begins_script (Err e) takes refuses prints text script t t2 o o2 (inr h) =
-    script_begins text script h.job (prints o) (prints o2) h.is (run_begins takes refuses prints h.job.settings h.job.events.items t t2 o o2 e h.stopped)
-
--- without a tape
-pub leaves_of : {X O : Type 0} (r : Result X Fault) (prints : O → Option (List ℕ)) (text script : List ℕ) (tape last : Untaped) (o o2 : O)
-    → IfErr r (StopsTapedScript takes_any refuses_none prints text script tape last o o2) → IfErr r (Leaves prints text script o o2)
-leaves_of (Ok x) prints text script tape last o o2 h = tt
-leaves_of (Err e) prints text script tape last o o2 h = (tape, (last, h))
+pub leaves_of : {X P O : Type 0} (r : Result X Fault) (hears : Hears P) (prints : O → Option (List ℕ)) (text script : List ℕ) (p p2 : P) (tape last : Untaped) (o o2 : O)
+    → IfErr r (OverhearsScript hears text script p p2 (StopsTapedScript takes_any refuses_none prints text script tape last o o2))
+    → IfErr r (OverhearsScript hears text script p p2 (Leaves prints text script o o2))
+leaves_of (Ok x) hears prints text script p p2 tape last o o2 h = tt
+leaves_of (Err why) hears prints text script p p2 tape last o o2 h = record { times = h.times; told = h.told; ended = (tape, (last, h.ended)) }
 
 -- 0 and 3 aren't 1
 pub isnt_1 : {A : Type 0} (n : ℕ) → (n ≡ 0) ⊎ (n ≡ 3) → n ≡ 1 → A
@@ -142,15 +181,22 @@ pub all-done : (w w2 : World) (events : List WorldEvent) (ss : List Step) → Is
 all-done w w2 events ss h = subst (λ (xs : List WorldEvent). AreSteps w xs ss w2) (sym (h.split ∙ append-nil h.done)) h.so_far
 
 -- there is no memory for the next few
-pub cut-short : (w mid : World) (events rest next others : List WorldEvent) (ss : List Step) → rest ≡ next ++ others
-    → IsUnderWay w events rest ss mid → WasUnrun mid next ⊎ AreUnkept mid next ss → IsUnrun w events
-cut-short w mid events rest next others ss parts h lacks = inr (record {
-  done = h.done;
-  next = next;
-  others = others;
-  all = h.split ∙ ap (λ (xs : List WorldEvent). h.done ++ xs) parts;
-  steps = ss;
-  middle = mid;
-  answers = h.so_far;
-  lacks = lacks;
-})
+pub cut-short : {P : Type 0} (hears : Hears P) (w mid : World) (events rest next others : List WorldEvent) (ss : List Step) (p p2 : P) → rest ≡ next ++ others
+    → IsUnderWay w events rest ss mid → WasUnrun next ⊎ AreUnkept mid next ss → IsToldBefore hears (length events) (length ss) p p2 → IsToldUnrun hears w events p p2
+cut-short hears w mid events rest next others ss p p2 parts h lacks told = (
+  told.0,
+  (
+    told.1.0,
+    inr (record {
+      done = h.done;
+      next = next;
+      others = others;
+      all = h.split ∙ ap (λ (xs : List WorldEvent). h.done ++ xs) parts;
+      steps = ss;
+      middle = mid;
+      answers = h.so_far;
+      lacks = lacks;
+      told = omega (arith, told.1.1, as-many w mid h.done ss h.so_far);
+    }),
+  ),
+)

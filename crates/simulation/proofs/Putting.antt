@@ -1,7 +1,8 @@
 -- Lines that an output takes, one step's after another's.
 use Rattle.std.proofs.Common.{◌≡◌, inr, inl, List, [], ◌∷◌, Ok, refl}
 use Rattle.nat_types.specs.declared.events.WorldEvent.{WorldEvent}
-use Rattle.frame_sim.specs.Asked.{IsUnprinted, WasPrinted}
+use Rattle.frame_sim.specs.Asked.{IsUnprinted}
+use Rattle.outlets.specs.Written.{IsWritten}
 use Rattle.printing.specs.Lines.{Counts, counts_after, step_lines}
 use Rattle.frame_sim.specs.Texts.{refusal_text}
 use Rattle.frame_sim.specs.declared.events.Step.{Step}
@@ -19,7 +20,7 @@ puts_first begin counts o es ss is = rw is (record { whole = λ o2 h. h; broken 
 -- those of one event more
 pub puts_next : {O : Type 0} (begin : Counts) (first : O) (all : List WorldEvent) (every : List Step) (counts then : Counts) (o : O)
     (es es2 : List WorldEvent) (ss ss2 : List Step) (e : WorldEvent) (s : Step) (next : O) → es ≡ e ∷ es2 → ss ≡ s ∷ ss2 → then ≡ counts_after counts e s.out
-    → WasPrinted o (step_lines refusal_text counts e s.answer s.out) (Ok tt) next → PutsOn begin first all every counts o es ss → PutsOn begin first all every then next es2 ss2
+    → IsWritten o (step_lines refusal_text counts e s.answer s.out) (Ok tt) next → PutsOn begin first all every counts o es ss → PutsOn begin first all every then next es2 ss2
 puts_next begin first all every counts then o es es2 ss ss2 e s next events steps counted put h = rw counted (record {
   whole = λ o2 more. h.whole o2 (rw (events, steps) (next, (put, more)));
   broken = λ o2 more. h.broken o2 (rw (events, steps) (inr (next, (put, more))));

@@ -1,13 +1,11 @@
 -- Who watches a run is told how far it is.
-use Rattle.std.proofs.Common.{◌≡◌, ◌∙◌, ◌<◌, ◌+◌, ◌*◌, ◌-◌, inr, ℕ, min, List, [], ◌∷◌, ◌++◌, length, suc, take, drop, ap, refl, subst, arith, length-append, OnErr, Result, Ok, Err}
+use Rattle.std.proofs.Common.{◌≡◌, ◌∙◌, ◌<◌, ◌+◌, ◌*◌, ◌-◌, ℕ, min, List, [], ◌∷◌, ◌++◌, length, suc, take, drop, ap, refl, subst, arith, length-append}
 use Rattle.std.proofs.lemmas.List.{length-drop, length-take}
 use Rattle.frame_sim.specs.declared.events.Step.{Step}
 use Rattle.nat_types.specs.declared.events.WorldEvent.{WorldEvent}
 use Rattle.frame_sim.specs.Runs.{AreSteps}
 use Rattle.frame_sim.specs.World.{World}
-use Rattle.faults.specs.declared.jobs.Job.{Job}
-use Rattle.faults.specs.Jobs.{IsJobOf}
-use Rattle.simulation.specs.Watched.{Hears, IsTold, IsToldAll, IsToldPart, IsToldSome, OverhearsScript}
+use Rattle.simulation.specs.Watched.{Hears, IsTold, IsToldAll}
 
 -- there are as many steps as events
 pub as-many : (w w2 : World) (es : List WorldEvent) (ss : List Step) → AreSteps w es ss w2 → length ss ≡ length es
@@ -58,42 +56,19 @@ told-next hears all n taken whole rest next others ss more ss2 w w2 p p2 p3 h so
     told-more hears all (length rest) (length ss) (length others) (length ss2) n p p2 p3 h some heard few left (omega (arith, many, same, size, few))
 
 pub told-all : {P : Type 0} (hears : Hears P) (all left done : ℕ) (p p2 : P) → IsToldSoFar hears all left done p p2 → left ≡ 0 → IsToldAll hears all p p2
-told-all hears all left done p p2 h none = record {
-  times = h.times;
-  told = h.told;
-  all_taken = omega (arith, h.whole, h.done_is);
-  no_more = h.no_more;
-}
+told-all hears all left done p p2 h none =
+    record { times = h.times; told = h.told; whole = (omega (arith, h.whole, h.done_is), h.no_more) }
 
 -- ---- a run that is ended by a fault
 
--- never
-pub told-never : {P : Type 0} (hears : Hears P) (all : ℕ) (p : P) → IsToldPart hears all p p
-told-never hears all p = record { times = 0; told = refl; no_more = omega arith }
-
--- it was told whole
-pub told-some : {P : Type 0} (hears : Hears P) (all : ℕ) (p p2 : P) → IsToldAll hears all p p2 → IsToldPart hears all p p2
-told-some hears all p p2 h = record { times = h.times; told = h.told; no_more = h.no_more }
+-- it was told before the first of those that are done, before each 64 behind it, and before those that come next
+abbrev pub IsToldBefore : {P : Type 0} → Hears P → ℕ → ℕ → P → P → Type 0
+IsToldBefore hears all done p p2 = (times : ℕ) × (IsTold hears all times p p2 × (64 * times ≡ done + 64))
 
 -- it was told once more, before the next few events
 pub told-last : {P : Type 0} (hears : Hears P) (all taken whole : ℕ) (rest : List WorldEvent) (ss : List Step) (p p2 p3 : P)
-    → IsToldSoFar hears all (length rest) (length ss) p p2 → 0 < length rest → hears p2 taken whole p3 → taken ≡ length ss → whole ≡ all → IsToldPart hears all p p3
+    → IsToldSoFar hears all (length rest) (length ss) p p2 → 0 < length rest → hears p2 taken whole p3 → taken ≡ length ss → whole ≡ all → IsToldBefore hears all (length ss) p p3
 told-last hears all taken whole rest ss p p2 p3 h some now is all_is =
     let at : length ss ≡ 64 * h.times = omega (arith, h.whole, h.done_is) in
     let heard = subst (λ (k : ℕ). hears p2 k all p3) is (subst (λ (k : ℕ). hears p2 taken k p3) all_is now) in
-    record {
-      times = suc h.times;
-      told = (p2, (h.told, subst (λ (n : ℕ). hears p2 n all p3) at heard));
-      no_more = omega (arith, h.whole, h.done_is);
-    }
-
--- of a script's events, where its run is ended so
-pub overheard : {X E P : Type 0} (r : Result X E) (hears : Hears P) (text script : List ℕ) (job : Job) (p p2 : P)
-    → IsJobOf text script job → OnErr r (IsToldPart hears (length job.events.items) p p2) → OnErr r (OverhearsScript hears text script p p2)
-overheard (Ok x) hears text script job p p2 is h = tt
-overheard (Err e) hears text script job p p2 is h = inr (job, (is, h))
-
--- what is told of so many is told some times
-pub part-some : {X E P : Type 0} (r : Result X E) (hears : Hears P) (all : ℕ) (p p2 : P) → OnErr r (IsToldPart hears all p p2) → OnErr r (IsToldSome hears p p2)
-part-some (Ok x) hears all p p2 h = tt
-part-some (Err e) hears all p p2 h = (all, (h.times, h.told))
+    (suc h.times, ((p2, (h.told, subst (λ (n : ℕ). hears p2 n all p3) at heard)), omega (arith, at)))

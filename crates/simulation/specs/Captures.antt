@@ -3,8 +3,9 @@ use Rattle.std.specs.Prelude.{◌≡◌, ◌⊎◌, ℕ, Bool, true, false, List
 use Rattle.std.specs.Io.KnownBytes.{Appends}
 use Rattle.std.specs.declared.io.Error.{Error}
 use Rattle.outlets.specs.Outputs.{WasFlushed}
+use Rattle.outlets.specs.Written.{IsWritten}
 use Rattle.nat_types.specs.declared.events.WorldEvent.{WorldEvent}
-use Rattle.frame_sim.specs.Asked.{IsUnprinted, WasPrinted}
+use Rattle.frame_sim.specs.Asked.{IsUnprinted}
 use Rattle.frame_sim.specs.declared.events.Step.{Step}
 use Rattle.frame_sim.specs.World.{World}
 use Rattle.captures.specs.Captures.{Captured, head, packet_block, packet_blocks}
@@ -16,13 +17,13 @@ use Rattle.simulation.specs.Packets.{packets_of}
 -- it took the blocks of these packets, one after the other, and was asked for nothing else
 abbrev pub ArePut : {W : Type 0} → List Captured → W → W → Type 0
 ArePut [] before after = after ≡ before
-ArePut {W = W} (p ∷ ps) before after = (next : W) × (WasPrinted before (packet_block p) (Ok tt) next × ArePut ps next after)
+ArePut {W = W} (p ∷ ps) before after = (next : W) × (IsWritten before (packet_block p) (Ok tt) next × ArePut ps next after)
 
 -- one of them it refused, behind those before it, which it took; and it was asked for nothing behind that
 abbrev pub IsOneUnput : {W : Type 0} → List Captured → W → W → Type 0
 IsOneUnput [] before after = ⊥
 IsOneUnput {W = W} (p ∷ ps) before after =
-    IsUnprinted before (packet_block p) after ⊎ ((next : W) × (WasPrinted before (packet_block p) (Ok tt) next × IsOneUnput ps next after))
+    IsUnprinted before (packet_block p) after ⊎ ((next : W) × (IsWritten before (packet_block p) (Ok tt) next × IsOneUnput ps next after))
 
 -- the one or the other, by what is answered
 abbrev pub Puts : {W : Type 0} → List Captured → W → Result (Unit {0}) Error → W → Type 0
@@ -34,10 +35,6 @@ Puts packets before (Err error) after = IsOneUnput packets before after
 -- the head was written, and the clocks stand as a world is founded
 abbrev pub Begins : Option (List ℕ) → Option (List ℕ) → Moments → Type 0
 Begins before after moments = Appends before after head × (moments ≡ founding_moments)
-
--- the head was refused
-abbrev pub IsUnbegun : {W : Type 0} → W → Type 0
-IsUnbegun {W = W} before = (after : W) × IsUnprinted before head after
 
 -- the clocks followed an event, and then its packets were written: the output was asked for just these
 abbrev pub Records : {W : Type 0} → (W → Option (List ℕ)) → W → Moments → World → WorldEvent → Step → W → Moments → Type 0

@@ -1,18 +1,16 @@
 -- For what of a run there was no memory.
-use Rattle.std.specs.Prelude.{◌≡◌, ◌⊎◌, ◌++◌, List}
+use Rattle.std.specs.Prelude.{◌≡◌, ◌⊎◌, ◌+◌, ◌*◌, ◌++◌, ℕ, List, length}
 use Rattle.nat_types.specs.declared.events.WorldEvent.{WorldEvent}
 use Rattle.frame_sim.specs.declared.events.Step.{Step}
+use Rattle.frame_sim.specs.Lacks.{WasUnrun}
 use Rattle.frame_sim.specs.Runs.{AreSteps}
 use Rattle.frame_sim.specs.World.{World}
+use Rattle.simulation.specs.Watched.{Hears, IsTold}
 
 -- There was no room for the steps of these events. No clause can say when that is, so this, and those below it, are no more than names: who asks
 -- for it has one of them, and nobody else.
 unfoldable pub WasUnroomed : List WorldEvent → Type 0
 WasUnroomed events = Unit {0}
-
--- a world was to take these events, and there was no memory for it
-unfoldable pub WasUnrun : World → List WorldEvent → Type 0
-WasUnrun w events = Unit {0}
 
 -- these steps were to be kept, and those behind them, and there was no memory for it
 unfoldable pub WasUnkept : List Step → List Step → Type 0
@@ -22,8 +20,9 @@ WasUnkept steps more = Unit {0}
 abbrev pub AreUnkept : World → List WorldEvent → List Step → Type 0
 AreUnkept w events steps = (more : List Step) × ((last : World) × (AreSteps w events more last × WasUnkept steps more))
 
--- the first of these events took steps, in order, from a world to another; and for those that come next there was no memory there
-pub record IsCutShort (w : World) (events : List WorldEvent) : Type 0 where
+-- the first of these events took steps, in order, from a world to another, and for those that come next there was no memory there; and who watches
+-- was told how far they are before each 64 of them, and before the next
+pub record IsCutShort (w : World) (events : List WorldEvent) (times : ℕ) : Type 0 where
   pub done : List WorldEvent
   pub next : List WorldEvent
   pub others : List WorldEvent
@@ -31,8 +30,14 @@ pub record IsCutShort (w : World) (events : List WorldEvent) : Type 0 where
   pub steps : List Step
   pub middle : World
   pub answers : AreSteps w done steps middle
-  pub lacks : WasUnrun middle next ⊎ AreUnkept middle next steps
+  pub lacks : WasUnrun next ⊎ AreUnkept middle next steps
+  pub told : 64 * times ≡ length done + 64
 
--- there was no memory for the steps of just these events from a world
-abbrev pub IsUnrun : World → List WorldEvent → Type 0
-IsUnrun w events = WasUnroomed events ⊎ IsCutShort w events
+-- there was no memory for the steps of just these events from a world, and who watches was told so often how far they are: for room for all of
+-- them, before which nothing is told; or so
+abbrev pub IsUnrun : World → List WorldEvent → ℕ → Type 0
+IsUnrun w events times = ((times ≡ 0) × WasUnroomed events) ⊎ IsCutShort w events times
+
+-- and it is what was told by then
+abbrev pub IsToldUnrun : {P : Type 0} → Hears P → World → List WorldEvent → P → P → Type 0
+IsToldUnrun hears w events p p2 = (times : ℕ) × (IsTold hears (length events) times p p2 × IsUnrun w events times)

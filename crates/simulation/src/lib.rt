@@ -11,4 +11,4 @@ mod writing;
 pub use clocks::Clocks;
 pub use progress::{Progress, Unwatched};
 pub use simulation::{play, simulate, simulate_captured, simulate_watched};
-pub use tapes::Capture;
+pub use tapes::{Capture, Unbegun};

@@ -10,12 +10,12 @@ ghost use Rattle.frame_sim.specs.Tapes.{AreTaken, RefusesOne};
 ghost use Rattle.outlets.specs.Printed.{Prints};
 ghost use Rattle.outlets.specs.Telling.{IsToldOf};
 ghost use Rattle.simulation.specs.Outputs.{IsPut, IsUnput};
-ghost use Rattle.simulation.specs.Refusals.{IsUnrun, WasUnkept, WasUnroomed, WasUnrun};
-ghost use Rattle.simulation.specs.Status.{RunsScript};
-ghost use Rattle.simulation.specs.Tapes.{HasPut, HasPutFrom, IsTapedRun, PutsScript, StopsFrom, StopsTaped, StopsTapedScript, TapesScript, TapesSteps};
+ghost use Rattle.simulation.specs.Refusals.{IsToldUnrun, WasUnkept, WasUnroomed};
+ghost use Rattle.simulation.specs.Status.{PutsScript};
+ghost use Rattle.simulation.specs.Tapes.{IsTapedRun, StopsFrom, StopsTaped, StopsTapedScript, TapesRun, TapesScript};
 ghost use Rattle.simulation.specs.Texts.{run_lines};
-ghost use Rattle.simulation.specs.Watched.{IsToldAll, IsToldPart, IsToldSome, OverhearsScript, WatchesScript};
-ghost use Rattle.simulation.specs.Stops.{BeginsScript, FailsBy, Leaves};
+ghost use Rattle.simulation.specs.Watched.{IsToldAll, Overhears, OverhearsScript, WatchesScript};
+ghost use Rattle.simulation.specs.Stops.{FailsBy, Leaves};
 ghost use Rattle.faults.specs.declared.faults.Fault.TheVariants as faults;
 
 use crate::shown::print_steps;
@@ -40,12 +40,8 @@ pub fn simulate<O: Write, E: Tells>(
 ) -> u8
     ensures status { (result ≡ 0) ⊎ ((result ≡ 1) ⊎ (result ≡ 3)) }
     ensures bad { IsSome (first_bad_line script.now) → result ≡ 1 }
-    ensures run { (result ≡ 0) ⊎ (result ≡ 3) → RunsScript settings.now script.now
-        (O.contents output.old) (O.contents output.new) result }
-    ensures put { (result ≡ 0) ⊎ (result ≡ 3)
-        → PutsScript settings.now script.now output.old output.new }
-    ensures begun { result ≡ 1 → BeginsScript settings.now script.now (O.contents output.old)
-        (O.contents output.new) }
+    ensures run { (result ≡ 0) ⊎ (result ≡ 3)
+        → PutsScript O.contents settings.now script.now output.old output.new result }
     ensures quiet { (result ≡ 0) ⊎ (result ≡ 3) → errors.new ≡ errors.old }
     ensures told { result ≡ 1 → IsToldOf E.tells fault_text
         (FailsBy O.contents settings.now script.now output.old output.new)
@@ -73,19 +69,14 @@ pub fn simulate_watched<P: Progress, O: Write>(
     ensures told { IfErr result (TellsRun settings.now script.now) }
     ensures known { IfErr result (λ fault. status_of fault ≡ 1) }
     ensures good { OnOk result (first_bad_line script.now ≡ None) }
-    ensures run { IfOk result (RunsScript settings.now script.now (O.contents output.old)
-        (O.contents output.new)) }
-    ensures put { OnOk result (PutsScript settings.now script.now output.old output.new) }
-    ensures begun { OnErr result (BeginsScript settings.now script.now (O.contents output.old)
-        (O.contents output.new)) }
+    ensures run { IfOk result
+        (PutsScript O.contents settings.now script.now output.old output.new) }
     ensures leaves { IfErr result
-        (Leaves O.contents settings.now script.now output.old output.new) }
+        (OverhearsScript P.hears settings.now script.now progress.old progress.new
+        (Leaves O.contents settings.now script.now output.old output.new)) }
     ensures status { IfOk result (λ status. (status ≡ 0) ⊎ (status ≡ 3)) }
     ensures watched { OnOk result
         (WatchesScript P.hears settings.now script.now progress.old progress.new) }
-    ensures overheard { OnErr result (IsToldSome P.hears progress.old progress.new) }
-    ensures part { OnErr result
-        (OverhearsScript P.hears settings.now script.now progress.old progress.new) }
 {
     simulate_captured(alloc, settings, script, progress, &mut Untaped, output)
 }
@@ -106,19 +97,15 @@ pub fn simulate_captured<P: Progress, T: Tape, O: Write>(
     ensures told { IfErr result (TellsRun settings.now script.now) }
     ensures known { IfErr result (λ fault. status_of fault ≡ 1) }
     ensures good { OnOk result (first_bad_line script.now ≡ None) }
-    ensures run { IfOk result (TapesScript T.takes settings.now script.now tape.old tape.new
-        (O.contents output.old) (O.contents output.new)) }
-    ensures put { OnOk result (PutsScript settings.now script.now output.old output.new) }
-    ensures begun { OnErr result (BeginsScript settings.now script.now (O.contents output.old)
-        (O.contents output.new)) }
-    ensures stopped { IfErr result (StopsTapedScript T.takes T.refuses O.contents settings.now
-        script.now tape.old tape.new output.old output.new) }
+    ensures run { IfOk result (TapesScript T.takes O.contents settings.now script.now
+        tape.old tape.new output.old output.new) }
+    ensures stopped { IfErr result
+        (OverhearsScript P.hears settings.now script.now progress.old progress.new
+        (StopsTapedScript T.takes T.refuses O.contents settings.now script.now
+        tape.old tape.new output.old output.new)) }
     ensures status { IfOk result (λ status. (status ≡ 0) ⊎ (status ≡ 3)) }
     ensures watched { OnOk result
         (WatchesScript P.hears settings.now script.now progress.old progress.new) }
-    ensures overheard { OnErr result (IsToldSome P.hears progress.old progress.new) }
-    ensures part { OnErr result
-        (OverhearsScript P.hears settings.now script.now progress.old progress.new) }
 {
     let job = read_job(alloc, settings, script)?;
     play(
@@ -145,19 +132,17 @@ pub fn play<P: Progress, T: Tape, O: Write>(
     tape: &mut T,
     output: &mut O,
 ) -> Result<u8, Fault>
-    ensures run { IfOk result (IsTapedRun T.takes settings.now events.now tape.old tape.new
-        (O.contents output.old) (O.contents output.new)) }
-    ensures put { OnOk result (HasPut settings.now events.now output.old output.new) }
-    ensures stopped { IfErr result (StopsTaped T.takes T.refuses O.contents
-        settings.now events.now tape.old tape.new output.old output.new) }
+    ensures run { IfOk result (IsTapedRun T.takes O.contents settings.now events.now
+        tape.old tape.new output.old output.new) }
+    ensures stopped { IfErr result
+        (Overhears P.hears (length events.now) progress.old progress.new
+        (StopsTaped T.takes T.refuses O.contents settings.now events.now
+        tape.old tape.new output.old output.new)) }
     ensures status { IfOk result (λ status. (status ≡ 0) ⊎ (status ≡ 3)) }
     ensures fault { IfErr result
         (λ fault. (fault ≡ faults.NotWritten) ⊎ (fault ≡ faults.NoMemory)) }
     ensures watched { OnOk result
         (IsToldAll P.hears (length events.now) progress.old progress.new) }
-    ensures overheard { OnErr result (IsToldSome P.hears progress.old progress.new) }
-    ensures part { OnErr result
-        (IsToldPart P.hears (length events.now) progress.old progress.new) }
 {
     match World::founded(alloc, settings) {
         Ok(mut world) => {
@@ -178,19 +163,17 @@ fn played<P: Progress, T: Tape, O: Write>(
     tape: &mut T,
     output: &mut O,
 ) -> Result<u8, Fault>
-    ensures run { IfOk result
-        (TapesSteps T.takes world.old events.now world.new tape.old tape.new
-        (O.contents output.old) (O.contents output.new)) }
-    ensures put { OnOk result (HasPutFrom world.old events.now output.old output.new) }
-    ensures stopped { IfErr result (StopsFrom T.takes T.refuses O.contents world.old events.now
+    ensures run { IfOk result (TapesRun T.takes O.contents world.old events.now
         tape.old tape.new output.old output.new) }
+    ensures stopped { IfErr result
+        (Overhears P.hears (length events.now) progress.old progress.new
+        (StopsFrom T.takes T.refuses O.contents world.old events.now
+        tape.old tape.new output.old output.new)) }
     ensures status { IfOk result (λ status. (status ≡ 0) ⊎ (status ≡ 3)) }
     ensures fault { IfErr result
         (λ fault. (fault ≡ faults.NotWritten) ⊎ (fault ≡ faults.NoMemory)) }
     ensures watched { OnOk result
         (IsToldAll P.hears (length events.now) progress.old progress.new) }
-    ensures overheard { OnErr result
-        (IsToldPart P.hears (length events.now) progress.old progress.new) }
 {
     let steps = steps_of(alloc, world, events, progress)?;
     take_down(tape, world, events, steps.as_slice())?;
@@ -252,16 +235,15 @@ fn steps_of<P: Progress>(
     ensures steps { IfOk result (λ steps. AreSteps world.old events.now steps.items world.new) }
     ensures watched { OnOk result
         (IsToldAll P.hears (length events.now) progress.old progress.new) }
-    ensures overheard { OnErr result
-        (IsToldPart P.hears (length events.now) progress.old progress.new) }
-    ensures unrun { OnErr result (IsUnrun world.old events.now) }
+    ensures unrun { OnErr result
+        (IsToldUnrun P.hears world.old events.now progress.old progress.new) }
 {
     let mut steps = room_for(alloc, events)?;
     let mut rest = events;
     while !rest.is_empty() {
         progress.reached(steps.len(), events.len());
         let (next, others) = rest.split_at(rest.len().min(AT_A_TIME));
-        let more = next_steps(world, next)?;
+        let more = world.run(next)?;
         append(&mut steps, more)?;
         rest = others;
     }
@@ -286,15 +268,6 @@ fn append(steps: &mut Vec<Step>, more: Vec<Step>) -> Result<(), NoMemory>
     let mut more = more;
     steps.append(&mut more)?;
     Ok(())
-}
-
-/// What the next few events do to a world, in order.
-#[tactic(auto, unfolding(crate::specs::Refusals::WasUnrun))]
-fn next_steps(world: &mut World<'_>, events: &[WorldEvent]) -> Result<Vec<Step>, NoMemory>
-    ensures steps { IfOk result (λ steps. AreSteps world.old events.now steps.items world.new) }
-    ensures unrun { OnErr result (WasUnrun world.old events.now) }
-{
-    world.run(events)
 }
 
 /// 3 where an event was refused, else 0.

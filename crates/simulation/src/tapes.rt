@@ -1,18 +1,18 @@
 //! A run taken down as a capture.
-ghost use Rattle.std.specs.Prelude.{◌≡◌, true, false, Ok, OnOk, OnErr, IfOk, IsErr, IsErrAnd, IsOk};
+ghost use Rattle.std.specs.Prelude.{◌≡◌, true, false, Ok, Err, OnOk, OnErr, IfErr, IfOk, IsErr, IsErrAnd};
 ghost use Rattle.std.specs.Io.KnownBytes.{Keeps};
 ghost use Rattle.frame_sim.specs.World.{World as Scenery};
 ghost use Rattle.frame_sim.specs.declared.events.Step.{Step as Given};
 ghost use Rattle.nat_types.specs.declared.events.WorldEvent.{WorldEvent as Happening};
 ghost use Rattle.captures.specs.Captures.{head};
-ghost use Rattle.outlets.specs.Outputs.{WasFlushed};
-ghost use Rattle.frame_sim.specs.Asked.{WasPrinted};
-ghost use Rattle.simulation.specs.Captures.{Begins, IsHandedOn, IsUnbegun, Records, Refuses};
+ghost use Rattle.outlets.specs.Written.{IsWritten};
+ghost use Rattle.simulation.specs.Captures.{Begins, IsHandedOn, Records, Refuses};
 ghost use Rattle.std.specs.IoError.{error_kind};
 ghost use Rattle.std.specs.declared.io.ErrorKind.TheVariants.{Other};
 
 use crate::Clocks;
-use crate::writing::{put_head, write_event};
+use crate::writing::write_event;
+use captures::write_head;
 use frame_sim::{Step, Tape, World};
 use nat_types::WorldEvent;
 use outlets::told_to_flush;
@@ -30,25 +30,35 @@ pub struct Capture<W> {
     pub is_refused: bool,
 }
 
+/// A capture that couldn't be begun: where it was to be written, as it is then, and why.
+#[derive(Drop)]
+pub struct Unbegun<W> {
+    pub output: W,
+    pub error: io::Error,
+}
+
 impl<W: Write + Drop> Capture<W> {
     /// Begins a capture of a run on a new world: its head is written.
     ///
     /// # Errors
     ///
     /// Where output is refused; part of the head may be written.
-    pub fn begin(mut output: W) -> io::Result<Capture<W>>
+    pub fn begin(mut output: W) -> Result<Capture<W>, Unbegun<W>>
         ensures begins { IfOk result (λ c. Begins (W.contents output) (W.contents c.output)
             c.clocks) }
-        ensures put { IfOk result (λ c. WasPrinted output head (Ok tt) c.output) }
-        ensures unput { OnErr result (IsUnbegun output) }
+        ensures put { IfOk result (λ c. IsWritten output head (Ok tt) c.output) }
+        ensures unput { IfErr result
+            (λ unbegun. IsWritten output head (Err unbegun.error) unbegun.output) }
         ensures fresh { IfOk result (λ c. c.is_refused ≡ false) }
     {
-        put_head(&mut output)?;
-        Ok(Capture {
-            output,
-            clocks: Clocks::founded(),
-            is_refused: false,
-        })
+        match write_head(&mut output) {
+            Ok(()) => Ok(Capture {
+                output,
+                clocks: Clocks::founded(),
+                is_refused: false,
+            }),
+            Err(error) => Err(Unbegun { output, error }),
+        }
     }
 
     /// Ends the capture: all of it is handed on.

@@ -1,14 +1,13 @@
 //! Writes the packets of an event.
 ghost use Rattle.std.specs.Prelude.{◌≡◌, ◌∷◌, [], map, option_map, OnOk};
 ghost use Rattle.std.specs.Io.KnownBytes.{Appends};
-ghost use Rattle.captures.specs.Captures.{captured_of, head, packet_block, packet_blocks};
-ghost use Rattle.frame_sim.specs.Asked.{WasPrinted};
+ghost use Rattle.captures.specs.Captures.{packet_block, packet_blocks};
 ghost use Rattle.simulation.specs.Captures.{Puts};
 ghost use Rattle.simulation.specs.Packets.{datagram_out, frame_out, gateway_of, handed_in, packet, packets_in, packets_of};
 ghost use Rattle.captures.specs.declared.interfaces.Direction.TheVariants.{Inbound};
 
 use crate::Clocks;
-use captures::{Direction, Interface, Packet, write_head, write_packet};
+use captures::{Direction, Interface, Packet, write_packet};
 use frame_sim::{Step, World, WorldFault};
 use nat_types::{GatewayId, WorldEvent};
 use output::Out;
@@ -113,7 +112,7 @@ fn write_inbound<W: Write>(
         moment,
         bytes,
     };
-    put_packet(output, &packet)
+    write_packet(output, &packet)
 }
 
 /// Writes the frames that a gateway sent, in order.
@@ -129,7 +128,7 @@ fn write_frames<W: Write>(output: &mut W, id: GatewayId, moment: u64, out: &Out)
             moment,
             bytes: frame.bytes,
         };
-        put_packet(output, &packet)?;
+        write_packet(output, &packet)?;
     }
     Ok(())
 }
@@ -153,27 +152,7 @@ fn write_datagrams<W: Write>(
             moment,
             bytes: datagram,
         };
-        put_packet(output, &packet)?;
+        write_packet(output, &packet)?;
     }
     Ok(())
-}
-
-/// Has an output take the block of a packet.
-#[tactic(auto, unfolding(frame_sim::specs::Asked::WasPrinted))]
-fn put_packet<W: Write>(output: &mut W, packet: &Packet<'_>) -> io::Result<()>
-    ensures written { OnOk result (Appends (W.contents output.old) (W.contents output.new)
-        (packet_block (captured_of packet.now))) }
-    ensures put { WasPrinted output.old (packet_block (captured_of packet.now)) result output.new }
-{
-    write_packet(output, packet)
-}
-
-/// Has an output take the head of a capture.
-#[tactic(auto, unfolding(frame_sim::specs::Asked::WasPrinted))]
-pub(crate) fn put_head<W: Write>(output: &mut W) -> io::Result<()>
-    ensures written { OnOk result
-        (Appends (W.contents output.old) (W.contents output.new) head) }
-    ensures put { WasPrinted output.old head result output.new }
-{
-    write_head(output)
 }

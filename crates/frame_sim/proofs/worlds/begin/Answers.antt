@@ -6,8 +6,8 @@ use Rattle.spec_step.specs.Founding.{begun, founded, hashing}
 use Rattle.frame_sim.proofs.Fixed.{either-fixed, fixed-is}
 use Rattle.frame_sim.proofs.worlds.begin.Goals as goal
 
-pub returns : goal.returns
-returns c =
+pub returns-clause-begins : goal.returns-clause-begins
+returns-clause-begins c =
     let settings = c.args.settings.now in
     IfOk-weaker c.new.result _ _ (λ g is.
     is ∙ ap (λ (h : Hashers). hashing h (if c.args.found then founded settings c.args.boot else begun settings c.args.id c.args.boot)) (fixed-is c.fixed.result c.fixed.ensures)

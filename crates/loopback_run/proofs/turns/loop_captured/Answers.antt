@@ -1,10 +1,9 @@
 use Rattle.std.proofs.Common.{List, inl, inr, refl, subst, sym}
 use Rattle.std.proofs.lemmas.Result.{err_from_is_err_and}
 use Rattle.nat_types.specs.declared.events.WorldEvent.{WorldEvent}
-use Rattle.frame_sim.proofs.Offered.{in_err, in_ok, when_done}
-use Rattle.loopback_run.specs.Loops.{IsLoop}
-use Rattle.loopback_run.specs.Outputs.{HasPut}
-use Rattle.loopback_run.specs.Tapes.{IsTapedLoop, StopsTapedLoop}
+use Rattle.frame_sim.proofs.Offered.{in_err}
+use Rattle.loopback_run.specs.Tapes.{StopsTapedLoop}
+use Rattle.loopback_run.proofs.Looping.{script_loop}
 use Rattle.loopback_run.proofs.Telling.{told_port}
 use Rattle.loopback_run.proofs.turns.loop_captured.Goals as goal
 
@@ -22,15 +21,8 @@ returns-clause-told g c =
     rw c.of_port.ensures (told_port c.args.settings.now c.args.script.now _ (c.in_ok-job.job.settings, job.job.held) job.good)
 
 pub returns-in-Ok-clause-run : goal.returns-in-Ok-clause-run
-returns-in-Ok-clause-run g c = in_ok c.play.result (λ n h. record {
-  job = c.in_ok-job.job;
-  is = c.in_ok-job.ensures.job;
-  good = c.in_ok-job.ensures.good;
-  apart = sym c.in_default.ensures;
-  open_passage = c.open.new.self;
-  opened = c.in-Ok.ensures.opens;
-  run = subst (λ (es : List WorldEvent). IsLoop g.P.Channel.passes c.in_ok-job.job.settings es c.open.new.self c.play.new.passage (g.O.Write.contents c.args.output.now) (g.O.Write.contents c.play.new.output) n) c.as_slice.ensures.value h;
-}) c.play.ensures.run
+returns-in-Ok-clause-run g c = script_loop c.play.result _ _ _ _ _ _ c.in_ok-job.job _ _ c.open.new.self _ _ _ _ _ c.as_slice.ensures.value c.in_ok-job.ensures.job
+    c.in_ok-job.ensures.good (sym c.in_default.ensures) c.in-Ok.ensures.opens c.play.ensures.run
 
 pub returns-clause-untouched : goal.returns-clause-untouched
 returns-clause-untouched g c none =
@@ -39,24 +31,6 @@ returns-clause-untouched g c none =
 pub returns-in-Ok-clause-untouched : goal.returns-in-Ok-clause-untouched
 returns-in-Ok-clause-untouched g c none =
     absurd (none (record { job = c.in_ok-job.job; is = c.in_ok-job.ensures.job; good = c.in_ok-job.ensures.good; apart = sym c.in_default.ensures }))
-
-pub returns-in-Ok-clause-taped : goal.returns-in-Ok-clause-taped
-returns-in-Ok-clause-taped g c = when_done c.play.result (λ h. record {
-  job = c.in_ok-job.job;
-  is = c.in_ok-job.ensures.job;
-  good = c.in_ok-job.ensures.good;
-  open_passage = c.open.new.self;
-  opened = c.in-Ok.ensures.opens;
-  taped = subst (λ (es : List WorldEvent). IsTapedLoop g.P.Channel.passes g.T.Tape.takes c.in_ok-job.job.settings es c.open.new.self c.play.new.passage c.args.tape.now c.play.new.tape) c.as_slice.ensures.value h;
-}) c.play.ensures.taped
-
-pub returns-in-Ok-clause-put : goal.returns-in-Ok-clause-put
-returns-in-Ok-clause-put g c = when_done c.play.result (λ h. record {
-  texts = record { job = c.in_ok-job.job; is = c.in_ok-job.ensures.job; good = c.in_ok-job.ensures.good; apart = sym c.in_default.ensures };
-  open_passage = c.open.new.self;
-  opened = c.in-Ok.ensures.opens;
-  put = subst (λ (es : List WorldEvent). HasPut g.P.Channel.passes c.in_ok-job.job.settings es c.open.new.self c.play.new.passage c.args.output.now c.play.new.output) c.as_slice.ensures.value h;
-}) c.play.ensures.put
 
 pub returns-in_err-job-clause-broken : goal.returns-in_err-job-clause-broken
 returns-in_err-job-clause-broken g c =

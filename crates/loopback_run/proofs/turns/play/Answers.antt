@@ -1,16 +1,10 @@
 use Rattle.std.proofs.Common.{inl, refl}
-use Rattle.loopback_run.proofs.Looping.{loops_from, taped_from}
-use Rattle.loopback_run.proofs.Stopping.{loops_stop, put_from}
+use Rattle.loopback_run.proofs.Looping.{loops_from}
+use Rattle.loopback_run.proofs.Stopping.{loops_stop}
 use Rattle.loopback_run.proofs.turns.play.Goals as goal
 
 pub returns-in-Ok-clause-run : goal.returns-in-Ok-clause-run
-returns-in-Ok-clause-run g c = loops_from _ _ g.T.Tape.takes _ _ _ _ _ _ _ _ _ _ c.in-Ok.ensures.new c.played-status.ensures.run
-
-pub returns-in-Ok-clause-put : goal.returns-in-Ok-clause-put
-returns-in-Ok-clause-put g c = put_from c.played-status.result _ _ _ _ _ _ _ _ c.in-Ok.ensures.new c.played-status.ensures.put
-
-pub returns-in-Ok-clause-taped : goal.returns-in-Ok-clause-taped
-returns-in-Ok-clause-taped g c = taped_from c.played-status.result _ _ _ _ _ _ _ _ _ _ _ _ c.in-Ok.ensures.new c.played-status.ensures.run
+returns-in-Ok-clause-run g c = loops_from c.played-status.result _ _ _ _ _ _ _ _ _ _ _ _ c.in-Ok.ensures.new c.played-status.ensures.run
 
 pub returns-in-Ok-clause-broken : goal.returns-in-Ok-clause-broken
 returns-in-Ok-clause-broken g c = loops_stop c.played-status.result _ _ _ g.O.Write.contents _ _ _ _ _ _ _ _ _ c.in-Ok.ensures.new c.played-status.ensures.stops

@@ -4,7 +4,6 @@ use Rattle.faults.specs.Faults.{of_print}
 use Rattle.faults.specs.declared.faults.Fault.TheVariants.{NotWritten}
 use Rattle.frame_sim.proofs.Offered.{handed_on}
 use Rattle.loopback_run.specs.Tapes.{StopsTaped}
-use Rattle.loopback_run.proofs.Taping.{turns_of}
 use Rattle.loopback_run.proofs.turns.played.Goals as goal
 
 pub returns-in_err-refused-clause-stops : goal.returns-in_err-refused-clause-stops
@@ -35,19 +34,9 @@ returns-clause-run g c =
     let had = c.in_ok-refused.ensures.had.had in
     record {
       turns = had.turns;
+      last = c.turned.new.world;
       taken = had.taken;
       text = Appends-trans _ _ _ _ _ had.text c.in_ok-put_end.ensures.printed;
+      put = (c.turned.new.output, (had.put, c.in_ok-put_end.ensures.put));
       is = c.status_of.ensures ∙ ap (λ (b : Bool). if b then 3 else 0) c.in_ok-refused.ensures.had.refusals;
-    }
-
-pub returns-clause-put : goal.returns-clause-put
-returns-clause-put g c =
-    let had = c.in_ok-refused.ensures.had.had in
-    record {
-      turns = had.turns;
-      last = c.turned.new.world;
-      taken = turns_of _ _ _ _ _ _ had.turns _ _ _ had.taken;
-      middle = c.turned.new.output;
-      put = had.put;
-      ended = c.in_ok-put_end.ensures.put;
     }

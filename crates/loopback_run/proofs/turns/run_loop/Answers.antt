@@ -18,9 +18,3 @@ returns-in-Ok-clause-told g c one = isnt_1 _ one c.in-Ok.ensures.status
 pub returns-in-Err-clause-told : goal.returns-in-Err-clause-told
 returns-in-Err-clause-told g c one =
     (c.in-Err.fault, (record { told = c.in-Err.ensures.told; leaves = c.in-Err.ensures.leaves }, c.tell.ensures.told))
-
-pub returns-in-Ok-clause-fault : goal.returns-in-Ok-clause-fault
-returns-in-Ok-clause-fault g c one = isnt_1 _ one c.in-Ok.ensures.status
-
-pub returns-in-Err-clause-put : goal.returns-in-Err-clause-put
-returns-in-Err-clause-put g c done = isnt_1 _ (c.tell.ensures.status ∙ c.in-Err.ensures.known) done

@@ -37,25 +37,25 @@ loop-event-preserved g c =
     let e = c.event-item.result in
     let events = drop_more c.args.events.now l.event-index e c.loop-event-test.true ∙ ap (λ x. x ∷ drop (l.event-index + 1) c.args.events.now) (sym c.event-item.is) in
     record {
-      part = rw c.in_ok-put_step.ensures.counted (part_more _ _ _ _ _ _ _ l.invariant.part (next l.printer _ _ l.rest.now _ e _ events c.in-Some.ensures.cases.0) c.in_ok-put_step.ensures.printed);
-      puts = puts_next no_counts c.args.output.now c.args.events.now c.args.steps.now l.printer _ l.output _ _ l.rest.now _ e _ _ events c.in-Some.ensures.cases.0 c.in_ok-put_step.ensures.counted c.in_ok-put_step.ensures.put l.invariant.puts;
+      part = rw c.in_ok-step.ensures.counted (part_more _ _ _ _ _ _ _ l.invariant.part (next l.printer _ _ l.rest.now _ e _ events c.in-Some.ensures.cases.0) c.in_ok-step.ensures.printed);
+      puts = puts_next no_counts c.args.output.now c.args.events.now c.args.steps.now l.printer _ l.output _ _ l.rest.now _ e _ _ events c.in-Some.ensures.cases.0 c.in_ok-step.ensures.counted c.in_ok-step.ensures.put l.invariant.puts;
     }
 
-pub returns-in_err-put_step-clause-printed : goal.returns-in_err-put_step-clause-printed
-returns-in_err-put_step-clause-printed g c =
+pub returns-in_err-step-clause-printed : goal.returns-in_err-step-clause-printed
+returns-in_err-step-clause-printed g c =
     let l = c.loop-event in
     let e = c.event-item.result in
     let events = drop_more c.args.events.now l.event-index e c.loop-event-test.true ∙ ap (λ x. x ∷ drop (l.event-index + 1) c.args.events.now) (sym c.event-item.is) in
     err_begun c.from_residual.result _ _ _ c.from_residual.ensures.0
-    (begun_more _ _ _ _ _ _ _ l.invariant.part (next l.printer _ _ l.rest.now _ e _ events c.in-Some.ensures.cases.0) c.in_err-put_step.ensures.printed)
+    (begun_more _ _ _ _ _ _ _ l.invariant.part (next l.printer _ _ l.rest.now _ e _ events c.in-Some.ensures.cases.0) c.in_err-step.ensures.printed)
 
-pub returns-in_err-put_step-clause-unput : goal.returns-in_err-put_step-clause-unput
-returns-in_err-put_step-clause-unput g c =
+pub returns-in_err-step-clause-unput : goal.returns-in_err-step-clause-unput
+returns-in_err-step-clause-unput g c =
     let l = c.loop-event in
     let e = c.event-item.result in
     let events = drop_more c.args.events.now l.event-index e c.loop-event-test.true ∙ ap (λ x. x ∷ drop (l.event-index + 1) c.args.events.now) (sym c.event-item.is) in
     on_err c.from_residual.result (unput_next no_counts c.args.output.now c.args.events.now c.args.steps.now l.printer l.output _ _ l.rest.now _ e _ _ events c.in-Some.ensures.cases.0
-    (c.in_err-put_step.field-0.0, c.in_err-put_step.ensures.put) l.invariant.puts)
+    (c.in_err-step.field-0.0, c.in_err-step.ensures.put) l.invariant.puts)
 
 pub returns-in_default-clause-printed : goal.returns-in_default-clause-printed
 returns-in_default-clause-printed g c = part_whole _ _ _ _ c.loop-event.invariant.part (none _ _ _ (empty _ c.in_default.ensures.cases))

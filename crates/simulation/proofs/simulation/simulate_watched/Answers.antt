@@ -3,8 +3,7 @@ use Rattle.simulation.proofs.Playing.{leaves_of}
 use Rattle.simulation.proofs.simulation.simulate_watched.Goals as goal
 
 pub returns-clause-run : goal.returns-clause-run
-returns-clause-run g c =
-    in_ok c.simulate_captured.result (λ n h. record { job = h.job; is = h.is; good = h.good; run = h.run.run; printed = h.run.text }) c.simulate_captured.ensures.run
+returns-clause-run g c = in_ok c.simulate_captured.result (λ n h. record { run = h.run; put = h.put }) c.simulate_captured.ensures.run
 
 pub returns-clause-leaves : goal.returns-clause-leaves
-returns-clause-leaves g c = leaves_of c.simulate_captured.result _ _ _ _ _ _ _ c.simulate_captured.ensures.stopped
+returns-clause-leaves g c = leaves_of c.simulate_captured.result _ _ _ _ _ _ _ _ _ _ c.simulate_captured.ensures.stopped

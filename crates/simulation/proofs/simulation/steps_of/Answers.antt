@@ -1,7 +1,7 @@
-use Rattle.std.proofs.Common.{inl, inr, rules}
+use Rattle.std.proofs.Common.{inl, inr, refl, rules}
 use Rattle.frame_sim.proofs.Offered.{on_err}
 use Rattle.simulation.proofs.Playing.{cut-short, more-done, two-parts}
-use Rattle.simulation.proofs.Telling.{told-all, told-last, told-never, told-next, told-none}
+use Rattle.simulation.proofs.Telling.{told-all, told-last, told-next, told-none}
 use Rattle.simulation.proofs.simulation.steps_of.Goals as goal
 
 pub loop-rest-init : goal.loop-rest-init
@@ -21,27 +21,18 @@ loop-rest-preserved g c = record {
 pub returns-clause-watched : goal.returns-clause-watched
 returns-clause-watched g c = told-all _ _ _ _ _ _ c.loop-rest.invariant.told (search rules)
 
-pub returns-in_err-steps-clause-overheard : goal.returns-in_err-steps-clause-overheard
-returns-in_err-steps-clause-overheard g c = on_err c.from_residual.result (told-never g.P.Progress.hears _ c.args.progress.now)
-
-pub returns-in_err-more-clause-overheard : goal.returns-in_err-more-clause-overheard
-returns-in_err-more-clause-overheard g c = on_err c.from_residual-in_err-more.result
-    (told-last _ _ _ _ c.loop-rest.rest.now _ _ _ _ c.loop-rest.invariant.told (search rules) c.reached.ensures (search rules) (search rules))
-
-pub returns-in_err-append-clause-overheard : goal.returns-in_err-append-clause-overheard
-returns-in_err-append-clause-overheard g c = on_err c.from_residual-in_err-append.result
-    (told-last _ _ _ _ c.loop-rest.rest.now _ _ _ _ c.loop-rest.invariant.told (search rules) c.reached.ensures (search rules) (search rules))
-
 pub returns-in_err-steps-clause-unrun : goal.returns-in_err-steps-clause-unrun
-returns-in_err-steps-clause-unrun g c = on_err c.from_residual.result (inl c.in_err-steps.ensures.unroomed)
+returns-in_err-steps-clause-unrun g c = on_err c.from_residual.result (0, (refl, inl (refl, c.in_err-steps.ensures.unroomed)))
 
 pub returns-in_err-more-clause-unrun : goal.returns-in_err-more-clause-unrun
 returns-in_err-more-clause-unrun g c = on_err c.from_residual-in_err-more.result
-    (cut-short _ _ _ c.loop-rest.rest.now _ _ _ (two-parts _ _ _ _ c.split_at.ensures.front c.split_at.ensures.back)
-    c.loop-rest.invariant.under_way (inl c.in_err-more.ensures.unrun))
+    (cut-short g.P.Progress.hears _ _ _ c.loop-rest.rest.now _ _ _ _ _ (two-parts _ _ _ _ c.split_at.ensures.front c.split_at.ensures.back)
+    c.loop-rest.invariant.under_way (inl c.in_err-more.ensures.unrun)
+    (told-last _ _ _ _ c.loop-rest.rest.now _ _ _ _ c.loop-rest.invariant.told (search rules) c.reached.ensures (search rules) (search rules)))
 
 pub returns-in_err-append-clause-unrun : goal.returns-in_err-append-clause-unrun
 returns-in_err-append-clause-unrun g c = on_err c.from_residual-in_err-append.result
-    (cut-short _ _ _ c.loop-rest.rest.now _ _ _ (two-parts _ _ _ _ c.split_at.ensures.front c.split_at.ensures.back)
+    (cut-short g.P.Progress.hears _ _ _ c.loop-rest.rest.now _ _ _ _ _ (two-parts _ _ _ _ c.split_at.ensures.front c.split_at.ensures.back)
     c.loop-rest.invariant.under_way
-    (inr (c.in_ok-more.more.items, (c.next_steps.new.world, (c.in_ok-more.ensures.steps, c.in_err-append.ensures.unkept)))))
+    (inr (c.in_ok-more.more.items, (c.run.new.self, (c.in_ok-more.ensures.steps, c.in_err-append.ensures.unkept))))
+    (told-last _ _ _ _ c.loop-rest.rest.now _ _ _ _ c.loop-rest.invariant.told (search rules) c.reached.ensures (search rules) (search rules)))

@@ -13,8 +13,8 @@ pub loop-datagram-preserved : goal.loop-datagram-preserved
 loop-datagram-preserved g c =
     let l = c.loop-datagram in
     record {
-      written = next_written (λ x. datagram_out c.args.id c.args.moment (deref x)) l.yielded c.in-Some.datagram _ _ _ l.invariant.written c.in_ok-put_packet.ensures.written;
-      put = next_put (λ x. datagram_out c.args.id c.args.moment (deref x)) l.yielded c.in-Some.datagram _ _ _ l.invariant.put c.in_ok-put_packet.ensures.put;
+      written = next_written (λ x. datagram_out c.args.id c.args.moment (deref x)) l.yielded c.in-Some.datagram _ _ _ l.invariant.written c.in_ok-write_packet.ensures.written;
+      put = next_put (λ x. datagram_out c.args.id c.args.moment (deref x)) l.yielded c.in-Some.datagram _ _ _ l.invariant.put c.in_ok-write_packet.ensures.put;
     }
 
 pub returns-clause-written : goal.returns-clause-written
@@ -33,8 +33,8 @@ returns-clause-put g c =
     let read = iter_end deref all l.yielded _ _ _ _ start l.yielded_by c.in-None.is c.next.ensures.steps in
     all_put (datagram_out c.args.id c.args.moment) deref l.yielded all _ _ read.0 l.invariant.put
 
-pub returns-in_err-put_packet-clause-put : goal.returns-in_err-put_packet-clause-put
-returns-in_err-put_packet-clause-put g c =
+pub returns-in_err-write_packet-clause-put : goal.returns-in_err-write_packet-clause-put
+returns-in_err-write_packet-clause-put g c =
     let l = c.loop-datagram in
     let all = c.args.out.now.datagrams in
     let start : c.into_iter-datagram-iterator.result ≡ all = cc in
@@ -42,4 +42,4 @@ returns-in_err-put_packet-clause-put g c =
     let split = sym start ∙ rest_so_far deref l.yielded _ _ l.yielded_by ∙ ap (λ xs. map deref l.yielded ++ xs) more in
     err_unput c.from_residual.result _ _ _ c.from_residual.ensures.0
     (one_refused (datagram_out c.args.id c.args.moment) deref l.yielded c.in-Some.datagram all _ _ _ _ split l.invariant.put
-    (c.in_err-put_packet.field-0.0, c.in_err-put_packet.ensures.put))
+    (c.in_err-write_packet.field-0.0, c.in_err-write_packet.ensures.put))

@@ -13,8 +13,8 @@ pub loop-frame-preserved : goal.loop-frame-preserved
 loop-frame-preserved g c =
     let l = c.loop-frame in
     record {
-      written = next_written (λ x. frame_out c.args.id c.args.moment (sent_of x)) l.yielded c.in-Some.frame _ _ _ l.invariant.written c.in_ok-put_packet.ensures.written;
-      put = next_put (λ x. frame_out c.args.id c.args.moment (sent_of x)) l.yielded c.in-Some.frame _ _ _ l.invariant.put c.in_ok-put_packet.ensures.put;
+      written = next_written (λ x. frame_out c.args.id c.args.moment (sent_of x)) l.yielded c.in-Some.frame _ _ _ l.invariant.written c.in_ok-write_packet.ensures.written;
+      put = next_put (λ x. frame_out c.args.id c.args.moment (sent_of x)) l.yielded c.in-Some.frame _ _ _ l.invariant.put c.in_ok-write_packet.ensures.put;
     }
 
 pub returns-clause-written : goal.returns-clause-written
@@ -33,8 +33,8 @@ returns-clause-put g c =
     let read = iter_end sent_of all l.yielded _ _ _ _ start l.yielded_by c.in-None.is c.next.ensures.steps in
     all_put (frame_out c.args.id c.args.moment) sent_of l.yielded all _ _ read.0 l.invariant.put
 
-pub returns-in_err-put_packet-clause-put : goal.returns-in_err-put_packet-clause-put
-returns-in_err-put_packet-clause-put g c =
+pub returns-in_err-write_packet-clause-put : goal.returns-in_err-write_packet-clause-put
+returns-in_err-write_packet-clause-put g c =
     let l = c.loop-frame in
     let all = c.args.out.now.frames in
     let start : c.into_iter-frame-iterator.result ≡ all = cc in
@@ -42,4 +42,4 @@ returns-in_err-put_packet-clause-put g c =
     let split = sym start ∙ rest_so_far sent_of l.yielded _ _ l.yielded_by ∙ ap (λ xs. map sent_of l.yielded ++ xs) more in
     err_unput c.from_residual.result _ _ _ c.from_residual.ensures.0
     (one_refused (frame_out c.args.id c.args.moment) sent_of l.yielded c.in-Some.frame all _ _ _ _ split l.invariant.put
-    (c.in_err-put_packet.field-0.0, c.in_err-put_packet.ensures.put))
+    (c.in_err-write_packet.field-0.0, c.in_err-write_packet.ensures.put))

@@ -17,7 +17,7 @@ invariant_of-self-in-Zero c =
     let may = subst (λ (x : World). may_boot x c.args.id n ≡ true) (sym c.self.view_is) (sym c.may_boot.ensures ∙ (let f : c.may_boot.result ≡ true = cc in f)) in
     let may2 = subst (λ (i : GatewayId). may_boot w i n ≡ true) c.in-Zero.is may in
     let noted = c.in-Ok.ensures.trace ∙ ap (λ (i : GatewayId). w.trace ++ noting i 0 (Booted n) ∷ []) c.in-Zero.is in
-    let begins = c.in_ok-gateway.ensures ∙ ap (λ (i : GatewayId). begun w.settings i n) c.in-Zero.is in
+    let begins = c.in_ok-gateway.ensures.begins ∙ ap (λ (i : GatewayId). begun w.settings i n) c.in-Zero.is in
     let is = c.start.ensures ∙ ap (λ (g : Shown). let h : Half = record w.zero { gateway = Some g; boot = n } in h) begins in
     sound-so w Zero _ c.start.new.self _ c.note_both.new.trace.items is noted (boot-sound c.goes_to.ensures c.books_begin.ensures.booted c.others_account.ensures.booted c.beginnings_account.ensures.begun w Zero n c.self.invariant may2)
 
@@ -28,6 +28,6 @@ invariant_of-self-in-One c =
     let may = subst (λ (x : World). may_boot x c.args.id n ≡ true) (sym c.self.view_is) (sym c.may_boot.ensures ∙ (let f : c.may_boot.result ≡ true = cc in f)) in
     let may2 = subst (λ (i : GatewayId). may_boot w i n ≡ true) c.in-One.is may in
     let noted = c.in-Ok.ensures.trace ∙ ap (λ (i : GatewayId). w.trace ++ noting i 0 (Booted n) ∷ []) c.in-One.is in
-    let begins = c.in_ok-gateway.ensures ∙ ap (λ (i : GatewayId). begun w.settings i n) c.in-One.is in
+    let begins = c.in_ok-gateway.ensures.begins ∙ ap (λ (i : GatewayId). begun w.settings i n) c.in-One.is in
     let is = c.start-in-One.ensures ∙ ap (λ (g : Shown). let h : Half = record w.one { gateway = Some g; boot = n } in h) begins in
     sound-so w One _ c.start-in-One.new.self _ c.note_both.new.trace.items is noted (boot-sound c.goes_to.ensures c.books_begin.ensures.booted c.others_account.ensures.booted c.beginnings_account.ensures.begun w One n c.self.invariant may2)

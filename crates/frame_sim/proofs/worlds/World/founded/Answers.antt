@@ -3,4 +3,4 @@ use Rattle.frame_sim.proofs.worlds.World.founded.Goals as goal
 
 pub returns-clause-new : goal.returns-clause-new
 unfolding IsNew
-returns-clause-new c = c.new.ensures
+returns-clause-new c = c.new.ensures.founding

@@ -1,0 +1,97 @@
+-- For what of an event there was no memory.
+use Rattle.std.specs.Prelude.{◌≡◌, ◌≢◌, ◌⊎◌, ℕ, false, Option, Some, None, List}
+use Rattle.std.specs.Borrow.{Bor}
+use Rattle.nat_types.specs.Same.{other}
+use Rattle.nat_types.specs.declared.gateways.GatewayId.{GatewayId}
+use Rattle.nat_types.specs.declared.notes.Note.{Note}
+use Rattle.nat_types.specs.declared.notes.NoteKind.TheVariants.{Crashed, Booted}
+use Rattle.nat_types.specs.declared.events.WorldEvent.{WorldEvent}
+use Rattle.nat_types.specs.declared.events.WorldEvent.TheVariants.{Frame, Tick, Stop, Deliver, Crash, Boot, PeerOff, Side as Cable}
+use Rattle.settings.specs.declared.whole.Settings.{Settings}
+use Rattle.spec_binding.specs.Books.{is_synced}
+use Rattle.spec_step.specs.declared.events.Event.{Event}
+use Rattle.spec_step.specs.declared.events.Event.TheVariants as given
+use Rattle.spec_step.specs.Shown.{Shown}
+use Rattle.frame_sim.specs.World.{Half, World, gateway_at, half, moment_of}
+use Rattle.frame_sim.specs.Events.{kth, noting}
+
+-- There was no room for what a gateway may send and note in a step. No clause can say when that is, so this, and those below it, are no more than
+-- names: who asks for it has one of them, and nobody else.
+unfoldable pub WasUnready : Shown → Type 0
+WasUnready g = Unit {0}
+
+-- it was to take this event, and there was no memory for its step
+unfoldable pub WasUnstepped : Shown → Event → Type 0
+WasUnstepped g event = Unit {0}
+
+-- one was to begin with these settings, in the life of this number
+unfoldable pub WasUnbegun : Settings → GatewayId → ℕ → Type 0
+WasUnbegun settings i number = Unit {0}
+
+-- there was no room for this note on the trace
+unfoldable pub WasUntraced : Note → Type 0
+WasUntraced note = Unit {0}
+
+-- nor where it is told
+unfoldable pub WasUntold : Note → Type 0
+WasUntold note = Unit {0}
+
+-- nor room for the steps of these events
+unfoldable pub WasUnrun : List WorldEvent → Type 0
+WasUnrun events = Unit {0}
+
+-- a gateway was asked for the ports that it owns, and there was no memory for them
+unfoldable pub WasUnowned : Shown → Type 0
+WasUnowned g = Unit {0}
+
+-- or for the pairs that it holds
+unfoldable pub WasUnpaired : Shown → Type 0
+WasUnpaired g = Unit {0}
+
+-- or for those that translate
+unfoldable pub WasUntranslated : Shown → Type 0
+WasUntranslated g = Unit {0}
+
+-- ---- of an event
+
+-- for one of both
+abbrev pub IsUnnoted : Note → Type 0
+IsUnnoted note = WasUntraced note ⊎ WasUntold note
+
+-- a gateway took no step for this event, for want of the one or the other; one that is down takes none, and no memory
+abbrev pub IsUnstepped : Option Shown → Event → Type 0
+IsUnstepped None event = ⊥
+IsUnstepped (Some g) event = WasUnready g ⊎ WasUnstepped g event
+
+-- it took none for the datagram of this number among those that the other sent
+abbrev pub IsUnreceived : Half → Half → ℕ → Type 0
+IsUnreceived h from number = (bytes : Bor (List ℕ)) × ((kth number from.sent ≡ Some bytes.now) × IsUnstepped h.gateway (given.Datagram bytes))
+
+-- For want of this an event wasn't applied: of just what the gateway to which it happens wants for its step; of room for the note of a crash; of a
+-- gateway that boots, or of room for the note of that
+abbrev pub Lacks : World → WorldEvent → Type 0
+Lacks w (Frame i side bytes) = (lent : Bor (List ℕ)) × ((lent.now ≡ bytes.items) × IsUnstepped (gateway_at w i) (given.Frame side lent))
+Lacks w (Tick i moment) = IsUnstepped (gateway_at w i) (given.Tick moment)
+Lacks w (Stop i) = IsUnstepped (gateway_at w i) given.Stop
+Lacks w (Deliver i k) = IsUnreceived (half w i) (half w (other i)) k
+Lacks w (Crash i) = IsUnnoted (noting i (moment_of (gateway_at w i)) Crashed)
+Lacks w (Boot i n) = WasUnbegun w.settings i n ⊎ IsUnnoted (noting i 0 (Booted n))
+Lacks w (PeerOff i n) = IsUnstepped (gateway_at w i) (given.PeerOff n)
+Lacks w (Cable i side up) = IsUnstepped (gateway_at w i) (given.Side side up)
+
+-- ---- of what a gateway holds; of one that is down there is none to list
+
+-- the ports that it owns, where it is synced
+abbrev pub IsUnowned : Option Shown → Type 0
+IsUnowned None = ⊥
+IsUnowned (Some g) = (is_synced g.ledger.book.stage ≢ false) × WasUnowned g
+
+-- its pairs
+abbrev pub IsUnpaired : Option Shown → Type 0
+IsUnpaired None = ⊥
+IsUnpaired (Some g) = WasUnpaired g
+
+-- those that translate
+abbrev pub IsUntranslated : Option Shown → Type 0
+IsUntranslated None = ⊥
+IsUntranslated (Some g) = WasUntranslated g
