@@ -1,5 +1,5 @@
 -- The boot of a gateway that begins.
-use Rattle.std.proofs.Common.{IsErrOf, ◌≡◌, ◌≢◌, ◌⊎◌, inl, inr, ◌<◌, ◌≤◌, ℕ, Bool, true, false, Result, Ok, Err, OnErr, OnOk, refl, sym, ap, ◌∙◌, subst, arith, if◌then◌else◌, ◌++◌, List, [], Option, codes, decimal, append-nil}
+use Rattle.std.proofs.Common.{IsErrOf, ◌≡◌, ◌⊎◌, inl, inr, ◌<◌, ◌≤◌, ℕ, Bool, true, false, Result, Ok, Err, OnErr, OnOk, refl, sym, ap, ◌∙◌, subst, arith, if◌then◌else◌, ◌++◌, List, [], Option, codes, decimal, append-nil}
 use Rattle.std.proofs.lemmas.Bool.{cases_lt}
 use Rattle.std.proofs.KnownBytes.{Appends-kept}
 use Rattle.std.specs.Io.KnownBytes.{Appends, Keeps}
@@ -17,9 +17,7 @@ use Rattle.boot_store.specs.Moment.{Moment}
 use Rattle.boot_store.specs.declared.faults.BootFault.{BootFault}
 use Rattle.boot_store.specs.declared.faults.BootFault.TheVariants as boot
 use Rattle.box_words.specs.Faults.{of_boot}
-use Rattle.faults.specs.declared.faults.Fault.TheVariants as run
 use Rattle.box_words.specs.declared.refusals.BoxFault.{BoxFault}
-use Rattle.box_words.specs.declared.refusals.BoxFault.TheVariants as fault
 use Rattle.gate.specs.Boots.{HasBoot, IsStart, TellsNumber}
 use Rattle.gate.specs.Printing.{HasLine, HasNumber, HasWord, IsLinePrinted, IsLineRefused}
 
@@ -75,13 +73,6 @@ tells_number found now now2 before after reason why told later failed decided = 
     by : (before < after) ⊎ (after ≤ before) → TellsNumber found before after now now2 why
     by (inl less) = inl (told ∙ ap of_boot (same (failed less)), less)
     by (inr most) = inr (reason, (told, decided (omega (arith, later, most))))
-
--- what is told of a boot file isn't told of output
-pub unasked_of_boot : (reason : BootFault) (why : BoxFault) → why ≡ of_boot reason → why ≢ fault.Run run.NotWritten
-unasked_of_boot boot.Device why is = λ e. cc
-unasked_of_boot boot.Damaged why is = λ e. cc
-unasked_of_boot boot.BootsUsedUp why is = λ e. cc
-unasked_of_boot boot.FoundTwice why is = λ e. cc
 
 -- ---- the line of a boot
 

@@ -1,98 +1,153 @@
 -- What is known of a fault at which a start ends.
-use Rattle.std.proofs.Common.{◌≡◌, ◌⊎◌, inl, inr, subst, sym, refl, ℕ, Bool, List, [], ◌∷◌, Option, Some, None, Result, Ok, Err, IfErr, IsErrAnd, codes}
-use Rattle.std.specs.Io.KnownBytes.{Appends}
+use Rattle.std.proofs.Common.{◌≡◌, ◌⊎◌, inl, inr, subst, sym, refl, ℕ, Bool, List, [], ◌∷◌, Option, Some, None, Result, Ok, Err, IfErr, IsErrAnd, false, is_some, true≢false}
+use Rattle.std.specs.Borrow.{Bor}
 use Rattle.boot_store.specs.Crash.{Decides}
 use Rattle.boot_store.specs.Moment.{Moment}
 use Rattle.sockets.specs.declared.ends.End.{End}
 use Rattle.sockets.specs.declared.places.Ports.{Ports}
 use Rattle.box_words.specs.Ends.{AsksSystem, IsAsked, IsFirstRefused, by_system}
 use Rattle.box_words.specs.declared.refusals.BoxFault.{BoxFault}
-use Rattle.gate.specs.Boots.{boot_line}
-use Rattle.gate.specs.Failing.{IsUnbegun, IsUnrun, IsUnstarted, LacksOutput}
-use Rattle.gate.specs.Named.{WasGiven, boot_number}
-use Rattle.gate.specs.Orders.{IsInOrder, IsInSomeOrder, IsSilentOrTaken}
+use Rattle.gate.specs.Asked.{path_in}
+use Rattle.gate.specs.Failing.{IsUnbegun, LacksEnd, LacksMemory, LacksNumber}
+use Rattle.gate.specs.Named.{IsOpened, WasGiven, WasSpared, boot_number, new_gateway, seed}
+use Rattle.gate.specs.Orders.{IsBehind, IsBehindLine, IsInOrder, IsInSomeOrder, IsSilentOrTaken, IsSparing, IsUnrecorded, IsUnrun, IsUnstarted, IsUntaken}
+use Rattle.gate.specs.Printing.{HasPrinted, Holds}
+use Rattle.gate.specs.Sparing.{FailsLogged}
+use Rattle.gate.specs.declared.running.Start.{Start}
 
 -- what holds of a fault that is handed on holds of the end by it
 pub handed_on : {T : Type 0} (r : Result T BoxFault) (P : BoxFault → Type 0) (why : BoxFault) → IsErrAnd r (λ e. e ≡ why) → P why → IfErr r P
 handed_on (Ok x) P why is p = tt
 handed_on (Err e) P why is p = subst P (sym is) p
 
--- what isn't run is so, whatever else may be
-pub so_or : {T : Type 0} (r : Result T BoxFault) (P : BoxFault → Type 0) (A : Type 0) → IfErr r P → IfErr r (λ why. P why ⊎ A)
-so_or (Ok x) P A is = tt
-so_or (Err why) P A is = inl is
-
--- output that isn't written is a fault of a gateway that isn't started
-pub unwritten_unstarted : {T : Type 0} (r : Result T BoxFault) (text : List ℕ) (before after : Option (List ℕ)) → WasGiven boot_number
-    → IfErr r (LacksOutput text before after) → IfErr r IsUnstarted
-unwritten_unstarted (Ok x) text before after given is = tt
-unwritten_unstarted (Err why) text before after given is = inl (is.is, (given, is.denied))
-
 -- where only this is so, it is, with what was had before
 pub only_this : {T : Type 0} (r : Result T BoxFault) (P Q : BoxFault → Type 0) (A : Type 0) → A → IfErr r P → IfErr r (λ why. (P why × A) ⊎ Q why)
 only_this (Ok x) P Q A had is = tt
 only_this (Err why) P Q A had is = inl (is, had)
-
--- a gateway that isn't started isn't run
-pub unstarted_unrun : {T : Type 0} (capture : Option (List ℕ)) (r : Result T BoxFault) → IfErr r IsUnstarted → IfErr r (IsUnrun capture)
-unstarted_unrun capture (Ok x) is = tt
-unstarted_unrun capture (Err why) is = inr is
 
 -- what fails behind a part fails from that part on, with what was had of it
 pub behind_it : {T : Type 0} (r : Result T BoxFault) (P Q : BoxFault → Type 0) (A : Type 0) → A → IfErr r Q → IfErr r (λ why. P why ⊎ (A × Q why))
 behind_it (Ok x) P Q A had is = tt
 behind_it (Err why) P Q A had is = inr (had, is)
 
--- output that is refused at the end comes behind the number
-pub in_order : {T O : Type 0} (result : Result T BoxFault) (contents : O → Option (List ℕ)) (capture : Option (List ℕ)) (honest : Type 0) (found : Bool) (before after : Moment)
-    (boot : ℕ) (output between output2 : O) → IfErr result (LacksOutput (codes "end\n") (contents between) (contents output2))
-    → (honest → Decides found before after (Ok boot)) → Appends (contents output) (contents between) (boot_line boot)
-    → IfErr result (λ why. IsInOrder contents capture honest found before after why output output2)
-in_order (Ok x) contents capture honest found before after boot output between output2 is taken printed = tt
-in_order (Err why) contents capture honest found before after boot output between output2 is taken printed =
-    inr (boot, (taken, inl (inr (contents between, (printed, is)))))
+-- ---- behind the line of a boot
+
+-- output that is refused at the end comes behind that line
+pub end_behind : {T O : Type 0} (r : Result T BoxFault) (contents : Holds O) (capture : Option (List ℕ)) (boot : ℕ) (output between output2 : O)
+    → HasPrinted contents output boot between → IfErr r (LacksEnd contents between output2)
+    → IfErr r (λ why. IsBehindLine contents capture boot why output output2)
+end_behind (Ok x) contents capture boot output between output2 printed is = tt
+end_behind (Err why) contents capture boot output between output2 printed is = inl (between, (printed, is))
 
 -- and so does a capture that isn't begun, where just the line was printed
-pub ends_in_order : {T O : Type 0} (result : Result T BoxFault) (contents : O → Option (List ℕ)) (path : List ℕ) (capture : Option (List ℕ)) (honest : Type 0) (found : Bool)
-    (before after : Moment) (boot : ℕ) (output between output2 : O) (A B C : Type 0) → capture ≡ Some path
-    → IfErr result (λ why. (LacksOutput (codes "end\n") (contents between) (contents output2) why × A) ⊎ ((IsUnbegun (Some path) why × B) × ((output2 ≡ between) × C)))
-    → (honest → Decides found before after (Ok boot)) → Appends (contents output) (contents between) (boot_line boot)
-    → IfErr result (λ why. IsInOrder contents capture honest found before after why output output2)
-ends_in_order (Ok x) contents path capture honest found before after boot output between output2 A B C same is taken printed = tt
-ends_in_order (Err why) contents path capture honest found before after boot output between output2 A B C same (inl lacks) taken printed =
-    inr (boot, (taken, inl (inr (contents between, (printed, lacks.0)))))
-ends_in_order (Err why) contents path capture honest found before after boot output between output2 A B C same (inr unbegun) taken printed =
-    inr (
-      boot,
-      (
-        taken,
-        inr (
-          subst (λ p. IsUnbegun p why) (sym same) unbegun.0.0,
-          subst (λ o. Appends (contents output) (contents o) (boot_line boot)) (sym unbegun.1.0) printed,
-        ),
-      ),
-    )
+pub rounds_behind : {T O : Type 0} (r : Result T BoxFault) (contents : Holds O) (capture : Option (List ℕ)) (path : List ℕ) (boot : ℕ) (output between output2 : O)
+    (A B C : Type 0) → capture ≡ Some path → HasPrinted contents output boot between
+    → IfErr r (λ why. (LacksEnd contents between output2 why × A) ⊎ ((IsUnbegun (Some path) why × B) × ((output2 ≡ between) × C)))
+    → IfErr r (λ why. IsBehindLine contents capture boot why output output2)
+rounds_behind (Ok x) contents capture path boot output between output2 A B C same printed is = tt
+rounds_behind (Err why) contents capture path boot output between output2 A B C same printed (inl lacks) = inl (between, (printed, lacks.0))
+rounds_behind (Err why) contents capture path boot output between output2 A B C same printed (inr unbegun) =
+    inr (subst (λ p. IsUnbegun p why) (sym same) unbegun.0.0, subst (λ o. HasPrinted contents output boot o) (sym unbegun.1.0) printed)
 
--- and both are of a gateway that isn't run
-pub unrun_so : {T : Type 0} (result : Result T BoxFault) (A B C : Type 0) (text : List ℕ) (between after : Option (List ℕ)) (path : List ℕ) (capture : Option (List ℕ)) → capture ≡ Some path
-    → WasGiven boot_number
-    → IfErr result (λ why. (LacksOutput text between after why × A) ⊎ ((IsUnbegun (Some path) why × B) × C)) → IfErr result (IsUnrun capture)
-unrun_so (Ok x) A B C text between after path capture same given is = tt
-unrun_so (Err why) A B C text between after path capture same given (inl lacks) =
-    inr (inl (lacks.0.is, (given, lacks.0.denied)))
-unrun_so (Err why) A B C text between after path capture same given (inr unbegun) =
-    inl (given, subst (λ p. IsUnbegun p why) (sym same) unbegun.0.0)
+-- what is refused behind it is of a gateway that isn't started
+pub unstarted_behind : {T O : Type 0} (r : Result T BoxFault) (contents : Holds O) (capture : Option (List ℕ)) (Untouched : Type 0) (boot : ℕ) (output output2 : O)
+    → WasGiven seed → WasGiven boot_number → IfErr r (λ why. IsBehindLine contents capture boot why output output2)
+    → IfErr r (IsUnstarted contents capture Untouched output output2)
+unstarted_behind (Ok x) contents capture Untouched boot output output2 seeded given is = tt
+unstarted_behind (Err why) contents capture Untouched boot output output2 seeded given is = inr (seeded, inr (given, inr (boot, inr is)))
+
+-- and comes behind the number
+pub in_order : {T O : Type 0} (r : Result T BoxFault) (contents : Holds O) (capture : Option (List ℕ)) (honest : Type 0) (found : Bool) (before after : Moment) (boot : ℕ)
+    (output output2 : O) → (honest → Decides found before after (Ok boot)) → IfErr r (λ why. IsBehindLine contents capture boot why output output2)
+    → IfErr r (λ why. IsInOrder contents capture honest found before after why output output2)
+in_order (Ok x) contents capture honest found before after boot output output2 taken is = tt
+in_order (Err why) contents capture honest found before after boot output output2 taken is = inr (boot, (taken, inr is))
+
+-- and a log was handed a record before
+pub recorded_behind : {T O L : Type 0} (r : Result T BoxFault) (contents : Holds O) (capture : Option (List ℕ)) (boot : ℕ) (output output2 : O) (log log2 : L)
+    → IfErr r (λ why. IsBehindLine contents capture boot why output output2) → IfErr r (IsUnrecorded contents capture output output2 log log2)
+recorded_behind (Ok x) contents capture boot output output2 log log2 is = tt
+recorded_behind (Err why) contents capture boot output output2 log log2 is = inr (boot, is)
+
+-- ---- a gateway that isn't started
+
+-- no boot number, or no memory behind it, is of one that has its seed
+pub unbooted : {O : Type 0} (contents : Holds O) (capture : Option (List ℕ)) (Untouched : Type 0) (output output2 : O) (why : BoxFault) → WasGiven seed
+    → LacksNumber why ⊎ (WasGiven boot_number × LacksMemory new_gateway why) → IsUnstarted contents capture Untouched output output2 why
+unbooted contents capture Untouched output output2 why seeded (inl lacks) = inr (seeded, inl lacks)
+unbooted contents capture Untouched output output2 why seeded (inr lacks) = inr (seeded, inr (lacks.0, inl lacks.1))
 
 -- what comes behind a number without a capture does so with one
-pub with_capture : {O : Type 0} (contents : O → Option (List ℕ)) (capture : Option (List ℕ)) (honest : Type 0) (found : Bool) (before after : Moment) (why : BoxFault)
+behind_with : {O : Type 0} (contents : Holds O) (capture : Option (List ℕ)) (boot : ℕ) (why : BoxFault) (output output2 : O)
+    → IsBehind contents None boot why output output2 → IsBehind contents capture boot why output output2
+behind_with contents capture boot why output output2 (inl line) = inl line
+behind_with contents capture boot why output output2 (inr (inl end)) = inr (inl end)
+behind_with contents capture boot why output output2 (inr (inr unbegun)) = absurd unbegun.0
+
+pub with_capture : {O : Type 0} (contents : Holds O) (capture : Option (List ℕ)) (honest : Type 0) (found : Bool) (before after : Moment) (why : BoxFault)
     (output output2 : O) → IsInOrder contents None honest found before after why output output2
     → IsInOrder contents capture honest found before after why output output2
 with_capture contents capture honest found before after why output output2 (inl same) = inl same
-with_capture contents capture honest found before after why output output2 (inr (boot, (taken, inl lacks))) = inr (boot, (taken, inl lacks))
-with_capture contents capture honest found before after why output output2 (inr (boot, (taken, inr unbegun))) = absurd unbegun.0
+with_capture contents capture honest found before after why output output2 (inr (boot, (taken, behind))) =
+    inr (boot, (taken, behind_with contents capture boot why output output2 behind))
+
+-- and then so much is as it was, where there is no seed
+pub unstarted_with : {O : Type 0} (contents : Holds O) (capture : Option (List ℕ)) (A B : Type 0) (output output2 : O) (why : BoxFault) → B
+    → IsUnstarted contents None A output output2 why → IsUnstarted contents capture (A × B) output output2 why
+unstarted_with contents capture A B output output2 why b (inl lacks) = inl (lacks.0, (lacks.1, b))
+unstarted_with contents capture A B output output2 why b (inr (seeded, inl number)) = inr (seeded, inl number)
+unstarted_with contents capture A B output output2 why b (inr (seeded, inr (given, inl memory))) = inr (seeded, inr (given, inl memory))
+unstarted_with contents capture A B output output2 why b (inr (seeded, inr (given, inr (boot, behind)))) =
+    inr (seeded, inr (given, inr (boot, behind_with contents capture boot why output output2 behind)))
+
+-- it fails for its seed, or behind that, where the file of a capture was had, and was spared
+pub logged_behind : {T O : Type 0} (r : Result T BoxFault) (contents : Holds O) (start : Start) (Untouched : Type 0) (output output2 : O)
+    → IsOpened (path_in start.capture) → IfErr r (λ why. IsSparing contents (path_in start.capture) why output output2)
+    → IfErr r (IsUnstarted contents (path_in start.capture) Untouched output output2) → IfErr r (FailsLogged contents start output output2)
+logged_behind (Ok x) contents start Untouched output output2 opened kept is = tt
+logged_behind (Err why) contents start Untouched output output2 opened kept (inl lacks) = inr ((opened, kept), inl lacks.0)
+logged_behind (Err why) contents start Untouched output output2 opened kept (inr behind) = inr ((opened, kept), inr behind)
+
+-- and so much is as it was, or there was a seed
+pub untouched : {T O : Type 0} (r : Result T BoxFault) (contents : Holds O) (capture : Option (List ℕ)) (Untouched : Type 0) (output output2 : O)
+    → IfErr r (IsUnstarted contents capture Untouched output output2) → IfErr r (λ why. IsUnrun contents capture output output2 why ⊎ Untouched)
+untouched (Ok x) contents capture Untouched output output2 is = tt
+untouched (Err why) contents capture Untouched output output2 (inl lacks) = inr lacks.1
+untouched (Err why) contents capture Untouched output output2 (inr behind) = inl behind.1
+
+-- and of a disk that is so a number was taken behind the seed
+pub untaken : {T O D : Type 0} (r : Result T BoxFault) (contents : Holds O) (capture : Option (List ℕ)) (M : Type 0) (disk disk2 : D) (output output2 : O)
+    → IfErr r (λ why. IsUnrun contents capture output output2 why ⊎ ((disk2 ≡ disk) × M)) → IsUntaken contents capture r disk disk2 output2
+untaken (Ok x) contents capture M disk disk2 output output2 is = tt
+untaken (Err why) contents capture M disk disk2 output output2 (inl behind) = inl (output, behind)
+untaken (Err why) contents capture M disk disk2 output output2 (inr same) = inr same.0
+
+-- ---- the file of a capture
+
+-- what comes behind the line of a boot may have begun one
+pub sparing_behind : {T O : Type 0} (r : Result T BoxFault) (contents : Holds O) (capture : Option (List ℕ)) (path : List ℕ) (boot : ℕ) (output output2 : O)
+    → capture ≡ Some path → IfErr r (λ why. IsBehindLine contents capture boot why output output2)
+    → IfErr r (λ why. IsSparing contents capture why output output2)
+sparing_behind (Ok x) contents capture path boot output output2 same is = tt
+sparing_behind (Err why) contents capture path boot output output2 same is =
+    subst (λ p. IsSparing contents p why output output2) (sym same) (inr (boot, subst (λ p. IsBehindLine contents p boot why output output2) same is))
+
+-- else it was let go as it was
+pub sparing_at : {O : Type 0} (contents : Holds O) (capture : Option (List ℕ)) (path : List ℕ) (why : BoxFault) (output output2 : O) → capture ≡ Some path
+    → WasSpared path → IsSparing contents capture why output output2
+sparing_at contents capture path why output output2 same gone = subst (λ p. IsSparing contents p why output output2) (sym same) (inl gone)
+
+-- and where there is to be none, none was had
+pub sparing_none : {T O : Type 0} (r : Result T BoxFault) (contents : Holds O) (capture : Option (Bor (List ℕ))) (output output2 : O) → is_some capture ≡ false
+    → IfErr r (λ why. IsSparing contents (path_in capture) why output output2)
+sparing_none (Ok x) contents capture output output2 none = tt
+sparing_none (Err why) contents (Some path) output output2 none = absurd (true≢false none)
+sparing_none (Err why) contents None output output2 none = tt
+
+-- ---- on some disk
 
 -- what is in order of a disk is so of some disk
-pub of_some_disk : {T O D : Type 0} (result : Result T BoxFault) (contents : O → Option (List ℕ)) (capture : Option (List ℕ)) (honest : D → Type 0) (now : D → Moment) (found : Bool)
+pub of_some_disk : {T O D : Type 0} (result : Result T BoxFault) (contents : Holds O) (capture : Option (List ℕ)) (honest : D → Type 0) (now : D → Moment) (found : Bool)
     (d d2 : D) (output output2 : O)
     → IfErr result (λ why. IsInOrder contents capture (honest d) found (now d) (now d2) why output output2)
     → IfErr result (λ why. IsInSomeOrder contents capture honest now found why output output2)
@@ -101,7 +156,7 @@ of_some_disk (Err why) contents capture honest now found d d2 output output2 (in
 of_some_disk (Err why) contents capture honest now found d d2 output output2 (inr behind) = inr (d, (d2, behind))
 
 -- whatever it is
-pub silent_or_taken : {O D : Type 0} (contents : O → Option (List ℕ)) (capture : Option (List ℕ)) (honest : D → Type 0) (now : D → Moment) (found : Bool) (why : BoxFault)
+pub silent_or_taken : {O D : Type 0} (contents : Holds O) (capture : Option (List ℕ)) (honest : D → Type 0) (now : D → Moment) (found : Bool) (why : BoxFault)
     (output output2 : O) → IsInSomeOrder contents capture honest now found why output output2 → IsSilentOrTaken honest now found output output2
 silent_or_taken contents capture honest now found why output output2 (inl same) = inl same
 silent_or_taken contents capture honest now found why output output2 (inr taken) = inr (taken.0, (taken.1.0, (taken.1.1.0, taken.1.1.1.0)))

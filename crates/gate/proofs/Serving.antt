@@ -1,7 +1,6 @@
 -- A start that is served.
-use Rattle.std.proofs.Common.{◌≡◌, ◌⊎◌, inl, inr, ap, sym, ◌∙◌, ℕ, Bool, false, is_some, List, [], Option, Some, None, IfSome, Result, Ok, Err, OnOk, IfErr, codes, subst, true≢false}
+use Rattle.std.proofs.Common.{◌≡◌, ◌⊎◌, inl, inr, ap, sym, ◌∙◌, ℕ, Bool, false, is_some, List, [], Option, Some, None, IfSome, Result, Ok, Err, OnOk, IfErr, subst, true≢false}
 use Rattle.std.specs.Borrow.{Bor}
-use Rattle.std.specs.Io.KnownBytes.{Appends}
 use Rattle.inputs.specs.Inputs.{IsUnasked, TellsEnd, TellsNoEnd}
 use Rattle.settings.specs.declared.whole.Settings.{Settings}
 use Rattle.spec_step.specs.Shown.{Shown}
@@ -13,10 +12,11 @@ use Rattle.rounds.specs.declared.teller.Telling.{Telling}
 use Rattle.sockets.specs.declared.ways.Ways.{Ways}
 use Rattle.supervision.specs.declared.managers.Manager.{Manager}
 use Rattle.gate.specs.Asked.{IsFilter, IsNotified, IsWatched, boot_file_of, path_in}
-use Rattle.gate.specs.Boots.{HasStarted, IsIdentity, boot_line}
-use Rattle.gate.specs.Failing.{IsUnbegun, LacksOutput}
+use Rattle.gate.specs.Boots.{HasStarted, IsIdentity}
+use Rattle.gate.specs.Failing.{IsUnbegun, LacksEnd}
 use Rattle.gate.specs.Named.{IsCaptured, WasGiven, WasHad, WasLetGo, begun_capture, number_of, tapped_wire}
 use Rattle.gate.specs.Served.{HasRun, HasServed, RunsOpened}
+use Rattle.gate.specs.Printing.{HasEnded, HasPrinted, Holds}
 use Rattle.gate.specs.Starts.{CanOpen}
 use Rattle.gate.specs.Told.{HearsSome}
 use Rattle.gate.specs.Wires.{IsOfSockets, IsOwnWire, IsSpared, RanOn, RunsOn}
@@ -61,23 +61,23 @@ pub on_tapped : {W : Type 0} (capture : Option (List ℕ)) (path : List ℕ) (se
 on_tapped capture path settings start wire captured tapped = subst (λ p. IsOwnWire p settings start wire) (sym captured) tapped
 
 -- where output is refused at the end, there was a run
-pub spared_behind : {T W : Type 0} (r : Result T BoxFault) (does : Calls W) (says : WireSays W) (settings : Settings) (start : Start) (wire : W) (who : Identity) (first last : Shown)
-    (before between after : Option (List ℕ)) → IsIdentity settings start.id who first → RanOn does says who start first last wire
-    → Appends before between (boot_line who.boot)
-    → IfErr r (LacksOutput (codes "end\n") between after) → IfErr r (IsSpared does says settings start before after wire)
-spared_behind (Ok x) does says settings start wire who first last before between after identity ran printed is = tt
-spared_behind (Err why) does says settings start wire who first last before between after identity ran printed is =
+pub spared_behind : {T W O : Type 0} (r : Result T BoxFault) (contents : Holds O) (does : Calls W) (says : WireSays W) (settings : Settings) (start : Start) (wire : W) (who : Identity)
+    (first last : Shown) (before between after : O) → IsIdentity settings start.id who first → RanOn does says who start first last wire
+    → HasPrinted contents before who.boot between
+    → IfErr r (LacksEnd contents between after) → IfErr r (IsSpared contents does says settings start before after wire)
+spared_behind (Ok x) contents does says settings start wire who first last before between after identity ran printed is = tt
+spared_behind (Err why) contents does says settings start wire who first last before between after identity ran printed is =
     inr (who, ((between, (printed, is)), (first, (last, (identity, ran)))))
 
 -- and else the wire was let go as it was
-pub spared_tapped : {T W : Type 0} (r : Result T BoxFault) (does : Calls W) (says : WireSays W) (settings : Settings) (start : Start) (wire : W) (who : Identity) (first last : Shown)
-    (before between after : Option (List ℕ)) (path : List ℕ) (A B : Type 0) → IsIdentity settings start.id who first → Appends before between (boot_line who.boot)
-    → IfErr r (λ why. (LacksOutput (codes "end\n") between after why × (RanOn does says who start first last wire × B)) ⊎ ((IsUnbegun (Some path) why × WasLetGo wire) × A))
-    → IfErr r (IsSpared does says settings start before after wire)
-spared_tapped (Ok x) does says settings start wire who first last before between after path A B identity printed is = tt
-spared_tapped (Err why) does says settings start wire who first last before between after path A B identity printed (inl lacks) =
+pub spared_tapped : {T W O : Type 0} (r : Result T BoxFault) (contents : Holds O) (does : Calls W) (says : WireSays W) (settings : Settings) (start : Start) (wire : W) (who : Identity)
+    (first last : Shown) (before between after : O) (path : List ℕ) (A B : Type 0) → IsIdentity settings start.id who first → HasPrinted contents before who.boot between
+    → IfErr r (λ why. (LacksEnd contents between after why × (RanOn does says who start first last wire × B)) ⊎ ((IsUnbegun (Some path) why × WasLetGo wire) × A))
+    → IfErr r (IsSpared contents does says settings start before after wire)
+spared_tapped (Ok x) contents does says settings start wire who first last before between after path A B identity printed is = tt
+spared_tapped (Err why) contents does says settings start wire who first last before between after path A B identity printed (inl lacks) =
     inr (who, ((between, (printed, lacks.0)), (first, (last, (identity, lacks.1.0)))))
-spared_tapped (Err why) does says settings start wire who first last before between after path A B identity printed (inr unbegun) = inl unbegun.0.1
+spared_tapped (Err why) contents does says settings start wire who first last before between after path A B identity printed (inr unbegun) = inl unbegun.0.1
 
 -- ---- a start, rounds, and the end
 
@@ -92,12 +92,12 @@ pub captured_at : {T E : Type 0} (r : Result T E) (capture : Option (List ℕ)) 
 captured_at (Ok x) capture path same begun = subst IsCaptured (sym same) begun
 captured_at (Err e) capture path same begun = tt
 
-pub has_run : {T E W : Type 0} (r : Result T E) (does : Calls W) (says : WireSays W) (settings : Settings) (start : Start) (wire : W) (before between after : Option (List ℕ)) (first last : Shown)
-    (who : Identity) → HasStarted settings start.id start.found before between first → IsIdentity settings start.id who first → IsOfSockets settings start wire
-    → OnOk r (RanOn does says who start first last wire) → OnOk r (Appends between after (codes "end\n"))
+pub has_run : {T E W O : Type 0} (r : Result T E) (contents : Holds O) (does : Calls W) (says : WireSays W) (settings : Settings) (start : Start) (wire : W) (before between after : O)
+    (first last : Shown) (who : Identity) → HasStarted contents settings start.id start.found before between first → IsIdentity settings start.id who first → IsOfSockets settings start wire
+    → OnOk r (RanOn does says who start first last wire) → OnOk r (HasEnded contents between after)
     → WasGiven (number_of (boot_file_of settings start.id)) → IsWatched start.notify → IsFilter start.log → OnOk r (IsCaptured (path_in start.capture))
-    → OnOk r (HasRun does says settings start wire before after)
-has_run (Ok x) does says settings start wire before between after first last who started identity own ran ended numbered watched filter captured = record {
+    → OnOk r (HasRun contents does says settings start wire before after)
+has_run (Ok x) contents does says settings start wire before between after first last who started identity own ran ended numbered watched filter captured = record {
   first = first;
   between = between;
   started = started;
@@ -112,7 +112,7 @@ has_run (Ok x) does says settings start wire before between after first last who
   filter = filter;
   captured = captured;
 }
-has_run (Err e) does says settings start wire before between after first last who started identity own ran ended numbered watched filter captured = tt
+has_run (Err e) contents does says settings start wire before between after first last who started identity own ran ended numbered watched filter captured = tt
 
 -- what was had is so at an Ok
 pub always : {T E : Type 0} (r : Result T E) (A : Type 0) → A → OnOk r A
@@ -135,9 +135,9 @@ on_some (Ok y) P x p = (x, p)
 on_some (Err e) P x p = tt
 
 -- with settings and ways by which its boot file can be opened
-pub has_served : {T E : Type 0} (r : Result T E) (start : Start) (settings : Settings) (ways : Ways) (before after : Option (List ℕ)) (manager manager2 : Option Manager)
-    → OnOk r (CanOpen start settings ways × RunsOpened start settings ways before after) → IsNotified start.notify manager
-    → OnOk r (HearsSome manager manager2) → WasLetGo manager2 → OnOk r (HasServed start before after)
-has_served (Ok x) start settings ways before after manager manager2 run notified heard gone =
+pub has_served : {T E O : Type 0} (r : Result T E) (contents : Holds O) (start : Start) (settings : Settings) (ways : Ways) (before after : O) (manager manager2 : Option Manager)
+    → OnOk r (CanOpen start settings ways × RunsOpened contents start settings ways before after) → IsNotified start.notify manager
+    → OnOk r (HearsSome manager manager2) → WasLetGo manager2 → OnOk r (HasServed contents start before after)
+has_served (Ok x) contents start settings ways before after manager manager2 run notified heard gone =
     record { settings = settings; ways = ways; fits = run.0; run = run.1; told = (manager, (manager2, (notified, (heard, gone)))) }
-has_served (Err e) start settings ways before after manager manager2 run notified heard gone = tt
+has_served (Err e) contents start settings ways before after manager manager2 run notified heard gone = tt

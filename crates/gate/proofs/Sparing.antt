@@ -1,5 +1,5 @@
 -- How a start is refused, where what comes next was had.
-use Rattle.std.proofs.Common.{inr, ℕ, List, Option, None, Result, Ok, Err, IfErr}
+use Rattle.std.proofs.Common.{inr, Option, None, Result, Ok, Err, IfErr}
 use Rattle.settings.specs.declared.whole.Settings.{Settings}
 use Rattle.sockets.specs.Inheriting.{AreUnblocked}
 use Rattle.sockets.specs.declared.sockets.Sockets.{Sockets}
@@ -8,6 +8,7 @@ use Rattle.supervision.specs.declared.managers.Manager.{Manager}
 use Rattle.box_words.specs.declared.refusals.BoxFault.{BoxFault}
 use Rattle.gate.specs.Asked.{IsNotified, box_ports}
 use Rattle.gate.specs.Named.{WasGiven, WasHad, WasLetGo, own_sockets}
+use Rattle.gate.specs.Printing.{Holds}
 use Rattle.gate.specs.Sparing.{FailsHeard, FailsHeld, FailsInherited, FailsWatched, FailsWired, IsRefusal}
 use Rattle.gate.specs.Starts.{AreHeld, AreWays}
 use Rattle.gate.specs.Told.{IsUnheard}
@@ -15,28 +16,28 @@ use Rattle.gate.specs.Wires.{IsSpared, does_at, says_at}
 use Rattle.gate.specs.declared.running.Start.{Start}
 
 -- the sockets
-pub behind_sockets : {T : Type 0} (r : Result T BoxFault) (start : Start) (settings : Settings) (ways : Ways) (wire : Sockets) (before after : Option (List ℕ))
+pub behind_sockets : {T O : Type 0} (r : Result T BoxFault) (contents : Holds O) (start : Start) (settings : Settings) (ways : Ways) (wire : Sockets) (before after : O)
     → WasGiven (own_sockets ways (box_ports settings start.id)) → WasHad (own_sockets ways (box_ports settings start.id)) wire
-    → IfErr r (FailsWired start) → IfErr r (IsSpared does_at says_at settings start before after wire) → IfErr r (FailsHeard start settings ways before after)
-behind_sockets (Ok x) start settings ways wire before after given had fails spared = tt
-behind_sockets (Err why) start settings ways wire before after given had fails spared = inr (given, (wire, (had, (fails, spared))))
+    → IfErr r (FailsWired contents start before after) → IfErr r (IsSpared contents does_at says_at settings start before after wire) → IfErr r (FailsHeard contents start settings ways before after)
+behind_sockets (Ok x) contents start settings ways wire before after given had fails spared = tt
+behind_sockets (Err why) contents start settings ways wire before after given had fails spared = inr (given, (wire, (had, (fails, spared))))
 
 -- the service manager
-pub behind_manager : {T : Type 0} (r : Result T BoxFault) (start : Start) (settings : Settings) (ways : Ways) (before after : Option (List ℕ)) (manager manager2 : Option Manager)
-    → IsNotified start.notify manager → IfErr r (FailsWatched start settings ways before after) → IfErr r (IsUnheard before after manager manager2)
-    → WasLetGo manager2 → IfErr r (FailsInherited start settings ways before after)
-behind_manager (Ok x) start settings ways before after manager manager2 notified fails unheard gone = tt
-behind_manager (Err why) start settings ways before after manager manager2 notified fails unheard gone =
+pub behind_manager : {T O : Type 0} (r : Result T BoxFault) (contents : Holds O) (start : Start) (settings : Settings) (ways : Ways) (before after : O) (manager manager2 : Option Manager)
+    → IsNotified start.notify manager → IfErr r (FailsWatched contents start settings ways before after) → IfErr r (IsUnheard contents before after manager manager2)
+    → WasLetGo manager2 → IfErr r (FailsInherited contents start settings ways before after)
+behind_manager (Ok x) contents start settings ways before after manager manager2 notified fails unheard gone = tt
+behind_manager (Err why) contents start settings ways before after manager manager2 notified fails unheard gone =
     inr (manager, (manager2, (notified, (fails, (unheard, gone)))))
 
 -- the ways and their descriptors
-pub behind_ways : {T : Type 0} (r : Result T BoxFault) (start : Start) (settings : Settings) (ways : Ways) (before after : Option (List ℕ)) → AreWays start.ways ways
-    → AreUnblocked ways None → IfErr r (FailsInherited start settings ways before after) → IfErr r (FailsHeld start settings before after)
-behind_ways (Ok x) start settings ways before after written inherited fails = tt
-behind_ways (Err why) start settings ways before after written inherited fails = inr (ways, (written, inr (inherited, fails)))
+pub behind_ways : {T O : Type 0} (r : Result T BoxFault) (contents : Holds O) (start : Start) (settings : Settings) (ways : Ways) (before after : O) → AreWays start.ways ways
+    → AreUnblocked ways None → IfErr r (FailsInherited contents start settings ways before after) → IfErr r (FailsHeld contents start settings before after)
+behind_ways (Ok x) contents start settings ways before after written inherited fails = tt
+behind_ways (Err why) contents start settings ways before after written inherited fails = inr (ways, (written, inr (inherited, fails)))
 
 -- the settings
-pub behind_settings : {T : Type 0} (r : Result T BoxFault) (start : Start) (settings : Settings) (before after : Option (List ℕ)) → AreHeld start.settings.now settings
-    → IfErr r (FailsHeld start settings before after) → IfErr r (IsRefusal start before after)
-behind_settings (Ok x) start settings before after held fails = tt
-behind_settings (Err why) start settings before after held fails = inr (settings, (held, fails))
+pub behind_settings : {T O : Type 0} (r : Result T BoxFault) (contents : Holds O) (start : Start) (settings : Settings) (before after : O) → AreHeld start.settings.now settings
+    → IfErr r (FailsHeld contents start settings before after) → IfErr r (IsRefusal contents start before after)
+behind_settings (Ok x) contents start settings before after held fails = tt
+behind_settings (Err why) contents start settings before after held fails = inr (settings, (held, fails))

@@ -7,24 +7,29 @@ use Rattle.sockets.specs.declared.ways.Ways.{Ways}
 use Rattle.supervision.specs.Descriptors.{IsSetOnce}
 use Rattle.supervision.specs.Managers.{IsManagerText, IsNoManagerText}
 use Rattle.gate.specs.Asked.{boot_file_of, box_ports, path_in}
-use Rattle.gate.specs.Named.{Need, capture_file, control_socket, descriptors, locked_file, own_sockets, path_beside, service_manager, settings_text}
+use Rattle.gate.specs.Named.{IsFresh, Need, WasGiven, capture_file, control_socket, descriptors, locked_file, own_sockets, path_beside, service_manager, settings_text}
 use Rattle.gate.specs.Starts.{AreHeld, AreWays}
 use Rattle.gate.specs.declared.running.Start.{Start}
 
 -- The system, which was this, was asked for this, once, and is this since. It says nothing of such a call, so this is no more than a name for it:
 -- only what `Machine` does looks what stands here.
 unfoldable pub WasAsked : {M : Type 0} → M → Need → M → Type 0
-WasAsked before need after = Unit {0}
+WasAsked before _ after = Unit {0}
+
+-- This machine was let go that was asked for just what this start needs, as far as it came (`AsksFor`), and for nothing else.
+unfoldable pub WasAskedFor : Start → Type 0
+WasAskedFor start = Unit {0}
 
 -- of who takes descriptors over: it was asked for that of a text, once, where the text writes one
 abbrev pub SetsManager : {M : Type 0} → List ℕ → M → M → Type 0
 SetsManager text before after = (IsNoManagerText text × (after ≡ before))
     ⊎ ((number : ℕ) × (IsManagerText text number × IsSetOnce before number after))
 
--- it was asked for these, each once, in this order, up to one of them or to the last, and for nothing else
+-- it was asked for these, each once, in this order, up to one of them or to the last, and for nothing else; and for each only behind those that it gave
 abbrev pub AsksUpTo : {M : Type 0} → M → List Need → M → Type 0
 AsksUpTo m [] m2 = m2 ≡ m
-AsksUpTo {M = M} m (need ∷ needs) m2 = (m2 ≡ m) ⊎ ((between : M) × (WasAsked m need between × AsksUpTo between needs m2))
+AsksUpTo {M = M} m (need ∷ needs) m2 =
+    (m2 ≡ m) ⊎ ((between : M) × (WasAsked m need between × ((m2 ≡ between) ⊎ (WasGiven need × AsksUpTo between needs m2))))
 
 -- the file of a capture, where there is to be one
 abbrev pub captures : Option (List ℕ) → List Need
@@ -70,3 +75,7 @@ AsksBy m start settings m2 = (m2 ≡ m) ⊎ ((ways : Ways) × (AreWays start.way
 abbrev pub AsksFor : {M : Type 0} → M → Start → M → Type 0
 AsksFor {M = M} m start m2 = (between : M) × (WasAsked m (settings_text start.settings.now) between
     × ((m2 ≡ between) ⊎ ((settings : Settings) × (AreHeld start.settings.now settings × AsksBy between start settings m2))))
+
+-- it was asked for nothing before, and for just that since
+abbrev pub IsAskedSo : {M : Type 0} → Start → M → Type 0
+IsAskedSo {M = M} start m2 = (m : M) × (IsFresh m × AsksFor m start m2)

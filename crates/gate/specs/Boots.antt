@@ -1,7 +1,5 @@
 -- The gateway that a start begins, and the boot that it is in.
-use Rattle.std.specs.Prelude.{◌≡◌, ◌⊎◌, ◌<◌, ◌++◌, ℕ, Bool, true, List, Option, Err, codes, if◌then◌else◌}
-use Rattle.std.specs.Fmt.{decimal}
-use Rattle.std.specs.Io.KnownBytes.{Appends}
+use Rattle.std.specs.Prelude.{◌≡◌, ◌⊎◌, ◌<◌, ℕ, Bool, true, Err, if◌then◌else◌}
 use Rattle.boot_store.specs.Crash.{Decides}
 use Rattle.boot_store.specs.Moment.{Moment}
 use Rattle.boot_store.specs.declared.faults.BootFault.{BootFault}
@@ -16,7 +14,7 @@ use Rattle.spec_step.specs.Shown.{Shown}
 use Rattle.spec_step.specs.Founding.{begun, founded, hashing}
 use Rattle.checks.specs.Digests.{digest}
 use Rattle.rounds.specs.declared.desk.Identity.{Identity}
-use Rattle.gate.specs.Named.{WasFlushed}
+use Rattle.gate.specs.Printing.{HasPrinted, Holds}
 
 -- its end of the link has this number for its own
 unfoldable pub HasBoot : ℕ → Shown → Type 0
@@ -27,22 +25,14 @@ HasBoot boot g = g.link.boot ≡ boot
 unfoldable pub IsStart : Settings → GatewayId → Bool → Hashers → ℕ → Shown → Type 0
 IsStart settings id found hashers boot g = g ≡ hashing hashers (if found then founded settings boot else begun settings id boot)
 
--- the line that tells of a boot
-abbrev pub boot_text : ℕ → List ℕ
-boot_text boot = codes "boot " ++ decimal boot
-
-abbrev pub boot_line : ℕ → List ℕ
-boot_line boot = boot_text boot ++ codes "\n"
-
 -- it begins in some boot above 0, its table hashes by keys that were drawn, and the boot's line is what was printed, and flushed
-pub record HasStarted (settings : Settings) (id : GatewayId) (found : Bool) (before after : Option (List ℕ)) (g : Shown) : Type 0 where
+pub record HasStarted {O : Type 0} (contents : Holds O) (settings : Settings) (id : GatewayId) (found : Bool) (before after : O) (g : Shown) : Type 0 where
   pub boot : ℕ
   pub above_zero : 0 < boot
   pub hashers : Hashers
   pub drawn : is_drawn hashers ≡ true
   pub start : IsStart settings id found hashers boot g
-  pub printed : Appends before after (boot_line boot)
-  pub flushed : WasFlushed after
+  pub printed : HasPrinted contents before boot after
 
 -- who a box is, to those who ask: its id, the boot that its gateway is in, and the digest of its settings
 pub record IsIdentity (settings : Settings) (id : GatewayId) (who : Identity) (g : Shown) : Type 0 where

@@ -1,5 +1,5 @@
 -- Why each part of a start fails, by what it has at hand.
-use Rattle.std.specs.Prelude.{◌≡◌, ◌≢◌, ◌⊎◌, ℕ, List, Option, Some, None, IsSomeAnd}
+use Rattle.std.specs.Prelude.{◌≡◌, ◌≢◌, ◌⊎◌, ℕ, List, Option, Some, None, IsSomeAnd, codes}
 use Rattle.std.specs.Borrow.{Bor}
 use Rattle.std.specs.IoError.{error_kind}
 use Rattle.std.specs.declared.io.Error.{Error}
@@ -22,6 +22,7 @@ use Rattle.supervision.specs.Descriptors.{IsRefused}
 use Rattle.supervision.specs.Managers.{IsManagerText, IsNoManagerText}
 use Rattle.journal.specs.Filters.{IsOfVariable, IsRefused as IsUnfit}
 use Rattle.journal.specs.declared.filters.FilterFault.{FilterFault}
+use Rattle.outlets.specs.Outputs.{IsUnput}
 use Rattle.outlets.specs.Printed.{IsBegun}
 use Rattle.faults.specs.Faults.{IsOfFile, IsUnread, Tells}
 use Rattle.faults.specs.declared.faults.Fault.{Fault}
@@ -33,8 +34,9 @@ use Rattle.box_words.specs.Memory.{WasShort}
 use Rattle.box_words.specs.declared.refusals.BoxFault.{BoxFault}
 use Rattle.box_words.specs.declared.refusals.BoxFault.TheVariants as fault
 use Rattle.gate.specs.Asked.{IsSaid, box_ports, on_loopback}
-use Rattle.gate.specs.Named.{WasAnswered, WasDenied, WasGiven, WasRead, WasRefused, begun_capture, boot_number, capture_file, control_socket}
-use Rattle.gate.specs.Named.{locked_file, new_gateway, output, own_sockets, path_beside, settings_in, settings_text}
+use Rattle.gate.specs.Named.{Need, WasAnswered, WasDenied, WasRead, begun_capture, boot_number, capture_file, control_socket, locked_file}
+use Rattle.gate.specs.Named.{own_sockets, path_beside, settings_in, settings_text}
+use Rattle.gate.specs.Printing.{Holds, IsLineRefused, boot_line}
 
 -- no settings are had at this path: the file gives no text; or it gave this one, which holds none, or there was no memory for them
 abbrev pub LacksSettings : List ℕ → BoxFault → Type 0
@@ -102,34 +104,40 @@ pub record IsOfCause (path : List ℕ) (cause : ErrorKind) (why : Fault) : Type 
   pub exists : cause ≡ AlreadyExists → Tells Exists path None why
   pub unwritten : cause ≢ OutOfMemory → cause ≢ AlreadyExists → Tells NotWritten path (Some cause) why
 
+-- Just this is told of the capture in the file at a path, for which this is needed: what was answered; and want of memory only where that is what was
+-- answered, or memory for the path was refused.
+abbrev pub LacksFile : Need → List ℕ → BoxFault → Type 0
+LacksFile need path (fault.NoCapture why) = (error : Error) × (WasAnswered need error
+    × (IsOfCause path (error_kind error) why × (why ≡ run.NoMemory → (error_kind error ≡ OutOfMemory) ⊎ WasShort path)))
+LacksFile _ path other = ⊥
+
 -- the file of the capture isn't opened, where there is to be one
 abbrev pub LacksCapture : Option (List ℕ) → BoxFault → Type 0
-LacksCapture (Some path) (fault.NoCapture why) = (error : Error) × (WasAnswered (capture_file path) error
-    × (IsOfCause path (error_kind error) why × (why ≡ run.NoMemory → (error_kind error ≡ OutOfMemory) ⊎ WasShort path)))
-LacksCapture capture other = ⊥
+LacksCapture (Some path) why = LacksFile (capture_file path) path why
+LacksCapture None why = ⊥
 
 -- no capture is begun in it
 abbrev pub IsUnbegun : Option (List ℕ) → BoxFault → Type 0
-IsUnbegun (Some path) why = (reason : Fault) × ((why ≡ fault.Run reason)
-    × ((error : Error) × (WasAnswered (begun_capture path) error × IsOfCause path (error_kind error) reason)))
+IsUnbegun (Some path) why = LacksFile (begun_capture path) path why
 IsUnbegun None why = ⊥
 
--- output that was handed this text refuses it: just a beginning of it is printed, and nothing behind that
-pub record LacksOutput (text : List ℕ) (before after : Option (List ℕ)) (why : BoxFault) : Type 0 where
+-- this is told of an output that has just a beginning of a text
+pub record LacksOutput {O : Type 0} (contents : Holds O) (text : List ℕ) (before after : O) (why : BoxFault) : Type 0 where
   pub is : why ≡ fault.Run run.NotWritten
-  pub denied : WasDenied output (fault.Run run.NotWritten)
-  pub refused : WasRefused text before after
-  pub begun : IsBegun before after text
+  pub begun : IsBegun (contents before) (contents after) text
 
--- there was no memory, or no seed, for a gateway that begins
-abbrev pub LacksMemory : BoxFault → Type 0
-LacksMemory why = (why ≡ fault.Run run.NoMemory) × WasDenied new_gateway (fault.Run run.NoMemory)
+-- it refuses the line of this boot, or to be flushed behind it
+abbrev pub LacksLine : {O : Type 0} → Holds O → ℕ → O → O → BoxFault → Type 0
+LacksLine contents boot before after why = IsLineRefused before boot after × LacksOutput contents (boot_line boot) before after why
 
--- The gateway isn't started, or its end isn't told: once there is a number, output was refused; or there was no memory for it; or no boot number is had.
-abbrev pub IsUnstarted : BoxFault → Type 0
-IsUnstarted why = ((why ≡ fault.Run run.NotWritten) × (WasGiven boot_number × WasDenied output (fault.Run run.NotWritten)))
-    ⊎ (LacksMemory why ⊎ ((reason : BootFault) × ((why ≡ of_boot reason) × WasDenied boot_number (of_boot reason))))
+-- it refuses `end`, or to be flushed behind it
+abbrev pub LacksEnd : {O : Type 0} → Holds O → O → O → BoxFault → Type 0
+LacksEnd contents before after why = IsUnput before (codes "end\n") after × LacksOutput contents (codes "end\n") before after why
 
--- the gateway isn't run, with a capture, which is begun only once there is a number, or without
-abbrev pub IsUnrun : Option (List ℕ) → BoxFault → Type 0
-IsUnrun capture why = (WasGiven boot_number × IsUnbegun capture why) ⊎ IsUnstarted why
+-- memory is refused for this, or a seed
+abbrev pub LacksMemory : Need → BoxFault → Type 0
+LacksMemory need why = (why ≡ fault.Run run.NoMemory) × WasDenied need (fault.Run run.NoMemory)
+
+-- no boot number is had
+abbrev pub LacksNumber : BoxFault → Type 0
+LacksNumber why = (reason : BootFault) × ((why ≡ of_boot reason) × WasDenied boot_number (of_boot reason))

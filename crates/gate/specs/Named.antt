@@ -1,14 +1,15 @@
 -- What the system gave a start, or refused it, by name.
-use Rattle.std.specs.Prelude.{ℕ, List, Option, Some, None}
+use Rattle.std.specs.Prelude.{◌≡◌, ◌⊎◌, ℕ, List, Option, Some, None, Result}
 use Rattle.nat_types.specs.declared.gateways.GatewayId.{GatewayId}
+use Rattle.boot_store.specs.declared.faults.BootFault.{BootFault}
 use Rattle.sockets.specs.declared.places.Ports.{Ports}
 use Rattle.sockets.specs.declared.ways.Ways.{Ways}
 use Rattle.box_words.specs.declared.refusals.BoxFault.{BoxFault}
 
 -- what a start asks the system for: the text of a file of settings, memory for the settings in a text, the descriptors of ways, the service manager whose descriptor a text
 -- writes, memory for the path beside a boot file, a locked boot file, a control socket, the sockets of the places, all that it needs,
--- the file of a capture, that a capture begins in it, a wire whose packets go there, at the interfaces of a gateway, a seed and memory for a
--- gateway, a boot number, that of the boot file at a path, output
+-- the file of a capture, that a capture begins in it, a wire whose packets go there, at the interfaces of a gateway, a seed, a boot number, that
+-- of the boot file at a path, memory for a gateway
 pub data Need : Type 0 where
   settings_text : List ℕ → Need
   settings_in : List ℕ → Need
@@ -22,35 +23,31 @@ pub data Need : Type 0 where
   capture_file : List ℕ → Need
   begun_capture : List ℕ → Need
   tapped_wire : List ℕ → GatewayId → Need
-  new_gateway : Need
+  seed : Need
   boot_number : Need
   number_of : List ℕ → Need
-  output : Need
+  new_gateway : Need
 
 -- The system gave it. The system says nothing of such a call, so this, and those below it, are no more than names: who asks has one of them,
 -- and nobody else, since only those functions look what stands here that make the call.
 unfoldable pub WasGiven : Need → Type 0
-WasGiven need = Unit {0}
+WasGiven _ = Unit {0}
 
 -- it gave just this one
 unfoldable pub WasHad : {A : Type 0} → Need → A → Type 0
-WasHad need it = Unit {0}
+WasHad _ it = Unit {0}
 
 -- it refused it, and just this fault tells of that
 unfoldable pub WasDenied : Need → BoxFault → Type 0
-WasDenied need why = Unit {0}
+WasDenied _ why = Unit {0}
 
 -- it answered, for this reason, that it doesn't give it
 unfoldable pub WasAnswered : {A : Type 0} → Need → A → Type 0
-WasAnswered need reason = Unit {0}
+WasAnswered _ reason = Unit {0}
 
 -- it gave this text of the file at this path
 unfoldable pub WasRead : List ℕ → List ℕ → Type 0
 WasRead path text = Unit {0}
-
--- output that had this, where that is known, was handed this text, refused it, and has this
-unfoldable pub WasRefused : List ℕ → Option (List ℕ) → Option (List ℕ) → Type 0
-WasRefused text before after = Unit {0}
 
 -- a log that was this was handed the record of this boot, once, and is this since
 unfoldable pub WasRecorded : {L : Type 0} → L → ℕ → L → Type 0
@@ -72,9 +69,22 @@ IsTellerOf log teller = Unit {0}
 unfoldable pub WasClosed : Option (List ℕ) → Type 0
 WasClosed capture = Unit {0}
 
--- output that has this, where that is known, was flushed
-unfoldable pub WasFlushed : Option (List ℕ) → Type 0
-WasFlushed contents = Unit {0}
+-- a disk that was this was asked for its next boot number, once, answered this, and is this since
+unfoldable pub WasNumbered : {D : Type 0} → D → Result ℕ BootFault → D → Type 0
+WasNumbered before answer after = Unit {0}
+
+-- The boot file at a path was let go that was locked: as it was then, or as it was left by who asked it for a number, once (`IsLeft`); and where the
+-- start was served, behind its run.
+unfoldable pub WasUnlocked : List ℕ → Type 0
+WasUnlocked path = Unit {0}
+
+-- the file at a path that was opened for a capture was let go as it was: no capture was begun there
+unfoldable pub WasSpared : List ℕ → Type 0
+WasSpared path = Unit {0}
+
+-- the system was asked for nothing yet
+unfoldable pub IsFresh : {M : Type 0} → M → Type 0
+IsFresh system = Unit {0}
 
 -- a wire or a service manager was this when it was let go: nothing was asked of it, or told it, behind that
 unfoldable pub WasLetGo : {A : Type 0} → A → Type 0
@@ -93,3 +103,7 @@ IsCaptured None = Unit {0}
 -- a number was had of this disk: where that is the locked boot file at a path, it is of that one
 abbrev pub IsNumberOf : {D : Type 0} → D → Type 0
 IsNumberOf disk = (path : List ℕ) → WasHad (locked_file path) disk → WasGiven (number_of path)
+
+-- a disk is as it was; or as it was left by who asked it for its next boot number, once
+abbrev pub IsLeft : {D : Type 0} → D → D → Type 0
+IsLeft before after = (after ≡ before) ⊎ ((answer : Result ℕ BootFault) × WasNumbered before answer after)

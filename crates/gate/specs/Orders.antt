@@ -1,11 +1,11 @@
 -- In which order a start takes its number, prints and is refused.
-use Rattle.std.specs.Prelude.{◌≡◌, ◌⊎◌, ℕ, Bool, List, Option, Ok, codes}
-use Rattle.std.specs.Io.KnownBytes.{Appends}
+use Rattle.std.specs.Prelude.{◌≡◌, ◌⊎◌, ℕ, Bool, List, Option, Some, None, Result, Ok, IfErr}
 use Rattle.boot_store.specs.Crash.{Decides}
 use Rattle.boot_store.specs.Moment.{Moment}
 use Rattle.box_words.specs.declared.refusals.BoxFault.{BoxFault}
-use Rattle.gate.specs.Boots.{boot_line}
-use Rattle.gate.specs.Failing.{IsUnbegun, LacksOutput}
+use Rattle.gate.specs.Failing.{IsUnbegun, LacksEnd, LacksLine, LacksMemory, LacksNumber}
+use Rattle.gate.specs.Named.{WasGiven, WasSpared, boot_number, new_gateway, seed}
+use Rattle.gate.specs.Printing.{HasPrinted, Holds}
 
 -- one number was taken of a boot file, the one behind the greatest
 abbrev pub IsNumbered : Bool → Moment → Moment → Type 0
@@ -16,32 +16,52 @@ abbrev pub IsTaken : Type 0 → Bool → Moment → Moment → ℕ → Type 0
 IsTaken honest found before after boot = honest → Decides found before after (Ok boot)
 
 -- output has the line of a boot, and refuses `end` behind it
-abbrev pub EndIsRefused : Option (List ℕ) → Option (List ℕ) → ℕ → BoxFault → Type 0
-EndIsRefused before after boot why =
-    (between : Option (List ℕ)) × (Appends before between (boot_line boot) × LacksOutput (codes "end\n") between after why)
+abbrev pub EndIsRefused : {O : Type 0} → Holds O → O → O → ℕ → BoxFault → Type 0
+EndIsRefused {O = O} contents before after boot why = (between : O) × (HasPrinted contents before boot between × LacksEnd contents between after why)
 
--- output refuses the line of a boot; or it has that line, and refuses `end`
-abbrev pub IsCutShort : Option (List ℕ) → Option (List ℕ) → ℕ → BoxFault → Type 0
-IsCutShort before after boot why = LacksOutput (boot_line boot) before after why ⊎ EndIsRefused before after boot why
+-- Only this refuses a start behind the line of its boot: output refuses `end`; or no capture is begun in the file at a path, and then just the line
+-- was printed.
+abbrev pub IsBehindLine : {O : Type 0} → Holds O → Option (List ℕ) → ℕ → BoxFault → O → O → Type 0
+IsBehindLine contents capture boot why output output2 =
+    EndIsRefused contents output output2 boot why ⊎ (IsUnbegun capture why × HasPrinted contents output boot output2)
 
--- Only this refuses a start behind the number of its boot: output is refused, and has just a beginning of that boot's line and `end`; or no
--- capture is begun in the file at a path, and then just the line was printed.
-abbrev pub IsBehind : {O : Type 0} → (O → Option (List ℕ)) → Option (List ℕ) → ℕ → BoxFault → O → O → Type 0
-IsBehind contents capture boot why output output2 = IsCutShort (contents output) (contents output2) boot why
-    ⊎ (IsUnbegun capture why × Appends (contents output) (contents output2) (boot_line boot))
+-- and behind the number of its boot: output refuses that line, and has just a beginning of it; or it is refused behind the line
+abbrev pub IsBehind : {O : Type 0} → Holds O → Option (List ℕ) → ℕ → BoxFault → O → O → Type 0
+IsBehind contents capture boot why output output2 =
+    LacksLine contents boot output output2 why ⊎ IsBehindLine contents capture boot why output output2
+
+-- the file of a capture, where there is to be one, was let go as it was; or the line of a boot was printed before, and this comes behind it
+abbrev pub IsSparing : {O : Type 0} → Holds O → Option (List ℕ) → BoxFault → O → O → Type 0
+IsSparing contents (Some path) why output output2 = WasSpared path ⊎ ((boot : ℕ) × IsBehindLine contents (Some path) boot why output output2)
+IsSparing contents None why output output2 = Unit {0}
+
+-- A gateway isn't run that has its seed: no boot number is had; or one was, and there is no memory for the gateway, or it is refused by what comes
+-- behind the number.
+abbrev pub IsUnrun : {O : Type 0} → Holds O → Option (List ℕ) → O → O → BoxFault → Type 0
+IsUnrun contents capture output output2 why = LacksNumber why
+    ⊎ (WasGiven boot_number × (LacksMemory new_gateway why ⊎ ((boot : ℕ) × IsBehind contents capture boot why output output2)))
+
+-- where a start is refused, a disk is as it was; or that comes behind the seed, where a number may have been taken
+abbrev pub IsUntaken : {O D T : Type 0} → Holds O → Option (List ℕ) → Result T BoxFault → D → D → O → Type 0
+IsUntaken {O = O} contents capture result disk disk2 output2 =
+    IfErr result (λ why. ((output : O) × IsUnrun contents capture output output2 why) ⊎ (disk2 ≡ disk))
+
+-- or it has no seed, and then nothing was taken or told
+abbrev pub IsUnstarted : {O : Type 0} → Holds O → Option (List ℕ) → Type 0 → O → O → BoxFault → Type 0
+IsUnstarted contents capture Untouched output output2 why = (LacksMemory seed why × Untouched)
+    ⊎ (WasGiven seed × IsUnrun contents capture output output2 why)
 
 -- What a log is handed before a refusal: no record; or the line of a boot was printed before, and this comes behind it.
-abbrev pub IsUnrecorded : {L : Type 0} → Option (List ℕ) → Option (List ℕ) → Option (List ℕ) → L → L → BoxFault → Type 0
-IsUnrecorded capture before after log log2 why = (log2 ≡ log)
-    ⊎ ((boot : ℕ) × (EndIsRefused before after boot why ⊎ (IsUnbegun capture why × Appends before after (boot_line boot))))
+abbrev pub IsUnrecorded : {O L : Type 0} → Holds O → Option (List ℕ) → O → O → L → L → BoxFault → Type 0
+IsUnrecorded contents capture before after log log2 why = (log2 ≡ log) ⊎ ((boot : ℕ) × IsBehindLine contents capture boot why before after)
 
 -- What is printed before a refusal: nothing; or a number was taken before, and the refusal is one that comes behind it.
-abbrev pub IsInOrder : {O : Type 0} → (O → Option (List ℕ)) → Option (List ℕ) → Type 0 → Bool → Moment → Moment → BoxFault → O → O → Type 0
+abbrev pub IsInOrder : {O : Type 0} → Holds O → Option (List ℕ) → Type 0 → Bool → Moment → Moment → BoxFault → O → O → Type 0
 IsInOrder contents capture honest found before after why output output2 =
     (output2 ≡ output) ⊎ ((boot : ℕ) × (IsTaken honest found before after boot × IsBehind contents capture boot why output output2))
 
 -- the same, where the boot file is opened within the call
-abbrev pub IsInSomeOrder : {O D : Type 0} → (O → Option (List ℕ)) → Option (List ℕ) → (D → Type 0) → (D → Moment) → Bool → BoxFault → O → O → Type 0
+abbrev pub IsInSomeOrder : {O D : Type 0} → Holds O → Option (List ℕ) → (D → Type 0) → (D → Moment) → Bool → BoxFault → O → O → Type 0
 IsInSomeOrder {D = D} contents capture honest now found why output output2 = (output2 ≡ output) ⊎ ((before : D) × ((after : D) × ((boot : ℕ)
     × (IsTaken (honest before) found (now before) (now after) boot × IsBehind contents capture boot why output output2))))
 

@@ -1,7 +1,19 @@
--- What an output is asked for the line of a boot.
-use Rattle.std.specs.Prelude.{◌⊎◌, ℕ, Ok, codes}
+-- What an output is asked for the line of a boot, and for `end`.
+use Rattle.std.specs.Prelude.{◌⊎◌, ◌++◌, ℕ, List, Option, Ok, codes}
 use Rattle.std.specs.Fmt.{decimal}
-use Rattle.outlets.specs.Outputs.{IsRefused, IsUnflushed, WasFlushed, WasPut}
+use Rattle.std.specs.Io.KnownBytes.{Appends}
+use Rattle.outlets.specs.Outputs.{IsPrinted, IsRefused, IsUnflushed, WasFlushed, WasPut}
+
+-- what an output holds, where that is known
+abbrev pub Holds : Type 0 → Type 0
+Holds O = O → Option (List ℕ)
+
+-- the line that tells of a boot
+abbrev pub boot_text : ℕ → List ℕ
+boot_text boot = codes "boot " ++ decimal boot
+
+abbrev pub boot_line : ℕ → List ℕ
+boot_line boot = boot_text boot ++ codes "\n"
 
 -- it took the line's word
 abbrev pub HasWord : {O : Type 0} → O → O → Type 0
@@ -26,6 +38,10 @@ IsLineRefused {O = O} before boot after = IsRefused before (codes "boot ") after
     ⊎ (((middle : O) × (HasNumber before boot middle × IsRefused middle (codes "\n") after))
     ⊎ ((middle : O) × (HasLine before boot middle × IsUnflushed middle after))))
 
--- the line of some boot
-abbrev pub IsRefusedLine : {O : Type 0} → O → O → Type 0
-IsRefusedLine before after = (boot : ℕ) × IsLineRefused before boot after
+-- it has just the line of this boot behind what it had, and was flushed
+abbrev pub HasPrinted : {O : Type 0} → Holds O → O → ℕ → O → Type 0
+HasPrinted contents before boot after = IsLinePrinted before boot after × Appends (contents before) (contents after) (boot_line boot)
+
+-- it has just `end`, and was flushed
+abbrev pub HasEnded : {O : Type 0} → Holds O → O → O → Type 0
+HasEnded contents before after = IsPrinted before (codes "end\n") after × Appends (contents before) (contents after) (codes "end\n")

@@ -1,6 +1,5 @@
 -- What is done by a start that is served.
-use Rattle.std.specs.Prelude.{ℕ, List, Option, codes}
-use Rattle.std.specs.Io.KnownBytes.{Appends}
+use Rattle.std.specs.Prelude.{Option}
 use Rattle.settings.specs.declared.whole.Settings.{Settings}
 use Rattle.spec_step.specs.Shown.{Shown}
 use Rattle.rounds.specs.Rounds.{Calls, WireSays}
@@ -11,7 +10,8 @@ use Rattle.supervision.specs.declared.managers.Manager.{Manager}
 use Rattle.gate.specs.Asked.{IsFilter, IsNotified, IsWatched, boot_file_of, box_ports, path_in}
 use Rattle.gate.specs.Boots.{HasStarted, IsIdentity}
 use Rattle.control.specs.Paths.{socket_of}
-use Rattle.gate.specs.Named.{IsCaptured, WasClosed, WasGiven, WasLetGo, control_socket, locked_file, number_of, own_sockets}
+use Rattle.gate.specs.Named.{IsCaptured, WasClosed, WasGiven, WasLetGo, WasUnlocked, control_socket, locked_file, number_of, own_sockets}
+use Rattle.gate.specs.Printing.{HasEnded, Holds}
 use Rattle.gate.specs.Starts.{CanOpen}
 use Rattle.gate.specs.Told.{HearsSome}
 use Rattle.gate.specs.Wires.{IsOfSockets, RanOn, does_at, says_at}
@@ -20,36 +20,38 @@ use Rattle.gate.specs.declared.running.Start.{Start}
 -- With these settings the start's gateway begins, in some boot, whose line is printed; it has its rounds on this wire, which is that of its sockets,
 -- as the box of its id, its boot and the digest of its settings; the wire is let go, and `end` is printed. Where the start has a text for it, there
 -- is a service manager, whose descriptor never waits; a filter of its records, which the text is; and a capture, begun in its file.
-pub record HasRun {W : Type 0} (does : Calls W) (says : WireSays W) (settings : Settings) (start : Start) (wire : W) (before after : Option (List ℕ)) : Type 0
+pub record HasRun {W O : Type 0} (contents : Holds O) (does : Calls W) (says : WireSays W) (settings : Settings) (start : Start) (wire : W) (before after : O)
+    : Type 0
   where
     pub first : Shown
-    pub between : Option (List ℕ)
-    pub started : HasStarted settings start.id start.found before between first
+    pub between : O
+    pub started : HasStarted contents settings start.id start.found before between first
     pub who : Identity
     pub identity : IsIdentity settings start.id who first
     pub last : Shown
     pub own : IsOfSockets settings start wire
     pub ran : RanOn does says who start first last wire
-    pub ended : Appends between after (codes "end\n")
+    pub ended : HasEnded contents between after
     pub numbered : WasGiven (number_of (boot_file_of settings start.id))
     pub watched : IsWatched start.notify
     pub filter : IsFilter start.log
     pub captured : IsCaptured (path_in start.capture)
 
 -- the same on the system's sockets, once those of its places were had, with a log that was told no more of the start than it is to be
-abbrev pub RunsWired : Start → Settings → Ways → Option (List ℕ) → Option (List ℕ) → Type 0
-RunsWired start settings ways before after = (WasGiven (own_sockets ways (box_ports settings start.id)) × WasClosed (path_in start.capture))
-    × ((wire : Sockets) × HasRun does_at says_at settings start wire before after)
+abbrev pub RunsWired : {O : Type 0} → Holds O → Start → Settings → Ways → O → O → Type 0
+RunsWired contents start settings ways before after = (WasGiven (own_sockets ways (box_ports settings start.id)) × WasClosed (path_in start.capture))
+    × ((wire : Sockets) × HasRun contents does_at says_at settings start wire before after)
 
 -- and a control socket before,
-abbrev pub RunsLocked : Start → Settings → Ways → Option (List ℕ) → Option (List ℕ) → Type 0
-RunsLocked start settings ways before after =
-    WasGiven (control_socket (socket_of (boot_file_of settings start.id))) × RunsWired start settings ways before after
+abbrev pub RunsLocked : {O : Type 0} → Holds O → Start → Settings → Ways → O → O → Type 0
+RunsLocked contents start settings ways before after =
+    WasGiven (control_socket (socket_of (boot_file_of settings start.id))) × RunsWired contents start settings ways before after
 
--- and its boot file, locked, before that
-abbrev pub RunsOpened : Start → Settings → Ways → Option (List ℕ) → Option (List ℕ) → Type 0
-RunsOpened start settings ways before after =
-    WasGiven (locked_file (boot_file_of settings start.id)) × RunsLocked start settings ways before after
+-- and its boot file, locked, before that, which was let go behind it as its number had left it
+abbrev pub RunsOpened : {O : Type 0} → Holds O → Start → Settings → Ways → O → O → Type 0
+RunsOpened contents start settings ways before after =
+    (WasGiven (locked_file (boot_file_of settings start.id)) × WasUnlocked (boot_file_of settings start.id))
+    × RunsLocked contents start settings ways before after
 
 -- the service manager that it took over was told just such a run until it was let go, where there is one
 abbrev pub IsToldRun : Start → Type 0
@@ -58,9 +60,9 @@ IsToldRun start = (manager : Option Manager) × ((manager2 : Option Manager)
 
 -- The settings of a text that was read at the start's path were run so, by ways that its texts write. By what settings and ways say, its
 -- boot file can be opened, and it was had, and so were its sockets. There are such a text, settings and ways: nothing says which.
-pub record HasServed (start : Start) (before after : Option (List ℕ)) : Type 0 where
+pub record HasServed {O : Type 0} (contents : Holds O) (start : Start) (before after : O) : Type 0 where
   pub settings : Settings
   pub ways : Ways
   pub fits : CanOpen start settings ways
-  pub run : RunsOpened start settings ways before after
+  pub run : RunsOpened contents start settings ways before after
   pub told : IsToldRun start

@@ -2,6 +2,7 @@
 use Rattle.std.specs.Prelude.{◌≡◌, ◌⊎◌, ℕ, List, Option}
 use Rattle.box_words.specs.declared.refusals.BoxFault.{BoxFault}
 use Rattle.gate.specs.Orders.{EndIsRefused}
+use Rattle.gate.specs.Printing.{Holds}
 use Rattle.rounds.specs.Told.{HearsRun}
 use Rattle.supervision.specs.Hearing.{gets, hears_inside}
 use Rattle.supervision.specs.declared.managers.Manager.{Manager}
@@ -21,5 +22,5 @@ abbrev pub HearsSome : Option Manager → Option Manager → Type 0
 HearsSome m m2 = (boot : ℕ) × HearsOne boot m m2
 
 -- it is told nothing at this refusal; or there was a run, whose boot's line was printed, and then output refused its end
-abbrev pub IsUnheard : Option (List ℕ) → Option (List ℕ) → Option Manager → Option Manager → BoxFault → Type 0
-IsUnheard before after m m2 why = (m2 ≡ m) ⊎ ((boot : ℕ) × (EndIsRefused before after boot why × HearsOne boot m m2))
+abbrev pub IsUnheard : {O : Type 0} → Holds O → O → O → Option Manager → Option Manager → BoxFault → Type 0
+IsUnheard contents before after m m2 why = (m2 ≡ m) ⊎ ((boot : ℕ) × (EndIsRefused contents before after boot why × HearsOne boot m m2))

@@ -17,6 +17,7 @@ use Rattle.gate.specs.Asked.{box_ports}
 use Rattle.gate.specs.Boots.{IsIdentity}
 use Rattle.gate.specs.Named.{WasHad, WasLetGo, own_sockets, tapped_wire}
 use Rattle.gate.specs.Orders.{EndIsRefused}
+use Rattle.gate.specs.Printing.{Holds}
 use Rattle.gate.specs.Starts.{AreWays}
 use Rattle.gate.specs.declared.running.Start.{Start}
 
@@ -65,11 +66,11 @@ RanOn {W = W} does says who start g g2 wire =
     (wire2 : W) × (RunsOn (Unit {0}) does says who start.rounds start.track start.until_eof g g2 wire wire2 × WasLetGo wire2)
 
 -- the same, of some gateway of these settings' box, whose boot's line was printed; and then output refused its end
-abbrev pub HasRunUnended : {W : Type 0} → Calls W → WireSays W → Settings → Start → Option (List ℕ) → Option (List ℕ) → W → BoxFault → Type 0
-HasRunUnended does says settings start before after wire why = (who : Identity) × (EndIsRefused before after who.boot why
+abbrev pub HasRunUnended : {W O : Type 0} → Holds O → Calls W → WireSays W → Settings → Start → O → O → W → BoxFault → Type 0
+HasRunUnended contents does says settings start before after wire why = (who : Identity) × (EndIsRefused contents before after who.boot why
     × ((first : Shown) × ((last : Shown) × (IsIdentity settings start.id who first × RanOn does says who start first last wire))))
 
 -- What became of a wire, where a start is refused: it was let go as it was; or there was such a run before, of the boot that is printed.
-abbrev pub IsSpared : {W : Type 0} → Calls W → WireSays W → Settings → Start → Option (List ℕ) → Option (List ℕ) → W → BoxFault → Type 0
-IsSpared does says settings start before after wire why =
-    WasLetGo wire ⊎ HasRunUnended does says settings start before after wire why
+abbrev pub IsSpared : {W O : Type 0} → Holds O → Calls W → WireSays W → Settings → Start → O → O → W → BoxFault → Type 0
+IsSpared contents does says settings start before after wire why =
+    WasLetGo wire ⊎ HasRunUnended contents does says settings start before after wire why

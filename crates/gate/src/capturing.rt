@@ -1,15 +1,15 @@
 //! The file of a capture.
 ghost use Rattle.std.specs.Prelude.{◌≡◌, IfErr, IfOk, IfSome, OnErr, OnOk, Some, is_some, option_map};
+ghost use Rattle.tap.specs.Files.{IsUnbegunIn};
 ghost use Rattle.gate.specs.Asked.{IsFilter, path_in};
 ghost use Rattle.gate.specs.Asking.{AsksUpTo, captures};
 ghost use Rattle.gate.specs.Failing.{IsUnbegun, LacksCapture};
-ghost use Rattle.gate.specs.Named.{IsOpened, WasAnswered, WasGiven, WasHad, WasLetGo, all_sockets, begun_capture, boot_number, capture_file, tapped_wire};
+ghost use Rattle.gate.specs.Named.{IsOpened, WasAnswered, WasGiven, WasHad, WasLetGo, WasSpared, all_sockets, begun_capture, boot_number, capture_file, tapped_wire};
 
 use crate::machine::Machine;
 use crate::running::Start;
 use crate::wires::let_go;
 use box_words::BoxFault;
-use faults::Fault;
 use nat_types::GatewayId;
 use sockets::Wire;
 use std::alloc::Global;
@@ -51,6 +51,17 @@ pub(crate) fn capture_at<'a, R: Files + Net + AllocGlobal>(
     }
 }
 
+impl<F: Drop> CaptureAt<'_, F> {
+    /// Lets the file go, as it was when it was opened.
+    #[tactic(auto, unfolding(crate::specs::Named::WasSpared))]
+    pub(crate) fn spare(self)
+        requires had { WasHad (capture_file self.path.now) self.file }
+        ensures { WasSpared self.entry.path.now }
+    {
+        drop(self);
+    }
+}
+
 impl<F: Read + Write + Seek + OpenFile + AsRawFd + Drop> CaptureAt<'_, F> {
     /// A wire whose packets go to a capture that is begun in the file, which loses what it has; after an Err the wire was let go.
     #[tactic(auto, unfolding(crate::specs::Named::WasHad))]
@@ -74,7 +85,7 @@ impl<F: Read + Write + Seek + OpenFile + AsRawFd + Drop> CaptureAt<'_, F> {
             Ok(reel) => Ok(Tapped::new(wire, id, moments, reel)),
             Err(error) => {
                 let_go(wire);
-                Err(BoxFault::Run(Fault::of_capture(alloc, path, &error)))
+                Err(BoxFault::no_capture(alloc, path, &error))
             }
         }
     }
@@ -91,6 +102,7 @@ fn begun<F: Read + Write + Seek + OpenFile + AsRawFd + Drop>(
     requires numbered { WasGiven boot_number }
     ensures given { OnOk result (WasGiven (begun_capture _path.now)) }
     ensures answered { IfErr result (WasAnswered (begun_capture _path.now)) }
+    ensures refused { IfErr result (IsUnbegunIn F.raw_fd file) }
 {
     tap::begin(alloc, file)
 }

@@ -3,6 +3,7 @@
 
 mod capturing;
 mod machine;
+mod making;
 mod reading;
 mod recording;
 mod rest;
@@ -11,5 +12,6 @@ mod starting;
 mod ways;
 mod wires;
 
-pub use running::{Start, gate, init};
+pub use making::init;
+pub use running::{Start, gate};
 pub use ways::WayTexts;

@@ -10,9 +10,9 @@ ghost use Rattle.sockets.specs.declared.sockets.SocketFault.{SocketFault as Reas
 ghost use Rattle.box_words.specs.Ends.{IsFirstOf};
 ghost use Rattle.box_words.specs.declared.refusals.BoxFault.TheVariants as faults;
 ghost use Rattle.gate.specs.Asked.{IsFilter, IsNotified, boot_file_of, box_ports};
-ghost use Rattle.gate.specs.Asking.{SetsManager, WasAsked};
+ghost use Rattle.gate.specs.Asking.{IsAskedSo, SetsManager, WasAsked, WasAskedFor};
 ghost use Rattle.gate.specs.Failing.{LacksBootFile, LacksCapture, LacksControl, LacksDescriptor, LacksManager, LacksPath, LacksPlace, TellsPlaces};
-ghost use Rattle.gate.specs.Named.{WasAnswered, WasDenied, WasGiven, WasHad, WasRead, all_sockets, capture_file, control_socket, descriptors, locked_file, own_sockets, path_beside, service_manager, settings_text};
+ghost use Rattle.gate.specs.Named.{IsFresh, WasAnswered, WasDenied, WasGiven, WasHad, WasRead, all_sockets, capture_file, control_socket, descriptors, locked_file, own_sockets, path_beside, service_manager, settings_text};
 ghost use Rattle.gate.specs.Starts.{CanOpen};
 
 use crate::running::Start;
@@ -38,13 +38,27 @@ pub(crate) struct Machine<'a, R> {
     places: Places<'a, R>,
 }
 
-/// This system.
-pub(crate) fn machine_of<R: Files + Net>(rt: &R) -> Machine<'_, R> {
+/// This system. It was asked for nothing yet.
+#[tactic(auto, unfolding(crate::specs::Named::IsFresh))]
+pub(crate) fn machine_of<R: Files + Net>(rt: &R) -> Machine<'_, R>
+    ensures { IsFresh result }
+{
     Machine {
         rt,
         descriptors: Descriptors::new(rt),
         listeners: Listeners::new(rt),
         places: Places::new(rt),
+    }
+}
+
+impl<R> Machine<'_, R> {
+    /// Lets it go, once it was asked for no more than a start is to ask for.
+    #[tactic(auto, unfolding(crate::specs::Asking::WasAskedFor))]
+    pub(crate) fn let_go(self, _start: &Start<'_>)
+        requires asked { IsAskedSo _start.now self }
+        ensures { WasAskedFor _start.now }
+    {
+        drop(self);
     }
 }
 
@@ -252,13 +266,14 @@ impl<R: Net + AllocGlobal> Machine<'_, R> {
 
 impl<R: AllocGlobal> Machine<'_, R> {
     /// The path of a box's control socket, beside its boot file, where it gives memory for it.
-    #[tactic(auto, unfolding(crate::specs::Asking::WasAsked, crate::specs::Named::WasDenied))]
+    #[tactic(auto, unfolding(crate::specs::Asking::WasAsked, crate::specs::Named::WasGiven, crate::specs::Named::WasDenied))]
     pub(crate) fn told_to_give_path(
         &mut self,
         settings: &Settings,
         id: GatewayId,
     ) -> Result<ControlPath, BoxFault>
         ensures asked { WasAsked self.old (path_beside (boot_file_of settings.now id)) self.new }
+        ensures given { OnOk result (WasGiven (path_beside (boot_file_of settings.now id))) }
         ensures beside { IfOk result (IsBeside (boot_file_of settings.now id)) }
         ensures short { OnOk result (length (socket_of (boot_file_of settings.now id)) ≤ 107) }
         ensures err { IfErr result (LacksPath (boot_file_of settings.now id)) }

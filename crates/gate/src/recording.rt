@@ -5,7 +5,7 @@ ghost use Rattle.journal.specs.declared.entries.Entry.TheVariants.{Boot};
 ghost use Rattle.rounds.specs.Tellings.{IsNewTeller};
 ghost use Rattle.gate.specs.Asked.{path_in};
 ghost use Rattle.gate.specs.Logs.{IsAskedOnce, IsLikeLog, IsToldOfBoot, IsToldOfLeftOut, IsToldSo};
-ghost use Rattle.gate.specs.Named.{IsTellerOf, WasClosed, WasLeftOut, WasRecorded};
+ghost use Rattle.gate.specs.Named.{IsTellerOf, WasClosed, WasLeftOut, WasLetGo, WasRecorded};
 
 use crate::running::Start;
 use journal::{Entry, Journal, Pen};
@@ -59,16 +59,18 @@ impl<L: Journal> Records<L> {
         tell_boot(Pen::new(&self.log), boot);
     }
 
-    /// Hands it how many packets a capture has left out, if it has.
-    #[tactic(auto, unfolding(crate::specs::Named::WasLeftOut))]
-    pub(crate) fn told_of_left_out<W: Wire, M: Moments, O: Outlet>(
+    /// Lets a wire go whose packets were captured, and hands it how many of them the capture has left out, if it has.
+    #[tactic(auto, unfolding(crate::specs::Named::WasLeftOut, crate::specs::Named::WasLetGo))]
+    pub(crate) fn told_of_left_out<W: Wire + Drop, M: Moments + Drop, O: Outlet + Drop>(
         &mut self,
-        tapped: &Tapped<W, M, O>,
+        tapped: Tapped<W, M, O>,
     )
-        ensures told { IsToldOfLeftOut L.enables self.old.log tapped.now.reel.left_out }
-        ensures left_out { WasLeftOut self.old tapped.now.reel.left_out self.new }
+        ensures told { IsToldOfLeftOut L.enables self.old.log tapped.reel.left_out }
+        ensures left_out { WasLeftOut self.old tapped.reel.left_out self.new }
+        ensures gone { WasLetGo tapped.wire }
     {
         tell_left_out(Pen::new(&self.log), tapped.left_out());
+        drop(tapped);
     }
 }
 

@@ -8,7 +8,7 @@ ghost use Rattle.inputs.specs.Inputs.{IsUnasked};
 ghost use Rattle.rounds.specs.Clocks.{WasNow};
 ghost use Rattle.gate.specs.Asked.{IsChosenBy, IsFilter};
 ghost use Rattle.gate.specs.Failing.{LacksFilter, LacksMemory};
-ghost use Rattle.gate.specs.Named.{IsUntold, WasGiven, all_sockets};
+ghost use Rattle.gate.specs.Named.{IsUntold, WasGiven, all_sockets, seed};
 
 use crate::recording::{Records, records_in};
 use box_words::BoxFault;
@@ -87,10 +87,11 @@ impl<R: AllocGlobal> Means<'_, R> {
 impl<R: RandomSource> Means<'_, R> {
     /// The hashers of a seed that is drawn now. Where the system refuses a seed, that is told as memory
     /// that it refuses.
-    #[tactic(auto, unfolding(crate::specs::Named::WasDenied))]
+    #[tactic(auto, unfolding(crate::specs::Named::WasGiven, crate::specs::Named::WasDenied))]
     pub(crate) fn drawn(&self) -> Result<Hashers, BoxFault>
         ensures drawn { IfOk result (λ hashers. is_drawn hashers ≡ true) }
-        ensures err { IfErr result LacksMemory }
+        ensures given { OnOk result (WasGiven seed) }
+        ensures err { IfErr result (LacksMemory seed) }
     {
         let mut draws = SystemDraws(self.rt);
         let drawn = Hashers::drawn(&mut draws);

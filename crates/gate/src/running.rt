@@ -1,6 +1,5 @@
-//! What is done at a box: its boot file and its rounds.
-ghost use Rattle.std.specs.Prelude.{◌≡◌, ◌⊎◌, ◌<◌, IfErr, IfSome, IsTrue, OnErr, OnOk, Some, codes, false, is_some};
-ghost use Rattle.std.specs.Io.KnownBytes.{Appends};
+//! How a box is run.
+ghost use Rattle.std.specs.Prelude.{◌≡◌, ◌⊎◌, ◌<◌, IfErr, IfSome, IsTrue, OnOk, Some, false, is_some};
 ghost use Rattle.nat_types.specs.declared.gateways.GatewayId.TheVariants.{Zero};
 ghost use Rattle.inputs.specs.Inputs.{IsUnasked};
 ghost use Rattle.inputs.specs.declared.standard_input.StandardInput.{StandardInput as Source};
@@ -8,17 +7,16 @@ ghost use Rattle.control.specs.Paths.{IsBeside, socket_of};
 ghost use Rattle.sockets.specs.Inheriting.{AreUnblocked};
 ghost use Rattle.rounds.specs.Rounds.{calls, wire_says};
 ghost use Rattle.rounds.specs.Tellings.{IsNewTeller, ToldLog};
-ghost use Rattle.box_words.specs.Deeds.{HasUnmade, made};
 ghost use Rattle.box_words.specs.Faults.{fault_text};
-ghost use Rattle.outlets.specs.Outputs.{IsUnput};
 ghost use Rattle.outlets.specs.Telling.{IsToldOf};
-ghost use Rattle.gate.specs.Asking.{AsksBy, AsksFor, AsksUpTo, AsksWatched, captures, listeners, openings, pathed, places};
+ghost use Rattle.gate.specs.Asking.{AsksBy, AsksFor, AsksUpTo, AsksWatched, WasAskedFor, captures, listeners, openings, pathed, places};
 ghost use Rattle.gate.specs.Asked.{IsFilter, IsNotified, boot_file_of, path_in};
 ghost use Rattle.gate.specs.Boots.{IsIdentity};
-ghost use Rattle.gate.specs.Failing.{IsUnbegun, IsUnrun, IsUnstarted, LacksOutput};
+ghost use Rattle.gate.specs.Failing.{IsUnbegun, LacksEnd};
 ghost use Rattle.gate.specs.Logs.{IsOwnLog, IsOwnTeller, IsRecorded, IsToldAtMost, IsToldBy, IsToldLeftOut, IsToldOfThis};
-ghost use Rattle.gate.specs.Named.{IsUntold, WasClosed, WasGiven, WasHad, WasLetGo, all_sockets, begun_capture, boot_number, capture_file, control_socket, locked_file};
-ghost use Rattle.gate.specs.Orders.{IsInOrder, IsInSomeOrder, IsNumbered, IsSilentOrTaken, IsUnrecorded};
+ghost use Rattle.gate.specs.Named.{IsLeft, IsUntold, WasClosed, WasGiven, WasHad, WasLetGo, all_sockets, begun_capture, boot_number, capture_file, control_socket, locked_file};
+ghost use Rattle.gate.specs.Orders.{IsInOrder, IsInSomeOrder, IsNumbered, IsSilentOrTaken, IsSparing, IsUnrecorded, IsUnrun, IsUnstarted};
+ghost use Rattle.gate.specs.Printing.{HasEnded};
 ghost use Rattle.gate.specs.Served.{HasRun, HasServed, RunsLocked, RunsOpened, RunsWired};
 ghost use Rattle.gate.specs.Sparing.{FailsHeard, FailsHeld, FailsInherited, FailsLocked, FailsLogged, FailsOpening, FailsWatched, FailsWired, IsRefusal};
 ghost use Rattle.gate.specs.Starts.{AreHeld, AreRead, AreWatched, AreWays, CanOpen};
@@ -33,10 +31,10 @@ use crate::recording::Records;
 use crate::rest::{Means, Rest, rest_of};
 use crate::starting::started;
 use crate::ways::{WayTexts, ways_of};
-use crate::wires::{let_go, let_go_tapped};
+use crate::wires::{let_go, unlock};
 use boot_file::{Blocks, FileDisk, Lockable};
 use boot_store::Disk;
-use box_words::{BoxFault, Site};
+use box_words::BoxFault;
 use control::{Bound, ControlPath};
 use gateway::Gateway;
 use journal::{Format, Journal};
@@ -45,7 +43,6 @@ use outlets::Tells;
 use rounds::{Identity, InputEnd, Teller, serve};
 use settings::Settings;
 use sockets::{Sockets, Ways, Wire};
-use std::alloc::Global;
 use std::fs::{Files, OpenFile};
 use std::io::{Read, Seek, Write};
 use std::net::Net;
@@ -53,21 +50,6 @@ use std::os::fd::AsRawFd;
 use std::random::RandomSource;
 use std::rt::{Clock, Env};
 use supervision::{Manager, Supervisor};
-
-/// Makes the boot file of a box. The answer is the exit status: 0, or 1 for a fault, which is told
-/// on `errors`.
-pub fn init<S: Site, E: Tells>(alloc: Global, site: &mut S, file: &str, errors: &mut E) -> u8
-    ensures status { (result ≡ 0) ⊎ (result ≡ 1) }
-    ensures made { result ≡ 0 → S.does site.old (made file.now) site.new }
-    ensures quiet { result ≡ 0 → errors.new ≡ errors.old }
-    ensures failed { result ≡ 1 → IsToldOf E.tells fault_text
-        (λ fault. HasUnmade S.does file.now fault site.old site.new) errors.old errors.new }
-{
-    match site.make(file) {
-        Ok(()) => 0,
-        Err(fault) => BoxFault::of_boot_file(alloc, file, fault).tell(alloc, errors),
-    }
-}
 
 /// How a box is run.
 #[derive(Clone, Copy, Debug)]
@@ -109,21 +91,28 @@ where
     R::File: Blocks + Lockable + AsRawFd,
     requires found { IsTrue start.now.found → start.now.id ≡ Zero }
     ensures status { (result ≡ 0) ⊎ (result ≡ 1) }
-    ensures served { result ≡ 0 → HasServed start.now
-        (O.contents output.old) (O.contents output.new) }
+    ensures served { result ≡ 0 → HasServed O.contents start.now output.old output.new }
     ensures order { result ≡ 1 → IsSilentOrTaken
         ⟦<FileDisk<R::File> as Disk>⟧.honest ⟦<FileDisk<R::File> as Disk>⟧.now start.now.found
         output.old output.new }
+    ensures asks { WasAskedFor start.now }
     ensures quiet { result ≡ 0 → errors.new ≡ errors.old }
-    ensures failed { result ≡ 1 → IsToldOf E.tells fault_text (λ why. IsRefusal start.now
-        (O.contents output.old) (O.contents output.new) why
+    ensures failed { result ≡ 1 → IsToldOf E.tells fault_text (λ why. IsRefusal O.contents
+        start.now output.old output.new why
         × IsInSomeOrder O.contents (path_in start.now.capture)
         ⟦<FileDisk<R::File> as Disk>⟧.honest ⟦<FileDisk<R::File> as Disk>⟧.now start.now.found
         why output.old output.new) errors.old errors.new }
 {
-    match served(&mut machine_of(rt), rest_of(rt), start, output) {
-        Ok(()) => 0,
-        Err(fault) => fault.tell(rt.alloc(), errors),
+    let mut machine = machine_of(rt);
+    match served(&mut machine, rest_of(rt), start, output) {
+        Ok(()) => {
+            machine.let_go(start);
+            0
+        }
+        Err(fault) => {
+            machine.let_go(start);
+            fault.tell(rt.alloc(), errors)
+        }
     }
 }
 
@@ -146,10 +135,8 @@ where
     R::File: Blocks + Lockable + AsRawFd,
     requires found { IsTrue start.now.found → start.now.id ≡ Zero }
     ensures asks { AsksFor machine.old start.now machine.new }
-    ensures ok { OnOk result (HasServed start.now
-        (O.contents output.old) (O.contents output.new)) }
-    ensures err { IfErr result (IsRefusal start.now
-        (O.contents output.old) (O.contents output.new)) }
+    ensures ok { OnOk result (HasServed O.contents start.now output.old output.new) }
+    ensures err { IfErr result (IsRefusal O.contents start.now output.old output.new) }
     ensures order { IfErr result (λ why. IsInSomeOrder O.contents (path_in start.now.capture)
         ⟦<FileDisk<R::File> as Disk>⟧.honest ⟦<FileDisk<R::File> as Disk>⟧.now start.now.found
         why output.old output.new) }
@@ -177,10 +164,9 @@ where
     requires found { IsTrue start.now.found → start.now.id ≡ Zero }
     requires held { AreHeld start.now.settings.now settings.now }
     ensures asks { AsksBy machine.old start.now settings.now machine.new }
-    ensures ok { OnOk result (HasServed start.now
-        (O.contents output.old) (O.contents output.new)) }
-    ensures err { IfErr result (FailsHeld start.now settings.now
-        (O.contents output.old) (O.contents output.new)) }
+    ensures ok { OnOk result (HasServed O.contents start.now output.old output.new) }
+    ensures err { IfErr result (FailsHeld O.contents start.now settings.now
+        output.old output.new) }
     ensures order { IfErr result (λ why. IsInSomeOrder O.contents (path_in start.now.capture)
         ⟦<FileDisk<R::File> as Disk>⟧.honest ⟦<FileDisk<R::File> as Disk>⟧.now start.now.found
         why output.old output.new) }
@@ -209,10 +195,9 @@ where
     requires read { AreRead start.now settings.now ways.now }
     requires inherited { AreUnblocked ways.now None }
     ensures asks { AsksWatched machine.old start.now settings.now ways.now machine.new }
-    ensures ok { OnOk result (HasServed start.now
-        (O.contents output.old) (O.contents output.new)) }
-    ensures err { IfErr result (FailsInherited start.now settings.now ways.now
-        (O.contents output.old) (O.contents output.new)) }
+    ensures ok { OnOk result (HasServed O.contents start.now output.old output.new) }
+    ensures err { IfErr result (FailsInherited O.contents start.now settings.now ways.now
+        output.old output.new) }
     ensures order { IfErr result (λ why. IsInSomeOrder O.contents (path_in start.now.capture)
         ⟦<FileDisk<R::File> as Disk>⟧.honest ⟦<FileDisk<R::File> as Disk>⟧.now start.now.found
         why output.old output.new) }
@@ -243,12 +228,12 @@ where
     requires watched { AreWatched start.now settings.now ways.now }
     requires notified { IsNotified start.now.notify manager.old }
     ensures asks { AsksUpTo machine.old (pathed start.now settings.now ways.now) machine.new }
-    ensures ok { OnOk result (CanOpen start.now settings.now ways.now × RunsOpened start.now
-        settings.now ways.now (O.contents output.old) (O.contents output.new)) }
-    ensures err { IfErr result (FailsWatched start.now settings.now ways.now
-        (O.contents output.old) (O.contents output.new)) }
+    ensures ok { OnOk result (CanOpen start.now settings.now ways.now × RunsOpened O.contents
+        start.now settings.now ways.now output.old output.new) }
+    ensures err { IfErr result (FailsWatched O.contents start.now settings.now ways.now
+        output.old output.new) }
     ensures heard { OnOk result (HearsSome manager.old manager.new) }
-    ensures unheard { IfErr result (IsUnheard (O.contents output.old) (O.contents output.new)
+    ensures unheard { IfErr result (IsUnheard O.contents output.old output.new
         manager.old manager.new) }
     ensures order { IfErr result (λ why. IsInSomeOrder O.contents (path_in start.now.capture)
         ⟦<FileDisk<R::File> as Disk>⟧.honest ⟦<FileDisk<R::File> as Disk>⟧.now start.now.found
@@ -281,21 +266,25 @@ where
     requires notified { IsNotified start.now.notify manager.old }
     requires beside { IsBeside (boot_file_of settings.now start.now.id) path.now }
     ensures asks { AsksUpTo machine.old (openings start.now settings.now ways.now) machine.new }
-    ensures ok { OnOk result (RunsOpened start.now settings.now ways.now
-        (O.contents output.old) (O.contents output.new)) }
-    ensures err { IfErr result (FailsOpening start.now settings.now ways.now
-        (O.contents output.old) (O.contents output.new)) }
+    ensures ok { OnOk result (RunsOpened O.contents start.now settings.now ways.now
+        output.old output.new) }
+    ensures err { IfErr result (FailsOpening O.contents start.now settings.now ways.now
+        output.old output.new) }
     ensures heard { OnOk result (HearsSome manager.old manager.new) }
-    ensures unheard { IfErr result (IsUnheard (O.contents output.old) (O.contents output.new)
+    ensures unheard { IfErr result (IsUnheard O.contents output.old output.new
         manager.old manager.new) }
     ensures order { IfErr result (λ why. IsInSomeOrder O.contents (path_in start.now.capture)
         ⟦<FileDisk<R::File> as Disk>⟧.honest ⟦<FileDisk<R::File> as Disk>⟧.now start.now.found
         why output.old output.new) }
 {
     match machine.told_to_lock(start, settings, ways) {
-        Ok(mut disk) => connected(
-            machine, rest, start, settings, ways, path, manager, &mut disk, output,
-        ),
+        Ok(mut disk) => {
+            let ended = connected(
+                machine, rest, start, settings, ways, path, manager, &mut disk, output,
+            );
+            unlock(disk, start, settings, ways, output, &ended);
+            ended
+        }
         Err(fault) => Err(fault),
     }
 }
@@ -326,18 +315,19 @@ where
     requires written { AreWays start.now.ways ways.now }
     requires beside { IsBeside (boot_file_of settings.now start.now.id) path.now }
     ensures asks { AsksUpTo machine.old (listeners start.now settings.now ways.now) machine.new }
-    ensures ok { OnOk result (RunsLocked start.now settings.now ways.now
-        (O.contents output.old) (O.contents output.new)) }
-    ensures err { IfErr result (FailsLocked start.now settings.now ways.now
-        (O.contents output.old) (O.contents output.new)) }
-    ensures untouched { IfErr result (λ why. IsUnrun (path_in start.now.capture) why
-        ⊎ ((disk.new ≡ disk.old) × (manager.new ≡ manager.old))) }
+    ensures ok { OnOk result (RunsLocked O.contents start.now settings.now ways.now
+        output.old output.new) }
+    ensures err { IfErr result (FailsLocked O.contents start.now settings.now ways.now
+        output.old output.new) }
+    ensures untouched { IfErr result (λ why. IsUnrun O.contents (path_in start.now.capture)
+        output.old output.new why ⊎ ((disk.new ≡ disk.old) × (manager.new ≡ manager.old))) }
+    ensures left { IsLeft disk.old disk.new }
     ensures decided { ⟦<FileDisk<R::File> as Disk>⟧.honest disk.old
         → OnOk result (IsNumbered start.now.found
         (⟦<FileDisk<R::File> as Disk>⟧.now disk.old)
         (⟦<FileDisk<R::File> as Disk>⟧.now disk.new)) }
     ensures heard { OnOk result (HearsSome manager.old manager.new) }
-    ensures unheard { IfErr result (IsUnheard (O.contents output.old) (O.contents output.new)
+    ensures unheard { IfErr result (IsUnheard O.contents output.old output.new
         manager.old manager.new) }
     ensures order { IfErr result (λ why. IsInOrder O.contents (path_in start.now.capture)
         (⟦<FileDisk<R::File> as Disk>⟧.honest disk.old) start.now.found
@@ -376,16 +366,17 @@ where
         control }
     requires written { AreWays start.now.ways ways.now }
     ensures asks { AsksUpTo machine.old (places start.now settings.now ways.now) machine.new }
-    ensures ok { OnOk result (RunsWired start.now settings.now ways.now
-        (O.contents output.old) (O.contents output.new)) }
-    ensures err { IfErr result (FailsHeard start.now settings.now ways.now
-        (O.contents output.old) (O.contents output.new)) }
-    ensures untouched { IfErr result (λ why. IsUnrun (path_in start.now.capture) why
-        ⊎ ((disk.new ≡ disk.old) × (manager.new ≡ manager.old))) }
+    ensures ok { OnOk result (RunsWired O.contents start.now settings.now ways.now
+        output.old output.new) }
+    ensures err { IfErr result (FailsHeard O.contents start.now settings.now ways.now
+        output.old output.new) }
+    ensures untouched { IfErr result (λ why. IsUnrun O.contents (path_in start.now.capture)
+        output.old output.new why ⊎ ((disk.new ≡ disk.old) × (manager.new ≡ manager.old))) }
+    ensures left { IsLeft disk.old disk.new }
     ensures decided { D.honest disk.old
         → OnOk result (IsNumbered start.now.found (D.now disk.old) (D.now disk.new)) }
     ensures heard { OnOk result (HearsSome manager.old manager.new) }
-    ensures unheard { IfErr result (IsUnheard (O.contents output.old) (O.contents output.new)
+    ensures unheard { IfErr result (IsUnheard O.contents output.old output.new
         manager.old manager.new) }
     ensures order { IfErr result (λ why. IsInOrder O.contents (path_in start.now.capture)
         (D.honest disk.old) start.now.found (D.now disk.old) (D.now disk.new)
@@ -419,18 +410,19 @@ where
     requires wired { WasGiven all_sockets }
     requires own { IsOfSockets settings.now start.now wire }
     ensures asks { AsksUpTo machine.old (captures (path_in start.now.capture)) machine.new }
-    ensures ok { OnOk result (HasRun does_at says_at settings.now start.now wire
-        (O.contents output.old) (O.contents output.new)) }
+    ensures ok { OnOk result (HasRun O.contents does_at says_at settings.now start.now wire
+        output.old output.new) }
     ensures closed { OnOk result (WasClosed (path_in start.now.capture)) }
-    ensures err { IfErr result (FailsWired start.now) }
-    ensures spared { IfErr result (IsSpared does_at says_at settings.now start.now
-        (O.contents output.old) (O.contents output.new) wire) }
-    ensures untouched { IfErr result (λ why. IsUnrun (path_in start.now.capture) why
-        ⊎ ((disk.new ≡ disk.old) × (manager.new ≡ manager.old))) }
+    ensures err { IfErr result (FailsWired O.contents start.now output.old output.new) }
+    ensures spared { IfErr result (IsSpared O.contents does_at says_at settings.now start.now
+        output.old output.new wire) }
+    ensures untouched { IfErr result (λ why. IsUnrun O.contents (path_in start.now.capture)
+        output.old output.new why ⊎ ((disk.new ≡ disk.old) × (manager.new ≡ manager.old))) }
+    ensures left { IsLeft disk.old disk.new }
     ensures decided { D.honest disk.old
         → OnOk result (IsNumbered start.now.found (D.now disk.old) (D.now disk.new)) }
     ensures heard { OnOk result (HearsSome manager.old manager.new) }
-    ensures unheard { IfErr result (IsUnheard (O.contents output.old) (O.contents output.new)
+    ensures unheard { IfErr result (IsUnheard O.contents output.old output.new
         manager.old manager.new) }
     ensures order { IfErr result (λ why. IsInOrder O.contents (path_in start.now.capture)
         (D.honest disk.old) start.now.found (D.now disk.old) (D.now disk.new)
@@ -489,23 +481,24 @@ where
     requires log { IsOwnLog L.passes L.writes start.now records.old.log }
     requires untold { IsUntold records.old }
     ensures asks { AsksUpTo machine.old (captures (path_in start.now.capture)) machine.new }
-    ensures ok { OnOk result (HasRun (calls W.does W.answers) (wire_says W.waits W.failing W.lost)
-        settings.now start.now wire (O.contents output.old) (O.contents output.new)) }
-    ensures err { IfErr result (FailsLogged start.now) }
-    ensures spared { IfErr result (IsSpared (calls W.does W.answers)
+    ensures ok { OnOk result (HasRun O.contents (calls W.does W.answers)
+        (wire_says W.waits W.failing W.lost) settings.now start.now wire output.old output.new) }
+    ensures err { IfErr result (FailsLogged O.contents start.now output.old output.new) }
+    ensures spared { IfErr result (IsSpared O.contents (calls W.does W.answers)
         (wire_says W.waits W.failing W.lost) settings.now start.now
-        (O.contents output.old) (O.contents output.new) wire) }
-    ensures untouched { IfErr result (λ why. IsUnrun (path_in start.now.capture) why
-        ⊎ ((disk.new ≡ disk.old) × (manager.new ≡ manager.old))) }
+        output.old output.new wire) }
+    ensures untouched { IfErr result (λ why. IsUnrun O.contents (path_in start.now.capture)
+        output.old output.new why ⊎ ((disk.new ≡ disk.old) × (manager.new ≡ manager.old))) }
     ensures told { IsToldAtMost (path_in start.now.capture) records.old records.new }
     ensures recorded { OnOk result
         (IsRecorded (path_in start.now.capture) records.old records.new) }
-    ensures unrecorded { IfErr result (IsUnrecorded (path_in start.now.capture)
-        (O.contents output.old) (O.contents output.new) records.old records.new) }
+    ensures unrecorded { IfErr result (IsUnrecorded O.contents (path_in start.now.capture)
+        output.old output.new records.old records.new) }
+    ensures left { IsLeft disk.old disk.new }
     ensures decided { D.honest disk.old
         → OnOk result (IsNumbered start.now.found (D.now disk.old) (D.now disk.new)) }
     ensures heard { OnOk result (HearsSome manager.old manager.new) }
-    ensures unheard { IfErr result (IsUnheard (O.contents output.old) (O.contents output.new)
+    ensures unheard { IfErr result (IsUnheard O.contents output.old output.new
         manager.old manager.new) }
     ensures order { IfErr result (λ why. IsInOrder O.contents (path_in start.now.capture)
         (D.honest disk.old) start.now.found (D.now disk.old) (D.now disk.new)
@@ -552,21 +545,25 @@ fn tapped<
     requires file { WasHad (capture_file capture.path.now) capture.file }
     requires log { IsOwnLog L.passes L.writes start.now records.old.log }
     requires untold { IsUntold records.old }
-    ensures ok { OnOk result (HasRun (calls W.does W.answers) (wire_says W.waits W.failing W.lost)
-        settings.now start.now wire (O.contents output.old) (O.contents output.new)) }
-    ensures err { IfErr result (IsUnrun (path_in start.now.capture)) }
-    ensures spared { IfErr result (IsSpared (calls W.does W.answers)
+    ensures ok { OnOk result (HasRun O.contents (calls W.does W.answers)
+        (wire_says W.waits W.failing W.lost) settings.now start.now wire output.old output.new) }
+    ensures err { IfErr result (IsUnstarted O.contents (path_in start.now.capture)
+        ((disk.new ≡ disk.old) × (manager.new ≡ manager.old)) output.old output.new) }
+    ensures kept { IfErr result (λ why. IsSparing O.contents (path_in start.now.capture) why
+        output.old output.new) }
+    ensures spared { IfErr result (IsSpared O.contents (calls W.does W.answers)
         (wire_says W.waits W.failing W.lost) settings.now start.now
-        (O.contents output.old) (O.contents output.new) wire) }
+        output.old output.new wire) }
     ensures told { IsToldAtMost (path_in start.now.capture) records.old records.new }
     ensures recorded { OnOk result
         (IsRecorded (path_in start.now.capture) records.old records.new) }
-    ensures unrecorded { IfErr result (IsUnrecorded (path_in start.now.capture)
-        (O.contents output.old) (O.contents output.new) records.old records.new) }
+    ensures unrecorded { IfErr result (IsUnrecorded O.contents (path_in start.now.capture)
+        output.old output.new records.old records.new) }
+    ensures left { IsLeft disk.old disk.new }
     ensures decided { D.honest disk.old
         → OnOk result (IsNumbered start.now.found (D.now disk.old) (D.now disk.new)) }
     ensures heard { OnOk result (HearsSome manager.old manager.new) }
-    ensures unheard { IfErr result (IsUnheard (O.contents output.old) (O.contents output.new)
+    ensures unheard { IfErr result (IsUnheard O.contents output.old output.new
         manager.old manager.new) }
     ensures order { IfErr result (λ why. IsInOrder O.contents (path_in start.now.capture)
         (D.honest disk.old) start.now.found (D.now disk.old) (D.now disk.new)
@@ -599,6 +596,7 @@ fn tapped<
         }
         Err(fault) => {
             let_go(wire);
+            capture.spare();
             Err(fault)
         }
     }
@@ -633,14 +631,13 @@ fn tapped_rounds<
     requires begun { IsToldOfThis identity.boot records.old }
     ensures ran { OnOk result (RanOn (calls W.does W.answers) (wire_says W.waits W.failing W.lost)
         identity start.now gateway.old gateway.new wire) }
-    ensures ended { OnOk result
-        (Appends (O.contents output.old) (O.contents output.new) (codes "end\n")) }
+    ensures ended { OnOk result (HasEnded O.contents output.old output.new) }
     ensures begun { OnOk result (WasGiven (begun_capture capture.entry.path.now)) }
     ensures heard { OnOk result (HearsOne identity.boot manager.old manager.new) }
     ensures told { (records.new ≡ records.old) ⊎ IsToldLeftOut records.old records.new }
     ensures recorded { OnOk result (IsToldLeftOut records.old records.new) }
     ensures unrun { IfErr result (λ why.
-        (LacksOutput (codes "end\n") (O.contents output.old) (O.contents output.new) why
+        (LacksEnd O.contents output.old output.new why
         × (RanOn (calls W.does W.answers) (wire_says W.waits W.failing W.lost) identity start.now
         gateway.old gateway.new wire × HearsOne identity.boot manager.old manager.new))
         ⊎ ((IsUnbegun (Some capture.entry.path.now) why × WasLetGo wire)
@@ -653,8 +650,7 @@ fn tapped_rounds<
         means, gateway, &mut wire, start, settings, identity, manager, output, teller,
     );
     wire.end();
-    records.told_of_left_out(&wire);
-    let_go_tapped(wire);
+    records.told_of_left_out(wire);
     ended
 }
 
@@ -683,21 +679,23 @@ fn run<
     requires own { IsOfSockets settings.now start.now wire }
     requires log { IsOwnLog L.passes L.writes start.now records.old.log }
     requires untold { IsUntold records.old }
-    ensures ok { OnOk result (HasRun (calls W.does W.answers) (wire_says W.waits W.failing W.lost)
-        settings.now start.now wire (O.contents output.old) (O.contents output.new)) }
-    ensures err { IfErr result IsUnstarted }
-    ensures spared { IfErr result (IsSpared (calls W.does W.answers)
+    ensures ok { OnOk result (HasRun O.contents (calls W.does W.answers)
+        (wire_says W.waits W.failing W.lost) settings.now start.now wire output.old output.new) }
+    ensures err { IfErr result (IsUnstarted O.contents (path_in start.now.capture)
+        ((disk.new ≡ disk.old) × (manager.new ≡ manager.old)) output.old output.new) }
+    ensures spared { IfErr result (IsSpared O.contents (calls W.does W.answers)
         (wire_says W.waits W.failing W.lost) settings.now start.now
-        (O.contents output.old) (O.contents output.new) wire) }
+        output.old output.new wire) }
     ensures told { IsToldAtMost (path_in start.now.capture) records.old records.new }
     ensures recorded { OnOk result
         (IsRecorded (path_in start.now.capture) records.old records.new) }
-    ensures unrecorded { IfErr result (IsUnrecorded (path_in start.now.capture)
-        (O.contents output.old) (O.contents output.new) records.old records.new) }
+    ensures unrecorded { IfErr result (IsUnrecorded O.contents (path_in start.now.capture)
+        output.old output.new records.old records.new) }
+    ensures left { IsLeft disk.old disk.new }
     ensures decided { D.honest disk.old
         → OnOk result (IsNumbered start.now.found (D.now disk.old) (D.now disk.new)) }
     ensures heard { OnOk result (HearsSome manager.old manager.new) }
-    ensures unheard { IfErr result (IsUnheard (O.contents output.old) (O.contents output.new)
+    ensures unheard { IfErr result (IsUnheard O.contents output.old output.new
         manager.old manager.new) }
     ensures order { IfErr result (λ why. IsInOrder O.contents (path_in start.now.capture)
         (D.honest disk.old) start.now.found (D.now disk.old) (D.now disk.new)
@@ -738,7 +736,6 @@ fn run<
 
 /// Runs a gateway until it is told to end, or has had its rounds. Its manager hears first that it is up. After an Err it was
 /// run too, and `end` isn't written.
-#[tactic(auto, unfolding(crate::specs::Named::WasDenied, crate::specs::Named::WasRefused))]
 fn rounds_of<C: Clock + Input + AllocGlobal, W: Wire, O: Write, L: Journal>(
     means: Means<'_, C>,
     gateway: &mut Gateway,
@@ -762,11 +759,8 @@ fn rounds_of<C: Clock + Input + AllocGlobal, W: Wire, O: Write, L: Journal>(
         gateway.old gateway.new wire.old wire.new) × (IfSome run.until IsUnasked
         × (HearsAll identity.boot run.had.all.moments manager.old manager.new
         × IsToldBy (ToldLog L) (λ t. t.told) run.last.told)) }
-    ensures ended { OnOk result
-        (Appends (O.contents output.old) (O.contents output.new) (codes "end\n")) }
-    ensures err { IfErr result (LacksOutput (codes "end\n")
-        (O.contents output.old) (O.contents output.new)) }
-    ensures unended { OnErr result (IsUnput output.old (codes "end\n") output.new) }
+    ensures ended { OnOk result (HasEnded O.contents output.old output.new) }
+    ensures err { IfErr result (LacksEnd O.contents output.old output.new) }
 {
     let alloc = means.alloc();
     manager.ready(identity.boot);

@@ -1,18 +1,15 @@
 //! A gateway begins in the next boot of its box.
-ghost use Rattle.std.specs.Prelude.{◌≡◌, ◌≢◌, ◌<◌, ◌↔◌, IfErr, IfOk, IsTrue, None, Ok, OnErr, OnOk};
-ghost use Rattle.std.specs.Io.KnownBytes.{Appends, Keeps};
+ghost use Rattle.std.specs.Prelude.{◌≡◌, ◌<◌, ◌↔◌, ◌⊎◌, ℕ, IfErr, IfOk, IsTrue, None, Ok, OnErr, OnOk, Result};
 ghost use Rattle.nat_types.specs.declared.gateways.GatewayId.TheVariants.{Zero};
-ghost use Rattle.faults.specs.declared.faults.Fault.TheVariants.{NotWritten};
-ghost use Rattle.box_words.specs.declared.refusals.BoxFault.TheVariants.{Run};
-ghost use Rattle.outlets.specs.Outputs.{WasFlushed as WasAskedToFlush};
 ghost use Rattle.outlets.specs.Printed.{Prints};
+ghost use Rattle.boot_store.specs.declared.faults.BootFault.{BootFault as Reason};
 ghost use Rattle.boot_store.specs.Crash.{Decides, Keeps as KeepsFile, Rises, Since};
-ghost use Rattle.gate.specs.Boots.{HasBoot, HasStarted, IsIdentity, IsStart, TellsNumber, boot_line, boot_text};
-ghost use Rattle.gate.specs.Failing.{IsUnstarted, LacksMemory, LacksOutput};
+ghost use Rattle.gate.specs.Boots.{HasBoot, HasStarted, IsIdentity, IsStart, TellsNumber};
+ghost use Rattle.gate.specs.Failing.{LacksLine, LacksMemory, LacksNumber};
 ghost use Rattle.gate.specs.Logs.{IsLikeLog, IsToldOfBoot};
-ghost use Rattle.gate.specs.Named.{IsNumberOf, WasFlushed, WasGiven, WasRecorded, boot_number};
-ghost use Rattle.gate.specs.Orders.{IsInOrder};
-ghost use Rattle.gate.specs.Printing.{HasLine, HasNumber, IsLinePrinted, IsLineRefused, IsRefusedLine};
+ghost use Rattle.gate.specs.Named.{IsLeft, IsNumberOf, WasGiven, WasNumbered, WasRecorded, boot_number, new_gateway, seed};
+ghost use Rattle.gate.specs.Orders.{IsInOrder, IsUnstarted};
+ghost use Rattle.gate.specs.Printing.{HasLine, HasNumber, HasPrinted, IsLinePrinted, IsLineRefused, boot_line, boot_text};
 
 use crate::recording::Records;
 use crate::rest::Means;
@@ -42,8 +39,8 @@ pub(crate) fn started<R: RandomSource + AllocGlobal, D: Disk, O: Write, L: Journ
     records: &mut Records<L>,
 ) -> Result<(Identity, Gateway), BoxFault>
     requires found { IsTrue found → id ≡ Zero }
-    ensures start { IfOk result (λ begun. HasStarted settings.now id found
-        (O.contents output.old) (O.contents output.new) begun.1) }
+    ensures start { IfOk result (λ begun. HasStarted O.contents settings.now id found
+        output.old output.new begun.1) }
     ensures identity { IfOk result (λ begun. IsIdentity settings.now id begun.0 begun.1) }
     ensures decided { D.honest disk.old → IfOk result (λ begun. Decides found
         (D.now disk.old) (D.now disk.new) (Ok begun.0.boot)) }
@@ -53,15 +50,14 @@ pub(crate) fn started<R: RandomSource + AllocGlobal, D: Disk, O: Write, L: Journ
         (λ begun. WasRecorded records.old begun.0.boot records.new) }
     ensures unrecorded { OnErr result (records.new ≡ records.old) }
     ensures like { OnOk result (IsLikeLog L.passes L.writes records.old.log records.new.log) }
+    ensures seeded { OnOk result (WasGiven seed) }
     ensures given { OnOk result (WasGiven boot_number) }
     ensures own_number { OnOk result (IsNumberOf disk.old) }
-    ensures err { IfErr result IsUnstarted }
-    ensures printed { IfOk result (λ begun. Appends (O.contents output.old)
-        (O.contents output.new) (boot_line begun.0.boot)) }
-    ensures line { IfOk result
-        (λ begun. IsLinePrinted output.old begun.0.boot output.new) }
-    ensures unprinted { IfErr result (λ why. why ≡ Run NotWritten
-        → IsRefusedLine output.old output.new) }
+    ensures err { IfErr result (IsUnstarted O.contents None (disk.new ≡ disk.old)
+        output.old output.new) }
+    ensures left { IsLeft disk.old disk.new }
+    ensures printed { IfOk result
+        (λ begun. HasPrinted O.contents output.old begun.0.boot output.new) }
     ensures order { IfErr result (λ why. IsInOrder O.contents None (D.honest disk.old) found
         (D.now disk.old) (D.now disk.new) why output.old output.new) }
 {
@@ -81,15 +77,9 @@ pub(crate) fn started<R: RandomSource + AllocGlobal, D: Disk, O: Write, L: Journ
 }
 
 /// Prints the number of a boot.
-#[tactic(auto, unfolding(crate::specs::Named::WasDenied, crate::specs::Named::WasRefused))]
 fn announced<O: Write>(output: &mut O, boot: u64) -> Result<(), BoxFault>
-    ensures printed { OnOk result
-        (Appends (O.contents output.old) (O.contents output.new) (boot_line boot)) }
-    ensures flushed { OnOk result (WasFlushed (O.contents output.new)) }
-    ensures line { OnOk result (IsLinePrinted output.old boot output.new) }
-    ensures unprinted { OnErr result (IsLineRefused output.old boot output.new) }
-    ensures err { IfErr result (LacksOutput (boot_line boot)
-        (O.contents output.old) (O.contents output.new)) }
+    ensures printed { OnOk result (HasPrinted O.contents output.old boot output.new) }
+    ensures err { IfErr result (LacksLine O.contents boot output.old output.new) }
 {
     print_boot(output, boot)?;
     Ok(())
@@ -99,12 +89,11 @@ fn announced<O: Write>(output: &mut O, boot: u64) -> Result<(), BoxFault>
 fn print_boot<O: Write>(output: &mut O, boot: u64) -> io::Result<()>
     ensures prints { Prints (O.contents output.old) result (O.contents output.new)
         (boot_line boot) }
-    ensures flushed { OnOk result (WasFlushed (O.contents output.new)) }
     ensures line { OnOk result (IsLinePrinted output.old boot output.new) }
     ensures refused { OnErr result (IsLineRefused output.old boot output.new) }
 {
     put_line(output, boot)?;
-    flushed(output)
+    told_to_flush(output)
 }
 
 /// Writes the line of a boot.
@@ -130,16 +119,6 @@ fn put_number<O: Write>(output: &mut O, boot: u64) -> io::Result<()>
     told_to_put(output, digits.format(boot).as_bytes())
 }
 
-/// Has output hand on what it keeps.
-#[tactic(auto, unfolding(crate::specs::Named::WasFlushed))]
-fn flushed<O: Write>(output: &mut O) -> io::Result<()>
-    ensures bytes { Keeps (O.contents output.old) (O.contents output.new) }
-    ensures flushed { OnOk result (WasFlushed (O.contents output.new)) }
-    ensures asked { WasAskedToFlush output.old result output.new }
-{
-    told_to_flush(output)
-}
-
 /// The next boot number of a disk, and a gateway in just that boot. Once it is answered, the number
 /// is on the disk.
 fn booted<D: Disk>(
@@ -156,8 +135,9 @@ fn booted<D: Disk>(
     ensures above_zero { IfOk result (λ start. 0 < start.0) }
     ensures given { OnOk result (WasGiven boot_number) }
     ensures own_number { OnOk result (IsNumberOf disk.old) }
-    ensures err { IfErr result IsUnstarted }
-    ensures unasked { IfErr result (λ why. why ≢ Run NotWritten) }
+    ensures err { IfErr result (λ why. LacksNumber why
+        ⊎ (WasGiven boot_number × LacksMemory new_gateway why)) }
+    ensures left { (answer : Result ℕ Reason) × WasNumbered disk.old answer disk.new }
     ensures rises { D.honest disk.old
         → IfOk result (λ start. Rises (D.now disk.old) (D.now disk.new) (Ok start.0)) }
     ensures decided { D.honest disk.old
@@ -172,13 +152,13 @@ fn booted<D: Disk>(
 }
 
 /// The next boot number of a disk.
-#[tactic(auto, unfolding(crate::specs::Named::WasGiven, crate::specs::Named::WasDenied))]
+#[tactic(auto, unfolding(crate::specs::Named::WasGiven, crate::specs::Named::WasDenied, crate::specs::Named::WasNumbered))]
 fn numbered<D: Disk>(disk: &mut D, found: bool) -> Result<u64, BoxFault>
     ensures given { OnOk result (WasGiven boot_number) }
     ensures own_number { OnOk result (IsNumberOf disk.old) }
     ensures above_zero { IfOk result (λ boot. 0 < boot) }
-    ensures err { IfErr result IsUnstarted }
-    ensures unasked { IfErr result (λ why. why ≢ Run NotWritten) }
+    ensures err { IfErr result LacksNumber }
+    ensures left { (answer : Result ℕ Reason) × WasNumbered disk.old answer disk.new }
     ensures told { D.honest disk.old → IfErr result (TellsNumber found (D.failures disk.old)
         (D.failures disk.new) (D.now disk.old) (D.now disk.new)) }
     ensures rises { D.honest disk.old
@@ -208,7 +188,7 @@ fn begun(
     requires boot { 0 < boot }
     requires found { IsTrue found → id ≡ Zero }
     ensures start { IfOk result (IsStart settings.now id found hashers boot) }
-    ensures err { IfErr result LacksMemory }
+    ensures err { IfErr result (LacksMemory new_gateway) }
 {
     let gateway = Gateway::new(alloc, settings, id, boot, found, hashers)?;
     Ok(gateway)

@@ -1,5 +1,5 @@
 -- A capture that is begun in a file, or isn't.
-use Rattle.std.proofs.Common.{◌≡◌, inr, ℕ, List, Option, Result, Ok, Err, IfOk, OnErr}
+use Rattle.std.proofs.Common.{◌≡◌, inr, sym, subst, Result, Ok, Err, IfErr, IfOk, IsErrAnd}
 use Rattle.std.specs.declared.io.Error.{Error}
 use Rattle.tap.specs.Files.{FileLooks, FileWrites, Filed, IsBegunIn, IsUnbegunIn, Numbers, WasCleared}
 use Rattle.tap.specs.Outlets.{IsAskedOnce}
@@ -21,8 +21,8 @@ begun_in contents number vacant file first (Err why) cleared is begins asked = t
 
 pub unbegun_in : {V F : Type 0} (number : Numbers F) (vacant : V) (file : F) (first : Filed F) (result : Result (Reeled (Filed F)) Error)
     → WasCleared vacant (Ok file) → first.file ≡ file
-    → OnErr result (IsUnbegun (λ c has c2. FileLooks number c has c2) (λ c bytes answer c2. FileWrites c bytes answer c2) first)
-    → OnErr result (IsUnbegunIn number vacant)
+    → IfErr result (IsUnbegun (λ c has c2. FileLooks number c has c2) (λ c bytes answer c2. FileWrites c bytes answer c2) first)
+    → IfErr result (IsUnbegunIn number vacant)
 unbegun_in number vacant file first (Ok reel) cleared is unbegun = tt
 unbegun_in number vacant file first (Err why) cleared is unbegun = inr (record {
   file = file;
@@ -31,3 +31,8 @@ unbegun_in number vacant file first (Err why) cleared is unbegun = inr (record {
   is = is;
   unbegun = unbegun;
 })
+
+-- what holds of an error that is handed on holds of what is told
+pub handed_on : {T : Type 0} (result : Result T Error) (P : Error → Type 0) (why : Error) → IsErrAnd result (λ e. e ≡ why) → P why → IfErr result P
+handed_on (Ok x) P why is p = tt
+handed_on (Err e) P why is p = subst P (sym is) p

@@ -52,13 +52,14 @@ pub record IsBegunIn {V F : Type 0} (contents : Holds F) (number : Numbers F) (v
   pub begins : Begins (λ c. contents c.file) first reel
   pub asked : IsAskedOnce (λ c has c2. FileLooks number c has c2) (λ c bytes answer c2. FileWrites c bytes answer c2) first reel.outlet
 
--- it isn't: clearing was refused, or the capture wasn't begun in what was cleared
-pub record IsClearedAlone {V F : Type 0} (number : Numbers F) (vacant : V) : Type 0 where
+-- it was cleared, and no capture is begun in it, for which this is told
+pub record IsClearedAlone {V F : Type 0} (number : Numbers F) (vacant : V) (why : Error) : Type 0 where
   pub file : F
   pub cleared : WasCleared vacant (Ok file)
   pub first : Filed F
   pub is : first.file ≡ file
-  pub unbegun : IsUnbegun (λ c has c2. FileLooks number c has c2) (λ c bytes answer c2. FileWrites c bytes answer c2) first
+  pub unbegun : IsUnbegun (λ c has c2. FileLooks number c has c2) (λ c bytes answer c2. FileWrites c bytes answer c2) first why
 
-abbrev pub IsUnbegunIn : {V F : Type 0} → Numbers F → V → Type 0
-IsUnbegunIn {F = F} number vacant = ((why : Error) × WasCleared {F = F} vacant (Err why)) ⊎ IsClearedAlone number vacant
+-- this is told of a capture that isn't begun: just what was answered where clearing was refused; or so it is of what was cleared
+abbrev pub IsUnbegunIn : {V F : Type 0} → Numbers F → V → Error → Type 0
+IsUnbegunIn {F = F} number vacant why = WasCleared {F = F} vacant (Err why) ⊎ IsClearedAlone number vacant why

@@ -1,6 +1,8 @@
 -- What an outlet is asked: a look at its room, and a write.
 use Rattle.std.specs.Prelude.{◌≡◌, ◌⊎◌, ℕ, Bool, true, false, List, length, min, take, Result, Ok, Err}
+use Rattle.std.specs.IoError.{error_kind}
 use Rattle.std.specs.declared.io.Error.{Error}
+use Rattle.std.specs.declared.io.ErrorKind.TheVariants.{WouldBlock, WriteZero}
 
 -- one look, by what the outlet was before, whether it said that it has room, and what it is then
 abbrev pub Looks : Type 0 → Type 1
@@ -24,6 +26,22 @@ abbrev pub Pours : {O : Type 0} → Looks O → Writes O → O → List ℕ → 
 Pours {O = O} looks writes before bytes count after =
     (looks before false after × (count ≡ 0))
     ⊎ ((between : O) × (looks before true between × ((answer : Result ℕ Error) × (writes between bytes answer after × (count ≡ taken answer)))))
+
+-- what is told of a write that took none: that it took none, or just what it answered
+abbrev pub TellsNone : Result ℕ Error → Error → Type 0
+TellsNone (Ok count) why = (count ≡ 0) × (error_kind why ≡ WriteZero)
+TellsNone (Err fault) why = why ≡ fault
+
+-- One look at the outlet, which said that it has no room, and just that is told; or that it has, and one write of these bytes, of which it took none.
+abbrev pub PoursNone : {O : Type 0} → Looks O → Writes O → O → List ℕ → Error → O → Type 0
+PoursNone {O = O} looks writes before bytes why after =
+    (looks before false after × (error_kind why ≡ WouldBlock))
+    ⊎ ((between : O) × (looks before true between × ((answer : Result ℕ Error) × (writes between bytes answer after × TellsNone answer why))))
+
+-- An outlet was this when it was let go: it was asked for nothing behind that. It is no more than a name for that call: who lets it go has it, and
+-- nobody else.
+unfoldable pub WasLetGo : {O : Type 0} → O → Type 0
+WasLetGo outlet = Unit {0}
 
 -- the outlet is asked nothing; or it is looked at once, and written to at most once
 abbrev pub IsAskedOnce : {O : Type 0} → Looks O → Writes O → O → O → Type 0

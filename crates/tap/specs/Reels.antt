@@ -1,8 +1,11 @@
 -- A capture that is being written.
 use Rattle.std.specs.Prelude.{ℕ, ◌≡◌, ◌⊎◌, ◌<◌, ◌+◌, ◌-◌, ◌^◌, min, length, drop, List, Option}
 use Rattle.std.specs.Io.KnownBytes.{Appends, Keeps, append_known}
+use Rattle.std.specs.IoError.{error_kind}
+use Rattle.std.specs.declared.io.Error.{Error}
+use Rattle.std.specs.declared.io.ErrorKind.TheVariants.{OutOfMemory}
 use Rattle.captures.specs.Captures.{Captured, capture_of, head, packet_block}
-use Rattle.tap.specs.Outlets.{Looks, Pours, Writes, front}
+use Rattle.tap.specs.Outlets.{Looks, Pours, PoursNone, WasLetGo, Writes, front}
 
 -- where it goes, what its last block is owed, and how many packets were left out
 pub record Reeled (O : Type 0) : Type 0 where
@@ -48,9 +51,10 @@ WasRefusedHead = Unit {0}
 unfoldable pub WasRefusedRoom : Captured → Type 0
 WasRefusedRoom p = Unit {0}
 
--- why a capture isn't begun: memory was refused for its head, or its outlet took nothing of that
-abbrev pub IsUnbegun : {O : Type 0} → Looks O → Writes O → O → Type 0
-IsUnbegun {O = O} looks writes outlet = WasRefusedHead ⊎ ((after : O) × Pours looks writes outlet (front head) 0 after)
+-- why a capture isn't begun, as it is told: memory was refused for its head; or its outlet took nothing of that. It is let go as it is then.
+abbrev pub IsUnbegun : {O : Type 0} → Looks O → Writes O → O → Error → Type 0
+IsUnbegun {O = O} looks writes outlet why = (WasRefusedHead × ((error_kind why ≡ OutOfMemory) × WasLetGo outlet))
+    ⊎ ((after : O) × (PoursNone looks writes outlet (front head) why after × WasLetGo after))
 
 -- why a packet is left out: the outlet is full, or more than 4,096 bytes were owed, or memory was refused for its block
 abbrev pub IsLeftOut : {O : Type 0} → (O → Type 0) → List ℕ → Captured → O → Type 0

@@ -3,11 +3,12 @@ use Rattle.std.specs.Prelude.{ℕ, ◌≡◌, ◌⊎◌, List, take, Option, Som
 use Rattle.nat_types.specs.declared.gateways.GatewayId.{GatewayId}
 use Rattle.sockets.specs.declared.places.Place.{Place}
 use Rattle.sockets.specs.declared.places.Place.TheVariants as place
+use Rattle.captures.specs.Captures.{Captured}
 use Rattle.captures.specs.declared.interfaces.Direction.{Direction}
 use Rattle.captures.specs.declared.interfaces.Direction.TheVariants.{Inbound, Outbound}
 use Rattle.captures.specs.declared.interfaces.Interface.{Interface}
 use Rattle.captures.specs.declared.interfaces.Interface.TheVariants as interface
-use Rattle.tap.specs.Reels.{Adds, Holds, LeavesOut, Reeled}
+use Rattle.tap.specs.Reels.{Adds, Holds, IsLeftOut, LeavesOut, Reeled}
 
 -- a wire, its gateway, what says the moments of its packets, and its capture
 pub record Tapping (W M O : Type 0) : Type 0 where
@@ -31,27 +32,30 @@ pub record TakesNothing {W M O : Type 0} (t t2 : Tapping W M O) : Type 0 where
   pub reel : t2.reel ≡ t.reel
   pub moments : t2.moments ≡ t.moments
 
--- a packet was seen there, at the moment that is said: it is in the capture now, or it was left out
-pub record TakesPacket {W M O : Type 0} (contents : Holds O) (reads : Reads M) (t t2 : Tapping W M O) (i : Interface) (direction : Direction)
-    (bytes : List ℕ) : Type 0
+-- a packet is in the capture now; or it was left out, for a reason
+abbrev pub IsKept : {O : Type 0} → Holds O → (O → Type 0) → Reeled O → Captured → Reeled O → Type 0
+IsKept contents IsFull r p r2 = Adds contents r r2 p ⊎ (LeavesOut contents r r2 × IsLeftOut IsFull r.owed p r2.outlet)
+
+-- one was seen there, at the moment that is said: it is kept, or left out
+pub record TakesPacket {W M O : Type 0} (contents : Holds O) (IsFull : O → Type 0) (reads : Reads M) (t t2 : Tapping W M O) (i : Interface)
+    (direction : Direction) (bytes : List ℕ) : Type 0
   where
     pub moment : ℕ
     pub read : reads t.moments moment t2.moments
-    pub taken : Adds contents t.reel t2.reel (record { interface = i; direction = direction; moment = moment; bytes = bytes })
-        ⊎ LeavesOut contents t.reel t2.reel
+    pub taken : IsKept contents IsFull t.reel (record { interface = i; direction = direction; moment = moment; bytes = bytes }) t2.reel
 
-abbrev pub TakesDown : {W M O : Type 0} → Holds O → Reads M → Tapping W M O → Tapping W M O → Option Interface → Direction → List ℕ → Type 0
-TakesDown contents reads t t2 (Some i) direction bytes = TakesPacket contents reads t t2 i direction bytes
-TakesDown contents reads t t2 None direction bytes = TakesNothing t t2
+abbrev pub TakesDown : {W M O : Type 0} → Holds O → (O → Type 0) → Reads M → Tapping W M O → Tapping W M O → Option Interface → Direction → List ℕ → Type 0
+TakesDown contents IsFull reads t t2 (Some i) direction bytes = TakesPacket contents IsFull reads t t2 i direction bytes
+TakesDown contents IsFull reads t t2 None direction bytes = TakesNothing t t2
 
 -- what was sent is taken down, and what wasn't is not
-abbrev pub TakesSent : {W M O T E : Type 0} → Holds O → Reads M → Tapping W M O → Tapping W M O → Place → Result T E → List ℕ → Type 0
-TakesSent contents reads t t2 to (Ok done) bytes = TakesDown contents reads t t2 (interface_at t.id to) Outbound bytes
-TakesSent contents reads t t2 to (Err fault) bytes = TakesNothing t t2
+abbrev pub TakesSent : {W M O T E : Type 0} → Holds O → (O → Type 0) → Reads M → Tapping W M O → Tapping W M O → Place → Result T E → List ℕ → Type 0
+TakesSent contents IsFull reads t t2 to (Ok done) bytes = TakesDown contents IsFull reads t t2 (interface_at t.id to) Outbound bytes
+TakesSent contents IsFull reads t t2 to (Err fault) bytes = TakesNothing t t2
 
 -- what came is taken down
-abbrev pub TakesAnswer : {W M O E : Type 0} → Holds O → Reads M → Tapping W M O → Tapping W M O → Result (Option (Place × ℕ)) E → List ℕ → Type 0
-TakesAnswer contents reads t t2 (Ok (Some found)) room =
-    TakesDown contents reads t t2 (interface_at t.id found.0) Inbound (take found.1 room)
-TakesAnswer contents reads t t2 (Ok None) room = TakesNothing t t2
-TakesAnswer contents reads t t2 (Err fault) room = TakesNothing t t2
+abbrev pub TakesAnswer : {W M O E : Type 0} → Holds O → (O → Type 0) → Reads M → Tapping W M O → Tapping W M O → Result (Option (Place × ℕ)) E → List ℕ → Type 0
+TakesAnswer contents IsFull reads t t2 (Ok (Some found)) room =
+    TakesDown contents IsFull reads t t2 (interface_at t.id found.0) Inbound (take found.1 room)
+TakesAnswer contents IsFull reads t t2 (Ok None) room = TakesNothing t t2
+TakesAnswer contents IsFull reads t t2 (Err fault) room = TakesNothing t t2

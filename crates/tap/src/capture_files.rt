@@ -1,5 +1,5 @@
 //! Where a capture goes.
-ghost use Rattle.std.specs.Prelude.{◌≡◌, ◌<◌, ◌≤◌, Bool, false, true, List, ℕ, Option, Result, IfOk, IsTrue, OnErr, length};
+ghost use Rattle.std.specs.Prelude.{◌≡◌, ◌<◌, ◌≤◌, Bool, false, true, List, ℕ, Option, Result, IfErr, IfOk, IsTrue, length};
 ghost use Rattle.std.specs.Io.KnownBytes.{WriteAppends};
 ghost use Rattle.std.specs.Io.{WritesAtMost};
 ghost use Rattle.tap.specs.Files.{IsBegunIn, IsUnbegunIn, WasCleared};
@@ -86,12 +86,12 @@ pub fn open<R: Files>(rt: &R, path: &str) -> io::Result<Vacant<R::File>> {
 ///
 /// # Errors
 ///
-/// Where the system refuses that; and as `Reel::begin`.
+/// What the system answers where it refuses that; and as `Reel::begin`.
 pub fn begin<F>(alloc: Global, file: Vacant<F>) -> io::Result<Reel<CaptureFile<F>>>
 where
     F: Read + Write + Seek + OpenFile + AsRawFd + Drop,
     ensures begun { IfOk result (λ reel. IsBegunIn F.contents F.raw_fd file reel) }
-    ensures refused { OnErr result (IsUnbegunIn F.raw_fd file) }
+    ensures refused { IfErr result (IsUnbegunIn F.raw_fd file) }
 {
     let file = cleared(file)?;
     Reel::begin(alloc, CaptureFile::new(file))

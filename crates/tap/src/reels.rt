@@ -1,8 +1,9 @@
 //! A capture that is being written.
-ghost use Rattle.std.specs.Prelude.{◌≡◌, ◌⊎◌, ◌++◌, ◌<◌, ◌≤◌, [], drop, false, take, length, IfOk, IsTrue, MatchBool, OnErr, true};
+ghost use Rattle.std.specs.Prelude.{◌≡◌, ◌⊎◌, ◌++◌, ◌<◌, ◌≤◌, [], drop, false, take, length, IfErr, IfOk, IsTrue, MatchBool, OnErr, true};
 ghost use Rattle.std.specs.Io.KnownBytes.{Appends, Keeps};
+ghost use Rattle.std.specs.IoError.{error_kind};
 ghost use Rattle.captures.specs.Captures.{captured_of, head, packet_block};
-ghost use Rattle.tap.specs.Outlets.{IsAskedOnce, IsAskedTwice, Pours, front};
+ghost use Rattle.tap.specs.Outlets.{IsAskedOnce, IsAskedTwice, Pours, PoursNone, WasLetGo, front};
 ghost use Rattle.tap.specs.Reels.{Adds, Begins, HandsOn, IsLeftOut, IsUnbegun, LeavesOut};
 ghost use Rattle.tap.specs.Reels.{WasRefusedHead, WasRefusedRoom, whole};
 
@@ -54,16 +55,21 @@ impl<O: Outlet + Drop> Reel<O> {
         ensures some { IfOk result (λ reel. length reel.owed < length head) }
         ensures outlet { IfOk result
             (λ reel. IsAskedOnce O.looks O.writes outlet reel.outlet) }
-        ensures refused { OnErr result (IsUnbegun O.looks O.writes outlet) }
+        ensures refused { IfErr result (IsUnbegun O.looks O.writes outlet) }
     {
-        let block = head_in(alloc)?;
-        let begun = open_with(&mut outlet, &block)?;
-        Ok(Reel {
-            outlet,
-            left_out: 0,
-            begun,
-            block,
-        })
+        let block = match head_in(alloc) {
+            Ok(block) => block,
+            Err(error) => return Err(let_go(outlet, error)),
+        };
+        match open_with(&mut outlet, &block) {
+            Ok(begun) => Ok(Reel {
+                outlet,
+                left_out: 0,
+                begun,
+                block,
+            }),
+            Err(error) => Err(let_go(outlet, error)),
+        }
     }
 }
 
@@ -153,6 +159,16 @@ impl<O: Outlet> Reel<O> {
     }
 }
 
+/// Lets an outlet go, as it is, and gives on why.
+#[tactic(auto, unfolding(crate::specs::Outlets::WasLetGo))]
+fn let_go<O: Drop>(outlet: O, why: io::Error) -> io::Error
+    ensures gone { WasLetGo outlet }
+    ensures same { result ≡ why }
+{
+    drop(outlet);
+    why
+}
+
 /// A capture's head, in the room that is had for blocks.
 ///
 /// # Errors
@@ -162,10 +178,15 @@ impl<O: Outlet> Reel<O> {
 fn head_in(alloc: Global) -> io::Result<Vec<u8>>
     ensures laid { IfOk result (λ block. block.items ≡ head) }
     ensures refused { OnErr result WasRefusedHead }
+    ensures kind { IfErr result (λ why. error_kind why ≡ ErrorKind.OutOfMemory) }
 {
-    let mut block = Vec::with_capacity(alloc, ROOM)?;
-    write_head(&mut block)?;
-    Ok(block)
+    let Ok(mut block) = Vec::with_capacity(alloc, ROOM) else {
+        return Err(io::Error::from(ErrorKind::OutOfMemory));
+    };
+    match write_head(&mut block) {
+        Ok(()) => Ok(block),
+        Err(_) => Err(io::Error::from(ErrorKind::OutOfMemory)),
+    }
 }
 
 /// Lays a packet's block out, and says whether it could: where memory is refused it can't, and then nothing is there.
@@ -203,15 +224,16 @@ fn open_with<O: Outlet>(outlet: &mut O, bytes: &[u8]) -> io::Result<usize>
     ensures some { IfOk result (λ count. (0 < count) × (count ≤ length bytes.now)) }
     ensures poured { IfOk result (λ count.
         Pours O.looks O.writes outlet.old (front bytes.now) count outlet.new) }
-    ensures unpoured { OnErr result
-        (Pours O.looks O.writes outlet.old (front bytes.now) 0 outlet.new) }
+    ensures unpoured { IfErr result (λ why.
+        PoursNone O.looks O.writes outlet.old (front bytes.now) why outlet.new) }
 {
     if !outlet.has_room() {
         return Err(io::Error::from(ErrorKind::WouldBlock));
     }
-    match outlet.write(&bytes[..bytes.len().min(MOST)])? {
-        0 => Err(io::Error::from(ErrorKind::WriteZero)),
-        count => Ok(count),
+    match outlet.write(&bytes[..bytes.len().min(MOST)]) {
+        Ok(0) => Err(io::Error::from(ErrorKind::WriteZero)),
+        Ok(count) => Ok(count),
+        Err(error) => Err(error),
     }
 }
 

@@ -86,7 +86,7 @@ impl<W: Wire, M: Moments, O: Outlet> Tapped<W, M, O> {
     fn take_down(&mut self, place: Place, direction: Direction, bytes: &[u8])
         ensures wire { self.new.wire ≡ self.old.wire }
         ensures id { self.new.id ≡ self.old.id }
-        ensures taken { TakesDown O.contents M.reads self.old self.new
+        ensures taken { TakesDown O.contents O.IsFull M.reads self.old self.new
             (interface_at self.old.id place) direction bytes.now }
         ensures outlet { IsAskedTwice O.looks O.writes self.old.reel.outlet self.new.reel.outlet }
     {
@@ -116,7 +116,8 @@ impl<W: Wire, M: Moments, O: Outlet> Wire for Tapped<W, M, O> {
     fn send(&mut self, to: Place, bytes: &[u8]) -> Result<(), WireFault>
         ensures does { W.does self.old.wire (sent to bytes.now) self.new.wire }
         ensures answers { W.answers self.old.wire to bytes.now (is_err result) self.new.wire }
-        ensures taken { TakesSent O.contents M.reads self.old self.new to result bytes.now }
+        ensures taken { TakesSent O.contents O.IsFull M.reads self.old self.new
+            to result bytes.now }
         ensures outlet { IsAskedTwice O.looks O.writes self.old.reel.outlet self.new.reel.outlet }
     {
         let sent = self.wire.send(to, bytes);
@@ -141,7 +142,7 @@ impl<W: Wire, M: Moments, O: Outlet> Wire for Tapped<W, M, O> {
         ensures within { IfOk result (λ found. IfSome found (λ datagram. datagram.1 ≤ 4096)) }
         ensures does { W.does self.old.wire (asked (answer_of result room.new)) self.new.wire }
         ensures waits { W.waits self.old.wire limit self.new.wire }
-        ensures taken { TakesAnswer O.contents M.reads self.old self.new result room.new }
+        ensures taken { TakesAnswer O.contents O.IsFull M.reads self.old self.new result room.new }
         ensures outlet { IsAskedTwice O.looks O.writes self.old.reel.outlet self.new.reel.outlet }
     {
         let result = self.wire.receive(limit, room);

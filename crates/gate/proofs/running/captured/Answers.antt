@@ -1,7 +1,5 @@
-use Rattle.std.proofs.Common.{inl, refl}
-use Rattle.gate.specs.Asked.{path_in}
-use Rattle.gate.specs.Failing.{IsUnrun, LacksCapture}
-use Rattle.gate.proofs.Refusing.{behind_it, so_or, unstarted_unrun}
+use Rattle.std.proofs.Common.{inl, refl, sym, ap, is_some, ◌∙◌}
+use Rattle.gate.proofs.Refusing.{logged_behind, sparing_none, untouched}
 use Rattle.gate.proofs.running.captured.Goals as goal
 
 pub returns-in-Err-clause-err : goal.returns-in-Err-clause-err
@@ -12,21 +10,18 @@ returns-in-Err-clause-spared g c = inl c.let_go.ensures
 
 pub returns-in-Ok-Some-clause-err : goal.returns-in-Ok-Some-clause-err
 returns-in-Ok-Some-clause-err g c =
-    behind_it c.tapped.result (LacksCapture (path_in c.args.start.now.capture)) (IsUnrun (path_in c.args.start.now.capture)) _
-    c.in-Ok-Some.ensures.given c.tapped.ensures.err
+    logged_behind c.tapped.result g.O.Write.contents c.args.start.now _ _ _ c.in-Ok-Some.ensures.given c.tapped.ensures.kept c.tapped.ensures.err
 
 pub returns-in-Ok-Some-clause-untouched : goal.returns-in-Ok-Some-clause-untouched
-returns-in-Ok-Some-clause-untouched g c = so_or c.tapped.result (IsUnrun (path_in c.args.start.now.capture)) _ c.tapped.ensures.err
+returns-in-Ok-Some-clause-untouched g c = untouched c.tapped.result g.O.Write.contents _ _ _ _ c.tapped.ensures.err
 
 pub returns-in-Ok-None-clause-err : goal.returns-in-Ok-None-clause-err
 returns-in-Ok-None-clause-err g c =
-    behind_it c.run.result (LacksCapture (path_in c.args.start.now.capture)) (IsUnrun (path_in c.args.start.now.capture)) _
-    c.in-Ok-None.ensures.given (unstarted_unrun (path_in c.args.start.now.capture) c.run.result c.run.ensures.err)
+    logged_behind c.run.result g.O.Write.contents c.args.start.now _ _ _ c.in-Ok-None.ensures.given
+    (sparing_none c.run.result g.O.Write.contents c.args.start.now.capture _ _ (sym c.in-Ok-None.ensures.asked ∙ ap is_some c.in-Ok-None.field-0-is)) c.run.ensures.err
 
 pub returns-in-Ok-None-clause-untouched : goal.returns-in-Ok-None-clause-untouched
-returns-in-Ok-None-clause-untouched g c =
-    so_or c.run.result (IsUnrun (path_in c.args.start.now.capture)) _
-    (unstarted_unrun (path_in c.args.start.now.capture) c.run.result c.run.ensures.err)
+returns-in-Ok-None-clause-untouched g c = untouched c.run.result g.O.Write.contents _ _ _ _ c.run.ensures.err
 
 pub returns-in-Ok-Some-clause-order : goal.returns-in-Ok-Some-clause-order
 returns-in-Ok-Some-clause-order g c = c.tapped.ensures.order
@@ -84,3 +79,12 @@ returns-in-Ok-None-clause-told g c = c.run.ensures.told
 
 pub returns-in-Err-clause-told : goal.returns-in-Err-clause-told
 returns-in-Err-clause-told g c = inl refl
+
+pub returns-in-Ok-Some-clause-left : goal.returns-in-Ok-Some-clause-left
+returns-in-Ok-Some-clause-left g c = c.tapped.ensures.left
+
+pub returns-in-Ok-None-clause-left : goal.returns-in-Ok-None-clause-left
+returns-in-Ok-None-clause-left g c = c.run.ensures.left
+
+pub returns-in-Err-clause-left : goal.returns-in-Err-clause-left
+returns-in-Err-clause-left g c = inl refl

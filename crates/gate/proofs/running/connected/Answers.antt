@@ -12,17 +12,17 @@ use Rattle.gate.proofs.running.connected.Goals as goal
 pub returns-clause-ok : goal.returns-clause-ok
 returns-clause-ok g c =
     also c.wired.result (WasGiven (control_socket (socket_of (boot_file_of c.args.settings.now c.args.start.now.id))))
-    (RunsWired c.args.start.now c.args.settings.now c.args.ways.now (g.O.Write.contents c.args.output.now) (g.O.Write.contents c.wired.new.output))
+    (RunsWired g.O.Write.contents c.args.start.now c.args.settings.now c.args.ways.now c.args.output.now c.wired.new.output)
     c.in_ok-control.ensures.given c.wired.ensures.ok
 
 pub returns-clause-err : goal.returns-clause-err
 returns-clause-err g c =
     behind_it c.wired.result (LacksControl (boot_file_of c.args.settings.now c.args.start.now.id))
-    (FailsHeard c.args.start.now c.args.settings.now c.args.ways.now _ _)
+    (FailsHeard g.O.Write.contents c.args.start.now c.args.settings.now c.args.ways.now _ _)
     (WasGiven (control_socket (socket_of (boot_file_of c.args.settings.now c.args.start.now.id)))) c.in_ok-control.ensures.given c.wired.ensures.err
 
 pub returns-clause-asks : goal.returns-clause-asks
-returns-clause-asks g c = inr (_, (c.in_ok-control.ensures.asked, c.wired.ensures.asks))
+returns-clause-asks g c = inr (_, (c.in_ok-control.ensures.asked, inr (c.in_ok-control.ensures.given, c.wired.ensures.asks)))
 
 pub returns-in_err-control-clause-asks : goal.returns-in_err-control-clause-asks
 returns-in_err-control-clause-asks g c = inr (_, (c.in_err-control.ensures.asked, inl refl))
@@ -35,7 +35,7 @@ returns-clause-order g c = c.wired.ensures.order
 
 pub returns-in_err-control-clause-err : goal.returns-in_err-control-clause-err
 returns-in_err-control-clause-err g c =
-    handed_on c.from_residual.result (FailsLocked c.args.start.now c.args.settings.now c.args.ways.now _ _) _ c.from_residual.ensures.1
+    handed_on c.from_residual.result (FailsLocked g.O.Write.contents c.args.start.now c.args.settings.now c.args.ways.now _ _) _ c.from_residual.ensures.1
     (inl c.in_err-control.ensures.err)
 
 pub returns-clause-decided : goal.returns-clause-decided
@@ -46,3 +46,9 @@ returns-clause-heard g c = c.wired.ensures.heard
 
 pub returns-clause-unheard : goal.returns-clause-unheard
 returns-clause-unheard g c = c.wired.ensures.unheard
+
+pub returns-clause-left : goal.returns-clause-left
+returns-clause-left g c = c.wired.ensures.left
+
+pub returns-in_err-control-clause-left : goal.returns-in_err-control-clause-left
+returns-in_err-control-clause-left g c = inl refl

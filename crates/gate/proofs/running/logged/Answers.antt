@@ -1,4 +1,4 @@
-use Rattle.std.proofs.Common.{inl}
+use Rattle.std.proofs.Common.{inl, refl}
 use Rattle.gate.specs.Asked.{IsFilter, path_in}
 use Rattle.gate.specs.Failing.{LacksFilter}
 use Rattle.gate.specs.Sparing.{FailsLogged}
@@ -10,7 +10,7 @@ use Rattle.gate.proofs.running.logged.Goals as goal
 
 pub returns-in-Ok-clause-err : goal.returns-in-Ok-clause-err
 returns-in-Ok-clause-err g c =
-    behind_it c.captured-ended.result (LacksFilter c.args.start.now.log) (FailsLogged c.args.start.now)
+    behind_it c.captured-ended.result (LacksFilter c.args.start.now.log) (FailsLogged g.O.Write.contents c.args.start.now _ _)
     (IsFilter c.args.start.now.log × WasClosed (path_in c.args.start.now.capture)) (c.in-Ok.ensures.valid, c.close.ensures) c.captured-ended.ensures.err
 
 pub returns-in-Ok-clause-ok : goal.returns-in-Ok-clause-ok
@@ -39,3 +39,9 @@ close-requires g c = record { told = (_, (c.in-Ok.ensures.untold, c.captured-end
 
 pub returns-in-Ok-clause-closed : goal.returns-in-Ok-clause-closed
 returns-in-Ok-clause-closed g c = always c.captured-ended.result _ c.close.ensures
+
+pub returns-in-Ok-clause-left : goal.returns-in-Ok-clause-left
+returns-in-Ok-clause-left g c = c.captured-ended.ensures.left
+
+pub returns-in-Err-clause-left : goal.returns-in-Err-clause-left
+returns-in-Err-clause-left g c = inl refl

@@ -6,16 +6,16 @@ use Rattle.gate.proofs.running.reached.Goals as goal
 
 pub returns-in_err-ways-clause-err : goal.returns-in_err-ways-clause-err
 returns-in_err-ways-clause-err g c =
-    handed_on c.from_residual.result (FailsHeld c.args.start.now c.args.settings.now _ _) _ c.from_residual.ensures.1 (inl c.in_err-ways.ensures.err)
+    handed_on c.from_residual.result (FailsHeld g.O.Write.contents c.args.start.now c.args.settings.now _ _) _ c.from_residual.ensures.1 (inl c.in_err-ways.ensures.err)
 
 pub returns-in_err-told_to_inherit-clause-err : goal.returns-in_err-told_to_inherit-clause-err
 returns-in_err-told_to_inherit-clause-err g c =
-    handed_on c.from_residual-in_err-told_to_inherit.result (FailsHeld c.args.start.now c.args.settings.now _ _) _ c.from_residual-in_err-told_to_inherit.ensures.1
+    handed_on c.from_residual-in_err-told_to_inherit.result (FailsHeld g.O.Write.contents c.args.start.now c.args.settings.now _ _) _ c.from_residual-in_err-told_to_inherit.ensures.1
     (inr (_, (c.in_ok-ways.ensures.ok, inl c.in_err-told_to_inherit.ensures.err)))
 
 pub returns-clause-err : goal.returns-clause-err
 returns-clause-err g c =
-    behind_ways c.watched.result c.args.start.now c.args.settings.now _ _ _ c.in_ok-ways.ensures.ok c.in_ok-told_to_inherit.ensures.ok c.watched.ensures.err
+    behind_ways c.watched.result g.O.Write.contents c.args.start.now c.args.settings.now _ _ _ c.in_ok-ways.ensures.ok c.in_ok-told_to_inherit.ensures.ok c.watched.ensures.err
 
 pub returns-clause-asks : goal.returns-clause-asks
 returns-clause-asks g c = inr (_, (c.in_ok-ways.ensures.ok, (_, (c.in_ok-told_to_inherit.ensures.asked, inr c.watched.ensures.asks))))

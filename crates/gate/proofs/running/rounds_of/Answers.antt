@@ -1,5 +1,9 @@
+use Rattle.std.proofs.Common.{refl}
+use Rattle.faults.specs.declared.faults.Fault.TheVariants.{NotWritten}
+use Rattle.box_words.specs.declared.refusals.BoxFault.TheVariants.{Run}
 use Rattle.rounds.specs.Rounds.{calls, wire_says}
-use Rattle.gate.proofs.Beginning.{on_err}
+use Rattle.gate.specs.Failing.{LacksEnd}
+use Rattle.gate.proofs.Refusing.{handed_on}
 use Rattle.gate.proofs.Serving.{runs_on}
 use Rattle.gate.proofs.running.rounds_of.Goals as goal
 
@@ -17,5 +21,10 @@ returns-in_err-served-clause-runs g c =
     c.serve-served.ensures.rounds.run c.serve-served.ensures.rounds.shown c.serve-served.ensures.rounds.wire_is _ (_, (c.ready.ensures, c.serve-served.ensures.rounds.told)) _
     (_, (c.serve-served.ensures.rounds.told_is, c.let_go.ensures))
 
-pub returns-in_err-served-clause-unended : goal.returns-in_err-served-clause-unended
-returns-in_err-served-clause-unended g c = on_err c.from_residual.result _ (rw c.in_err-served.was at c.serve-served.ensures.unwritten)
+pub returns-clause-ended : goal.returns-clause-ended
+returns-clause-ended g c = (rw c.in_ok-served.was at c.serve-served.ensures.written, rw c.in_ok-served.was at c.serve-served.ensures.ended)
+
+pub returns-in_err-served-clause-err : goal.returns-in_err-served-clause-err
+returns-in_err-served-clause-err g c =
+    handed_on c.from_residual.result (LacksEnd g.O.Write.contents _ _) (Run NotWritten) c.from_residual.ensures.1
+    (rw c.in_err-served.was at c.serve-served.ensures.unwritten, record { is = refl; begun = rw c.in_err-served.was at c.serve-served.ensures.ended })

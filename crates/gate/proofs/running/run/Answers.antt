@@ -2,14 +2,14 @@ use Rattle.std.proofs.Common.{inl, inr, refl, sym}
 use Rattle.rounds.specs.Rounds.{calls, wire_says}
 use Rattle.gate.proofs.Below.{ran_below}
 use Rattle.gate.proofs.Heard.{unheard_behind}
-use Rattle.gate.proofs.Recorded.{new_again, own_again, own_like, recorded_alone, recorded_behind}
-use Rattle.gate.proofs.Refusing.{in_order, unwritten_unstarted, with_capture}
+use Rattle.gate.proofs.Recorded.{new_again, own_again, own_like, recorded_alone}
+use Rattle.gate.proofs.Refusing.{end_behind, in_order, recorded_behind, unstarted_behind, unstarted_with, with_capture}
 use Rattle.gate.proofs.Serving.{always, has_run, on_sockets, spared_behind, uncaptured}
 use Rattle.gate.proofs.running.run.Goals as goal
 
 pub returns-in-Ok-clause-ok : goal.returns-in-Ok-clause-ok
 returns-in-Ok-clause-ok g c =
-    has_run c.rounds_of-ended.result (calls g.W.Wire.does g.W.Wire.answers) (wire_says g.W.Wire.waits g.W.Wire.failing g.W.Wire.lost) c.args.settings.now c.args.start.now c.args.wire _ _ _ _ _ _
+    has_run c.rounds_of-ended.result g.O.Write.contents (calls g.W.Wire.does g.W.Wire.answers) (wire_says g.W.Wire.waits g.W.Wire.failing g.W.Wire.lost) c.args.settings.now c.args.start.now c.args.wire _ _ _ _ _ _
     c.in-Ok.ensures.start c.in-Ok.ensures.identity c.requires.own
     (always c.rounds_of-ended.result _ (
     ran_below (λ w. w) (calls g.W.Wire.does g.W.Wire.answers) (wire_says g.W.Wire.waits g.W.Wire.failing g.W.Wire.lost) _ c.args.start.now _ _ c.args.wire c.rounds_of-ended.new.wire
@@ -19,11 +19,16 @@ returns-in-Ok-clause-ok g c =
     (always c.rounds_of-ended.result _ (uncaptured c.args.start.now.capture c.requires.uncaptured))
 
 pub returns-in-Ok-clause-err : goal.returns-in-Ok-clause-err
-returns-in-Ok-clause-err g c = unwritten_unstarted c.rounds_of-ended.result _ _ _ c.in-Ok.ensures.given c.rounds_of-ended.ensures.err
+returns-in-Ok-clause-err g c =
+    unstarted_behind c.rounds_of-ended.result g.O.Write.contents _ _ _ _ _ c.in-Ok.ensures.seeded c.in-Ok.ensures.given
+    (end_behind c.rounds_of-ended.result g.O.Write.contents _ _ _ _ _ c.in-Ok.ensures.printed c.rounds_of-ended.ensures.err)
+
+pub returns-in-Err-clause-err : goal.returns-in-Err-clause-err
+returns-in-Err-clause-err g c = unstarted_with g.O.Write.contents _ _ _ _ _ _ refl c.in-Err.ensures.err
 
 pub returns-in-Ok-clause-spared : goal.returns-in-Ok-clause-spared
 returns-in-Ok-clause-spared g c =
-    spared_behind c.rounds_of-ended.result (calls g.W.Wire.does g.W.Wire.answers) (wire_says g.W.Wire.waits g.W.Wire.failing g.W.Wire.lost) c.args.settings.now c.args.start.now c.args.wire _ _ _ _ _
+    spared_behind c.rounds_of-ended.result g.O.Write.contents (calls g.W.Wire.does g.W.Wire.answers) (wire_says g.W.Wire.waits g.W.Wire.failing g.W.Wire.lost) c.args.settings.now c.args.start.now c.args.wire _ _ _ _ _
     _ c.in-Ok.ensures.identity (
     ran_below (λ w. w) (calls g.W.Wire.does g.W.Wire.answers) (wire_says g.W.Wire.waits g.W.Wire.failing g.W.Wire.lost) _ c.args.start.now _ _ c.args.wire c.rounds_of-ended.new.wire
     c.rounds_of-ended.new.wire c.args.wire refl refl c.let_go.ensures c.rounds_of-ended.ensures.runs.0
@@ -37,7 +42,8 @@ returns-in-Ok-clause-heard g c = always c.rounds_of-ended.result _ (_, (_, c.rou
 
 pub returns-in-Ok-clause-order : goal.returns-in-Ok-clause-order
 returns-in-Ok-clause-order g c =
-    in_order c.rounds_of-ended.result g.O.Write.contents _ _ _ _ _ _ _ _ _ c.rounds_of-ended.ensures.err c.in-Ok.ensures.decided c.in-Ok.ensures.printed
+    in_order c.rounds_of-ended.result g.O.Write.contents _ _ _ _ _ _ _ _ c.in-Ok.ensures.decided
+    (end_behind c.rounds_of-ended.result g.O.Write.contents _ _ _ _ _ c.in-Ok.ensures.printed c.rounds_of-ended.ensures.err)
 
 pub returns-in-Err-clause-spared : goal.returns-in-Err-clause-spared
 returns-in-Err-clause-spared g c = inl c.let_go-in-Err.ensures
@@ -51,10 +57,12 @@ rounds_of-ended-requires-clause-own g c =
 
 pub returns-in-Ok-clause-unheard : goal.returns-in-Ok-clause-unheard
 returns-in-Ok-clause-unheard g c =
-    unheard_behind c.rounds_of-ended.result _ _ _ _ _ _ c.in-Ok.ensures.printed (_, c.rounds_of-ended.ensures.runs.1.1.0) c.rounds_of-ended.ensures.err
+    unheard_behind c.rounds_of-ended.result g.O.Write.contents _ _ _ _ _ _ c.in-Ok.ensures.printed (_, c.rounds_of-ended.ensures.runs.1.1.0) c.rounds_of-ended.ensures.err
 
 pub returns-in-Ok-clause-unrecorded : goal.returns-in-Ok-clause-unrecorded
-returns-in-Ok-clause-unrecorded g c = recorded_behind c.rounds_of-ended.result _ _ _ _ _ _ _ c.in-Ok.ensures.printed c.rounds_of-ended.ensures.err
+returns-in-Ok-clause-unrecorded g c =
+    recorded_behind c.rounds_of-ended.result g.O.Write.contents _ _ _ _ _ _
+    (end_behind c.rounds_of-ended.result g.O.Write.contents _ _ _ _ _ c.in-Ok.ensures.printed c.rounds_of-ended.ensures.err)
 
 pub returns-in-Err-clause-unrecorded : goal.returns-in-Err-clause-unrecorded
 returns-in-Err-clause-unrecorded g c = inl c.in-Err.ensures.unrecorded
@@ -80,3 +88,9 @@ rounds_of-ended-requires-clause-log g c =
 
 pub rounds_of-ended-requires-clause-teller : goal.rounds_of-ended-requires-clause-teller
 rounds_of-ended-requires-clause-teller g c = (_, ((_, (c.requires.untold, c.in-Ok.ensures.recorded)), c.teller_at-teller.ensures.own))
+
+pub returns-in-Ok-clause-left : goal.returns-in-Ok-clause-left
+returns-in-Ok-clause-left g c = c.in-Ok.ensures.left
+
+pub returns-in-Err-clause-left : goal.returns-in-Err-clause-left
+returns-in-Err-clause-left g c = c.in-Err.ensures.left

@@ -6,11 +6,11 @@ use Rattle.gate.proofs.running.served.Goals as goal
 
 pub returns-in_err-settings-clause-err : goal.returns-in_err-settings-clause-err
 returns-in_err-settings-clause-err g c =
-    handed_on c.from_residual.result (IsRefusal c.args.start.now _ _) _ c.from_residual.ensures.1 (inl c.in_err-settings.ensures.err)
+    handed_on c.from_residual.result (IsRefusal g.O.Write.contents c.args.start.now _ _) _ c.from_residual.ensures.1 (inl c.in_err-settings.ensures.err)
 
 pub returns-clause-err : goal.returns-clause-err
 returns-clause-err g c =
-    behind_settings c.reached-ended.result c.args.start.now _ _ _ c.in_ok-settings.ensures.held c.reached-ended.ensures.err
+    behind_settings c.reached-ended.result g.O.Write.contents c.args.start.now _ _ _ c.in_ok-settings.ensures.held c.reached-ended.ensures.err
 
 pub returns-clause-asks : goal.returns-clause-asks
 returns-clause-asks g c = (_, (c.in_ok-settings.ensures.asked, inr (_, (c.in_ok-settings.ensures.held, c.reached-ended.ensures.asks))))

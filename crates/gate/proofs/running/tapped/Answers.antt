@@ -1,25 +1,27 @@
-use Rattle.std.proofs.Common.{inl, inr}
+use Rattle.std.proofs.Common.{inl, refl}
 use Rattle.rounds.specs.Rounds.{calls, wire_says}
 use Rattle.gate.proofs.Heard.{heard_in_some, unheard_tapped}
-use Rattle.gate.proofs.Recorded.{recorded_both, recorded_tapped, told_behind}
-use Rattle.gate.proofs.Refusing.{ends_in_order, unrun_so, with_capture}
+use Rattle.gate.proofs.Recorded.{recorded_both, told_behind}
+use Rattle.gate.proofs.Refusing.{in_order, recorded_behind, rounds_behind, sparing_at, sparing_behind, unstarted_behind, unstarted_with, with_capture}
 use Rattle.gate.proofs.Serving.{always, captured_at, has_run, spared_tapped}
 use Rattle.gate.proofs.running.tapped.Goals as goal
 
 pub returns-in-Ok-clause-ok : goal.returns-in-Ok-clause-ok
 returns-in-Ok-clause-ok g c =
-    has_run c.tapped_rounds-ended.result (calls g.W.Wire.does g.W.Wire.answers) (wire_says g.W.Wire.waits g.W.Wire.failing g.W.Wire.lost) c.args.settings.now c.args.start.now c.args.wire _ _ _ _ _ _
+    has_run c.tapped_rounds-ended.result g.O.Write.contents (calls g.W.Wire.does g.W.Wire.answers) (wire_says g.W.Wire.waits g.W.Wire.failing g.W.Wire.lost) c.args.settings.now c.args.start.now c.args.wire _ _ _ _ _ _
     c.in-Ok.ensures.start c.in-Ok.ensures.identity c.requires.own c.tapped_rounds-ended.ensures.ran c.tapped_rounds-ended.ensures.ended
     (c.in-Ok.ensures.own_number _ c.requires.had) (_, c.requires.notified) c.requires.valid
     (captured_at c.tapped_rounds-ended.result _ _ c.requires.captured c.tapped_rounds-ended.ensures.begun)
 
 pub returns-in-Ok-clause-err : goal.returns-in-Ok-clause-err
 returns-in-Ok-clause-err g c =
-    unrun_so c.tapped_rounds-ended.result _ _ _ _ _ _ c.args.capture.path.now _ c.requires.captured c.in-Ok.ensures.given c.tapped_rounds-ended.ensures.unrun
+    unstarted_behind c.tapped_rounds-ended.result g.O.Write.contents _ _ _ _ _ c.in-Ok.ensures.seeded c.in-Ok.ensures.given
+    (rounds_behind c.tapped_rounds-ended.result g.O.Write.contents _ c.args.capture.path.now _ _ _ _ _ _ _ c.requires.captured c.in-Ok.ensures.printed
+    c.tapped_rounds-ended.ensures.unrun)
 
 pub returns-in-Ok-clause-spared : goal.returns-in-Ok-clause-spared
 returns-in-Ok-clause-spared g c =
-    spared_tapped c.tapped_rounds-ended.result (calls g.W.Wire.does g.W.Wire.answers) (wire_says g.W.Wire.waits g.W.Wire.failing g.W.Wire.lost) c.args.settings.now c.args.start.now c.args.wire _ _ _ _ _ _ _ _ _
+    spared_tapped c.tapped_rounds-ended.result g.O.Write.contents (calls g.W.Wire.does g.W.Wire.answers) (wire_says g.W.Wire.waits g.W.Wire.failing g.W.Wire.lost) c.args.settings.now c.args.start.now c.args.wire _ _ _ _ _ _ _ _ _
     c.in-Ok.ensures.identity c.in-Ok.ensures.printed c.tapped_rounds-ended.ensures.unrun
 
 pub returns-in-Ok-clause-decided : goal.returns-in-Ok-clause-decided
@@ -31,11 +33,12 @@ returns-in-Ok-clause-heard g c =
 
 pub returns-in-Ok-clause-order : goal.returns-in-Ok-clause-order
 returns-in-Ok-clause-order g c =
-    ends_in_order c.tapped_rounds-ended.result g.O.Write.contents c.args.capture.path.now _ _ _ _ _ _ _ _ _ _ _ _ c.requires.captured
-    c.tapped_rounds-ended.ensures.unrun c.in-Ok.ensures.decided c.in-Ok.ensures.printed
+    in_order c.tapped_rounds-ended.result g.O.Write.contents _ _ _ _ _ _ _ _ c.in-Ok.ensures.decided
+    (rounds_behind c.tapped_rounds-ended.result g.O.Write.contents _ c.args.capture.path.now _ _ _ _ _ _ _ c.requires.captured c.in-Ok.ensures.printed
+    c.tapped_rounds-ended.ensures.unrun)
 
 pub returns-in-Err-clause-err : goal.returns-in-Err-clause-err
-returns-in-Err-clause-err g c = inr c.in-Err.ensures.err
+returns-in-Err-clause-err g c = unstarted_with g.O.Write.contents _ _ _ _ _ _ refl c.in-Err.ensures.err
 
 pub returns-in-Err-clause-spared : goal.returns-in-Err-clause-spared
 returns-in-Err-clause-spared g c = inl c.let_go.ensures
@@ -45,12 +48,13 @@ returns-in-Err-clause-order g c = with_capture g.O.Write.contents _ _ _ _ _ _ _ 
 
 pub returns-in-Ok-clause-unheard : goal.returns-in-Ok-clause-unheard
 returns-in-Ok-clause-unheard g c =
-    unheard_tapped c.tapped_rounds-ended.result _ _ _ _ c.args.capture.path.now c.args.wire _ _ _ _ _ c.in-Ok.ensures.printed c.tapped_rounds-ended.ensures.unrun
+    unheard_tapped c.tapped_rounds-ended.result g.O.Write.contents _ _ _ _ c.args.capture.path.now c.args.wire _ _ _ _ _ c.in-Ok.ensures.printed c.tapped_rounds-ended.ensures.unrun
 
 pub returns-in-Ok-clause-unrecorded : goal.returns-in-Ok-clause-unrecorded
 returns-in-Ok-clause-unrecorded g c =
-    recorded_tapped c.tapped_rounds-ended.result g.O.Write.contents c.args.capture.path.now _ _ _ _ _ _ _ _ _ _ c.requires.captured
-    c.in-Ok.ensures.printed c.tapped_rounds-ended.ensures.unrun
+    recorded_behind c.tapped_rounds-ended.result g.O.Write.contents _ _ _ _ _ _
+    (rounds_behind c.tapped_rounds-ended.result g.O.Write.contents _ c.args.capture.path.now _ _ _ _ _ _ _ c.requires.captured c.in-Ok.ensures.printed
+    c.tapped_rounds-ended.ensures.unrun)
 
 pub returns-in-Err-clause-unrecorded : goal.returns-in-Err-clause-unrecorded
 returns-in-Err-clause-unrecorded g c = inl c.in-Err.ensures.unrecorded
@@ -69,3 +73,18 @@ returns-in-Err-clause-told g c = inl c.in-Err.ensures.unrecorded
 
 pub tapped_rounds-ended-requires-clause-begun : goal.tapped_rounds-ended-requires-clause-begun
 tapped_rounds-ended-requires-clause-begun g c = (_, (c.requires.untold, c.in-Ok.ensures.recorded))
+
+pub returns-in-Ok-clause-left : goal.returns-in-Ok-clause-left
+returns-in-Ok-clause-left g c = c.in-Ok.ensures.left
+
+pub returns-in-Err-clause-left : goal.returns-in-Err-clause-left
+returns-in-Err-clause-left g c = c.in-Err.ensures.left
+
+pub returns-in-Ok-clause-kept : goal.returns-in-Ok-clause-kept
+returns-in-Ok-clause-kept g c =
+    sparing_behind c.tapped_rounds-ended.result g.O.Write.contents _ c.args.capture.path.now _ _ _ c.requires.captured
+    (rounds_behind c.tapped_rounds-ended.result g.O.Write.contents _ c.args.capture.path.now _ _ _ _ _ _ _ c.requires.captured c.in-Ok.ensures.printed
+    c.tapped_rounds-ended.ensures.unrun)
+
+pub returns-in-Err-clause-kept : goal.returns-in-Err-clause-kept
+returns-in-Err-clause-kept g c = sparing_at g.O.Write.contents _ c.args.capture.path.now _ _ _ c.requires.captured c.spare.ensures

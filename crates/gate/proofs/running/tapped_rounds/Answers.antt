@@ -10,7 +10,7 @@ pub returns-clause-ran : goal.returns-clause-ran
 returns-clause-ran g c =
     always c.rounds_of-ended.result _
     (ran_below (λ tapped. tapped.wire) (calls g.W.Wire.does g.W.Wire.answers) (wire_says g.W.Wire.waits g.W.Wire.failing g.W.Wire.lost) c.args.identity c.args.start.now _ _ _ _ c.end.new.self c.args.wire
-    c.in_ok-wire.ensures.tapped.0 c.end.ensures.wire c.let_go_tapped.ensures c.rounds_of-ended.ensures.runs.0)
+    c.in_ok-wire.ensures.tapped.0 c.end.ensures.wire c.told_of_left_out.ensures.gone c.rounds_of-ended.ensures.runs.0)
 
 pub returns-clause-begun : goal.returns-clause-begun
 returns-clause-begun g c = always c.rounds_of-ended.result _ c.in_ok-wire.ensures.begun
@@ -22,7 +22,7 @@ pub returns-clause-unrun : goal.returns-clause-unrun
 returns-clause-unrun g c =
     only_this c.rounds_of-ended.result _ _ _ (
       ran_below (λ tapped. tapped.wire) (calls g.W.Wire.does g.W.Wire.answers) (wire_says g.W.Wire.waits g.W.Wire.failing g.W.Wire.lost) c.args.identity c.args.start.now _ _ _ _ c.end.new.self c.args.wire
-          c.in_ok-wire.ensures.tapped.0 c.end.ensures.wire c.let_go_tapped.ensures c.rounds_of-ended.ensures.runs.0,
+          c.in_ok-wire.ensures.tapped.0 c.end.ensures.wire c.told_of_left_out.ensures.gone c.rounds_of-ended.ensures.runs.0,
       (_, c.rounds_of-ended.ensures.runs.1.1.0),
     )
     c.rounds_of-ended.ensures.err

@@ -7,7 +7,7 @@ use Rattle.gate.proofs.running.watched.Goals as goal
 
 pub returns-in_err-manager-clause-err : goal.returns-in_err-manager-clause-err
 returns-in_err-manager-clause-err g c =
-    handed_on c.from_residual.result (FailsInherited c.args.start.now c.args.settings.now c.args.ways.now _ _) _ c.from_residual.ensures.1
+    handed_on c.from_residual.result (FailsInherited g.O.Write.contents c.args.start.now c.args.settings.now c.args.ways.now _ _) _ c.from_residual.ensures.1
     (inl c.in_err-manager.ensures.err)
 
 pub returns-in_err-manager-clause-asks : goal.returns-in_err-manager-clause-asks
@@ -15,12 +15,12 @@ returns-in_err-manager-clause-asks g c = (_, (c.in_err-manager.ensures.asked, in
 
 pub returns-clause-ok : goal.returns-clause-ok
 returns-clause-ok g c =
-    has_served c.apart-ended.result c.args.start.now c.args.settings.now c.args.ways.now _ _ _ _ c.apart-ended.ensures.ok c.in_ok-manager.ensures.ok
+    has_served c.apart-ended.result g.O.Write.contents c.args.start.now c.args.settings.now c.args.ways.now _ _ _ _ c.apart-ended.ensures.ok c.in_ok-manager.ensures.ok
     c.apart-ended.ensures.heard c.let_go.ensures
 
 pub returns-clause-err : goal.returns-clause-err
 returns-clause-err g c =
-    behind_manager c.apart-ended.result c.args.start.now c.args.settings.now c.args.ways.now _ _ _ _ c.in_ok-manager.ensures.ok
+    behind_manager c.apart-ended.result g.O.Write.contents c.args.start.now c.args.settings.now c.args.ways.now _ _ _ _ c.in_ok-manager.ensures.ok
     c.apart-ended.ensures.err c.apart-ended.ensures.unheard c.let_go.ensures
 
 pub returns-clause-asks : goal.returns-clause-asks

@@ -1,6 +1,5 @@
-use Rattle.std.proofs.Common.{inl, inr}
+use Rattle.std.proofs.Common.{inl, inr, refl}
 use Rattle.gate.specs.Sparing.{FailsHeard}
-use Rattle.gate.proofs.Asking.{none_asked}
 use Rattle.gate.proofs.Refusing.{handed_on}
 use Rattle.gate.proofs.Serving.{both, on_some}
 use Rattle.gate.proofs.Sparing.{behind_sockets}
@@ -15,7 +14,7 @@ returns-clause-ok g c =
 
 pub returns-clause-err : goal.returns-clause-err
 returns-clause-err g c =
-    behind_sockets c.logged.result c.args.start.now c.args.settings.now c.args.ways.now c.in_ok-wire.wire _ _ c.in_ok-wire.ensures.given
+    behind_sockets c.logged.result g.O.Write.contents c.args.start.now c.args.settings.now c.args.ways.now c.in_ok-wire.wire _ _ c.in_ok-wire.ensures.given
     c.in_ok-wire.ensures.had c.logged.ensures.err c.logged.ensures.spared
 
 pub returns-clause-untouched : goal.returns-clause-untouched
@@ -26,7 +25,7 @@ returns-clause-order g c = c.logged.ensures.order
 
 pub returns-in_err-wire-clause-err : goal.returns-in_err-wire-clause-err
 returns-in_err-wire-clause-err g c =
-    handed_on c.from_residual.result (FailsHeard c.args.start.now c.args.settings.now c.args.ways.now _ _) _ c.from_residual.ensures.1
+    handed_on c.from_residual.result (FailsHeard g.O.Write.contents c.args.start.now c.args.settings.now c.args.ways.now _ _) _ c.from_residual.ensures.1
     (inl c.in_err-wire.ensures.err)
 
 pub returns-clause-decided : goal.returns-clause-decided
@@ -39,7 +38,13 @@ pub returns-clause-unheard : goal.returns-clause-unheard
 returns-clause-unheard g c = c.logged.ensures.unheard
 
 pub returns-clause-asks : goal.returns-clause-asks
-returns-clause-asks g c = inr (_, (c.in_ok-wire.ensures.asked, c.logged.ensures.asks))
+returns-clause-asks g c = inr (_, (c.in_ok-wire.ensures.asked, inr (c.in_ok-wire.ensures.given, c.logged.ensures.asks)))
 
 pub returns-in_err-wire-clause-asks : goal.returns-in_err-wire-clause-asks
-returns-in_err-wire-clause-asks g c = inr (_, (c.in_err-wire.ensures.asked, none_asked _ _))
+returns-in_err-wire-clause-asks g c = inr (_, (c.in_err-wire.ensures.asked, inl refl))
+
+pub returns-clause-left : goal.returns-clause-left
+returns-clause-left g c = c.logged.ensures.left
+
+pub returns-in_err-wire-clause-left : goal.returns-in_err-wire-clause-left
+returns-in_err-wire-clause-left g c = inl refl

@@ -1,11 +1,11 @@
-use Rattle.std.proofs.Common.{inr}
-use Rattle.gate.specs.Named.{WasDenied}
-use Rattle.gate.proofs.Beginning.{none_failed, tells_number, unasked_of_boot}
+use Rattle.std.proofs.Common.{Ok, Err}
+use Rattle.gate.specs.Named.{WasDenied, WasNumbered}
+use Rattle.gate.proofs.Beginning.{none_failed, tells_number}
 use Rattle.gate.proofs.starting.numbered.Goals as goal
 
 pub returns-in-Err-clause-err : goal.returns-in-Err-clause-err
 unfolding WasDenied
-returns-in-Err-clause-err g c = inr (inr (c.in-Err.fault, (c.from.ensures, tt)))
+returns-in-Err-clause-err g c = (c.in-Err.fault, (c.from.ensures, tt))
 
 pub returns-in-Ok-clause-decided : goal.returns-in-Ok-clause-decided
 returns-in-Ok-clause-decided g c h =
@@ -15,5 +15,10 @@ pub returns-in-Err-clause-told : goal.returns-in-Err-clause-told
 returns-in-Err-clause-told g c h =
     tells_number c.args.found _ _ _ _ c.in-Err.fault _ c.from.ensures c.in-Err.ensures.later c.in-Err.ensures.device (c.in-Err.ensures.decided h)
 
-pub returns-in-Err-clause-unasked : goal.returns-in-Err-clause-unasked
-returns-in-Err-clause-unasked g c = unasked_of_boot c.in-Err.fault _ c.from.ensures
+pub returns-in-Ok-clause-left : goal.returns-in-Ok-clause-left
+unfolding WasNumbered
+returns-in-Ok-clause-left g c = (Ok c.in-Ok.boot, tt)
+
+pub returns-in-Err-clause-left : goal.returns-in-Err-clause-left
+unfolding WasNumbered
+returns-in-Err-clause-left g c = (Err c.in-Err.fault, tt)

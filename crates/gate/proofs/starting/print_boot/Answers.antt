@@ -9,10 +9,10 @@ pub returns-in_err-put_line-clause-refused : goal.returns-in_err-put_line-clause
 returns-in_err-put_line-clause-refused g c = on_err c.from_residual.result _ c.in_err-put_line.ensures.refused
 
 pub returns-clause-prints : goal.returns-clause-prints
-returns-clause-prints g c = ended c.flushed.result _ _ _ _ c.in_ok-put_line.ensures.prints c.flushed.ensures.bytes
+returns-clause-prints g c = ended c.told_to_flush.result _ _ _ _ c.in_ok-put_line.ensures.prints c.told_to_flush.ensures.bytes
 
 pub returns-clause-line : goal.returns-clause-line
-returns-clause-line g c = line_flushed c.flushed.result _ _ _ _ c.in_ok-put_line.ensures.line c.flushed.ensures.asked
+returns-clause-line g c = line_flushed c.told_to_flush.result _ _ _ _ c.in_ok-put_line.ensures.line c.told_to_flush.ensures.flushed
 
 pub returns-clause-refused : goal.returns-clause-refused
-returns-clause-refused g c = line_unflushed c.flushed.result _ _ _ _ c.in_ok-put_line.ensures.line c.flushed.ensures.asked
+returns-clause-refused g c = line_unflushed c.told_to_flush.result _ _ _ _ c.in_ok-put_line.ensures.line c.told_to_flush.ensures.flushed
