@@ -1,12 +1,12 @@
 -- What a meter was told, by what it is at a moment.
-use Rattle.std.proofs.Common.{◌≡◌, ◌∙◌, ◌*◌, inl, inr, ℕ, zero, suc, List, Bool, false, Result, Ok, Err, ap, refl}
-use Rattle.std.specs.Prelude.{OnErr, OnOk, length}
+use Rattle.std.proofs.Common.{◌≡◌, ◌∙◌, ◌*◌, inl, inr, ℕ, zero, suc, List, Bool, false, Result, Ok, Err, IfErr, OnOk, ap, refl, subst, sym}
+use Rattle.std.specs.Prelude.{length}
 use Rattle.faults.specs.Jobs.{IsJobOf}
+use Rattle.faults.specs.declared.faults.Fault.{Fault}
 use Rattle.faults.specs.declared.jobs.Job.{Job}
 use Rattle.outlets.specs.Telling.{Telling}
-use Rattle.commands.specs.Meters.{HasHeard, HasOverheard, HasOverheardScript, Overhears, Reads, telling}
-use Rattle.simulation.specs.Watched.{IsTold, IsToldAll, IsToldPart, IsToldSome, OverhearsScript}
-use Rattle.simulation.specs.Watched.{Hears as HearsBy}
+use Rattle.commands.specs.Meters.{Overhears, OverhearsAll, OverhearsSome, Reads, Watches, telling}
+use Rattle.simulation.specs.Watched.{Ends, Hears as HearsBy, IsTold, IsToldAll, IsToldScript, Overhears as OverhearsBy, OverhearsScript, WatchesScript}
 
 module _ {P Q N : Type 0} (part : P → Q) (name : P → N) (hears : HearsBy P) (plain : HearsBy Q)
     (is : (p : P) (taken all : ℕ) (p2 : P) → hears p taken all p2 → (name p2 ≡ name p) × plain (part p) taken all (part p2)) where
@@ -17,56 +17,85 @@ module _ {P Q N : Type 0} (part : P → Q) (name : P → N) (hears : HearsBy P) 
       let last = is h.0 (64 * times) all p2 h.1.1 in
       (last.0 ∙ before.0, (part h.0, (before.1, last.1)))
 
+  told_some : (text script : List ℕ) (times : ℕ) (p p2 : P) → IsToldScript hears text script times p p2
+      → (name p2 ≡ name p) × IsToldScript plain text script times (part p) (part p2)
+  told_some text script times p p2 (inl none) = (ap name none.1, inl (none.0, ap part none.1))
+  told_some text script times p p2 (inr h) =
+      let some = told_part (length h.0.events.items) times p p2 h.1.1 in
+      (some.0, inr (h.0, (h.1.0, some.1)))
+
   -- the part was told so
   pub told_all : (all : ℕ) (p p2 : P) → IsToldAll hears all p p2 → IsToldAll plain all (part p) (part p2)
-  told_all all p p2 h = record { times = h.times; told = (told_part all h.times p p2 h.told).1; all_taken = h.all_taken; no_more = h.no_more }
+  told_all all p p2 h = record { times = h.times; told = (told_part all h.times p p2 h.told).1; whole = h.whole }
 
-  -- and its name is the same
-  pub same_name : (all : ℕ) (p p2 : P) → IsToldAll hears all p p2 → name p2 ≡ name p
-  same_name all p p2 h = (told_part all h.times p p2 h.told).0
-
-  -- the same where it was told of some of them
-  pub told_some : (all : ℕ) (p p2 : P) → IsToldPart hears all p p2 → IsToldPart plain all (part p) (part p2)
-  told_some all p p2 h = record { times = h.times; told = (told_part all h.times p p2 h.told).1; no_more = h.no_more }
+  -- the same of a run that a fault ended
+  pub told_until : (all : ℕ) (p p2 : P) (ends : Ends) (why : Fault) → OverhearsBy hears all p p2 ends why
+      → OverhearsBy plain all (part p) (part p2) ends why
+  told_until all p p2 ends why h = record { times = h.times; told = (told_part all h.times p p2 h.told).1; ended = h.ended }
 
   -- and of a script
-  pub told_script : (text script : List ℕ) (p p2 : P) → OverhearsScript hears text script p p2 → OverhearsScript plain text script (part p) (part p2)
-  told_script text script p p2 (inl same) = inl (ap part same)
-  told_script text script p p2 (inr h) = inr (h.0, (h.1.0, told_some (length h.0.events.items) p p2 h.1.1))
+  pub told_script : (text script : List ℕ) (p p2 : P) (ends : Ends) (why : Fault) → OverhearsScript hears text script p p2 ends why
+      → OverhearsScript plain text script (part p) (part p2) ends why
+  told_script text script p p2 ends why h = record { times = h.times; told = (told_some text script h.times p p2 h.told).1; ended = h.ended }
 
   -- its name is the same in any case
-  pub same_name_of : {T E : Type 0} (r : Result T E) (p p2 : P) → OnOk r (name p2 ≡ name p) → OnErr r (IsToldSome hears p p2) → name p2 ≡ name p
-  same_name_of (Ok x) p p2 same some = same
-  same_name_of (Err e) p p2 same some = (told_part some.0 some.1.0 p p2 some.1.1).0
+  pub same_name : {T : Type 0} (r : Result T Fault) (all : ℕ) (p p2 : P) (ends : Ends) → OnOk r (IsToldAll hears all p p2)
+      → IfErr r (OverhearsBy hears all p p2 ends) → name p2 ≡ name p
+  same_name (Ok x) all p p2 ends told some = (told_part all told.times p p2 told.told).0
+  same_name (Err why) all p p2 ends told some = (told_part all some.times p p2 some.told).0
+
+  pub same_name_script : {T : Type 0} (r : Result T Fault) (text script : List ℕ) (p p2 : P) (ends : Ends)
+      → OnOk r (WatchesScript hears text script p p2) → IfErr r (OverhearsScript hears text script p p2 ends) → name p2 ≡ name p
+  same_name_script (Ok x) text script p p2 ends told some = (told_part (length told.job.events.items) told.told.times p p2 told.told.told).0
+  same_name_script (Err why) text script p p2 ends told some = (told_some text script some.times p p2 some.told).0
 
 -- what follows where there is no fault
 pub on_ok : {T E A B : Type 0} (r : Result T E) → OnOk r A → (A → B) → OnOk r B
 on_ok (Ok x) a f = f a
 on_ok (Err e) a f = tt
 
-pub on_both : {T E A B C : Type 0} (r : Result T E) → OnOk r A → OnOk r B → (A → B → C) → OnOk r C
-on_both (Ok x) a b f = f a b
-on_both (Err e) a b f = tt
-
 -- and where there is one
-pub on_err : {T E A B : Type 0} (r : Result T E) → OnErr r A → (A → B) → OnErr r B
-on_err (Ok x) a f = tt
-on_err (Err e) a f = f a
+pub if_err : {T E : Type 0} {A B : E → Type 0} (r : Result T E) → IfErr r A → ((e : E) → A e → B e) → IfErr r B
+if_err (Ok x) a f = tt
+if_err (Err e) a f = f e a
 
--- of a job that was had, who hears of all its events heard of some
-pub overheard_of : {T X C E : Type 0} (r : Result T X) (reads : Reads C) (tells : Telling E) (text script : List ℕ) (job : Job) (clock : C) (before after : E)
-    → IsJobOf text script job → OnOk r (HasHeard reads tells (length job.events.items) clock before after)
-    → OnErr r (HasOverheard reads tells (length job.events.items) clock before after) → HasOverheardScript reads tells text script clock before after
-overheard_of (Ok x) reads tells text script job clock before after held h some = record {
-  last = h.last;
-  told = inr (job, (held, record { times = h.told.times; told = h.told.told; no_more = h.told.no_more }));
-  is_last = h.is_last;
-}
-overheard_of (Err e) reads tells text script job clock before after held h some =
-    record { last = some.last; told = inr (job, (held, some.told)); is_last = some.is_last }
+-- of a job that was had, who hears of its events heard of the script's
+pub overheard_of : {C E : Type 0} (is_watched : Bool) (reads : Reads C) (tells : Telling E) (text script : List ℕ) (job : Job) (clock : C) (times : ℕ) (before after : E)
+    → IsJobOf text script job → OverhearsSome is_watched reads tells (length job.events.items) clock times before after
+    → Overhears is_watched reads tells clock text script times before after
+overheard_of is_watched reads tells text script job clock times before after held h = (
+  λ watched. record { last = (h.0 watched).last; told = inr (job, (held, (h.0 watched).told)); is_last = (h.0 watched).is_last },
+  h.1,
+)
 
 -- nothing was heard yet
 pub unheard : {C E : Type 0} (is_watched : Bool) (reads : Reads C) (tells : Telling E) (clock : C) (text script : List ℕ) (before : E)
-    → Overhears is_watched reads tells clock text script before before
+    → Overhears is_watched reads tells clock text script 0 before before
 unheard is_watched reads tells clock text script before =
-    (λ watched. record { last = telling clock 200 false before; told = inl refl; is_last = refl }, λ unwatched. refl)
+    (λ watched. record { last = telling clock 200 false before; told = inl (refl, refl); is_last = refl }, λ unwatched. refl)
+
+watched_of : {C E : Type 0} (is_watched : Bool) (reads : Reads C) (tells : Telling E) (text script : List ℕ) (job : Job) (clock : C) (before after : E)
+    → IsJobOf text script job → OverhearsAll is_watched reads tells (length job.events.items) clock before after
+    → Watches is_watched reads tells clock text script before after
+watched_of is_watched reads tells text script job clock before after held h = (
+  λ watched. record {
+    job = job;
+    is = held;
+    heard = record {
+      last = (h.1.1.0 watched).last;
+      told = record { times = h.0; told = (h.1.1.0 watched).told; whole = h.1.0 };
+      is_last = (h.1.1.0 watched).is_last;
+    };
+  },
+  h.1.1.1,
+)
+
+-- who watches a run that ended well heard of all of it, and was told no more
+pub heard_of : {C E X : Type 0} (r : Result ℕ X) (is_watched : Bool) (reads : Reads C) (tells : Telling E) (text script : List ℕ) (job : Job) (clock : C)
+    (before after last : E) (status : ℕ) → IsJobOf text script job
+    → OnOk r (OverhearsAll is_watched reads tells (length job.events.items) clock before after)
+    → r ≡ Ok status → last ≡ after → Watches is_watched reads tells clock text script before last
+heard_of {E = E} {X = X} r is_watched reads tells text script job clock before after last status held heard is same =
+    subst (λ (e : E). Watches is_watched reads tells clock text script before e) (sym same)
+    (watched_of is_watched reads tells text script job clock before after held
+    (subst (λ (x : Result ℕ X). OnOk x (OverhearsAll is_watched reads tells (length job.events.items) clock before after)) is heard))

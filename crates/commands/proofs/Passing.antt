@@ -1,48 +1,14 @@
 -- A run through a passage.
-use Rattle.std.proofs.Common.{◌≡◌, ◌≢◌, inl, inr, ℕ, List, Option, None, Result, Ok, IfOk, OnOk, subst, sym}
+use Rattle.std.proofs.Common.{◌≢◌, inl, inr, ℕ, List, subst, sym}
 use Rattle.settings.specs.declared.whole.Settings.{Settings}
 use Rattle.settings_file.specs.declared.faults.SettingFault.TheVariants.{CantWork}
 use Rattle.faults.specs.Jobs.{IsJobOf, TellsRun}
 use Rattle.faults.specs.declared.faults.Fault.{Fault}
 use Rattle.faults.specs.declared.faults.Fault.TheVariants as fault
 use Rattle.faults.specs.declared.jobs.Job.{Job}
-use Rattle.settings_file.specs.Clashes.{clash_of_both}
-use Rattle.loopback_run.specs.Loops.{IsLoop, LoopsScript, TellsLoop}
-use Rattle.loopback_run.specs.Outputs.{HasPut, PutsScript}
+use Rattle.loopback_run.specs.Loops.{TellsLoop}
 use Rattle.loopback_run.specs.Stops.{Opens, Refuses}
-use Rattle.loopback_run.specs.Turns.{Passes}
-use Rattle.scripts.specs.Script.{first_bad_line}
 use Rattle.commands.specs.Captures.{IsHeldBy, IsOfPorts, IsOpened}
-
--- it is one of the job of two texts, for which the ports were had
-pub loops_of : {P E : Type 0} (r : Result ℕ E) (opens : Opens P) (passes : Passes P) (text script : List ℕ) (job : Job) (before between after : P)
-    (output printed : Option (List ℕ)) (status : ℕ)
-    → IsJobOf text script job → first_bad_line script ≡ None → clash_of_both job.settings ≡ None → opens before job.settings between
-    → IfOk r (IsLoop passes job.settings job.events.items between after output printed) → r ≡ Ok status
-    → LoopsScript opens passes text script before after output printed status
-loops_of {E = E} r opens passes text script job before between after output printed status held good apart opened looped is = record {
-  job = job;
-  is = held;
-  good = good;
-  apart = apart;
-  open_passage = between;
-  opened = opened;
-  run = subst (λ (x : Result ℕ E). IfOk x (IsLoop passes job.settings job.events.items between after output printed)) is looped;
-}
-
--- and its output was asked for just what is printed of it
-pub puts_of : {P E O : Type 0} (r : Result ℕ E) (opens : Opens P) (passes : Passes P) (text script : List ℕ) (job : Job) (before between after : P)
-    (output printed : O) (status : ℕ) → IsHeldBy text script job → opens before job.settings between
-    → OnOk r (HasPut passes job.settings job.events.items between after output printed) → r ≡ Ok status
-    → PutsScript opens passes text script before after output printed
-puts_of {E = E} r opens passes text script job before between after output printed status held opened put is =
-    let done = subst (λ (x : Result ℕ E). OnOk x (HasPut passes job.settings job.events.items between after output printed)) is put in
-    record {
-      texts = held.0;
-      open_passage = between;
-      opened = subst (λ (j : Job). opens before j.settings between) (sym held.1) opened;
-      put = subst (λ (j : Job). HasPut passes j.settings j.events.items between after output printed) (sym held.1) done;
-    }
 
 -- a passage that has the ports of a job of two texts
 pub opened_of : {P : Type 0} (opens : Opens P) (text script : List ℕ) (job : Job) (before after : P) → IsHeldBy text script job

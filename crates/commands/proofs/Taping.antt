@@ -1,38 +1,19 @@
--- A run that was taken down.
-use Rattle.std.proofs.Common.{◌≡◌, ◌∙◌, ◌⊎◌, inl, inr, ℕ, None, Option, Result, Ok, Err, IfErr, IfOk, ap, subst, sym}
+-- A run that ended well or not.
+use Rattle.std.proofs.Common.{◌≡◌, inl, inr, ℕ, List, Option, Some, None, Result, Ok, Err, IfErr, ap}
+use Rattle.std.specs.Prelude.{MatchOption, string_bytes}
+use Rattle.command_line.specs.declared.words.RunWords.{RunWords}
+use Rattle.box_words.specs.Deeds.{Does}
 use Rattle.faults.specs.Faults.{status_of}
-use Rattle.faults.specs.Jobs.{IsJobOf, TellsRun}
 use Rattle.faults.specs.declared.faults.Fault.{Fault}
-use Rattle.faults.specs.declared.jobs.Job.{Job}
-use Rattle.std.specs.Prelude.{List, OnOk, length}
-use Rattle.commands.specs.Captures.{IsOfEvents}
-use Rattle.commands.specs.Meters.{HasHeard, HasHeardScript, Reads}
 use Rattle.frame_sim.specs.Tapes.{TakesOn}
-use Rattle.outlets.specs.Telling.{Telling}
-use Rattle.scripts.specs.Script.{first_bad_line}
-use Rattle.simulation.specs.Status.{RunsScript}
-use Rattle.simulation.specs.Stops.{FailsBy, Leaves}
-use Rattle.simulation.specs.Tapes.{HasPut, IsTapedRun, PutsScript}
-
--- it is a run of the job of two texts
-pub run_of : {E T : Type 0} (r : Result ℕ E) (takes : TakesOn T) (text script : List ℕ) (job : Job) (before after : T) (output printed : Option (List ℕ)) (status : ℕ)
-    → IsJobOf text script job → first_bad_line script ≡ None
-    → IfOk r (IsTapedRun takes job.settings job.events.items before after output printed) → r ≡ Ok status
-    → RunsScript text script output printed status
-run_of {E = E} r takes text script job before after output printed status held good taped is =
-    let h = subst (λ (x : Result ℕ E). IfOk x (IsTapedRun takes job.settings job.events.items before after output printed)) is taped in
-    record { job = job; is = held; good = good; run = h.run; printed = h.text }
-
--- and its output was asked for just what is printed of it
-pub puts_of : {E O : Type 0} (r : Result ℕ E) (text script : List ℕ) (job : Job) (output printed : O) (status : ℕ) → IsJobOf text script job
-    → first_bad_line script ≡ None → OnOk r (HasPut job.settings job.events.items output printed) → r ≡ Ok status
-    → PutsScript text script output printed
-puts_of {E = E} r text script job output printed status held good put is = record {
-  job = job;
-  is = held;
-  good = good;
-  put = subst (λ (x : Result ℕ E). OnOk x (HasPut job.settings job.events.items output printed)) is put;
-}
+use Rattle.loopback_run.specs.Outputs.{PutsScript as PutsLoop}
+use Rattle.loopback_run.specs.Stops.{Opens}
+use Rattle.loopback_run.specs.Turns.{Passes}
+use Rattle.simulation.specs.Status.{PutsScript}
+use Rattle.commands.specs.Captures.{IsCaptured, IsLoopCaptured, IsOfEvents}
+use Rattle.commands.specs.Acts.{HasLoopOf, HasRunOf, IsUncaptured}
+use Rattle.commands.specs.Hosts.{Begins, Closes, Scene}
+use Rattle.commands.specs.Meters.{Hearing}
 
 -- what ends one has the status 1
 pub known : {T : Type 0} (r : Result T Fault) → IfErr r IsOfEvents
@@ -41,24 +22,35 @@ known (Ok n) h = tt
 known (Err fault) (inl is) = ap status_of is
 known (Err fault) (inr is) = ap status_of is
 
--- and a fault's status is none of a run's
-pub isnt_1 : {A : Type 0} (n : ℕ) → n ≡ 1 → (n ≡ 0) ⊎ (n ≡ 3) → A
-isnt_1 n is (inl zero_is) = absurd (let bad : 1 ≡ 0 = sym is ∙ zero_is in cc)
-isnt_1 n is (inr three_is) = absurd (let bad : 1 ≡ 3 = sym is ∙ three_is in cc)
+module _ {H T O X : Type 0} (takes : TakesOn T) (begins : Begins H T) (closes : Closes H T) (prints : O → Option (List ℕ)) (path_of : X → List ℕ) where
+  put_by : (Spared : Type 0) (capture : Option X) (text script : List ℕ) (output printed : O) (status : ℕ) (before after : H)
+      → MatchOption capture (Spared × PutsScript prints text script output printed status)
+      (λ path. IsCaptured takes begins closes prints (path_of path) text script output printed status before after)
+      → PutsScript prints text script output printed status
+  put_by Spared None text script output printed status before after h = h.1
+  put_by Spared (Some path) text script output printed status before after h = record { run = h.run.run; put = h.run.put }
 
--- who watches it heard of a script's run
-pub heard_of : {C E X : Type 0} (r : Result ℕ X) (reads : Reads C) (tells : Telling E) (text script : List ℕ) (job : Job) (clock : C)
-    (before after last : E) (status : ℕ) → IsJobOf text script job → OnOk r (HasHeard reads tells (length job.events.items) clock before after)
-    → r ≡ Ok status → last ≡ after → HasHeardScript reads tells text script clock before last
-heard_of {E = E} {X = X} r reads tells text script job clock before after last status held heard is same = record {
-  job = job;
-  is = held;
-  heard = subst (λ (e : E). HasHeard reads tells (length job.events.items) clock before e) (sym same)
-      (subst (λ (x : Result ℕ X). OnOk x (HasHeard reads tells (length job.events.items) clock before after)) is heard);
-}
+  loop_put_by : {P : Type 0} (opens : Opens P) (passes : Passes P) (first last : P) (Spared : Type 0) (capture : Option X) (text script : List ℕ)
+      (output printed : O) (status : ℕ) (before after : H)
+      → MatchOption capture (Spared × PutsLoop opens passes prints text script first last output printed status)
+      (λ path. IsLoopCaptured takes begins closes opens passes prints first last (path_of path) text script output printed status before after)
+      → PutsLoop opens passes prints text script first last output printed status
+  loop_put_by opens passes first last Spared None text script output printed status before after h = h.1
+  loop_put_by opens passes first last Spared (Some path) text script output printed status before after h =
+      record { run = h.run.run; put = h.run.put }
 
--- which fault ended a run, and what it leaves
-pub fails_of : {O : Type 0} (r : Result ℕ Fault) (prints : O → Option (List ℕ)) (text script : List ℕ) (output printed : O) → IfErr r (TellsRun text script)
-    → IfErr r (Leaves prints text script output printed) → IfErr r (FailsBy prints text script output printed)
-fails_of (Ok status) prints text script output printed told leaves = tt
-fails_of (Err why) prints text script output printed told leaves = record { told = told; leaves = leaves }
+module _ {S H T O E : Type 0} (does : Does S) (takes : TakesOn T) (begins : Begins H T) (closes : Closes H T) (prints : O → Option (List ℕ)) where
+  -- with a capture or without, just what is printed of a run was put
+  pub put_of : (hears : Hearing E) (files : RunWords) (status : ℕ) (before after : Scene S H O E)
+      → (ran : HasRunOf does takes begins closes prints hears files status before after)
+      → PutsScript prints ran.text ran.script before.output after.output status
+  put_of hears files status before after ran = put_by takes begins closes prints string_bytes (IsUncaptured before after) files.capture ran.text ran.script
+      before.output after.output status before.host after.host ran.run
+
+  -- the same of a run through a passage
+  pub loop_put_of : {P : Type 0} (opens : Opens P) (passes : Passes P) (first last : P) (files : RunWords) (status : ℕ) (before after : Scene S H O E)
+      → (ran : HasLoopOf does takes begins closes prints opens passes first last files status before after)
+      → PutsLoop opens passes prints ran.text ran.script first last before.output after.output status
+  loop_put_of opens passes first last files status before after ran =
+      loop_put_by takes begins closes prints string_bytes opens passes first last (IsUncaptured before after) files.capture ran.text ran.script
+      before.output after.output status before.host after.host ran.run

@@ -10,6 +10,7 @@ use Rattle.checks.specs.Sights.{Finds, Takes}
 use Rattle.checks.specs.declared.requests.Request.{Request}
 use Rattle.checks.specs.Ends.{IsSaid, IsUnsaid, not_written_line}
 use Rattle.checks.specs.declared.requests.Source.{Source}
+use Rattle.simulation.specs.Watched.{Ends}
 use Rattle.commands.specs.Meters.{IsToldBehind}
 
 -- one line, and one of a text
@@ -143,6 +144,8 @@ pub told_as : {E F : Type 0} (tells : Telling E) (text : F → List ℕ) (P Q : 
     → ((why : F) → P why → Q why) → IsToldOf tells text Q before after
 told_as tells text P Q before after h from = (h.0, (from h.0 h.1.0, h.1.1))
 
-pub told_behind_as : {E : Type 0} (tells : Telling E) (overhears : E → E → Type 0) (P Q : Fault → Type 0) (before after : E)
-    → IsToldBehind tells overhears P before after → ((why : Fault) → P why → Q why) → IsToldBehind tells overhears Q before after
-told_behind_as tells overhears P Q before after h from = (h.0, (h.1.0, told_as tells fault_text P Q h.0 after h.1.1 from))
+pub told_behind_as : {E : Type 0} (tells : Telling E) (overhears : ℕ → E → E → Type 0) (P Q : Ends) (before after : E)
+    → IsToldBehind tells overhears P before after → ((times : ℕ) → (why : Fault) → P times why → Q times why)
+    → IsToldBehind tells overhears Q before after
+told_behind_as tells overhears P Q before after h from =
+    (h.0, (h.1.0, (h.1.1.0, told_as tells fault_text (P h.0) (Q h.0) h.1.0 after h.1.1.1 (from h.0))))

@@ -7,6 +7,7 @@ use Rattle.checks.specs.Counts.{AreAlike, IsCleanText, IsGoodText}
 use Rattle.command_line.specs.declared.words.CheckWords.{CheckWords}
 use Rattle.command_line.specs.declared.words.StatusWords.{StatusWords}
 use Rattle.command_line.specs.declared.words.RunWords.{RunWords}
+use Rattle.faults.specs.Jobs.{TellsRun}
 use Rattle.faults.specs.Texts.{fault_text}
 use Rattle.faults.specs.declared.faults.Fault.{Fault}
 use Rattle.faults.specs.declared.faults.Fault.TheVariants.{NotWritten}
@@ -14,10 +15,8 @@ use Rattle.frame_sim.specs.Asked.{HoldNoJob}
 use Rattle.frame_sim.specs.Tapes.{TakesOn}
 use Rattle.outlets.specs.Printed.{IsBegun}
 use Rattle.outlets.specs.Telling.{IsTold, IsToldOf, Telling}
-use Rattle.simulation.specs.Status.{RunsScript}
-use Rattle.simulation.specs.Stops.{FailsBy}
-use Rattle.simulation.specs.Tapes.{PutsScript}
-use Rattle.loopback_run.specs.Loops.{LoopsScript}
+use Rattle.simulation.specs.Status.{PutsScript}
+use Rattle.simulation.specs.Stops.{Leaves}
 use Rattle.loopback_run.specs.Fails.{FailsBy as FailsLoopBy}
 use Rattle.loopback_run.specs.Outputs.{PutsScript as PutsLoop}
 use Rattle.loopback_run.specs.Stops.{Opens, Refuses}
@@ -32,7 +31,7 @@ use Rattle.commands.specs.Captures.{HasJob, IsCaptured, IsLoopCaptured, IsOpened
 use Rattle.outlets.specs.Outputs.{IsFlushed, IsPrinted, IsUnput}
 use Rattle.commands.specs.Ends.{version_line}
 use Rattle.commands.specs.Hosts.{Begins, Closes, HasWorked, Scene, Scope, Work, Works, compared, looked, plan_of, scope_of, served, text_at, written}
-use Rattle.commands.specs.Meters.{Hearing, IsToldBehind}
+use Rattle.commands.specs.Meters.{Hearing, IsToldBehind, Overhearing}
 use Rattle.commands.specs.Reading.{AreNotHad, AreRead, IsNotHad}
 
 -- ---- of every task
@@ -142,8 +141,9 @@ module _ {S H O E : Type 0} (does : Does S) (works : Works Work H) (prints : O �
 abbrev pub Failing : Type 0 → Type 1
 Failing O = List ℕ → List ℕ → O → O → Fault → Type 0
 
-abbrev pub FailsSim : {O : Type 0} → (O → Option (List ℕ)) → Failing O
-FailsSim prints text script output printed why = FailsBy prints text script output printed why
+-- so of `sim`, by when who watches was told so often
+abbrev pub FailsSim : {O : Type 0} → (O → Option (List ℕ)) → ℕ → Failing O
+FailsSim prints times text script output printed why = TellsRun text script why × Leaves prints text script output printed times why
 
 -- and a run through a passage, by what that was and is then
 abbrev pub FailsLoop : {P O : Type 0} → Opens P → Refuses P → Passes P → P → P → (O → Option (List ℕ)) → Failing O
@@ -158,6 +158,13 @@ Reasons = List ℕ → List ℕ → Fault → Type 0
 abbrev pub Readies : Type 1
 Readies = List ℕ → List ℕ → Type 0
 
+-- so of `sim`: of a run that doesn't begin who watches isn't told
+abbrev pub HoldNoJobYet : ℕ → Reasons
+HoldNoJobYet times text script why = (times ≡ 0) × HoldNoJob text script why
+
+abbrev pub HasJobYet : ℕ → Readies
+HasJobYet times text script = (times ≡ 0) × HasJob text script
+
 module _ {S H T O E : Type 0} (does : Does S) (takes : TakesOn T) (begins : Begins H T) (closes : Closes H T) (prints : O → Option (List ℕ)) where
   -- just the files that are named were read, the settings first, and the script run with this status; the output was asked for just what is
   -- printed of that, and took it; so much of it was told; and it was captured just where the words name a file for that
@@ -165,22 +172,20 @@ module _ {S H T O E : Type 0} (does : Does S) (takes : TakesOn T) (begins : Begi
     pub text : List ℕ
     pub script : List ℕ
     pub are_read : AreRead does (string_bytes files.settings) (string_bytes files.script) text script before.site after.site
-    pub run : RunsScript text script (prints before.output) (prints after.output) status
-    pub put : PutsScript text script before.output after.output
     pub told : hears text script before.errors after.errors
-    pub captured : MatchOption files.capture (IsUncaptured before after)
-        (λ path. IsCaptured takes begins closes (string_bytes path) text script (written prints before.output after.output) status before.host after.host)
+    pub run : MatchOption files.capture (IsUncaptured before after × PutsScript prints text script before.output after.output status)
+        (λ path. IsCaptured takes begins closes prints (string_bytes path) text script before.output after.output status before.host after.host)
 
   -- and through a passage, by what that was and is then: of that nothing is told but its output
   pub record HasLoopOf {P : Type 0} (opens : Opens P) (passes : Passes P) (first last : P) (files : RunWords) (status : ℕ) (before after : Scene S H O E) : Type 0 where
     pub text : List ℕ
     pub script : List ℕ
     pub are_read : AreRead does (string_bytes files.settings) (string_bytes files.script) text script before.site after.site
-    pub run : LoopsScript opens passes text script first last (prints before.output) (prints after.output) status
-    pub put : PutsLoop opens passes text script first last before.output after.output
     pub quiet : IsUntold before after
-    pub captured : MatchOption files.capture (IsUncaptured before after)
-        (λ path. IsLoopCaptured takes begins closes opens passes first last (string_bytes path) text script before.host after.host)
+    pub run : MatchOption files.capture
+        (IsUncaptured before after × PutsLoop opens passes prints text script first last before.output after.output status)
+        (λ path. IsLoopCaptured takes begins closes opens passes prints first last (string_bytes path) text script before.output after.output status
+        before.host after.host)
 
 module _ {S H T O E : Type 0} (does : Does S) (takes refuses : TakesOn T) (begins : Begins H T) (closes : Closes H T)
     (prints : O → Option (List ℕ)) where
@@ -192,14 +197,15 @@ module _ {S H T O E : Type 0} (does : Does S) (takes refuses : TakesOn T) (begin
       (λ run first last. tapes text script run first last before.output after.output) why
       before.host after.host before.output after.output)
 
-  -- Just the files that are named were read, the settings first, and a fault ended their run: behind what was heard of it just that
+  -- Just the files that are named were read, the settings first, and a fault ended their run: behind what was heard of it by then just that
   -- fault's line was told
-  pub record IsEndedSim (tells : Telling E) (overhears : Hearing E) (files : RunWords) (before after : Scene S H O E) : Type 0 where
+  pub record IsEndedSim (tells : Telling E) (overhears : Overhearing E) (files : RunWords) (before after : Scene S H O E) : Type 0 where
     pub text : List ℕ
     pub script : List ℕ
     pub are_read : AreRead does (string_bytes files.settings) (string_bytes files.script) text script before.site after.site
     pub told : IsToldBehind tells (overhears text script)
-        (λ why. IsEnded (FailsSim prints) HoldNoJob HasJob (TapesSim takes refuses prints) files text script why before after) before.errors after.errors
+        (λ times why. IsEnded (FailsSim prints times) (HoldNoJobYet times) (HasJobYet times) (TapesSim takes refuses prints times) files
+        text script why before after) before.errors after.errors
 
   -- the same through a passage, by what that was and is then: nothing is heard, and this is the fault
   pub record IsEndedLoop {P : Type 0} (opens : Opens P) (denies : Refuses P) (passes : Passes P) (first last : P) (files : RunWords) (why : Fault) (before after : Scene S H O E) : Type 0 where
@@ -215,7 +221,7 @@ module _ {S H T O E : Type 0} (does : Does S) (takes refuses : TakesOn T) (begin
       × IsUnprinted before after × IsUncaptured before after
 
   -- just why one of the files wasn't had was told; or they were, and a fault ended their run
-  abbrev pub EndsSim : Telling E → Hearing E → RunWords → Scene S H O E → Scene S H O E → Type 0
+  abbrev pub EndsSim : Telling E → Overhearing E → RunWords → Scene S H O E → Scene S H O E → Type 0
   EndsSim tells overhears files before after =
       IsToldOf tells fault_text (λ why. IsUnbegunRun files why before after) before.errors after.errors
       ⊎ IsEndedSim tells overhears files before after
@@ -251,7 +257,7 @@ IsSpared others first last = last ≡ first
 -- `status --until synced` print nothing. What `status`, `pairs`, `sim`, `loop` and the version print at 0 is flushed last of all; the version ends with 1 only where
 -- its output refused it, or to be flushed.
 module _ {S H T P O E : Type 0} (does : Does S) (works : Works Work H) (takes refuses : TakesOn T) (begins : Begins H T) (closes : Closes H T)
-    (opens : Opens P) (denies : Refuses P) (passes : Passes P) (prints : O → Option (List ℕ)) (tells : Telling E) (hears overhears : Hearing E) where
+    (opens : Opens P) (denies : Refuses P) (passes : Passes P) (prints : O → Option (List ℕ)) (tells : Telling E) (hears : Hearing E) (overhears : Overhearing E) where
   abbrev pub Acts : P → P → Task → ℕ → Scene S H O E → Scene S H O E → Type 0
   Acts first last (task.Init file) status before after = IsUnprinted before after
       × EndsSo tells (λ b a. does b (made (string_bytes file)) a) (HasUnmade does (string_bytes file)) status before after

@@ -1,5 +1,5 @@
 -- What is taken down of a run in a file, and why a run with a capture ends early.
-use Rattle.std.specs.Prelude.{◌≡◌, ◌≢◌, ◌⊎◌, ℕ, List, Option, None, Some, Result, Ok, Err}
+use Rattle.std.specs.Prelude.{◌≡◌, ◌≢◌, ◌⊎◌, ℕ, List, Option, None, Some, Result, Ok, Err, length}
 use Rattle.std.specs.IoError.{error_kind}
 use Rattle.std.specs.declared.io.Error.{Error}
 use Rattle.std.specs.declared.io.ErrorKind.{ErrorKind}
@@ -13,17 +13,18 @@ use Rattle.faults.specs.declared.jobs.Job.{Job}
 use Rattle.faults.specs.declared.faults.Fault.{Fault}
 use Rattle.faults.specs.declared.faults.Fault.TheVariants as fault
 use Rattle.faults.specs.declared.files.Refusal.TheVariants.{Exists, NotWritten}
-use Rattle.box_words.specs.Memory.{WasShort}
+use Rattle.faults.specs.Memory.{WasShort}
 use Rattle.frame_sim.specs.Asked.{HoldNoJob}
 use Rattle.frame_sim.specs.Tapes.{TakesOn}
 use Rattle.scripts.specs.Script.{first_bad_line}
 use Rattle.simulation.specs.Tapes.{IsTapedUntil, TapesScript}
-use Rattle.loopback_run.specs.Loops.{LoopsScript, TellsLoop}
+use Rattle.simulation.specs.Watched.{IsWhole}
+use Rattle.loopback_run.specs.Loops.{TellsLoop}
 use Rattle.loopback_run.specs.Stops.{HoldJob, Opens, Refuses}
 use Rattle.loopback_run.specs.Turns.{Passes}
 use Rattle.loopback_run.specs.declared.ports.PortFault.TheVariants as ports
 use Rattle.loopback_run.specs.Tapes.{IsTapedUntil as IsLoopTapedUntil, TapesScript as TapesLoop}
-use Rattle.commands.specs.Hosts.{Begins, Closes, Written, held_after, held_before}
+use Rattle.commands.specs.Hosts.{Begins, Closes}
 
 -- just this is told of the capture in the file at a path, which can't be begun or written for this cause; want of memory only where that is the
 -- cause, or there was none for the path
@@ -87,18 +88,18 @@ IsOfEvents why = (why ≡ fault.NotWritten) ⊎ (why ≡ fault.NoMemory)
 abbrev pub Taping : Type 0 → Type 0 → Type 1
 Taping T O = List ℕ → List ℕ → Result ℕ Fault → T → T → O → O → Type 0
 
--- with a status just the run was taken down, and its text printed; else this fault ended it, and just so much was
-abbrev pub TapesSim : {T O : Type 0} → TakesOn T → TakesOn T → (O → Option (List ℕ)) → Taping T O
-TapesSim takes refuses prints text script (Ok status) first last output printed =
-    TapesScript takes text script first last (prints output) (prints printed) status
-TapesSim takes refuses prints text script (Err why) first last output printed =
-    IsOfEvents why × IsTapedUntil takes refuses prints text script first last output printed why
+-- With a status just the run was taken down, and its text printed, and who watches was told so often of all its events; else this fault ended it,
+-- by when he was told so often, and just so much was
+abbrev pub TapesSim : {T O : Type 0} → TakesOn T → TakesOn T → (O → Option (List ℕ)) → ℕ → Taping T O
+TapesSim takes refuses prints times text script (Ok status) first last output printed =
+    (tapes : TapesScript takes prints text script first last output printed status) × IsWhole (length tapes.run.job.events.items) times
+TapesSim takes refuses prints times text script (Err why) first last output printed =
+    IsOfEvents why × IsTapedUntil takes refuses prints text script first last output printed times why
 
--- the same through a passage that has its ports
+-- the same through a passage that has its ports, of which nobody is told
 abbrev pub TapesPassed : {P T O : Type 0} → Opens P → Passes P → P → P → TakesOn T → TakesOn T → (O → Option (List ℕ)) → Taping T O
 TapesPassed opens passes before after takes refuses prints text script (Ok status) first last output printed =
-    LoopsScript opens passes text script before after (prints output) (prints printed) status
-    × TapesLoop opens passes takes text script before after first last
+    TapesLoop opens passes takes prints text script before after first last output printed status
 TapesPassed opens passes before after takes refuses prints text script (Err why) first last output printed =
     IsLoopTapedUntil opens passes takes refuses prints text script before after first last output printed why
 
@@ -136,17 +137,17 @@ module _ {H T : Type 0} (begins : Begins H T) (closes : Closes H T) where
 
 module _ {H T : Type 0} (takes : TakesOn T) (begins : Begins H T) (closes : Closes H T) where
   -- just the capture in the file at a path was begun, took down just the run of a script by these texts, which was printed so, and was ended
-  pub record IsCaptured (path text script : List ℕ) (printed : Written) (status : ℕ) (before after : H) : Type 0 where
+  pub record IsCaptured {O : Type 0} (prints : O → Option (List ℕ)) (path text script : List ℕ) (output printed : O) (status : ℕ) (before after : H) : Type 0 where
     pub first : T
     pub last : T
     pub begun : begins before path (Ok first) after
-    pub run : TapesScript takes text script first last (held_before printed) (held_after printed) status
+    pub run : TapesScript takes prints text script first last output printed status
     pub ended : closes after last (Ok tt)
 
   -- and a run through a passage, by what that was and is then
-  pub record IsLoopCaptured {P : Type 0} (opens : Opens P) (passes : Passes P) (p p2 : P) (path text script : List ℕ) (before after : H) : Type 0 where
+  pub record IsLoopCaptured {P O : Type 0} (opens : Opens P) (passes : Passes P) (prints : O → Option (List ℕ)) (p p2 : P) (path text script : List ℕ) (output printed : O) (status : ℕ) (before after : H) : Type 0 where
     pub first : T
     pub last : T
     pub begun : begins before path (Ok first) after
-    pub run : TapesLoop opens passes takes text script p p2 first last
+    pub run : TapesLoop opens passes takes prints text script p p2 first last output printed status
     pub ended : closes after last (Ok tt)

@@ -15,22 +15,22 @@ use Rattle.gate.specs.Served.{HasServed}
 use Rattle.gate.specs.Sparing.{IsRefusal}
 use Rattle.gate.specs.declared.running.Start.{Start}
 use Rattle.simulation.specs.Clocks.{Moments, founding_moments}
-use Rattle.commands.specs.Hosts.{Work, Works, Written, compared, held_after, held_before, looked, plan_in, scope_in, served, text_in}
+use Rattle.commands.specs.Hosts.{Work, Works, Written, compared, looked, plan_in, scope_in, served, text_in}
 
 -- a list of lines, which is told one more
 abbrev pub lists : Telling (List (List ℕ))
 lists before line result after = after ≡ before ++ line ∷ []
 
--- nothing is printed before a start is refused; or the refusal is one that comes behind the number of a boot
+-- nothing is asked of the output before a start is refused; or the refusal is one that comes behind the number of a boot
 abbrev pub IsSilentOrBehind : Start → Written → BoxFault → Type 0
-IsSilentOrBehind start printed why = (held_after printed ≡ held_before printed)
-    ⊎ ((boot : ℕ) × IsBehind (λ output. output) (path_in start.capture) boot why (held_before printed) (held_after printed))
+IsSilentOrBehind start printed why = (printed.new ≡ printed.old)
+    ⊎ ((boot : ℕ) × IsBehind printed.holds (path_in start.capture) boot why printed.old printed.new)
 
 -- What comes of a start that this machine runs: at 0 a gateway was served so, and nothing is told; at 1 just one fault's line is, for which
 -- that start may be refused, and so much is printed before it.
 abbrev pub ServesHere : {G : Type 0} → Works Start G
-ServesHere before start printed lines status after = (status ≡ 0 → (lines ≡ []) × HasServed start (held_before printed) (held_after printed))
-    × (status ≡ 1 → IsToldOf lists fault_text (λ why. IsRefusal start (held_before printed) (held_after printed) why × IsSilentOrBehind start printed why) [] lines)
+ServesHere before start printed lines status after = (status ≡ 0 → (lines ≡ []) × HasServed printed.holds start printed.old printed.new)
+    × (status ≡ 1 → IsToldOf lists fault_text (λ why. IsRefusal printed.holds start printed.old printed.new why × IsSilentOrBehind start printed why) [] lines)
 
 -- Who runs gateways here was asked to run just this one, by what he was before and is then, and it ended with this status. It is no more
 -- than a name for the call, as are those below it: who makes the call has it, and nobody else.

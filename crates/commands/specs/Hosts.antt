@@ -118,13 +118,6 @@ pub record Written : Type 1 where
 abbrev pub written : {O : Type 0} → (O → Option (List ℕ)) → O → O → Written
 written {O = O} holds old new = record { kind = O; holds = holds; old = old; new = new }
 
--- what it held before, and what it holds then
-abbrev pub held_before : Written → Option (List ℕ)
-held_before printed = printed.holds printed.old
-
-abbrev pub held_after : Written → Option (List ℕ)
-held_after printed = printed.holds printed.new
-
 -- what a work may print, which lines it may tell, one after the other, with which status, and what its worker is then
 abbrev pub Works : Type 0 → Type 0 → Type 1
 Works W H = H → W → Written → List (List ℕ) → ℕ → H → Type 0

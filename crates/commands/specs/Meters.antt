@@ -2,13 +2,13 @@
 use Rattle.std.specs.Prelude.{◌≡◌, ◌≤◌, ◌<◌, ◌+◌, ◌-◌, ◌^◌, ◌++◌, ◌⊎◌, min, ℕ, Bool, true, false, List, Ok, Err, codes, length}
 use Rattle.std.specs.Fmt.{decimal}
 use Rattle.std.specs.declared.io.Error.{Error}
-use Rattle.box_words.specs.Memory.{WasShort}
+use Rattle.faults.specs.Memory.{WasShort}
 use Rattle.faults.specs.Jobs.{IsJobOf}
 use Rattle.faults.specs.Texts.{fault_text}
 use Rattle.faults.specs.declared.faults.Fault.{Fault}
 use Rattle.faults.specs.declared.jobs.Job.{Job}
 use Rattle.outlets.specs.Telling.{IsToldOf, Telling as Tells}
-use Rattle.simulation.specs.Watched.{IsToldAll, IsToldPart, OverhearsScript}
+use Rattle.simulation.specs.Watched.{Ends, IsTold, IsToldAll, IsToldScript, IsWhole}
 
 -- the line that says how far a run is
 abbrev pub line : ℕ → ℕ → List ℕ
@@ -69,29 +69,50 @@ pub record HasHeardScript {C E : Type 0} (reads : Reads C) (tells : Tells E) (te
 abbrev pub Hearing : Type 0 → Type 1
 Hearing E = List ℕ → List ℕ → E → E → Type 0
 
--- of a script that is watched so much was heard; of one that isn't, nothing is told
+-- where a run is watched so much is heard of it; where it isn't, nothing is told
+abbrev pub IfWatched : {E : Type 0} → Bool → Type 0 → E → E → Type 0
+IfWatched is_watched Heard before after = (is_watched ≡ true → Heard) × (is_watched ≡ false → after ≡ before)
+
 abbrev pub Watches : {C E : Type 0} → Bool → Reads C → Tells E → C → Hearing E
 Watches is_watched reads tells clock text script before after =
-    (is_watched ≡ true → HasHeardScript reads tells text script clock before after) × (is_watched ≡ false → after ≡ before)
+    IfWatched is_watched (HasHeardScript reads tells text script clock before after) before after
 
--- who is told of a run of so many events heard so of some of them, or of none, by a clock that was this one when it began
-pub record HasOverheard {C E : Type 0} (reads : Reads C) (tells : Tells E) (all : ℕ) (clock : C) (before after : E) : Type 0 where
+-- ---- of a run that a fault ends, by how often who watches was told by then
+
+-- who is told of a run of so many events heard of it so often, by a clock that was this one when it began
+pub record HasOverheard {C E : Type 0} (reads : Reads C) (tells : Tells E) (all : ℕ) (clock : C) (times : ℕ) (before after : E) : Type 0 where
   pub last : Telling C E
-  pub told : IsToldPart (Hears reads tells) all (telling clock 200 false before) last
+  pub told : IsTold (Hears reads tells) all times (telling clock 200 false before) last
   pub is_last : after ≡ last.errors
 
 -- the same of a script's events; or nothing was heard
-pub record HasOverheardScript {C E : Type 0} (reads : Reads C) (tells : Tells E) (text script : List ℕ) (clock : C) (before after : E) : Type 0 where
+pub record HasOverheardScript {C E : Type 0} (reads : Reads C) (tells : Tells E) (text script : List ℕ) (clock : C) (times : ℕ) (before after : E) : Type 0 where
   pub last : Telling C E
-  pub told : OverhearsScript (Hears reads tells) text script (telling clock 200 false before) last
+  pub told : IsToldScript (Hears reads tells) text script times (telling clock 200 false before) last
   pub is_last : after ≡ last.errors
 
--- of a script that is watched so much was heard until a fault ended its run; of one that isn't, nothing is told
-abbrev pub Overhears : {C E : Type 0} → Bool → Reads C → Tells E → C → Hearing E
-Overhears is_watched reads tells clock text script before after =
-    (is_watched ≡ true → HasOverheardScript reads tells text script clock before after) × (is_watched ≡ false → after ≡ before)
+abbrev pub OverhearsSome : {C E : Type 0} → Bool → Reads C → Tells E → ℕ → C → ℕ → E → E → Type 0
+OverhearsSome is_watched reads tells all clock times before after =
+    IfWatched is_watched (HasOverheard reads tells all clock times before after) before after
 
--- behind what was heard of a run, just the line of such a fault was told
-abbrev pub IsToldBehind : {E : Type 0} → Tells E → (E → E → Type 0) → (Fault → Type 0) → E → E → Type 0
-IsToldBehind {E = E} tells overhears is_such before after =
-    (middle : E) × (overhears before middle × IsToldOf tells fault_text is_such middle after)
+-- of so many events so much is heard to their end
+abbrev pub OverhearsAll : {C E : Type 0} → Bool → Reads C → Tells E → ℕ → C → E → E → Type 0
+OverhearsAll is_watched reads tells all clock before after =
+    (times : ℕ) × (IsWhole all times × OverhearsSome is_watched reads tells all clock times before after)
+
+-- what is told of the run of a script that a fault ends, by the texts of its settings and of the script, and by how often who watches was told
+abbrev pub Overhearing : Type 0 → Type 1
+Overhearing E = List ℕ → List ℕ → ℕ → E → E → Type 0
+
+abbrev pub Overhears : {C E : Type 0} → Bool → Reads C → Tells E → C → Overhearing E
+Overhears is_watched reads tells clock text script times before after =
+    IfWatched is_watched (HasOverheardScript reads tells text script clock times before after) before after
+
+-- so much was heard of a run, and by then a fault ended it so
+abbrev pub EndsBehind : {E : Type 0} → (ℕ → E → E → Type 0) → Ends → E → E → Fault → Type 0
+EndsBehind overhears ends before after why = (times : ℕ) × (overhears times before after × ends times why)
+
+-- so much was heard of it, and behind that just the line of the fault was told that ended it so by then
+abbrev pub IsToldBehind : {E : Type 0} → Tells E → (ℕ → E → E → Type 0) → Ends → E → E → Type 0
+IsToldBehind {E = E} tells overhears ends before after = (times : ℕ)
+    × ((middle : E) × (overhears times before middle × IsToldOf tells fault_text (ends times) middle after))

@@ -1,11 +1,7 @@
 //! The file of a capture.
 ghost use Rattle.std.specs.IoError.{error_kind};
-ghost use Rattle.std.specs.Prelude.{◌≡◌, ◌≢◌, ◌⊎◌, Some, None, is_err, false, true, Err, Ok, IfErr, IfOk, IsErr, OnOk};
-ghost use Rattle.std.specs.declared.io.ErrorKind.TheVariants as causes;
-ghost use Rattle.box_words.specs.Memory.{WasShort};
-ghost use Rattle.faults.specs.Faults.{Tells, status_of};
-ghost use Rattle.faults.specs.declared.faults.Fault.TheVariants as faults;
-ghost use Rattle.faults.specs.declared.files.Refusal.TheVariants as refusals;
+ghost use Rattle.std.specs.Prelude.{◌≡◌, ◌⊎◌, is_err, false, true, Err, Ok, IfErr, IfOk, IsErr, OnOk};
+ghost use Rattle.faults.specs.Faults.{status_of};
 ghost use Rattle.faults.specs.Texts.{fault_text};
 ghost use Rattle.outlets.specs.Telling.{IsToldOf};
 ghost use Rattle.commands.specs.Captures.{IsOfCapture, IsOfEnd};
@@ -43,22 +39,6 @@ pub(crate) fn unmade<E: Tells>(alloc: Global, error: &io::Error, path: &str, err
 /// The fault of a capture that couldn't be begun or written in the file at a path.
 fn capture_fault(alloc: Global, path: &str, error: &io::Error) -> Fault
     ensures why { IsOfCapture path.now (error_kind error.now) result }
-    ensures status { status_of result ≡ 1 }
-{
-    fault_of(alloc, path, error)
-}
-
-/// The same, as [`Fault::of_capture`] says.
-#[tactic(auto, unfolding(box_words::specs::Memory::WasShort))]
-fn fault_of(alloc: Global, path: &str, error: &io::Error) -> Fault
-    ensures memory { error_kind error.now ≡ causes.OutOfMemory → result ≡ faults.NoMemory }
-    ensures exists { error_kind error.now ≡ causes.AlreadyExists
-        → Tells refusals.Exists path.now None result }
-    ensures told { error_kind error.now ≢ causes.OutOfMemory
-        → error_kind error.now ≢ causes.AlreadyExists
-        → Tells refusals.NotWritten path.now (Some (error_kind error.now)) result }
-    ensures short { result ≡ faults.NoMemory
-        → (error_kind error.now ≡ causes.OutOfMemory) ⊎ WasShort path.now }
     ensures status { status_of result ≡ 1 }
 {
     Fault::of_capture(alloc, path, error)

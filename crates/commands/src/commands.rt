@@ -6,7 +6,7 @@ ghost use Rattle.commands.specs.Words.{AreRefused, HasActed, IsRefusalTold};
 ghost use Rattle.commands.specs.Asked.{format_of};
 ghost use Rattle.commands.specs.Acts.{Acts, IsSpared};
 ghost use Rattle.commands.specs.Ends.{AreDone, Ends};
-ghost use Rattle.commands.specs.Hosts.{scene};
+ghost use Rattle.commands.specs.Hosts.{scene, written};
 ghost use Rattle.commands.specs.Meters.{Overhears, Watches};
 
 use crate::asking::{look_at, pairs_of, state_of};
@@ -45,7 +45,7 @@ pub(crate) fn act_at<S: Site, H: Host, P: Channel, C: Clockwork + Drop, O: Write
     ensures version { AskVersion (map string_bytes words.now)
         → (result ≡ 0) ⊎ (result ≡ 1) }
     ensures done { (result ≡ 0) ⊎ (result ≡ 3) → AreDone P.opens P.passes passage.old
-        (map string_bytes words.now) (O.contents output.old) (O.contents output.new) result }
+        (map string_bytes words.now) (written O.contents output.old output.new) result }
     ensures quiet { is_watched ≡ false → (result ≡ 0) ⊎ (result ≡ 3) → errors.new ≡ errors.old }
     ensures most { result ≤ 3 }
     ensures acts { HasActed E.tells (Acts S.does H.works H.Record.takes H.Record.refuses
@@ -80,7 +80,7 @@ fn done<S: Site, H: Host, P: Channel, C: Clockwork + Drop, O: Write, E: Tells>(
     requires found { FoundsAtZero task.now }
     ensures status { (result ≡ 0) ⊎ ((result ≡ 1) ⊎ (result ≡ 3)) }
     ensures done { (result ≡ 0) ⊎ (result ≡ 3)
-        → Ends P.opens P.passes passage.old (O.contents output.old) (O.contents output.new)
+        → Ends P.opens P.passes passage.old (written O.contents output.old output.new)
         task.now result }
     ensures quiet { is_watched ≡ false → (result ≡ 0) ⊎ (result ≡ 3) → errors.new ≡ errors.old }
     ensures spared { IsSpared task.now passage.old passage.new }

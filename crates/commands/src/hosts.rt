@@ -92,14 +92,14 @@ pub(crate) trait Host {
         ensures status { (result ≡ 0) ⊎ (result ≡ 1) }
         ensures quiet { result ≡ 0 → errors.new ≡ errors.old }
         ensures served { result ≡ 0
-            → HasServed start.now (O.contents output.old) (O.contents output.new) };
+            → HasServed O.contents start.now output.old output.new };
 }
 
 /// This machine as a host: who begins captures here, what is looked at around it, who runs gateways, and where memory is asked
 /// for. The first three are asked by what they were before and are then: which capture was begun, or couldn't be, what was
 /// looked at and found, and which start was run have names (`WasBegun`, `WasUnbegun`, `WasFound`, `WasTaken`, `WasServed`), and
-/// so has that a capture was ended (`WasEnded`). Beyond that nothing is known of what the system answers, nor of what a file
-/// holds.
+/// so has that a capture was ended (`WasEnded`). All else that it has stays as it is. Beyond that nothing is known of what the
+/// system answers, nor of what a file holds.
 #[derive(Drop)]
 pub(crate) struct ThisHost<'a, R, G> {
     captures: SystemCaptures<'a, R>,
@@ -128,15 +128,15 @@ where
     R::File: Lockable,
 {
     ghost works = { λ host work printed lines status host2.
-        (host2.captures ≡ host.captures)
+        (host2 ≡ record host { around = host2.around; gateways = host2.gateways })
         × WorksHere ⟦<ThisMachine<'static, R> as Surroundings>⟧.finds
         ⟦<ThisMachine<'static, R> as Surroundings>⟧.takes host.around host2.around
         G.serves host.gateways work printed lines status host2.gateways };
 
     type Record = Capture<BufWriter<R::File>>;
 
-    ghost begins = { λ host path answer host2. (host2.gateways ≡ host.gateways)
-        × (host2.around ≡ host.around)
+    ghost begins = { λ host path answer host2.
+        (host2 ≡ record host { captures = host2.captures })
         × IsBegunAt host.captures path answer host2.captures
         × IfOk answer (λ tape. IsFresh tape.clocks tape.is_refused) };
 

@@ -58,7 +58,7 @@ where
         → (result ≡ 0) ⊎ (result ≡ 1) }
     ensures done { (result ≡ 0) ⊎ (result ≡ 3) → AreDoneAnew IsUnasked
         ⟦<Loopback<'static, R> as Channel>⟧.opens ⟦<Loopback<'static, R> as Channel>⟧.passes
-        (map string_bytes words.now) (O.contents output.old) (O.contents output.new) result }
+        (map string_bytes words.now) (written O.contents output.old output.new) result }
     ensures quiet { is_watched ≡ false → (result ≡ 0) ⊎ (result ≡ 3) → errors.new ≡ errors.old }
     ensures most { result ≤ 3 }
     ensures acts { HasActedSomewhere E.tells IsUntouched IsUntouched IsUnasked
@@ -118,7 +118,10 @@ impl<R: Files + AllocGlobal> SystemCaptures<'_, R> {
             (λ error. WasUnbegun self.old path.now (error_kind error) self.new) }
     {
         let file = open(self.rt, path, Reader::Awaited)?.clear()?;
-        Capture::begin(BufWriter::new(self.rt.alloc(), file)?)
+        match Capture::begin(BufWriter::new(self.rt.alloc(), file)?) {
+            Ok(capture) => Ok(capture),
+            Err(unbegun) => Err(unbegun.error),
+        }
     }
 }
 
@@ -154,7 +157,7 @@ where
         ensures status { (result ≡ 0) ⊎ (result ≡ 1) }
         ensures quiet { result ≡ 0 → errors.new ≡ errors.old }
         ensures served { result ≡ 0
-            → HasServed start.now (O.contents output.old) (O.contents output.new) }
+            → HasServed O.contents start.now output.old output.new }
     {
         gate(self.rt, start, output, errors)
     }

@@ -1,6 +1,6 @@
 //! How far a run is, for whoever waits for it at a terminal.
 ghost use Rattle.std.specs.Prelude.{◌≡◌, IfOk, OnErr, string_bytes};
-ghost use Rattle.box_words.specs.Memory.{WasShort};
+ghost use Rattle.faults.specs.Memory.{WasShort};
 ghost use Rattle.commands.specs.Meters.{IsSaid, line};
 
 use outlets::Tells;
@@ -80,7 +80,7 @@ fn is_refused<E: Tells>(errors: &mut E, line: &str) -> bool
 }
 
 /// That line.
-#[tactic(auto, unfolding(box_words::specs::Memory::WasShort))]
+#[tactic(auto, unfolding(faults::specs::Memory::WasShort))]
 fn line(alloc: Global, taken: usize, all: usize) -> Result<String, AllocError>
     ensures text { IfOk result (λ text. string_bytes text ≡ line taken all) }
     ensures short { OnErr result (WasShort (line taken all)) }

@@ -1,22 +1,21 @@
 //! Scripts that are run, and captured where that is asked for.
-ghost use Rattle.std.specs.Prelude.{◌≡◌, ◌≢◌, ◌⊎◌, IfErr, IfOk, None, Ok, OnErr, OnOk, false, length, string_bytes, true};
+ghost use Rattle.std.specs.Prelude.{◌≡◌, ◌≢◌, ◌⊎◌, IfErr, IfOk, None, Ok, OnOk, length, string_bytes};
 ghost use Rattle.faults.specs.Faults.{status_of};
 ghost use Rattle.faults.specs.declared.faults.Fault.TheVariants as faults;
-ghost use Rattle.faults.specs.Jobs.{IsJobOf};
+ghost use Rattle.faults.specs.Jobs.{IsJobOf, TellsRun};
 ghost use Rattle.faults.specs.Texts.{fault_text};
-ghost use Rattle.frame_sim.specs.Asked.{HoldNoJob};
 ghost use Rattle.outlets.specs.Telling.{IsToldOf};
-ghost use Rattle.loopback_run.specs.Loops.{IsLoop, LoopsScript, TellsLoop};
-ghost use Rattle.loopback_run.specs.Outputs.{HasPut as HasPutLoop, PutsScript as PutsLoop};
+ghost use Rattle.loopback_run.specs.Loops.{TellsLoop};
 ghost use Rattle.loopback_run.specs.Tapes.{IsTapedLoop, StopsTapedLoop};
 ghost use Rattle.settings_file.specs.Clashes.{clash_of_both};
-ghost use Rattle.simulation.specs.Status.{RunsScript};
-ghost use Rattle.simulation.specs.Tapes.{HasPut, IsTapedRun, PutsScript, StopsTaped};
-ghost use Rattle.simulation.specs.Watched.{IsToldAll, IsToldPart, OverhearsScript, WatchesScript};
-ghost use Rattle.commands.specs.Acts.{EndsSim, FailsSim, HasRunOf, Repeats};
-ghost use Rattle.commands.specs.Captures.{HasJob, IsCaptured, IsHeldBy, IsLoopCaptured, IsOfEvents, IsOfPorts, IsOpened, IsUnlooped, IsUnopened, LeavesCapture, TapesPassed, TapesSim};
-ghost use Rattle.commands.specs.Hosts.{scene, written};
-ghost use Rattle.commands.specs.Meters.{HasHeard, HasHeardScript, HasOverheard, HasOverheardScript, Hears, IsToldBehind, Overhears, Watches, telling};
+ghost use Rattle.simulation.specs.Status.{PutsScript};
+ghost use Rattle.simulation.specs.Stops.{Leaves};
+ghost use Rattle.simulation.specs.Tapes.{IsTapedRun, StopsTaped};
+ghost use Rattle.simulation.specs.Watched.{IsToldAll, Overhears as OverhearsBy, OverhearsScript, WatchesScript};
+ghost use Rattle.commands.specs.Acts.{EndsSim, FailsSim, HasJobYet, HasRunOf, HoldNoJobYet, Repeats};
+ghost use Rattle.commands.specs.Captures.{IsCaptured, IsHeldBy, IsLoopCaptured, IsOfEvents, IsOfPorts, IsOpened, IsUnlooped, IsUnopened, LeavesCapture, TapesPassed, TapesSim};
+ghost use Rattle.commands.specs.Hosts.{scene};
+ghost use Rattle.commands.specs.Meters.{EndsBehind, HasHeardScript, HasOverheardScript, Hears, IsToldBehind, Overhears, OverhearsAll, OverhearsSome, Watches, telling};
 ghost use Rattle.commands.specs.Reading.{AreNotHad, AreRead};
 
 use crate::capture_files::{ended, unmade};
@@ -84,17 +83,13 @@ fn simulated<C: Clockwork + Drop, O: Write, E: Tells>(
     errors: &mut E,
 ) -> u8
     ensures status { (result ≡ 0) ⊎ ((result ≡ 1) ⊎ (result ≡ 3)) }
-    ensures run { (result ≡ 0) ⊎ (result ≡ 3) → RunsScript settings.now script.now
-        (O.contents output.old) (O.contents output.new) result }
-    ensures put { (result ≡ 0) ⊎ (result ≡ 3)
-        → PutsScript settings.now script.now output.old output.new }
-    ensures heard { is_watched ≡ true → (result ≡ 0) ⊎ (result ≡ 3)
-        → HasHeardScript C.reads E.tells settings.now script.now clock errors.old errors.new }
-    ensures quiet { is_watched ≡ false → (result ≡ 0) ⊎ (result ≡ 3)
-        → errors.new ≡ errors.old }
+    ensures run { (result ≡ 0) ⊎ (result ≡ 3)
+        → PutsScript O.contents settings.now script.now output.old output.new result }
+    ensures heard { (result ≡ 0) ⊎ (result ≡ 3) → Watches is_watched C.reads E.tells clock
+        settings.now script.now errors.old errors.new }
     ensures failed { result ≡ 1 → IsToldBehind E.tells
         (Overhears is_watched C.reads E.tells clock settings.now script.now)
-        (FailsSim O.contents settings.now script.now output.old output.new)
+        (λ times. FailsSim O.contents times settings.now script.now output.old output.new)
         errors.old errors.new }
 {
     if !is_watched {
@@ -115,17 +110,17 @@ fn watched<C: Clockwork + Drop, O: Write, E: Tells>(
     output: &mut O,
     errors: &mut E,
 ) -> Result<u8, Fault>
-    ensures run { IfOk result (RunsScript settings.now script.now (O.contents output.old)
-        (O.contents output.new)) }
-    ensures put { OnOk result (PutsScript settings.now script.now output.old output.new) }
+    ensures run { IfOk result
+        (PutsScript O.contents settings.now script.now output.old output.new) }
     ensures status { IfOk result (λ status. (status ≡ 0) ⊎ (status ≡ 3)) }
     ensures known { IfErr result (λ fault. status_of fault ≡ 1) }
-    ensures failed { IfErr result
-        (FailsSim O.contents settings.now script.now output.old output.new) }
+    ensures told { IfErr result (TellsRun settings.now script.now) }
     ensures heard { OnOk result (HasHeardScript C.reads E.tells settings.now script.now
         clock errors.old errors.new) }
-    ensures overheard { OnErr result (HasOverheardScript C.reads E.tells settings.now script.now
-        clock errors.old errors.new) }
+    ensures leaves { IfErr result
+        (EndsBehind (HasOverheardScript C.reads E.tells settings.now script.now clock)
+        (Leaves O.contents settings.now script.now output.old output.new)
+        errors.old errors.new) }
 {
     let mut meter = Meter::start(alloc, clock, errors);
     metered(alloc, settings, script, &mut meter, output)
@@ -139,21 +134,20 @@ fn metered<C: Clockwork, O: Write, E: Tells>(
     meter: &mut Meter<'_, C, E>,
     output: &mut O,
 ) -> Result<u8, Fault>
-    ensures run { IfOk result (RunsScript settings.now script.now (O.contents output.old)
-        (O.contents output.new)) }
-    ensures put { OnOk result (PutsScript settings.now script.now output.old output.new) }
+    ensures run { IfOk result
+        (PutsScript O.contents settings.now script.now output.old output.new) }
     ensures status { IfOk result (λ status. (status ≡ 0) ⊎ (status ≡ 3)) }
     ensures known { IfErr result (λ fault. status_of fault ≡ 1) }
-    ensures failed { IfErr result
-        (FailsSim O.contents settings.now script.now output.old output.new) }
+    ensures told { IfErr result (TellsRun settings.now script.now) }
     ensures same_reference { meter.new.errors.ghost_name ≡ meter.old.errors.ghost_name }
     ensures heard { OnOk result (WatchesScript (Hears C.reads E.tells) settings.now script.now
         (telling meter.old.clock meter.old.next meter.old.is_refused meter.old.errors.now)
         (telling meter.new.clock meter.new.next meter.new.is_refused meter.new.errors.now)) }
-    ensures overheard { OnErr result
+    ensures leaves { IfErr result
         (OverhearsScript (Hears C.reads E.tells) settings.now script.now
         (telling meter.old.clock meter.old.next meter.old.is_refused meter.old.errors.now)
-        (telling meter.new.clock meter.new.next meter.new.is_refused meter.new.errors.now)) }
+        (telling meter.new.clock meter.new.next meter.new.is_refused meter.new.errors.now)
+        (Leaves O.contents settings.now script.now output.old output.new)) }
 {
     simulate_watched(alloc, settings, script, meter, output)
 }
@@ -171,22 +165,16 @@ fn sim_captured<H: Host, C: Clockwork + Drop, O: Write, E: Tells>(
     errors: &mut E,
 ) -> u8
     ensures status { (result ≡ 0) ⊎ ((result ≡ 1) ⊎ (result ≡ 3)) }
-    ensures run { (result ≡ 0) ⊎ (result ≡ 3) → RunsScript settings.now script.now
-        (O.contents output.old) (O.contents output.new) result }
-    ensures put { (result ≡ 0) ⊎ (result ≡ 3)
-        → PutsScript settings.now script.now output.old output.new }
-    ensures heard { is_watched ≡ true → (result ≡ 0) ⊎ (result ≡ 3)
-        → HasHeardScript C.reads E.tells settings.now script.now clock errors.old errors.new }
-    ensures quiet { is_watched ≡ false → (result ≡ 0) ⊎ (result ≡ 3)
-        → errors.new ≡ errors.old }
-    ensures captured { (result ≡ 0) ⊎ (result ≡ 3) → IsCaptured H.Record.takes
-        H.begins H.ends path.now settings.now script.now
-        (written O.contents output.old output.new) result host.old host.new }
+    ensures captured { (result ≡ 0) ⊎ (result ≡ 3) → IsCaptured H.Record.takes H.begins H.ends
+        O.contents path.now settings.now script.now output.old output.new result
+        host.old host.new }
+    ensures heard { (result ≡ 0) ⊎ (result ≡ 3) → Watches is_watched C.reads E.tells clock
+        settings.now script.now errors.old errors.new }
     ensures failed { result ≡ 1 → IsToldBehind E.tells
         (Overhears is_watched C.reads E.tells clock settings.now script.now)
-        (λ why. LeavesCapture H.begins H.ends path.now (HoldNoJob settings.now script.now)
-        (HasJob settings.now script.now)
-        (λ run first last. TapesSim H.Record.takes H.Record.refuses O.contents settings.now
+        (λ times why. LeavesCapture H.begins H.ends path.now
+        (HoldNoJobYet times settings.now script.now) (HasJobYet times settings.now script.now)
+        (λ run first last. TapesSim H.Record.takes H.Record.refuses O.contents times settings.now
         script.now run first last output.old output.new) why
         host.old host.new output.old output.new) errors.old errors.new }
 {
@@ -213,20 +201,17 @@ fn taped<C: Clockwork + Drop, T: Tape, O: Write, E: Tells>(
     output: &mut O,
     errors: &mut E,
 ) -> Result<u8, Fault>
-    ensures run { IfOk result (IsTapedRun T.takes job.now.settings job.now.events.items
-        tape.old tape.new (O.contents output.old) (O.contents output.new)) }
-    ensures put { OnOk result
-        (HasPut job.now.settings job.now.events.items output.old output.new) }
+    ensures run { IfOk result (IsTapedRun T.takes O.contents job.now.settings
+        job.now.events.items tape.old tape.new output.old output.new) }
     ensures status { IfOk result (λ status. (status ≡ 0) ⊎ (status ≡ 3)) }
     ensures known { IfErr result (λ fault. status_of fault ≡ 1) }
     ensures told { IfErr result IsOfEvents }
-    ensures stopped { IfErr result (StopsTaped T.takes T.refuses O.contents
-        job.now.settings job.now.events.items tape.old tape.new output.old output.new) }
-    ensures heard { is_watched ≡ true → OnOk result (HasHeard C.reads E.tells
+    ensures heard { OnOk result (OverhearsAll is_watched C.reads E.tells
         (length job.now.events.items) clock errors.old errors.new) }
-    ensures overheard { is_watched ≡ true → OnErr result (HasOverheard C.reads E.tells
-        (length job.now.events.items) clock errors.old errors.new) }
-    ensures quiet { is_watched ≡ false → errors.new ≡ errors.old }
+    ensures stopped { IfErr result
+        (EndsBehind (OverhearsSome is_watched C.reads E.tells (length job.now.events.items) clock)
+        (StopsTaped T.takes T.refuses O.contents job.now.settings job.now.events.items
+        tape.old tape.new output.old output.new) errors.old errors.new) }
 {
     if is_watched {
         let mut meter = Meter::start(alloc, clock, errors);
@@ -245,24 +230,22 @@ fn taped_metered<C: Clockwork, T: Tape, O: Write, E: Tells>(
     tape: &mut T,
     output: &mut O,
 ) -> Result<u8, Fault>
-    ensures run { IfOk result (IsTapedRun T.takes job.now.settings job.now.events.items
-        tape.old tape.new (O.contents output.old) (O.contents output.new)) }
-    ensures put { OnOk result
-        (HasPut job.now.settings job.now.events.items output.old output.new) }
+    ensures run { IfOk result (IsTapedRun T.takes O.contents job.now.settings
+        job.now.events.items tape.old tape.new output.old output.new) }
     ensures status { IfOk result (λ status. (status ≡ 0) ⊎ (status ≡ 3)) }
     ensures known { IfErr result (λ fault. status_of fault ≡ 1) }
     ensures told { IfErr result IsOfEvents }
-    ensures stopped { IfErr result (StopsTaped T.takes T.refuses O.contents
-        job.now.settings job.now.events.items tape.old tape.new output.old output.new) }
     ensures same_reference { meter.new.errors.ghost_name ≡ meter.old.errors.ghost_name }
     ensures heard { OnOk result
         (IsToldAll (Hears C.reads E.tells) (length job.now.events.items)
         (telling meter.old.clock meter.old.next meter.old.is_refused meter.old.errors.now)
         (telling meter.new.clock meter.new.next meter.new.is_refused meter.new.errors.now)) }
-    ensures overheard { OnErr result
-        (IsToldPart (Hears C.reads E.tells) (length job.now.events.items)
+    ensures stopped { IfErr result
+        (OverhearsBy (Hears C.reads E.tells) (length job.now.events.items)
         (telling meter.old.clock meter.old.next meter.old.is_refused meter.old.errors.now)
-        (telling meter.new.clock meter.new.next meter.new.is_refused meter.new.errors.now)) }
+        (telling meter.new.clock meter.new.next meter.new.is_refused meter.new.errors.now)
+        (StopsTaped T.takes T.refuses O.contents job.now.settings job.now.events.items
+        tape.old tape.new output.old output.new)) }
 {
     let (settings, events) = (&job.settings, job.events.as_slice());
     simulation::play(alloc, settings, events, meter, tape, output)
@@ -311,14 +294,10 @@ fn repeat_captured<H: Host, P: Channel, O: Write, E: Tells>(
     errors: &mut E,
 ) -> u8
     ensures status { (result ≡ 0) ⊎ ((result ≡ 1) ⊎ (result ≡ 3)) }
-    ensures run { (result ≡ 0) ⊎ (result ≡ 3) → LoopsScript P.opens P.passes settings.now
-        script.now passage.old passage.new (O.contents output.old) (O.contents output.new) result }
-    ensures put { (result ≡ 0) ⊎ (result ≡ 3) → PutsLoop P.opens P.passes settings.now script.now
-        passage.old passage.new output.old output.new }
     ensures quiet { (result ≡ 0) ⊎ (result ≡ 3) → errors.new ≡ errors.old }
     ensures captured { (result ≡ 0) ⊎ (result ≡ 3) → IsLoopCaptured H.Record.takes
-        H.begins H.ends P.opens P.passes passage.old passage.new path.now settings.now script.now
-        host.old host.new }
+        H.begins H.ends P.opens P.passes O.contents passage.old passage.new path.now settings.now
+        script.now output.old output.new result host.old host.new }
     ensures failed { result ≡ 1 → IsToldOf E.tells fault_text
         (λ why. LeavesCapture H.begins H.ends path.now
         (IsUnlooped P.refuses passage.old passage.new settings.now script.now)
@@ -389,18 +368,14 @@ fn looped<P: Channel, T: Tape, O: Write>(
     tape: &mut T,
     output: &mut O,
 ) -> Result<u8, Fault>
-    ensures run { IfOk result (IsLoop P.passes job.now.settings job.now.events.items
-        passage.old passage.new (O.contents output.old) (O.contents output.new)) }
-    ensures put { OnOk result (HasPutLoop P.passes job.now.settings job.now.events.items
-        passage.old passage.new output.old output.new) }
+    ensures run { IfOk result (IsTapedLoop P.passes T.takes O.contents job.now.settings
+        job.now.events.items passage.old passage.new tape.old tape.new output.old output.new) }
     ensures status { IfOk result (λ status. (status ≡ 0) ⊎ (status ≡ 3)) }
     ensures known { IfErr result (λ fault. status_of fault ≡ 1) }
     ensures told { IfErr result IsOfEvents }
     ensures broken { IfErr result (StopsTapedLoop P.passes T.takes T.refuses O.contents
         job.now.settings job.now.events.items passage.old passage.new tape.old tape.new
         output.old output.new) }
-    ensures taped { OnOk result (IsTapedLoop P.passes T.takes job.now.settings
-        job.now.events.items passage.old passage.new tape.old tape.new) }
 {
     let events = job.events.as_slice();
     loopback_run::play(alloc, &job.settings, events, passage, tape, output)

@@ -34,7 +34,7 @@ pub(crate) trait Serves {
         ensures status { (result ≡ 0) ⊎ (result ≡ 1) }
         ensures quiet { result ≡ 0 → errors.new ≡ errors.old }
         ensures served { result ≡ 0
-            → HasServed start.now (O.contents output.old) (O.contents output.new) };
+            → HasServed O.contents start.now output.old output.new };
 }
 
 /// This machine: one start is one call of it.

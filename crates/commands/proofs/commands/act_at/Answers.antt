@@ -8,7 +8,7 @@ pub returns-in-Ok-clause-refused : goal.returns-in-Ok-clause-refused
 returns-in-Ok-clause-refused g c h others = not_refused _ _ c.in-Ok.ensures.task h others
 
 pub returns-in-Ok-clause-version : goal.returns-in-Ok-clause-version
-returns-in-Ok-clause-version g c asked = ends_version _ _ _ _ _ _ _ (c.in-Ok.ensures.version asked) c.done.ensures.status c.done.ensures.done
+returns-in-Ok-clause-version g c asked = ends_version _ _ _ _ _ _ (c.in-Ok.ensures.version asked) c.done.ensures.status c.done.ensures.done
 
 pub returns-in-Ok-clause-done : goal.returns-in-Ok-clause-done
 returns-in-Ok-clause-done g c h = record { asked = _; answer = c.in-Ok.ensures.task; ends = c.done.ensures.done h }

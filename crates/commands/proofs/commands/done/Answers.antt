@@ -2,6 +2,7 @@ use Rattle.std.proofs.Common.{refl}
 use Rattle.commands.proofs.Statuses.{is_0}
 use Rattle.std.specs.Prelude.{string_bytes}
 use Rattle.commands.proofs.Looking.{looked}
+use Rattle.commands.proofs.Taping.{loop_put_of, put_of}
 use Rattle.commands.proofs.commands.done.Goals as goal
 
 pub returns-in-Init-clause-done : goal.returns-in-Init-clause-done
@@ -43,17 +44,17 @@ returns-in-Side-clause-done g c h = rw c.in-Side.is (is_0 _ c.side.ensures.statu
 pub returns-in-Sim-clause-done : goal.returns-in-Sim-clause-done
 returns-in-Sim-clause-done g c h =
     let ran = c.sim.ensures.named h in
-    rw c.in-Sim.is (record { text = ran.text; script = ran.script; run = ran.run })
+    rw c.in-Sim.is (record { text = ran.text; script = ran.script; run = put_of _ _ _ _ _ _ _ _ _ _ ran })
 
 pub returns-in-Loop-clause-done : goal.returns-in-Loop-clause-done
 returns-in-Loop-clause-done g c h =
     let ran = c.repeat.ensures.repeats.0 h in
-    rw c.in-Loop.is (record { text = ran.text; script = ran.script; last = _; run = ran.run })
+    rw c.in-Loop.is (record { text = ran.text; script = ran.script; last = _; run = loop_put_of _ _ _ _ _ _ _ _ _ _ _ _ _ ran })
 
 pub returns-in-Version-clause-done : goal.returns-in-Version-clause-done
 returns-in-Version-clause-done g c h =
     let none = is_0 _ c.tell_version.ensures.status h in
-    rw c.in-Version.is (none, c.tell_version.ensures.printed none)
+    rw c.in-Version.is (none, (c.tell_version.ensures.printed none, c.tell_version.ensures.put none))
 
 pub returns-in-Init-clause-acts : goal.returns-in-Init-clause-acts
 returns-in-Init-clause-acts g c = rw c.in-Init.is (

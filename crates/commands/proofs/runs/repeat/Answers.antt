@@ -1,6 +1,6 @@
 use Rattle.std.proofs.Common.{◌∙◌, inl, inr, refl}
 use Rattle.faults.specs.Texts.{fault_text}
-use Rattle.commands.proofs.Taping.{isnt_1}
+use Rattle.commands.proofs.Statuses.{isnt_1}
 use Rattle.commands.proofs.Telling.{told_as}
 use Rattle.commands.proofs.runs.repeat.Goals as goal
 
@@ -10,10 +10,8 @@ returns-in-Some-clause-repeats g c = (
     text = _;
     script = _;
     are_read = c.in-Ok.ensures.read;
-    run = rw (c.as_str-settings.ensures.value, c.as_str-script.ensures.value) at (c.repeat_captured.ensures.run h);
-    put = rw (c.as_str-settings.ensures.value, c.as_str-script.ensures.value) at (c.repeat_captured.ensures.put h);
     quiet = c.repeat_captured.ensures.quiet h;
-    captured = rw c.in-Some.is (rw (c.as_str-settings.ensures.value, c.as_str-script.ensures.value, c.as_str-path.ensures.value) at (c.repeat_captured.ensures.captured h));
+    run = rw c.in-Some.is (rw (c.as_str-settings.ensures.value, c.as_str-script.ensures.value, c.as_str-path.ensures.value) at (c.repeat_captured.ensures.captured h));
   },
   λ one. told_as g.E.Tells.tells fault_text _ _ c.args.errors.now c.repeat_captured.new.errors (c.repeat_captured.ensures.failed one) (λ why left. inl (record {
     text = _;
@@ -29,10 +27,8 @@ returns-in-Ok-clause-repeats g c = (
     text = _;
     script = _;
     are_read = c.in-Ok.ensures.read;
-    run = rw (c.as_str-settings.ensures.value, c.as_str-script.ensures.value) at (c.run_loop.ensures.run h);
-    put = rw (c.as_str-settings.ensures.value, c.as_str-script.ensures.value) at (c.run_loop.ensures.put h);
     quiet = c.run_loop.ensures.quiet h;
-    captured = rw c.in-None.is refl;
+    run = rw c.in-None.is (refl, rw (c.as_str-settings.ensures.value, c.as_str-script.ensures.value) at (c.run_loop.ensures.run h));
   },
   λ one. told_as g.E.Tells.tells fault_text _ _ c.args.errors.now c.run_loop.new.errors (c.run_loop.ensures.told one) (λ why fails. inl (record {
     text = _;

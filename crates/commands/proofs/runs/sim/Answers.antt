@@ -8,13 +8,8 @@ returns-in-Some-clause-named g c h = record {
   text = _;
   script = _;
   are_read = c.in-Ok.ensures.read;
-  run = rw (c.as_str-settings.ensures.value, c.as_str-script.ensures.value) at (c.sim_captured.ensures.run h);
-  put = rw (c.as_str-settings.ensures.value, c.as_str-script.ensures.value) at (c.sim_captured.ensures.put h);
-  told = (
-    λ watched. rw (c.as_str-settings.ensures.value, c.as_str-script.ensures.value) at (c.sim_captured.ensures.heard watched h),
-    λ unwatched. c.sim_captured.ensures.quiet unwatched h,
-  );
-  captured = rw c.in-Some.is (rw (c.as_str-settings.ensures.value, c.as_str-script.ensures.value, c.as_str-path.ensures.value) at (c.sim_captured.ensures.captured h));
+  told = rw (c.as_str-settings.ensures.value, c.as_str-script.ensures.value) at (c.sim_captured.ensures.heard h);
+  run = rw c.in-Some.is (rw (c.as_str-settings.ensures.value, c.as_str-script.ensures.value, c.as_str-path.ensures.value) at (c.sim_captured.ensures.captured h));
 }
 
 pub returns-in-Ok-clause-named : goal.returns-in-Ok-clause-named
@@ -22,13 +17,8 @@ returns-in-Ok-clause-named g c h = record {
   text = _;
   script = _;
   are_read = c.in-Ok.ensures.read;
-  run = rw (c.as_str-settings.ensures.value, c.as_str-script.ensures.value) at (c.simulated.ensures.run h);
-  put = rw (c.as_str-settings.ensures.value, c.as_str-script.ensures.value) at (c.simulated.ensures.put h);
-  told = (
-    λ watched. rw (c.as_str-settings.ensures.value, c.as_str-script.ensures.value) at (c.simulated.ensures.heard watched h),
-    λ unwatched. c.simulated.ensures.quiet unwatched h,
-  );
-  captured = rw c.in-None.is refl;
+  told = rw (c.as_str-settings.ensures.value, c.as_str-script.ensures.value) at (c.simulated.ensures.heard h);
+  run = rw c.in-None.is (refl, rw (c.as_str-settings.ensures.value, c.as_str-script.ensures.value) at (c.simulated.ensures.run h));
 }
 
 pub returns-in-Some-clause-failed : goal.returns-in-Some-clause-failed
@@ -47,7 +37,7 @@ returns-in-Ok-clause-failed g c one =
       text = _;
       script = _;
       are_read = c.in-Ok.ensures.read;
-      told = rw c.in-None.is (told_behind_as g.E.Tells.tells (Overhears c.args.is_watched g.C.Clockwork.reads g.E.Tells.tells c.args.clock _ _) _ _ c.args.errors.now c.simulated.new.errors failed (λ why fails. (refl, fails)));
+      told = rw c.in-None.is (told_behind_as g.E.Tells.tells (Overhears c.args.is_watched g.C.Clockwork.reads g.E.Tells.tells c.args.clock _ _) _ _ c.args.errors.now c.simulated.new.errors failed (λ times why fails. (refl, fails)));
     })
 
 pub returns-clause-failed : goal.returns-clause-failed

@@ -1,83 +1,81 @@
 use Rattle.std.proofs.Common.{◌∙◌, inl, inr, refl}
-use Rattle.commands.proofs.Hearing.{overheard_of, unheard}
+use Rattle.commands.proofs.Hearing.{heard_of, unheard}
 use Rattle.commands.proofs.Recording.{captured_of, closed_of, ended_of, tapes_sim}
-use Rattle.commands.proofs.Taping.{heard_of, isnt_1, puts_of, run_of}
+use Rattle.commands.proofs.Statuses.{isnt_1}
 use Rattle.faults.specs.Texts.{fault_text}
 use Rattle.commands.proofs.Telling.{told_as}
 use Rattle.commands.proofs.runs.sim_captured.Goals as goal
 
-pub returns-in-Ok-begin-clause-run : goal.returns-in-Ok-begin-clause-run
-returns-in-Ok-begin-clause-run g c h = run_of _ _ _ _ _ _ _ _ _ _ c.in-Ok.ensures.job c.in-Ok.ensures.good c.taped-run.ensures.run (c.ended.ensures.run h)
-
-pub returns-in-Ok-begin-clause-put : goal.returns-in-Ok-begin-clause-put
-returns-in-Ok-begin-clause-put g c h = puts_of _ _ _ _ _ _ _ c.in-Ok.ensures.job c.in-Ok.ensures.good c.taped-run.ensures.put (c.ended.ensures.run h)
-
-pub returns-in-Err-clause-put : goal.returns-in-Err-clause-put
-returns-in-Err-clause-put g c done = isnt_1 _ (c.tell.ensures.status ∙ c.in-Err.ensures.known) done
-
-pub returns-in-Err-clause-run : goal.returns-in-Err-clause-run
-returns-in-Err-clause-run g c done = isnt_1 _ (c.tell.ensures.status ∙ c.in-Err.ensures.known) done
-
-pub returns-in-Err-clause-quiet : goal.returns-in-Err-clause-quiet
-returns-in-Err-clause-quiet g c unwatched done = isnt_1 _ (c.tell.ensures.status ∙ c.in-Err.ensures.known) done
-
-pub returns-in-Ok-begin-clause-heard : goal.returns-in-Ok-begin-clause-heard
-returns-in-Ok-begin-clause-heard g c watched h =
-    heard_of _ _ _ _ _ _ _ _ _ _ _ c.in-Ok.ensures.job (c.taped-run.ensures.heard watched) (c.ended.ensures.run h) (c.ended.ensures.quiet h)
-
-pub returns-in-Err-clause-heard : goal.returns-in-Err-clause-heard
-returns-in-Err-clause-heard g c watched done = isnt_1 _ (c.tell.ensures.status ∙ c.in-Err.ensures.known) done
-
 pub returns-in-Ok-begin-clause-captured : goal.returns-in-Ok-begin-clause-captured
 returns-in-Ok-begin-clause-captured g c h =
-    captured_of _ _ _ _ _ _ _ _ _ _ _ _ _ _ c.in-Ok.ensures.job c.in-Ok.ensures.good c.in-Ok-begin.ensures.begun c.taped-run.ensures.run (c.ended.ensures.run h)
-    (ended_of _ _ c.end-written.ensures.ended c.ended.ensures.written h)
+    captured_of _ _ _ g.O.Write.contents _ _ _ _ _ _ _ _ _ _ _ _ c.in-Ok.ensures.job c.in-Ok.ensures.good c.in-Ok-begin.ensures.begun
+    c.taped-run.ensures.run (c.ended.ensures.run h) (ended_of _ _ c.end-written.ensures.ended c.ended.ensures.written h)
 
 pub returns-in-Err-clause-captured : goal.returns-in-Err-clause-captured
 returns-in-Err-clause-captured g c done = isnt_1 _ (c.tell.ensures.status ∙ c.in-Err.ensures.known) done
 
+pub returns-in-Ok-begin-clause-heard : goal.returns-in-Ok-begin-clause-heard
+returns-in-Ok-begin-clause-heard g c h =
+    heard_of _ _ _ _ _ _ _ _ _ _ _ _ c.in-Ok.ensures.job c.taped-run.ensures.heard (c.ended.ensures.run h) (c.ended.ensures.quiet h)
+
+pub returns-in-Err-clause-heard : goal.returns-in-Err-clause-heard
+returns-in-Err-clause-heard g c done = isnt_1 _ (c.tell.ensures.status ∙ c.in-Err.ensures.known) done
+
 pub returns-in-Ok-begin-clause-failed : goal.returns-in-Ok-begin-clause-failed
-returns-in-Ok-begin-clause-failed g c one = (
-  c.taped-run.new.errors,
-  (
-    (
-      λ watched. overheard_of c.taped-run.result _ _ _ _ _ _ _ _ c.in-Ok.ensures.job (c.taped-run.ensures.heard watched) (c.taped-run.ensures.overheard watched),
-      c.taped-run.ensures.quiet,
-    ),
-    told_as g.E.Tells.tells fault_text _ _ c.taped-run.new.errors c.ended.new.errors (c.ended.ensures.told one) (λ why is. inr (record {
-      first = c.in-Ok-begin.tape;
-      last = c.taped-run.new.tape;
-      begun = c.in-Ok-begin.ensures.begun;
-      run = c.taped-run.result;
-      taped = tapes_sim c.taped-run.result g.H.Record.Tape.takes g.H.Record.Tape.refuses g.O.Write.contents c.args.settings.now c.args.script.now c.in-Ok.job
-          c.in-Ok-begin.tape c.taped-run.new.tape c.args.output.now c.taped-run.new.output c.in-Ok.ensures.job c.in-Ok.ensures.good c.taped-run.ensures.run
-          c.taped-run.ensures.told c.taped-run.ensures.stopped;
-      written = c.end-written.result;
-      closed = closed_of g.H.Host.begins g.H.Host.ends c.end-written.result _ c.taped-run.new.tape c.end-written.ensures.ended c.end-written.ensures.unended;
-      told = is;
-    })),
-  ),
-)
+returns-in-Ok-begin-clause-failed g c one =
+    let ran = tapes_sim c.taped-run.result g.H.Record.Tape.takes g.H.Record.Tape.refuses g.O.Write.contents c.args.is_watched g.C.Clockwork.reads
+    g.E.Tells.tells c.args.clock c.args.settings.now c.args.script.now c.in-Ok.job c.in-Ok-begin.tape c.taped-run.new.tape c.args.output.now
+    c.taped-run.new.output c.args.errors.now c.taped-run.new.errors c.in-Ok.ensures.job c.in-Ok.ensures.good c.taped-run.ensures.run
+    c.taped-run.ensures.heard c.taped-run.ensures.told c.taped-run.ensures.stopped in (
+      ran.0,
+      (
+        c.taped-run.new.errors,
+        (
+          ran.1.0,
+          told_as g.E.Tells.tells fault_text _ _ c.taped-run.new.errors c.ended.new.errors (c.ended.ensures.told one) (λ why is. inr (record {
+            first = c.in-Ok-begin.tape;
+            last = c.taped-run.new.tape;
+            begun = c.in-Ok-begin.ensures.begun;
+            run = c.taped-run.result;
+            taped = ran.1.1;
+            written = c.end-written.result;
+            closed = closed_of g.H.Host.begins g.H.Host.ends c.end-written.result _ c.taped-run.new.tape c.end-written.ensures.ended c.end-written.ensures.unended;
+            told = is;
+          })),
+        ),
+      ),
+    )
 
 pub returns-in-Err-begin-clause-failed : goal.returns-in-Err-begin-clause-failed
 returns-in-Err-begin-clause-failed g c one = (
-  c.args.errors.now,
+  0,
   (
-    unheard _ _ _ _ _ _ _,
-    told_as g.E.Tells.tells fault_text _ _ c.args.errors.now c.unmade.new.errors c.unmade.ensures.told (λ why is. inl (
-      refl,
-      inr (
-        (c.in-Ok.job, (c.in-Ok.ensures.job, c.in-Ok.ensures.good)),
-        record {
-          cause = _;
-          unbegun = c.in-Err-begin.ensures.unbegun;
-          told = is;
-        },
-      ),
-    )),
+    c.args.errors.now,
+    (
+      unheard _ _ _ _ _ _ _,
+      told_as g.E.Tells.tells fault_text _ _ c.args.errors.now c.unmade.new.errors c.unmade.ensures.told (λ why is. inl (
+        refl,
+        inr (
+          (refl, (c.in-Ok.job, (c.in-Ok.ensures.job, c.in-Ok.ensures.good))),
+          record {
+            cause = _;
+            unbegun = c.in-Err-begin.ensures.unbegun;
+            told = is;
+          },
+        ),
+      )),
+    ),
   ),
 )
 
 pub returns-in-Err-clause-failed : goal.returns-in-Err-clause-failed
-returns-in-Err-clause-failed g c one =
-    (c.args.errors.now, (unheard _ _ _ _ _ _ _, (c.in-Err.fault, (inl (refl, inl (refl, (c.in-Err.ensures.unheld, c.in-Err.ensures.read))), c.tell.ensures.told))))
+returns-in-Err-clause-failed g c one = (
+  0,
+  (
+    c.args.errors.now,
+    (
+      unheard _ _ _ _ _ _ _,
+      (c.in-Err.fault, (inl (refl, inl (refl, ((refl, c.in-Err.ensures.unheld), c.in-Err.ensures.read))), c.tell.ensures.told)),
+    ),
+  ),
+)

@@ -1,6 +1,6 @@
 use Rattle.std.proofs.Common.{arith}
 use Rattle.commands.specs.Meters.{telling}
-use Rattle.commands.proofs.Hearing.{on_err, on_ok}
+use Rattle.commands.proofs.Hearing.{if_err, on_ok}
 use Rattle.commands.proofs.runs.watched.Goals as goal
 
 pub returns-clause-heard : goal.returns-clause-heard
@@ -17,12 +17,18 @@ returns-clause-heard g c =
       };
     })
 
-pub returns-clause-overheard : goal.returns-clause-overheard
-returns-clause-overheard g c =
+pub returns-clause-leaves : goal.returns-clause-leaves
+returns-clause-leaves g c =
     let last = c.metered.new.meter in
     let new = c.start-meter.ensures in
-    on_err c.metered.result c.metered.ensures.overheard (λ heard. record {
-      last = telling last.clock last.next last.is_refused last.errors.now;
-      told = rw (← new.clock, ← new.next, ← new.is_refused, ← new.errors) heard;
-      is_last = grind (arith, c.metered.ensures.same_reference, new.same_reference, c.drop-meter.ensures);
-    })
+    if_err c.metered.result c.metered.ensures.leaves (λ why heard. (
+      heard.times,
+      (
+        record {
+          last = telling last.clock last.next last.is_refused last.errors.now;
+          told = rw (← new.clock, ← new.next, ← new.is_refused, ← new.errors) heard.told;
+          is_last = grind (arith, c.metered.ensures.same_reference, new.same_reference, c.drop-meter.ensures);
+        },
+        heard.ended,
+      ),
+    ))

@@ -1,8 +1,7 @@
-use Rattle.std.proofs.Common.{ap}
 use Rattle.box_words.specs.Faults.{fault_text}
 use Rattle.gate.specs.Sparing.{IsRefusal}
 use Rattle.commands.specs.Here.{IsSilentOrBehind}
-use Rattle.commands.specs.Hosts.{held_after, held_before, written}
+use Rattle.commands.specs.Hosts.{written}
 use Rattle.commands.proofs.Listing.{each_of, ended_lines}
 use Rattle.commands.proofs.machine.SystemServes.told_to_serve.Goals as goal
 
@@ -10,7 +9,7 @@ pub returns-clause-tells : goal.returns-clause-tells
 returns-clause-tells g c =
     let start = c.args.start.now in
     let printed = written g.O.Write.contents c.args.output.now c.gate.new.output in
-    let told = ended_lines g.E.Tells.tells fault_text _ (λ why. IsRefusal start (held_before printed) (held_after printed) why × IsSilentOrBehind start printed why) c.args.errors.now c.gate.new.errors _
+    let told = ended_lines g.E.Tells.tells fault_text _ (λ why. IsRefusal printed.holds start printed.old printed.new why × IsSilentOrBehind start printed why) c.args.errors.now c.gate.new.errors _
     c.gate.ensures.status c.gate.ensures.quiet c.gate.ensures.failed
-    (λ why is. (is.0, each_of is.1 (λ same. ap g.O.Write.contents same) (λ behind. (behind.1.1.0, behind.1.1.1.1)))) in
+    (λ why is. (is.0, each_of is.1 (λ same. same) (λ behind. (behind.1.1.0, behind.1.1.1.1)))) in
     (told.0, told.1, (λ none. (told.2 none, c.gate.ensures.served none), told.3))
