@@ -78,7 +78,8 @@ fn write_block<W: Write>(output: &mut W, packet: &Packet<'_>) -> io::Result<()>
 /// Writes bytes in two parts, filled up.
 fn write_padded<W: Write>(output: &mut W, front: &[u8], bytes: &[u8]) -> io::Result<()>
     requires { length front.now ≤ 14 }
-    ensures { IsWrittenTo W.contents output.old (padded (front.now ++ bytes.now)) result output.new }
+    ensures { IsWrittenTo W.contents output.old (padded (front.now ++ bytes.now)) result
+        output.new }
 {
     put(output, front)?;
     put(output, bytes)?;

@@ -87,8 +87,8 @@ pub(crate) fn note<O: Write>(output: &mut O, note: &Note) -> io::Result<()>
 /// Prints what is noted of a pair.
 fn note_of_pair<O: Write>(output: &mut O, id: &str, name: &str, pair: &Pair) -> io::Result<()>
     ensures { IsWrittenTo O.contents output.old
-        (codes "note " ++ id.now ++ codes " " ++ name.now ++ codes " " ++ pair_text pair.now ++ codes "\n")
-        result output.new }
+        (codes "note " ++ id.now ++ codes " " ++ name.now ++ codes " " ++ pair_text pair.now
+        ++ codes "\n") result output.new }
 {
     put_all(output, &["note ", id, " ", name, " "])?;
     end_with_pair(output, pair)
