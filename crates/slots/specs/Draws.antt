@@ -1,5 +1,6 @@
 -- Keys that were drawn.
-use Rattle.std.specs.Prelude.{ℕ}
+use Rattle.std.specs.Prelude.{◌⊎◌, ℕ}
+use Rattle.std.specs.declared.io.Error.{Error}
 use Rattle.slots.specs.declared.keyed_hasher.Keys.{Keys}
 use Rattle.slots.specs.declared.hashers.Hashers.{Hashers}
 use Rattle.slots.specs.declared.hashers.Hashers.TheVariants.{Fixed, Drawn}
@@ -13,3 +14,9 @@ pub record AreDrawn {D : Type 0} (drew : D → ℕ → D → Type 0) (before : D
 abbrev pub HaveDrawnKeys : {D : Type 0} → (D → ℕ → D → Type 0) → D → Hashers → D → Type 0
 HaveDrawnKeys drew before Fixed after = ⊥
 HaveDrawnKeys drew before (Drawn keys) after = AreDrawn drew before keys after
+
+-- one of the two was refused: the first, or the second behind a first that was drawn
+abbrev pub LacksKeys : {D : Type 0} → (D → ℕ → D → Type 0) → (D → Error → D → Type 0) → D → Error → D → Type 0
+LacksKeys {D} drew refused before why after =
+    refused before why after
+    ⊎ ((factor : ℕ) × ((between : D) × (drew before factor between × refused between why after)))

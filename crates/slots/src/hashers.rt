@@ -1,6 +1,6 @@
 //! A choice of hashers when the program runs.
-ghost use Rattle.std.specs.Prelude.{◌≡◌, true, false, IfOk};
-ghost use Rattle.slots.specs.Draws.{HaveDrawnKeys};
+ghost use Rattle.std.specs.Prelude.{◌≡◌, true, false, IfErr, IfOk};
+ghost use Rattle.slots.specs.Draws.{HaveDrawnKeys, LacksKeys};
 ghost use Rattle.slots.specs.Hashers.{hasher_of, is_drawn};
 
 use crate::draws::Draws;
@@ -25,10 +25,13 @@ impl Hashers {
         Hashers::Fixed
     }
 
-    /// Hashers with keys that are drawn now. It is an error where they aren't had.
+    /// Hashers with keys that are drawn now. It is an error where one of the two isn't had: that which
+    /// was answered for it.
     pub fn drawn<D: Draws>(draws: &mut D) -> io::Result<Hashers>
         ensures kind { IfOk result (λ hashers. is_drawn hashers ≡ true) }
         ensures keys { IfOk result (λ hashers. HaveDrawnKeys D.drew draws.old hashers draws.new) }
+        ensures refused { IfErr result
+            (λ why. LacksKeys D.drew D.refused draws.old why draws.new) }
     {
         let keys = Keys::drawn(draws)?;
         Ok(Hashers::Drawn(keys))

@@ -1,7 +1,7 @@
 //! A hasher that costs a packet one product, and that nobody who hasn't seen its keys can make meet
 //! often.
-ghost use Rattle.std.specs.Prelude.{◌≡◌, ℕ, ◌%◌, ◌*◌, ◌+◌, IfOk};
-ghost use Rattle.slots.specs.Draws.{AreDrawn};
+ghost use Rattle.std.specs.Prelude.{◌≡◌, ℕ, ◌%◌, ◌*◌, ◌+◌, IfErr, IfOk};
+ghost use Rattle.slots.specs.Draws.{AreDrawn, LacksKeys};
 ghost use Rattle.slots.specs.KeyedHashing.{finished, fixed_keys, new_hasher, written, written_from};
 ghost use Rattle.slots.specs.KeyedHashing.{AreCollisionsRare};
 
@@ -29,7 +29,9 @@ impl Keys {
 
     /// Keys that are drawn now: the factor, then the summand. It is an error where one isn't had.
     pub(crate) fn drawn<D: Draws>(draws: &mut D) -> io::Result<Keys>
-        ensures { IfOk result (λ keys. AreDrawn D.drew draws.old keys draws.new) }
+        ensures keys { IfOk result (λ keys. AreDrawn D.drew draws.old keys draws.new) }
+        ensures refused { IfErr result
+            (λ why. LacksKeys D.drew D.refused draws.old why draws.new) }
     {
         let factor = draws.draw()?;
         let summand = draws.draw()?;
