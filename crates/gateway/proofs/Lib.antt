@@ -1,5 +1,6 @@
 mod Beginning
 mod Hearing
+mod Lacking
 mod Lasting
 mod Places
 mod Staying

@@ -2,3 +2,4 @@ pub mod Cues
 pub mod Gateway
 pub mod Rooms
 pub mod Entries
+pub mod Lacks

@@ -2,10 +2,12 @@
 ghost use Rattle.std.specs.Prelude.{◌≡◌, IfOk, Ok, OnErr, OnOk};
 ghost use Rattle.vrrp_states.specs.Table.{IsMoment};
 ghost use Rattle.packet_rules.specs.Steps.{Carries};
+ghost use Rattle.spec_step.specs.declared.events.Outcome.TheVariants.{Waiting};
 ghost use Rattle.spec_step.specs.Steps.{FrameDoes};
 ghost use Rattle.spec_step.specs.Verdict.{outcome_read};
 ghost use Rattle.forwarder.specs.Forwarder.{scene_on, shown_of};
 ghost use Rattle.forwarder.specs.Room.{HasRoomFor, an_arp_packet};
+ghost use Rattle.gateway.specs.Lacks.{WasUncopied};
 
 use crate::NoMemory;
 use crate::routers::{Cue, cue_router};
@@ -16,9 +18,10 @@ use packet_rules::Reading;
 use spec_step::Outcome;
 use std::alloc::Global;
 
-/// Does what a frame that was read asks for. An `Err` stands for a refused copy; nothing has changed
-/// then.
+/// Does what a frame that was read asks for. An `Err` stands for a refused copy of one that has to
+/// wait; nothing has changed then. It alone has the name for it.
 #[inline(always)]
+#[tactic(auto, unfolding(crate::specs::Lacks::WasUncopied))]
 pub(crate) fn take_reading(
     alloc: Global,
     forwarder: &mut Forwarder,
@@ -37,6 +40,9 @@ pub(crate) fn take_reading(
     ensures datagrams { page.new.room.datagrams ≡ page.old.room.datagrams }
     ensures err { OnErr result (scene_on forwarder.new page.new
         ≡ scene_on forwarder.old page.old) }
+    ensures waits { OnErr result
+        (outcome_read (shown_of forwarder.old) side (Ok reading) ≡ Waiting) }
+    ensures refused { OnErr result (WasUncopied (shown_of forwarder.old) side bytes.now) }
 {
     match reading {
         Reading::Arp(packet) => {

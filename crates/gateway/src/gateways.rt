@@ -19,6 +19,7 @@ ghost use Rattle.waiting.specs.Packets.{hop_count as hops_in, pair_count as pair
 ghost use Rattle.spec_step.specs.Rests.{most_notes};
 ghost use Rattle.gateway.specs.Entries.{behind};
 ghost use Rattle.gateway.specs.Gateway.{IsGateway};
+ghost use Rattle.gateway.specs.Lacks.{LacksMemory};
 ghost use Rattle.gateway.specs.Rooms.{is_of_side};
 
 use crate::begins::begin;
@@ -268,6 +269,8 @@ impl Gateway {
         ensures bytes { HasBytes event.entry }
         ensures err { OnErr result (self.new ≡ self.old) }
         ensures untold { OnErr result (out.new ≡ out.old) }
+        // A growth was refused that this event needs.
+        ensures lacks { OnErr result (LacksMemory self.old out.old event.entry) }
         // The word of a side takes no memory.
         ensures plugged { is_of_side event.entry ≡ true → IsOk result }
     {

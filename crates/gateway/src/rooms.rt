@@ -1,6 +1,8 @@
 //! The memory that a step takes before it begins.
-ghost use Rattle.std.specs.Prelude.{◌≡◌, ◌≤◌, OnOk, IfOk, length, vec_capacity, []};
+ghost use Rattle.std.specs.Prelude.{◌≡◌, ◌≤◌, OnErr, OnOk, IfOk, length, vec_capacity, []};
+ghost use Rattle.output.specs.Output.{IsWithin};
 ghost use Rattle.forwarder.specs.Forwarder.{scene_on};
+ghost use Rattle.gateway.specs.Lacks.{WasUnlisted, WasUnready};
 ghost use Rattle.gateway.specs.Rooms.{restart_needs, room_for, tick_needs, waiting_needs};
 ghost use Rattle.gateway.specs.Rooms.{most_entries, most_on_a_page, most_pairs};
 
@@ -124,8 +126,9 @@ pub(crate) fn restart_room(forwarder: &Forwarder) -> Room
 }
 
 /// Makes a page ready for so much, and a core for so many new pairs. An `Err` stands for a refused
-/// growth; nothing shows then.
+/// growth; nothing shows then. It alone has the name for it.
 #[inline(always)]
+#[tactic(auto, unfolding(crate::specs::Lacks::WasUnready))]
 pub(crate) fn make_ready(
     forwarder: &mut Forwarder,
     page: &mut OutputBuffer,
@@ -145,6 +148,9 @@ pub(crate) fn make_ready(
     } }
     ensures room { OnOk result (page.new.room ≡ room) }
     ensures ready { OnOk result (forwarder.new.core.table.ready ≡ pairs) }
+    ensures short { OnErr result (IsWithin room page.old.room
+        → pairs ≤ forwarder.old.core.table.ready → ⊥) }
+    ensures refused { OnErr result (WasUnready room pairs forwarder.old page.old) }
 {
     page.ready(room)?;
     forwarder.core.ready(&ENDPOINTS[..pairs])?;
@@ -161,10 +167,13 @@ pub(crate) fn entry_count(forwarder: &Forwarder) -> usize
     forwarder.core.table().len()
 }
 
-/// An empty list with room for all packets that wait.
+/// An empty list with room for all packets that wait. It alone has the name for it that there is no
+/// memory for one.
+#[tactic(auto, unfolding(crate::specs::Lacks::WasUnlisted))]
 pub(crate) fn list_for(alloc: Global, forwarder: &Forwarder) -> Result<Vec<HeldPacket>, NoMemory>
     ensures empty { IfOk result (λ v. v.items ≡ []) }
     ensures room { IfOk result (λ v. length forwarder.now.kept ≤ vec_capacity v) }
+    ensures refused { OnErr result (WasUnlisted forwarder.now) }
 {
     let list = Vec::with_capacity(alloc, forwarder.kept.len())?;
     Ok(list)

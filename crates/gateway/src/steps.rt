@@ -1,8 +1,10 @@
 //! A whole step: the memory that it takes, its event's own parts, and the datagram at its end.
-ghost use Rattle.std.specs.Prelude.{◌≡◌, ◌≤◌, IfOk, IsOk, Ok, OnErr, OnOk, false, length, true};
+ghost use Rattle.std.specs.Prelude.{◌≡◌, ◌≤◌, ◌⊎◌, IfOk, IsOk, Ok, OnErr, OnOk, false, length};
+ghost use Rattle.std.specs.Prelude.{true};
 ghost use Rattle.link.specs.declared.datagrams.Datagram.{Datagram};
-ghost use Rattle.link.specs.Link.{is_restart, taking};
-ghost use Rattle.link.specs.Reading.{reading};
+ghost use Rattle.link.specs.declared.datagrams.TheConstants.{RECORDS_IN_A_DATAGRAM};
+ghost use Rattle.link.specs.Link.{is_restart, may_restart, taking};
+ghost use Rattle.link.specs.Reading.{header_at, reading};
 ghost use Rattle.vrrp_states.specs.Table.{IsMoment};
 ghost use Rattle.spec_step.specs.declared.events.Event.TheVariants.{Stop as StopEvent};
 ghost use Rattle.spec_step.specs.declared.events.Event.TheVariants.{Tick as TickEvent};
@@ -15,7 +17,10 @@ ghost use Rattle.spec_step.specs.Steps.{outcome_on, outcome_word, word_by, word_
 ghost use Rattle.spec_step.specs.Verdict.{reading_on, verdict};
 ghost use Rattle.forwarder.specs.Forwarder.{scene_on, shown_of};
 ghost use Rattle.gateway.specs.Gateway.{IsGateway};
-ghost use Rattle.gateway.specs.Rooms.{is_of_side, most_datagrams};
+ghost use Rattle.gateway.specs.Lacks.{Lacks, LacksForDatagram, LacksForFrame, LacksMemory};
+ghost use Rattle.gateway.specs.Lacks.{LacksRoom, WasUnlisted};
+ghost use Rattle.gateway.specs.Rooms.{both_routers, is_of_side, most_datagrams, records_need};
+ghost use Rattle.gateway.specs.Rooms.{restart_needs, tick_needs, waiting_needs};
 
 use crate::NoMemory;
 use crate::arrivals::take_reading;
@@ -50,6 +55,8 @@ fn frame_came(
     ensures datagrams { OnOk result (1 ≤ page.new.room.datagrams) }
     ensures err { OnErr result (scene_on forwarder.new page.new
         ≡ scene_on forwarder.old page.old) }
+    ensures lacks { OnErr result (LacksForFrame side bytes.now
+        (reading_on (shown_of forwarder.old) side bytes.now) forwarder.old page.old) }
 {
     match forwarder.read_frame(side, bytes) {
         Ok(reading) => {
@@ -86,6 +93,8 @@ fn first_came(
     ensures datagrams { OnOk result (1 ≤ page.new.room.datagrams) }
     ensures err { OnErr result (scene_on forwarder.new page.new
         ≡ scene_on forwarder.old page.old) }
+    ensures lacks { OnErr result (WasUnlisted forwarder.old
+        ⊎ LacksRoom (restart_needs forwarder.old) forwarder.old page.old) }
 {
     let room = restart_room(forwarder);
     match list_for(alloc, forwarder) {
@@ -113,6 +122,8 @@ fn further_came(
     ensures datagrams { OnOk result (1 ≤ page.new.room.datagrams) }
     ensures err { OnErr result (scene_on forwarder.new page.new
         ≡ scene_on forwarder.old page.old) }
+    ensures lacks { OnErr result
+        (LacksRoom (records_need RECORDS_IN_A_DATAGRAM) forwarder.old page.old) }
 {
     make_ready(forwarder, page, RECORDS_ROOM, RECORD_PAIRS)?;
     Ok(take_further(forwarder, page, bytes))
@@ -135,6 +146,8 @@ fn datagram_came(
     ensures datagrams { OnOk result (1 ≤ page.new.room.datagrams) }
     ensures err { OnErr result (scene_on forwarder.new page.new
         ≡ scene_on forwarder.old page.old) }
+    ensures lacks { OnErr result (LacksForDatagram
+        (may_restart forwarder.old.link (header_at bytes.now)) forwarder.old page.old) }
 {
     if forwarder.link.may_restart(bytes) {
         first_came(alloc, forwarder, page, bytes)
@@ -156,6 +169,8 @@ fn clock_ticked(
     ensures datagrams { OnOk result (1 ≤ page.new.room.datagrams) }
     ensures err { OnErr result (scene_on forwarder.new page.new
         ≡ scene_on forwarder.old page.old) }
+    ensures lacks { OnErr result
+        (LacksRoom (tick_needs forwarder.old) forwarder.old page.old) }
 {
     let room = tick_room(forwarder);
     make_ready(forwarder, page, room, 0)?;
@@ -172,6 +187,7 @@ fn stop_came(forwarder: &mut Forwarder, page: &mut OutputBuffer) -> Result<Outco
     ensures datagrams { OnOk result (1 ≤ page.new.room.datagrams) }
     ensures err { OnErr result (scene_on forwarder.new page.new
         ≡ scene_on forwarder.old page.old) }
+    ensures lacks { OnErr result (LacksRoom both_routers forwarder.old page.old) }
 {
     make_ready(forwarder, page, STOP_ROOM, 0)?;
     take_stop(forwarder, page);
@@ -193,6 +209,8 @@ fn word_came(
     ensures datagrams { OnOk result (1 ≤ page.new.room.datagrams) }
     ensures err { OnErr result (scene_on forwarder.new page.new
         ≡ scene_on forwarder.old page.old) }
+    ensures lacks { OnErr result (WasUnlisted forwarder.old
+        ⊎ LacksRoom (waiting_needs forwarder.old) forwarder.old page.old) }
 {
     let room = word_room(forwarder);
     match list_for(alloc, forwarder) {
@@ -219,6 +237,7 @@ fn take_event(
     ensures datagrams { OnOk result (most_datagrams event.entry ≤ page.new.room.datagrams) }
     ensures err { OnErr result (scene_on forwarder.new page.new
         ≡ scene_on forwarder.old page.old) }
+    ensures lacks { OnErr result (Lacks event.entry forwarder.old page.old) }
     ensures plugged { is_of_side event.entry ≡ true → IsOk result }
 {
     match event {
@@ -281,6 +300,8 @@ pub(crate) fn step(
     ensures gateway { IsGateway (shown_of forwarder.new) }
     ensures err { OnErr result (scene_on forwarder.new page.new
         ≡ scene_on forwarder.old page.old) }
+    ensures lacks { OnErr result
+        (LacksMemory (shown_of forwarder.old) page.old.told event.entry) }
     ensures plugged { is_of_side event.entry ≡ true → IsOk result }
 {
     steps_go();

@@ -1,6 +1,7 @@
 use Rattle.std.proofs.Common.{◌∙◌}
 use Rattle.spec_step.specs.Steps.{IsStepOn}
 use Rattle.forwarder.specs.Forwarder.{scene_on}
+use Rattle.gateway.proofs.Lacking.{lacks-memory}
 use Rattle.gateway.proofs.Lasting.{step-lasts}
 use Rattle.gateway.proofs.steps.step.Goals as goal
 
@@ -25,3 +26,6 @@ returns-clause-gateway c =
       house = rw (lasts.networks, lasts.inside, lasts.outside) g.house;
       settled = c.steps_settle.ensures s c.args.event s2 step g.settled;
     }
+
+pub returns-in_err-outcome-clause-lacks : goal.returns-in_err-outcome-clause-lacks
+returns-in_err-outcome-clause-lacks c = lacks-memory c.from_residual.result c.args.event c.args.forwarder.now c.args.page.now c.in_err-outcome.ensures.lacks

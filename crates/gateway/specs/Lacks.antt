@@ -1,0 +1,71 @@
+-- For want of which memory an event isn't taken.
+use Rattle.std.specs.Prelude.{◌≡◌, ◌≤◌, ◌⊎◌, ℕ, Bool, true, false, Result, Ok, Err, List}
+use Rattle.nat_types.specs.declared.gateways.Side.{Side}
+use Rattle.link.specs.declared.datagrams.TheConstants.{RECORDS_IN_A_DATAGRAM}
+use Rattle.link.specs.Link.{may_restart}
+use Rattle.link.specs.Reading.{header_at}
+use Rattle.output.specs.declared.pages.Room.{Room}
+use Rattle.output.specs.Output.{IsWithin, Output, Paged}
+use Rattle.packet_rules.specs.declared.readings.Reading.{Reading}
+use Rattle.packet_rules.specs.declared.reasons.Reason.{Reason}
+use Rattle.packet_rules.specs.declared.reasons.Reason.TheVariants.{TtlOver}
+use Rattle.spec_step.specs.declared.events.Event.{Event}
+use Rattle.spec_step.specs.declared.events.Event.TheVariants.{Frame, Datagram, Tick, Stop, PeerOff, Side as Cable}
+use Rattle.spec_step.specs.declared.events.Outcome.TheVariants.{Waiting}
+use Rattle.spec_step.specs.Shown.{Shown, scene}
+use Rattle.spec_step.specs.Verdict.{outcome_read, reading_on}
+use Rattle.forwarder.specs.declared.forwarders.Forwarder.{Forwarder}
+use Rattle.forwarder.specs.Forwarder.{scene_on, shown_of}
+use Rattle.forwarder.specs.Room.{Needs, an_arp_packet, frames_alone}
+use Rattle.gateway.specs.Rooms.{both_routers, records_need, restart_needs, room_for, tick_needs, waiting_needs}
+
+-- A page was to be made ready for so much, or a core for so many new pairs, and more memory was refused. No clause can say when that is, so this, and
+-- those below it, are no more than names: who asks for it has one of them, and nobody else.
+unfoldable pub WasUnready : Room → ℕ → Forwarder → Paged → Type 0
+WasUnready room pairs f page = Unit {0}
+
+-- there was to be a list for all packets that wait
+unfoldable pub WasUnlisted : Forwarder → Type 0
+WasUnlisted f = Unit {0}
+
+-- a frame that came in on that side was to be copied
+unfoldable pub WasUncopied : Shown → Side → List ℕ → Type 0
+WasUncopied g side bytes = Unit {0}
+
+-- ---- of an event
+
+-- the page or the core had less room than this, and more was refused
+abbrev pub LacksRoom : Needs → Forwarder → Paged → Type 0
+LacksRoom needs f page = record {
+  short : IsWithin (room_for needs) page.room → needs.pairs ≤ f.core.table.ready → ⊥;
+  refused : WasUnready (room_for needs) needs.pairs f page;
+}
+
+-- a frame that is dropped as it is read: a complaint where its time to live is over, and the request behind it
+abbrev pub dropped_needs : Reason → Needs
+dropped_needs TtlOver = frames_alone 2
+dropped_needs reason = frames_alone 0
+
+-- a frame, as it is read: room, or the copy of a packet that has to wait
+abbrev pub LacksForFrame : Side → List ℕ → Result Reading Reason → Forwarder → Paged → Type 0
+LacksForFrame side bytes (Ok reading) f page =
+    LacksRoom an_arp_packet f page ⊎ ((outcome_read (shown_of f) side (Ok reading) ≡ Waiting) × WasUncopied (shown_of f) side bytes)
+LacksForFrame side bytes (Err reason) f page = LacksRoom (dropped_needs reason) f page
+
+-- a datagram: whether its header names a greater boot of the other gateway than is known
+abbrev pub LacksForDatagram : Bool → Forwarder → Paged → Type 0
+LacksForDatagram true f page = WasUnlisted f ⊎ LacksRoom (restart_needs f) f page
+LacksForDatagram false f page = LacksRoom (records_need RECORDS_IN_A_DATAGRAM) f page
+
+-- an event, by its kind; the word of a side lacks nothing
+abbrev pub Lacks : Event → Forwarder → Paged → Type 0
+Lacks (Frame side bytes) f page = LacksForFrame side bytes.now (reading_on (shown_of f) side bytes.now) f page
+Lacks (Datagram bytes) f page = LacksForDatagram (may_restart f.link (header_at bytes.now)) f page
+Lacks (Tick now) f page = LacksRoom (tick_needs f) f page
+Lacks Stop f page = LacksRoom both_routers f page
+Lacks (PeerOff boot) f page = WasUnlisted f ⊎ LacksRoom (waiting_needs f) f page
+Lacks (Cable side up) f page = ⊥
+
+-- a gateway that shows itself so, with what it told on a page
+abbrev pub LacksMemory : Shown → Output → Event → Type 0
+LacksMemory g told event = (f : Forwarder) × (page : Paged) × (scene_on f page ≡ scene g told) × Lacks event f page
