@@ -1,4 +1,5 @@
 -- Why a boot file isn't locked.
+use Rattle.std.specs.Prelude.{◌≡◌}
 use Rattle.std.specs.declared.fs.locks.TryLockError.{TryLockError}
 use Rattle.std.specs.declared.fs.locks.TryLockError.TheVariants.{Error, WouldBlock}
 use Rattle.boot_file.specs.declared.faults.FileFault.{FileFault}
@@ -9,13 +10,11 @@ abbrev pub fault_of : TryLockError → FileFault
 fault_of WouldBlock = InUse
 fault_of (Error error) = NotLocked
 
--- one of the two
-abbrev pub IsLockFault : FileFault → Type 0
-IsLockFault InUse = Unit {0}
-IsLockFault NotLocked = Unit {0}
-IsLockFault _ = ⊥
+-- just that which the lock of this file was refused for
+abbrev pub IsUnlocked : {F : Type 0} → (F → TryLockError → Type 0) → F → FileFault → Type 0
+IsUnlocked refused file why = (error : TryLockError) × (refused file error × (why ≡ fault_of error))
 
--- one of them, or the file or its folder can't be opened
+-- one of the two, or the file or its folder can't be opened
 abbrev pub IsOfOpening : FileFault → Type 0
 IsOfOpening (NoFile cause) = Unit {0}
 IsOfOpening InUse = Unit {0}

@@ -1,7 +1,7 @@
 // A boot file and its folder as the disk of boot_store.
 ghost use Rattle.std.specs.Prelude.{◌≡◌, ◌+◌, ◌≤◌, ◌↔◌, ◌++◌, ◌∷◌, [], None, take, IfErr, IfOk, IfSome, OnErr, OnOk};
 ghost use Rattle.boot_store.specs.Moment.{StillKept, bytes_of, synced};
-ghost use Rattle.boot_file.specs.Locks.{IsLockFault};
+ghost use Rattle.boot_file.specs.Locks.{IsOfOpening, IsUnlocked};
 
 use crate::locks::not_locked;
 use crate::{Blocks, FileFault, Lockable};
@@ -20,7 +20,7 @@ pub struct FileDisk<F> {
     failures: Failures,
 }
 
-impl<F: Blocks + Drop> FileDisk<F> {
+impl<F: Drop> FileDisk<F> {
     /// The file, and the folder that has its name.
     pub fn new(file: F, folder: F) -> Self
         ensures file { result.file ≡ file }
@@ -34,18 +34,19 @@ impl<F: Blocks + Drop> FileDisk<F> {
         }
     }
 
-    /// The same, of a file that is locked first.
+    /// The same, of a file that is locked first. It can be asked for nothing else here, so that nothing of
+    /// it is read or written before it is locked.
     ///
     /// # Errors
-    /// InUse where another opening has it locked, NotLocked where the lock is refused. Nothing of it
-    /// has been read or written.
+    /// InUse where another opening has it locked, NotLocked where the lock is refused.
     pub fn locked(file: F, folder: F) -> Result<Self, FileFault>
     where
         F: Lockable,
         ensures locked { IfOk result (λ d. F.locked d.file) }
         ensures file { IfOk result (λ d. d.file ≡ file) }
         ensures folder { IfOk result (λ d. d.folder ≡ folder) }
-        ensures err { IfErr result IsLockFault }
+        ensures err { IfErr result (IsUnlocked F.refused file) }
+        ensures opening { IfErr result IsOfOpening }
         ensures none_failed { IfOk result (λ d. d.failures ≡ 0) }
     {
         file.try_lock().map_err(not_locked)?;
@@ -63,7 +64,9 @@ impl<F: Blocks + Drop> FileDisk<F> {
         } = self;
         file
     }
+}
 
+impl<F: Blocks + Drop> FileDisk<F> {
     /// A call of the system failed.
     fn failed(&mut self) -> DeviceFault
         ensures file { self.new.file ≡ self.old.file }
