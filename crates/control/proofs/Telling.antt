@@ -1,13 +1,27 @@
 -- Who was told an answer.
-use Rattle.std.proofs.Common.{◌≡◌, ℕ, List, Option, Some, None, Result, is_some, sym, true, true≢false}
+use Rattle.std.proofs.Common.{◌≡◌, ℕ, List, Option, Some, None, Result, is_some, refl, sym, true, true≢false}
 use Rattle.std.specs.declared.io.Error.{Error}
 use Rattle.mio.specs.declared.net.uds.stream.UnixStream.{UnixStream}
-use Rattle.control.specs.Attending.{IsAnsweredIf, Telling}
-use Rattle.control.specs.Telling.{IsTold, WasTold}
+use Rattle.outlets.specs.Outputs.{WasTaken}
+use Rattle.outlets.specs.Writes.{Asks}
+use Rattle.control.specs.Telling.{IsAnsweredIf, IsAnsweredOnce}
 
--- where somebody awaited one, he was
-pub told_so : (tells : Telling UnixStream) (speaker : Option UnixStream) (bytes : List ℕ) (count count2 : ℕ)
-    → ((caller : UnixStream) (words : List ℕ) (answer : Result ℕ Error) → tells caller words answer → WasTold caller words answer)
-    → is_some speaker ≡ true → IsAnsweredIf tells speaker bytes count count2 → IsTold bytes count count2
-told_so tells (Some caller) bytes count count2 names some is = (caller, (is.0, (names caller bytes is.0 is.1.0, is.1.1)))
-told_so tells None bytes count count2 names some is = absurd (true≢false (sym some))
+-- by whatever he was asked, it has this name
+named : {S : Type 0} (asks asks2 : Asks S) (caller : S) (bytes : List ℕ) (count count2 : ℕ)
+    → ((before : S) (words : List ℕ) (answer : Result ℕ Error) (after : S) → asks before words answer after → asks2 before words answer after)
+    → IsAnsweredOnce asks caller bytes count count2 → IsAnsweredOnce asks2 caller bytes count count2
+named asks asks2 caller bytes count count2 names is = record {
+  answer = is.answer;
+  after = is.after;
+  told = names caller bytes is.answer is.after is.told;
+  gone = is.gone;
+  counted = is.counted;
+}
+
+-- where somebody awaited one, it was he who was told it
+pub told_so : (asks : Asks UnixStream) (speaker : Option UnixStream) (bytes : List ℕ) (count count2 : ℕ)
+    → ((before : UnixStream) (words : List ℕ) (answer : Result ℕ Error) (after : UnixStream) → asks before words answer after → WasTaken before words answer after)
+    → is_some speaker ≡ true → IsAnsweredIf asks speaker bytes count count2
+    → (caller : UnixStream) × ((speaker ≡ Some caller) × IsAnsweredOnce WasTaken caller bytes count count2)
+told_so asks (Some caller) bytes count count2 names some is = (caller, (refl, named asks WasTaken caller bytes count count2 names is))
+told_so asks None bytes count count2 names some is = absurd (true≢false (sym some))

@@ -2,8 +2,8 @@
 use Rattle.std.specs.Prelude.{ℕ, true, ◌≡◌, ◌≤◌, List, length, vec_len, vec_capacity, Option, Some, None, is_some, Result, Ok, Err}
 use Rattle.std.specs.declared.io.Error.{Error}
 use Rattle.control.specs.Asking.{AreLeft, IsSpeaker}
-use Rattle.control.specs.Attending.{Attending}
-use Rattle.control.specs.Calling.{Calls, LetsIn, Reporting}
+use Rattle.control.specs.Attending.{Attended}
+use Rattle.control.specs.Calling.{Reporting}
 use Rattle.control.specs.Reads.{Reads}
 use Rattle.mio.specs.declared.token.Token.{Token}
 use Rattle.control.specs.declared.audience.Audience.{Audience}
@@ -23,7 +23,7 @@ IsRegistered reports listener token (Ok audience) before after = reports before 
 IsRegistered {L = L} reports listener token (Err error) before after = (told : L) × reports before listener token (Err error) told after
 
 -- what a box shows of them
-abbrev pub attending_of : {L S : Type 0} → Audience L S → Attending
+abbrev pub attending_of : {L S : Type 0} → Audience L S → Attended L S
 attending_of a = record {
   awaits = is_some a.speaker;
   ready = a.ready;
@@ -34,6 +34,9 @@ attending_of a = record {
   token = a.token;
   word = a.word;
   asked = a.asked;
+  listener = a.listener;
+  waited_for = a.callers.items;
+  speaker = a.speaker;
 }
 
 -- one of them may have said something, or somebody may have called; all else stays
@@ -51,13 +54,3 @@ IsHeard {S = S} reads before (Some count) after room =
     (speaker : S) × ((after.speaker ≡ Some speaker) × IsSpeaker reads before.callers.items speaker count after.callers.items room)
 IsHeard reads before None after room =
     (after.speaker ≡ before.speaker) × AreLeft reads (length room) before.callers.items after.callers.items
-
--- They are asked so. Where none says a word, who calls next is let in beside those who are left, and waits are to report him under the token; there
--- may be more where somebody did.
-abbrev pub Looks : {W L S : Type 0} → Reads S → Calls L S → Reporting W S → W → Audience L S → Option ℕ → W → Audience L S → List ℕ → Type 0
-Looks reads calls reports waits before (Some count) waits2 after room =
-    IsHeard reads before (Some count) after room × ((after.listener ≡ before.listener) × (waits2 ≡ waits))
-Looks {S = S} reads calls reports waits before None waits2 after room =
-    (left : List S) × (AreLeft reads (length room) before.callers.items left
-    × (LetsIn calls reports before.token waits before.listener left after.ready waits2 after.listener after.callers.items
-    × (after.speaker ≡ before.speaker)))

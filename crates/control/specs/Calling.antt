@@ -3,10 +3,9 @@ use Rattle.std.specs.Prelude.{Bool, true, false, ◌≡◌, ◌≢◌, ◌⊎◌
 use Rattle.std.specs.IoError.{error_kind}
 use Rattle.std.specs.declared.io.Error.{Error}
 use Rattle.std.specs.declared.io.ErrorKind.TheVariants.{WouldBlock}
-use Rattle.mio.specs.declared.net.uds.listener.UnixListener.{UnixListener}
 use Rattle.mio.specs.declared.net.uds.stream.UnixStream.{UnixStream}
 use Rattle.mio.specs.declared.token.Token.{Token}
-use Rattle.control.specs.Attending.{with_room}
+use Rattle.control.specs.Counting.{with_room}
 
 -- who calls next, or why nobody does, and what the listener is then
 abbrev pub Calls : Type 0 → Type 0 → Type 1
@@ -21,10 +20,9 @@ Reporting W S = W → S → Token → Result (Unit {0}) Error → S → W → Ty
 unfoldable pub WasReported : {W S : Type 0} → Reporting W S
 WasReported before source token answer told after = Unit {0}
 
--- waits were to report this listener under this token, once, and it was answered so; they were asked for nothing else
-abbrev pub IsListenedTo : {W L T : Type 0} → Reporting W L → L → Token → Result T Error → W → W → Type 0
-IsListenedTo {L = L} reports listener token (Ok had) before after = (told : L) × reports before listener token (Ok tt) told after
-IsListenedTo {L = L} reports listener token (Err error) before after = (told : L) × reports before listener token (Err error) told after
+-- A listener was asked who calls next, and answered so. It is such a name, too: by what the listener was before and is then.
+unfoldable pub WasCalled : {L S : Type 0} → Calls L S
+WasCalled before answer after = Unit {0}
 
 -- waits were to report one who calls under this token, once; they were asked for nothing else
 abbrev pub AsksForOne : {W S : Type 0} → Reporting W S → Token → W → W → Type 0
@@ -39,10 +37,6 @@ AsksFor reports token None before after = (after ≡ before) ⊎ AsksForOne repo
 -- so the system's waits were, of the system's streams
 abbrev pub WereAskedFor : {W T : Type 0} → Token → Option T → W → W → Type 0
 WereAskedFor token word before after = AsksFor {S = UnixStream} WasReported token word before after
-
--- and so they were, of a listener of the system's
-abbrev pub WasListenedTo : {W T : Type 0} → UnixListener → Token → Result T Error → W → W → Type 0
-WasListenedTo listener token answer before after = IsListenedTo WasReported listener token answer before after
 
 -- once he is registered he is waited for, behind the others; one who can't be registered is let go
 abbrev pub IsKept : {S : Type 0} → Result (Unit {0}) Error → List S → S → List S → Type 0

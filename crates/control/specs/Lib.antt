@@ -7,9 +7,10 @@ pub mod Reads
 pub mod Saying
 pub mod Asking
 pub mod Dialling
+pub mod Counting
+pub mod Calling
 pub mod Attending
 pub mod Telling
-pub mod Calling
 pub mod Newcomers
 pub mod Audiences
 pub mod Folders

@@ -8,6 +8,11 @@ use Rattle.std.specs.declared.io.ErrorKind.TheVariants.{Interrupted}
 abbrev pub Reads : Type 0 → Type 1
 Reads S = S → List ℕ → Result ℕ Error → S → Type 0
 
+-- Who calls was read, once, and answered so; this is what the room has then. It says nothing of such a call, so this is no more than a name for it,
+-- by what he was before and is then: who makes the call has it, and nobody else.
+unfoldable pub WasHeard : {S : Type 0} → Reads S
+WasHeard before room answer after = Unit {0}
+
 -- a read that answered so was interrupted
 abbrev pub IsInterrupted : Result ℕ Error → Type 0
 IsInterrupted (Ok count) = ⊥

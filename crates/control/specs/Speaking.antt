@@ -26,7 +26,7 @@ WasWritten before bytes answer after = Unit {0}
 unfoldable pub WasRead : {L : Type 0} → Reads L
 WasRead before room answer after = Unit {0}
 
--- a line was let go, and no more passes on it
+-- a line, or who called, was let go, and no more passes there
 unfoldable pub WasLetGo : {L : Type 0} → L → Type 0
 WasLetGo line = Unit {0}
 

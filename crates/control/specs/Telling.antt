@@ -1,18 +1,31 @@
 -- What is told who awaits an answer at a box's control socket.
-use Rattle.std.specs.Prelude.{ℕ, List, Option}
+use Rattle.std.specs.Prelude.{ℕ, ◌≡◌, List, length, Option, Some, None, Result}
+use Rattle.std.specs.Io.KnownBytes.{WriteAppends}
+use Rattle.std.specs.declared.io.Error.{Error}
 use Rattle.mio.specs.declared.net.uds.stream.UnixStream.{UnixStream}
+use Rattle.outlets.specs.Outputs.{WasTaken}
 use Rattle.outlets.specs.Writes.{Asks}
-use Rattle.control.specs.Attending.{IsAnsweredOnce, IsWritten, Telling}
+use Rattle.control.specs.Attending.{Attending}
+use Rattle.control.specs.Counting.{unanswered_after}
+use Rattle.control.specs.Speaking.{WasLetGo}
 
--- A caller was told these bytes, this was answered, and he was let go. It says nothing of such a call, so this is no more than a name for it:
--- who makes the call has it, and nobody else.
-unfoldable pub WasTold : {S : Type 0} → Telling S
-WasTold caller bytes answer = Unit {0}
+-- one write of these bytes was answered so; as many as it took stand behind the known ones
+abbrev pub IsWritten : {S : Type 0} → (S → Option (List ℕ)) → Asks S → Asks S
+IsWritten held asks caller bytes answer after = WriteAppends (held caller) (held after) answer bytes × asks caller bytes answer after
 
--- so he was, and one write of these bytes was answered so
-abbrev pub TellsByWrite : {S : Type 0} → (S → Option (List ℕ)) → Asks S → Telling S
-TellsByWrite held answers caller bytes answer = WasTold caller bytes answer × IsWritten held answers caller bytes answer
+-- who is told an answer is asked to take it once, and is let go as he is then; and then so many went unanswered
+pub record IsAnsweredOnce {S : Type 0} (asks : Asks S) (caller : S) (bytes : List ℕ) (count count2 : ℕ) : Type 0 where
+  pub answer : Result ℕ Error
+  pub after : S
+  pub told : asks caller bytes answer after
+  pub gone : WasLetGo after
+  pub counted : count2 ≡ unanswered_after answer (length bytes) count
 
--- a caller was told just these bytes, once, and then so many went unanswered
-abbrev pub IsTold : List ℕ → ℕ → ℕ → Type 0
-IsTold bytes count count2 = (caller : UnixStream) × IsAnsweredOnce WasTold caller bytes count count2
+-- nobody who awaits an answer is told nothing; one who does is told it once
+abbrev pub IsAnsweredIf : {S : Type 0} → Asks S → Option S → List ℕ → ℕ → ℕ → Type 0
+IsAnsweredIf asks (Some caller) bytes count count2 = IsAnsweredOnce asks caller bytes count count2
+IsAnsweredIf asks None bytes count count2 = count2 ≡ count
+
+-- who awaited an answer was told just these bytes, once, by the names of the calls, and so many went unanswered then
+abbrev pub IsTold : List ℕ → Attending → Attending → Type 0
+IsTold bytes c c2 = (caller : UnixStream) × ((c.speaker ≡ Some caller) × IsAnsweredOnce WasTaken caller bytes c.unanswered c2.unanswered)

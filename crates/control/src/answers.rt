@@ -1,8 +1,9 @@
 //! What a box answers to a word.
 ghost use Rattle.std.specs.Prelude.{◌≡◌, ◌++◌, List, ℕ, Some, option_map};
 ghost use Rattle.control.specs.Answers.{answer_of, content_of, refusal_number, refusal_numbered, refused_answer};
-ghost use Rattle.control.specs.Answers.{heard, refused, report, page, refusal_text};
+ghost use Rattle.control.specs.Answers.{heard, refused, report, page};
 
+use outlets::told_to_show;
 use std::fmt;
 use thiserror::Error;
 
@@ -52,16 +53,25 @@ impl PeerOffRefusal {
 
 /// Its number and its name, as `peer-off 1 NotSynced`.
 impl fmt::Display for PeerOffRefusal {
+    ghost use Rattle.std.specs.Fmt.{WritesOnOk};
+    ghost use Rattle.std.specs.Prelude.{OnErr, Some};
+    ghost use Rattle.outlets.specs.Showing.{HasRefused};
+    ghost use Rattle.control.specs.Answers.{refusal_text};
+
     ghost output = { λ refusal. Some (refusal_text refusal) };
 
-    fn fmt<W: fmt::Write>(&self, f: &mut fmt::Formatter<W>) -> fmt::Result {
-        f.write_str(match self {
+    fn fmt<W: fmt::Write>(&self, f: &mut fmt::Formatter<W>) -> fmt::Result
+        ensures writes { WritesOnOk W.write_str_gives f.old result (refusal_text self.now) f.new }
+        ensures refused { OnErr result (HasRefused f.new) }
+    {
+        let text = match self {
             PeerOffRefusal::NotSynced => "peer-off 1 NotSynced",
             PeerOffRefusal::NoPeer => "peer-off 2 NoPeer",
             PeerOffRefusal::PastBoot => "peer-off 3 PastBoot",
             PeerOffRefusal::UnknownBoot => "peer-off 4 UnknownBoot",
             PeerOffRefusal::PeerHeard => "peer-off 5 PeerHeard",
-        })
+        };
+        told_to_show(f, text)
     }
 }
 

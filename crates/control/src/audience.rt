@@ -1,18 +1,19 @@
 //! Who is heard at a control socket, and answered.
 ghost use Rattle.std.specs.Prelude.{◌≡◌, ◌≤◌, ◌⊎◌, ◌||◌, false, true, length, take, vec_capacity, vec_len, is_some, IfOk, IfSome, IsNone};
-ghost use Rattle.control.specs.Attending.{AreCounted, HasLooked, IsAnsweredIf, SaysWord, is_ready};
-ghost use Rattle.control.specs.Attending.{nobody_yet, speakers, with_more};
-ghost use Rattle.control.specs.Audiences.{HasNobody, HasRoom, IsHeard, IsRegistered, Looks};
+ghost use Rattle.control.specs.Attending.{LooksBy, SaysWord, is_ready, nobody_yet};
+ghost use Rattle.control.specs.Audiences.{HasNobody, HasRoom, IsHeard, IsRegistered};
 ghost use Rattle.control.specs.Audiences.{answered, attending_of, woken};
 ghost use Rattle.control.specs.Calling.{AsksFor};
+ghost use Rattle.control.specs.Counting.{AreCounted, speakers, with_more};
+ghost use Rattle.control.specs.Telling.{IsAnsweredIf, IsWritten};
 
-use crate::awaiting::Awaits;
 use crate::callers::{answered, speaker_among};
 use crate::listeners::{Listens, Reports, let_in};
 use crate::newcomers::Newcomers;
 use crate::speakers::Speaks;
 use crate::{Word, word_of};
 use mio::Token;
+use outlets::Takes;
 use std::io;
 
 /// Where somebody may call, and room for callers, before waits report who does. Nothing here can call it, so nobody is
@@ -41,7 +42,7 @@ impl<L: Drop, S: Drop> Doorway<L, S> {
         ensures reported { IsRegistered W.reports self.listener token result
             waits.old waits.new }
         ensures nobody { IfOk result
-            (λ audience. attending_of audience ≡ nobody_yet token) }
+            (λ audience. attending_of audience ≡ nobody_yet audience.listener token) }
         ensures room { IfOk result (λ audience. HasRoom audience) }
     {
         let Doorway {
@@ -82,7 +83,7 @@ impl<L, S> Audience<L, S> {
     /// Nobody yet: there is this room for callers, and waits report the listener under this token.
     fn nobody(listener: L, callers: Vec<S>, token: Token) -> Audience<L, S>
         requires none { vec_len callers ≡ 0 }
-        ensures nobody { attending_of result ≡ nobody_yet token }
+        ensures nobody { attending_of result ≡ nobody_yet listener token }
         ensures listener { result.listener ≡ listener }
         ensures callers { result.callers ≡ callers }
     {
@@ -139,11 +140,9 @@ impl<L: Listens<S>, S: Speaks + Drop> Audience<L, S> {
             (λ count. SaysWord (take count room.new) (attending_of self.new)) }
         ensures deaf { is_ready (attending_of self.old) ≡ false
             → IsNone result × (self.new ≡ self.old) }
-        ensures looks { is_ready (attending_of self.old) ≡ true
-            → Looks S.answers L.calls W.reports waits.old self.old
-            result waits.new self.new room.new }
         ensures looked { is_ready (attending_of self.old) ≡ true
-            → HasLooked result (attending_of self.old) (attending_of self.new) }
+            → LooksBy S.answers L.calls W.reports result
+            (attending_of self.old) (attending_of self.new) }
         ensures asked { is_ready (attending_of self.old) ≡ true
             → self.new.asked ≡ length room.new }
         ensures refused { self.old.refused ≤ self.new.refused }
@@ -202,11 +201,11 @@ impl<L: Listens<S>, S: Speaks + Drop> Audience<L, S> {
     }
 }
 
-impl<L, S: Awaits + Drop> Audience<L, S> {
+impl<L, S: Takes + Drop> Audience<L, S> {
     /// Answers who awaits it, by one write, and lets him go.
     pub(crate) fn answer(&mut self, bytes: &[u8])
-        ensures told { IsAnsweredIf S.tells self.old.speaker bytes.now self.old.unanswered
-            self.new.unanswered }
+        ensures told { IsAnsweredIf (IsWritten S.held S.answers) self.old.speaker bytes.now
+            self.old.unanswered self.new.unanswered }
         ensures rest { self.new ≡ answered self.old self.new.unanswered }
         ensures counted { (self.new.unanswered ≡ self.old.unanswered)
             ⊎ (self.new.unanswered ≡ with_more self.old.unanswered 1) }

@@ -1,27 +1,8 @@
-//! Who awaits an answer.
-ghost use Rattle.control.specs.Telling.{TellsByWrite};
+//! Who awaits an answer is let go.
+ghost use Rattle.control.specs.Speaking.{WasLetGo};
 
-use outlets::Takes;
-use std::io;
-
-/// Who awaits an answer. He is told it by one write, and is let go then: no later one can reach him.
-pub(crate) trait Awaits: Sized {
-    ghost use Rattle.control.specs.Attending.{Telling};
-
-    /// What may be answered where he is told these bytes.
-    ghost tells: { Telling Self };
-
-    /// Tells him these bytes, as many as he takes, and lets him go.
-    fn tell(self, bytes: &[u8]) -> io::Result<usize>
-        ensures { tells self bytes.now result };
-}
-
-/// Who takes bytes is told them by one write.
-impl<S: Takes + Drop> Awaits for S {
-    ghost tells = { TellsByWrite S.held S.answers };
-
-    #[tactic(auto, unfolding(crate::specs::Telling::WasTold))]
-    fn tell(mut self, bytes: &[u8]) -> io::Result<usize> {
-        self.take(bytes)
-    }
-}
+/// Lets somebody go: no more passes to him, and nothing of his is heard.
+#[tactic(auto, unfolding(crate::specs::Speaking::WasLetGo))]
+pub(crate) fn let_go<S: Drop>(_caller: S)
+    ensures { WasLetGo _caller }
+{}

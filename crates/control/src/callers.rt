@@ -1,14 +1,16 @@
 //! Who is waited for: what callers have said, and what they are answered.
 ghost use Rattle.std.specs.Prelude.{◌≡◌, ◌-◌, ◌≤◌, ◌<◌, ◌⊎◌, length, remove, vec_len, vec_capacity, IfSome};
 ghost use Rattle.control.specs.Asking.{AreAsked, IsTakenOut};
-ghost use Rattle.control.specs.Attending.{AreCounted, IsAnsweredOnce, speakers, too_many};
-ghost use Rattle.control.specs.Attending.{unanswered_after, with_more, with_room};
+ghost use Rattle.control.specs.Counting.{AreCounted, speakers, too_many};
+ghost use Rattle.control.specs.Counting.{unanswered_after, with_more, with_room};
 ghost use Rattle.control.specs.Heard.{AreHeard, IsBySpeaker, IsWord};
 ghost use Rattle.control.specs.Saying.{CameFrom, IsOfOneRead, Says};
+ghost use Rattle.control.specs.Telling.{IsAnsweredOnce, IsWritten};
 
-use crate::awaiting::Awaits;
+use crate::awaiting::let_go;
 use crate::speakers::Speaks;
 use crate::word_of;
+use outlets::Takes;
 use std::io::{self, ErrorKind};
 
 /// How many callers are waited for at once. Who calls when all are waited for takes the place of the one that was
@@ -107,11 +109,13 @@ fn refuse<S: Drop>(callers: &mut Vec<S>, at: usize, refused: &mut u64)
 }
 
 /// Answers a caller by one write, and lets him go. How many went unanswered then: one more, where he hasn't the whole answer.
-pub(crate) fn answered<S: Awaits>(caller: S, bytes: &[u8], before: u64) -> u64
-    ensures told { IsAnsweredOnce S.tells caller bytes.now before result }
+pub(crate) fn answered<S: Takes + Drop>(mut caller: S, bytes: &[u8], before: u64) -> u64
+    ensures told { IsAnsweredOnce (IsWritten S.held S.answers) caller bytes.now before result }
     ensures counted { (result ≡ before) ⊎ (result ≡ with_more before 1) }
 {
-    unanswered_after(caller.tell(bytes), bytes.len(), before)
+    let written = caller.take(bytes);
+    let_go(caller);
+    unanswered_after(written, bytes.len(), before)
 }
 
 /// How many went unanswered, once an answer of so many bytes was written.

@@ -1,8 +1,9 @@
 //! The end at which words are heard.
 ghost use Rattle.std.specs.Prelude.{◌≡◌, ◌≤◌, ◌||◌, ◌⊎◌, true, false, length, take, is_some, IfOk, IfSome, IsNone, OnErr};
-ghost use Rattle.control.specs.Attending.{HasLooked, SaysWord, answered, is_ready, nobody_yet};
-ghost use Rattle.control.specs.Attending.{with_more, woken};
-ghost use Rattle.control.specs.Calling.{WasListenedTo, WereAskedFor};
+ghost use Rattle.control.specs.Attending.{HasLooked, SaysWord, WasListenedTo, answered, is_ready};
+ghost use Rattle.control.specs.Attending.{nobody_yet, woken};
+ghost use Rattle.control.specs.Calling.{WereAskedFor};
+ghost use Rattle.control.specs.Counting.{with_more};
 ghost use Rattle.control.specs.Opening.{WasNotOpened, WasOpened};
 ghost use Rattle.control.specs.Telling.{IsTold};
 
@@ -61,7 +62,7 @@ impl Bound {
     /// Has waits report who calls, and who says something, under a token. It is let go where they refuse to.
     pub fn register(self, waits: &mut Waits<'_>, token: Token) -> io::Result<Control>
         ensures asked { WasListenedTo self token result waits.old waits.new }
-        ensures nobody { IfOk result (λ control. control ≡ nobody_yet token) }
+        ensures nobody { IfOk result (λ control. control ≡ nobody_yet control.listener token) }
     {
         match self.doorway.register(waits, token) {
             Ok(audience) => Ok(Control { audience }),
@@ -148,7 +149,7 @@ impl Control {
             ⊎ (self.new.unanswered ≡ with_more self.old.unanswered 1) }
         ensures nobody { self.old.awaits ≡ false → self.new.unanswered ≡ self.old.unanswered }
         ensures told { self.old.awaits ≡ true
-            → IsTold bytes.now self.old.unanswered self.new.unanswered }
+            → IsTold bytes.now self.old self.new }
         ensures rest { self.new ≡ answered self.old self.new.unanswered }
     {
         self.audience.answer(bytes);

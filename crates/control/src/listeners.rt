@@ -1,7 +1,7 @@
 //! Who calls, and is let in.
 ghost use Rattle.std.specs.Prelude.{◌≡◌, ◌+◌, ◌<◌, ◌≤◌, ◌⊎◌, suc, vec_len, vec_capacity};
-ghost use Rattle.control.specs.Attending.{AreJoined, one_if};
-ghost use Rattle.control.specs.Calling.{AsksForOne, IsKept, LetsIn};
+ghost use Rattle.control.specs.Calling.{AsksForOne, IsKept, LetsIn, WasCalled};
+ghost use Rattle.control.specs.Counting.{AreJoined, one_if};
 
 use crate::callers::make_room;
 use crate::newcomers::Newcomers;
@@ -34,10 +34,11 @@ pub(crate) trait Listens<S> {
         ensures { calls self.old result self.new };
 }
 
-/// Of who calls at the system's nothing is known.
+/// The system's was asked who calls next, and answered so: more isn't known of it.
 impl Listens<UnixStream> for UnixListener {
-    ghost calls = { λ _ _ _. Unit {0} };
+    ghost calls = { WasCalled };
 
+    #[tactic(auto, unfolding(crate::specs::Calling::WasCalled))]
     fn call(&mut self) -> io::Result<UnixStream> {
         let (caller, _) = self.accept()?;
         Ok(caller)

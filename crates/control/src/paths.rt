@@ -1,6 +1,6 @@
 //! Where the control socket of a box lies.
-ghost use Rattle.std.specs.Prelude.{◌≡◌, ◌<◌, ◌≤◌, length, IfOk, IsErrOf};
-ghost use Rattle.control.specs.Paths.{IsBeside, socket_of};
+ghost use Rattle.std.specs.Prelude.{◌≡◌, ◌<◌, ◌≤◌, ◌++◌, length, string_bytes, IfOk, IsErrOf, OnErr};
+ghost use Rattle.control.specs.Paths.{IsBeside, LacksSocketPath, WasShort, socket_of};
 
 use std::alloc::{AllocError, Global};
 use std::marker::Model;
@@ -56,11 +56,10 @@ impl ControlPath {
         ensures beside { IfOk result (λ path. IsBeside boot_file.now path) }
         ensures short { IfOk result (λ path. length path.socket ≤ 107) }
         ensures long { IsErrOf result PathFault.LongPath → 107 < length (socket_of boot_file.now) }
+        ensures memory { IsErrOf result PathFault.NoMemory → LacksSocketPath boot_file.now }
     {
-        let mut folder = String::from_str(alloc, boot_file)?;
-        folder.push_str(".control")?;
-        let mut socket = String::from_str(alloc, folder.as_str())?;
-        socket.push_str("/socket")?;
+        let folder = joined(alloc, boot_file, ".control")?;
+        let socket = joined(alloc, folder.as_str(), "/socket")?;
         if socket.len() > LONGEST_PATH {
             return Err(PathFault::LongPath);
         }
@@ -77,5 +76,17 @@ impl ControlPath {
         ensures { result.now ≡ self.now.socket }
     {
         self.socket.as_str()
+    }
+}
+
+/// A text with another behind it. It has the name for memory that was refused for them.
+#[tactic(auto, unfolding(crate::specs::Paths::WasShort))]
+fn joined(alloc: Global, text: &str, more: &str) -> Result<String, AllocError>
+    ensures joined { IfOk result (λ whole. string_bytes whole ≡ text.now ++ more.now) }
+    ensures short { OnErr result (WasShort (text.now ++ more.now)) }
+{
+    match format!(in alloc; "{text}{more}") {
+        Ok(whole) => Ok(whole),
+        Err(error) => Err(error),
     }
 }

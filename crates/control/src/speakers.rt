@@ -2,7 +2,7 @@
 ghost use Rattle.std.specs.Io.{ReadsAtMost};
 ghost use Rattle.std.specs.Io.KnownBytes.{ReadConsumes};
 ghost use Rattle.std.specs.Prelude.{◌≡◌, length};
-ghost use Rattle.control.specs.Reads.{IsNext};
+ghost use Rattle.control.specs.Reads.{IsNext, WasHeard};
 
 use std::io::{self, ErrorKind, Read};
 
@@ -26,12 +26,13 @@ pub(crate) trait Speaks {
         ensures answered { answers self.old room.new result self.new };
 }
 
-/// Of what a reader answers nothing more is known.
+/// A reader was read, and answered so: more isn't known of it.
 impl<S: Read> Speaks for S {
     ghost rest = { S.remaining };
 
-    ghost answers = { λ _ _ _ _. Unit {0} };
+    ghost answers = { WasHeard };
 
+    #[tactic(auto, unfolding(crate::specs::Reads::WasHeard))]
     fn hear(&mut self, room: &mut [u8]) -> io::Result<usize> {
         self.read(room)
     }

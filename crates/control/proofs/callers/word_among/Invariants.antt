@@ -1,6 +1,6 @@
 use Rattle.std.proofs.Common.{◌≡◌, ◌+◌, ◌-◌, ◌≤◌, drop, length, take, vec_capacity, vec_len}
 use Rattle.control.specs.Asking.{AreLeft}
-use Rattle.control.specs.Attending.{with_more}
+use Rattle.control.specs.Counting.{with_more}
 use Rattle.control.proofs.callers.word_among.Given as goal
 
 -- each turn one more is silent, or one fewer is waited for
