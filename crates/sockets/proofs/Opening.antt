@@ -1,20 +1,23 @@
 -- That a box's sockets are opened, one call after another, and what it is told where one is refused.
 use Rattle.std.proofs.Common.{◌≡◌, ◌∙◌, ℕ, Result, Ok, Err, IfErr, IfOk, IsErrAnd, inl, inr, ap, sym, subst}
+use Rattle.std.specs.declared.alloc.AllocError.{AllocError}
+use Rattle.std.specs.declared.alloc.Global.{Global}
 use Rattle.std.specs.declared.io.Error.{Error}
 use Rattle.std.specs.declared.net.socket_addr.SocketAddr.{SocketAddr}
 use Rattle.control.specs.Attending.{Attending}
+use Rattle.mio.specs.declared.event.events.Events.{Events}
 use Rattle.mio.specs.declared.net.uds.listener.UnixListener.{UnixListener}
 use Rattle.sockets.specs.declared.machine.Waiting.{Waiting}
 use Rattle.sockets.specs.Asking.{WasControlRegistered, WasRegistered}
-use Rattle.sockets.specs.Boards.{IsHad, IsRefused, OpensPlaces, control_token}
-use Rattle.sockets.specs.Opening.{IsAttached, IsJoined, IsOpened, RefusesOne, Wanted, WasBound, WasConnected, WasPollMade, places_of, wanted}
+use Rattle.sockets.specs.Boards.{HasRoom, IsHad, IsRefused, OpensPlaces, control_token}
+use Rattle.sockets.specs.Opening.{IsAttached, IsJoined, IsOpened, RefusesOne, Wanted, WasBound, WasConnected, WasGivenRoom, WasPollMade, places_of, wanted}
 use Rattle.sockets.specs.Ends.{IsSocketOf}
 use Rattle.sockets.specs.declared.ends.Ends.{Ends}
 use Rattle.sockets.specs.declared.machine.Opened.{Opened}
 use Rattle.sockets.specs.declared.machine.Udp.{Udp}
 use Rattle.sockets.specs.declared.places.Ports.{Ports}
 use Rattle.sockets.specs.declared.sockets.Places.{Places}
-use Rattle.sockets.specs.declared.sockets.SocketFault.TheVariants.{NoSocket}
+use Rattle.sockets.specs.declared.sockets.SocketFault.TheVariants.{NoMemory, NoSocket}
 use Rattle.sockets.specs.declared.ways.Ways.{Ways}
 
 -- ---- what an answer has
@@ -108,10 +111,31 @@ pub still_had : {M : Type 0} (before after : M) (ways : Ways) (ports : Ports) (p
 still_had before after ways ports poll2 poll p2 p is had =
     subst (λ (x : Waiting × Places). IsHad before ways ports x.0 x.1 after) (sym is) had
 
--- of what is held, with what was made beside it: two parts that are held first, or the last of both and that; and the first
-pub held_first : {A B C : Type 0} (a a2 : A) (b b2 : B) (c c2 : C) → ◌≡◌ {A = (A × B) × C} ((a, b), c) ((a2, b2), c2) → ◌≡◌ {A = A × B} (a, b) (a2, b2)
-held_first {A} {B} {C} a a2 b b2 c c2 is = ap (λ (x : (A × B) × C). x.0) is
+-- memory for events isn't
+pub room_refused : {M : Type 0} (before between after : M) (ways : Ways) (ports : Ports) (handed_in : UnixListener) (poll : Waiting) (p : Places)
+    (answer : Result (Events Global) AllocError) (error : AllocError) → IsHad before ways ports poll p between → WasGivenRoom between 8 answer after
+    → answer ≡ Err error → IsRefused before ways ports handed_in NoMemory after
+room_refused before between after ways ports handed_in poll p answer error had given is =
+    (poll, (p, (between, (had, (error, subst (λ (a : Result (Events Global) AllocError). WasGivenRoom between 8 a after) is given)))))
 
+-- it is
+pub had_room : {M : Type 0} (before between after : M) (ways : Ways) (ports : Ports) (poll : Waiting) (p : Places)
+    (answer : Result (Events Global) AllocError) (events : Events Global) → IsHad before ways ports poll p between → WasGivenRoom between 8 answer after
+    → answer ≡ Ok events → HasRoom before ways ports poll p events after
+had_room before between after ways ports poll p answer events had given is = record {
+  between = between;
+  had = had;
+  given = subst (λ (a : Result (Events Global) AllocError). WasGivenRoom between 8 a after) is given;
+}
+
+-- and held, too
+pub still_room : {M : Type 0} (before after : M) (ways : Ways) (ports : Ports) (poll2 poll : Waiting) (p2 p : Places) (events2 events : Events Global)
+    → ◌≡◌ {A = (Waiting × Places) × Events Global} ((poll2, p2), events2) ((poll, p), events) → HasRoom before ways ports poll p events after
+    → HasRoom before ways ports poll2 p2 events2 after
+still_room before after ways ports poll2 poll p2 p events2 events is had =
+    subst (λ (x : (Waiting × Places) × Events Global). HasRoom before ways ports x.0.0 x.0.1 x.1 after) (sym is) had
+
+-- of what is held, with what was made beside it: the last of both that are held and that; and the first
 pub held_last : {A B C : Type 0} (h : A × B) (a : A) (b : B) (c c2 : C) → ◌≡◌ {A = (A × B) × C} (h, c) ((a, b), c2) → ◌≡◌ {A = B × C} (h.1, c) (b, c2)
 held_last {A} {B} {C} h a b c c2 is = ap (λ (x : (A × B) × C). (x.0.1, x.1)) is
 
@@ -132,7 +156,7 @@ asked before after handed_in held answer answer2 same had is =
 
 -- it can't be
 pub control_refused : {M : Type 0} (before between after : M) (ways : Ways) (ports : Ports) (handed_in held : UnixListener) (poll : Waiting) (p : Places)
-    (answer : Result Attending Error) (error : Error) → IsHad before ways ports poll p between → held ≡ handed_in
+    (events : Events Global) (answer : Result Attending Error) (error : Error) → HasRoom before ways ports poll p events between → held ≡ handed_in
     → WasControlRegistered between held control_token.0 answer after → answer ≡ Err error → IsRefused before ways ports handed_in NoSocket after
-control_refused before between after ways ports handed_in held poll p answer error had same heard is =
-    (error, inr (poll, (p, (between, (had, asked between after handed_in held answer (Err error) same heard is)))))
+control_refused before between after ways ports handed_in held poll p events answer error had same heard is =
+    (error, inr (poll, (p, (events, (between, (had, asked between after handed_in held answer (Err error) same heard is))))))

@@ -3,7 +3,7 @@ use Rattle.std.proofs.Common.{◌≡◌, ◌+◌, ℕ, Bool, true, false, List, 
 use Rattle.std.specs.Duration.{as_nanos}
 use Rattle.std.specs.declared.time.Duration.{Duration}
 use Rattle.control.specs.Attending.{Attending}
-use Rattle.mio.specs.Events.{items}
+use Rattle.mio.specs.Events.{capacity, items}
 use Rattle.mio.specs.declared.event.event.Event.{Event}
 use Rattle.sockets.specs.Hearing.{Attached}
 use Rattle.sockets.specs.Letters.{answer_of}
@@ -25,12 +25,13 @@ nobody : (events : List Event) (c c2 : Attending) → events ≡ [] → c2 ≡ c
 nobody events c c2 none same = subst (λ (es : List Event). c2 ≡ woken_by_all es c) (sym none) same
 
 -- it failed, and reported nothing
-pub waits_failed : (limit : Duration) (b b2 : Board) → WasPolled b.poll limit true (items b2.events) b2.poll → items b2.events ≡ [] → b2.link ≡ b.link
-    → b2.inside ≡ b.inside → b2.outside ≡ b.outside → b2.control ≡ b.control → b2.first ≡ b.first → Waits (as_nanos limit) true b b2
-waits_failed limit b b2 polled none link inside outside control first = record {
+pub waits_failed : (limit : Duration) (b b2 : Board) → WasPolled b.poll b.events limit true b2.events b2.poll
+    → capacity b2.events ≡ capacity b.events → items b2.events ≡ [] → b2.link ≡ b.link → b2.inside ≡ b.inside → b2.outside ≡ b.outside → b2.control ≡ b.control → b2.first ≡ b.first → Waits (as_nanos limit) true b b2
+waits_failed limit b b2 polled room none link inside outside control first = record {
   limit = limit;
   is_limit = refl;
   polled = polled;
+  room = room;
   nothing = λ is. none;
   places = record {
     link = no_place 0 (items b2.events) b.link b2.link none link;
@@ -96,29 +97,29 @@ waits_for r failed limit a b waits is = subst (λ (f : Bool). WaitsForAny limit 
 
 -- something came
 pub at_once : (limit : ℕ) (a b c : Board) (found : Option (Place × ℕ)) (datagram : Place × ℕ) → CatchesUp limit false a b → c.poll ≡ b.poll
-    → AsksFor (Ok found) b c → found ≡ Some datagram → WaitsFor limit (Ok (Some datagram)) a c
-at_once limit a b c found datagram catches poll places some =
-    let asks : AsksPlaces (Ok found) b c = record { poll = poll; places = places } in
+    → c.events ≡ b.events → AsksFor (Ok found) b c → found ≡ Some datagram → WaitsFor limit (Ok (Some datagram)) a c
+at_once limit a b c found datagram catches poll events places some =
+    let asks : AsksPlaces (Ok found) b c = record { poll = poll; events = events; places = places } in
     inl (b, (catches, subst (λ (f : Option (Place × ℕ)). AsksPlaces (Ok f) b c) some asks))
 
 -- it failed
-pub at_once_failed : (limit : ℕ) (a b c : Board) (fault : WireFault) → CatchesUp limit false a b → c.poll ≡ b.poll → AsksFor (Err fault) b c
-    → WaitsFor limit (Err fault) a c
-at_once_failed limit a b c fault catches poll places = inr (inl (b, (catches, record { poll = poll; places = places })))
+pub at_once_failed : (limit : ℕ) (a b c : Board) (fault : WireFault) → CatchesUp limit false a b → c.poll ≡ b.poll → c.events ≡ b.events
+    → AsksFor (Err fault) b c → WaitsFor limit (Err fault) a c
+at_once_failed limit a b c fault catches poll events places = inr (inl (b, (catches, record { poll = poll; events = events; places = places })))
 
 -- nothing was there, and so it was waited for
 pub has_waited : (limit : ℕ) (failed : Bool) (a b c d : Board) (found : Option (Place × ℕ)) → CatchesUp limit false a b → c.poll ≡ b.poll
-    → AsksFor (Ok found) b c → found ≡ None → WaitsForAny limit failed c d → HasWaited limit failed a d
-has_waited limit failed a b c d found catches poll places none waits =
-    let asks : AsksPlaces (Ok found) b c = record { poll = poll; places = places } in
+    → c.events ≡ b.events → AsksFor (Ok found) b c → found ≡ None → WaitsForAny limit failed c d → HasWaited limit failed a d
+has_waited limit failed a b c d found catches poll events places none waits =
+    let asks : AsksPlaces (Ok found) b c = record { poll = poll; events = events; places = places } in
     (c, ((b, (catches, subst (λ (f : Option (Place × ℕ)). AsksPlaces (Ok f) b c) none asks)), waits))
 
 -- and this was answered then
 pub behind_wait : (limit : ℕ) (a d e : Board) (result : Result (Option (Place × ℕ)) WireFault) → HasWaited limit false a d → e.poll ≡ d.poll
-    → AsksFor result d e → WaitsFor limit result a e
-behind_wait limit a d e (Ok (Some found)) waited poll places = inr (d, (waited, record { poll = poll; places = places }))
-behind_wait limit a d e (Ok None) waited poll places = (d, (waited, record { poll = poll; places = places }))
-behind_wait limit a d e (Err fault) waited poll places = inr (inr (d, (waited, record { poll = poll; places = places })))
+    → e.events ≡ d.events → AsksFor result d e → WaitsFor limit result a e
+behind_wait limit a d e (Ok (Some found)) waited poll events places = inr (d, (waited, record { poll = poll; events = events; places = places }))
+behind_wait limit a d e (Ok None) waited poll events places = (d, (waited, record { poll = poll; events = events; places = places }))
+behind_wait limit a d e (Err fault) waited poll events places = inr (inr (d, (waited, record { poll = poll; events = events; places = places })))
 
 -- ---- a call
 

@@ -2,9 +2,12 @@
 use Rattle.std.specs.Prelude.{ℕ, Bool, true, false, ◌≡◌, List, [], ◌∷◌, ◌++◌, ◌⊎◌, take, Option, Some, None, Result, Ok, Err, is_err}
 use Rattle.control.specs.Attending.{nobody_yet}
 use Rattle.mio.specs.declared.net.uds.listener.UnixListener.{UnixListener}
+use Rattle.std.specs.declared.alloc.AllocError.{AllocError}
+use Rattle.std.specs.declared.alloc.Global.{Global}
 use Rattle.std.specs.declared.io.Error.{Error}
 use Rattle.sockets.specs.declared.machine.Waiting.{Waiting}
 use Rattle.mio.specs.Events.{capacity}
+use Rattle.mio.specs.declared.event.events.Events.{Events}
 use Rattle.mio.specs.declared.token.Token.{Token}
 use Rattle.nat_types.specs.declared.gateways.Side.TheVariants.{Inside, Outside}
 use Rattle.sockets.specs.declared.places.Place.{Place}
@@ -20,10 +23,10 @@ use Rattle.sockets.specs.declared.sockets.SocketFault.{SocketFault}
 use Rattle.sockets.specs.declared.sockets.SocketFault.TheVariants.{NoMemory, NoSocket}
 use Rattle.sockets.specs.FarEnds.{Arrival, far_end_of, head_of}
 use Rattle.sockets.specs.Hearing.{Attached, Hears}
-use Rattle.sockets.specs.Traffic.{handed_on}
+use Rattle.sockets.specs.Traffic.{arrived, handed_on}
 use Rattle.sockets.specs.Asking.{HandsOver, Receives, Sends, WasControlRegistered, WasReceived, WasSent}
 use Rattle.sockets.specs.Losses.{none_lost, with_loss}
-use Rattle.sockets.specs.Opening.{IsAttached, RefusesOne, WasHandedOut, WasPollMade, places_of, wanted}
+use Rattle.sockets.specs.Opening.{IsAttached, RefusesOne, WasGivenRoom, WasHandedOut, WasPollMade, places_of, wanted}
 use Rattle.sockets.specs.declared.losses.SendFault.{SendFault}
 
 abbrev pub is_link : Place → Bool
@@ -72,17 +75,19 @@ pub record IsAsBefore (b b2 : Board) : Type 0 where
   pub inside : b2.inside ≡ b.inside
   pub outside : b2.outside ≡ b.outside
 
--- the system isn't asked to wait, and the same place is asked first
+-- the system isn't asked to wait, the room for what it reports is as it was, and the same place is asked first
 pub record Rests (b b2 : Board) : Type 0 where
   pub poll : b2.poll ≡ b.poll
+  pub events : b2.events ≡ b.events
   pub first : b2.first ≡ b.first
 
--- what answers is the system, where a channel's socket is asked to send or for what came next, once
+-- what answers is the system, where a channel's socket is asked to send or for what came next, once; what came is just what it answered
 abbrev pub was_sent : Sends Channel
 was_sent c bytes result c2 = WasSent c.socket bytes result c2.socket
 
 abbrev pub was_received : Receives Channel
 was_received c result room c2 = WasReceived c.socket result room c2.socket
+    × (c2.traffic ≡ record c.traffic { came = c.traffic.came ++ arrived result room })
 
 -- bytes are handed on to the far end, behind what stands before them: the system was asked to send just these; or not, where the answer is an
 -- Err. The place fails from then on just after an Err, which is counted as a loss
@@ -140,6 +145,12 @@ pub record IsHad {M : Type 0} (before : M) (ways : Ways) (ports : Ports) (poll :
   pub polled : WasPollMade before (Ok poll) between
   pub places : OpensPlaces between ways ports p after
 
+-- and then for memory in which a wait reports eight events, which it had
+pub record HasRoom {M : Type 0} (before : M) (ways : Ways) (ports : Ports) (poll : Waiting) (p : Places) (events : Events Global) (after : M) : Type 0 where
+  pub between : M
+  pub had : IsHad before ways ports poll p between
+  pub given : WasGivenRoom between 8 (Ok events) after
+
 -- and then all three were handed out
 pub record HandsOut {M : Type 0} (before : M) (ways : Ways) (ports : Ports) (p : Places) (b : Board) (after : M) : Type 0 where
   pub second : M
@@ -154,10 +165,10 @@ pub record Opens {M : Type 0} (before : M) (ways : Ways) (ports : Ports) (handed
   pub places : Places
   pub between : M
   pub behind : M
-  pub had : IsHad before ways ports b.poll places between
+  pub had : HasRoom before ways ports b.poll places b.events between
   pub heard : WasControlRegistered between handed_in control_token.0 (Ok b.control) behind
   pub handed_out : HandsOut behind ways ports places b after
-  pub control : b.control ≡ nobody_yet control_token
+  pub control : b.control ≡ nobody_yet b.control.listener control_token
   pub first : b.first ≡ Link
   pub room : capacity b.events ≡ 8
 
@@ -169,12 +180,17 @@ RefusesPlaces {M} before ways ports error after = WasPollMade before (Err error)
 -- none is, and then waits can't report the control socket
 abbrev pub RefusesControl : {M : Type 0} → M → Ways → Ports → UnixListener → Error → M → Type 0
 RefusesControl {M} before ways ports handed_in error after =
-    (poll : Waiting) × ((p : Places) × ((between : M) × (IsHad before ways ports poll p between
-    × WasControlRegistered between handed_in control_token.0 (Err error) after)))
+    (poll : Waiting) × ((p : Places) × ((events : Events Global) × ((between : M) × (HasRoom before ways ports poll p events between
+    × WasControlRegistered between handed_in control_token.0 (Err error) after))))
 
--- A box's sockets aren't had: the system refused what it was asked, and wasn't asked for more behind that. Or there is no memory for events,
--- and it refused nothing: then it wasn't asked to report the control socket. Nobody was heard there in any case.
+-- none is, and then memory for events is refused
+abbrev pub RefusesRoom : {M : Type 0} → M → Ways → Ports → M → Type 0
+RefusesRoom {M} before ways ports after = (poll : Waiting) × ((p : Places) × ((between : M) × (IsHad before ways ports poll p between
+    × ((error : AllocError) × WasGivenRoom between 8 (Err error) after))))
+
+-- A box's sockets aren't had: the system refused what it was asked, and wasn't asked for more behind that. Or it refused memory for events, and
+-- nothing before: then it wasn't asked to report the control socket. Nobody was heard there in any case.
 abbrev pub IsRefused : {M : Type 0} → M → Ways → Ports → UnixListener → SocketFault → M → Type 0
 IsRefused before ways ports handed_in NoSocket after =
     (error : Error) × (RefusesPlaces before ways ports error after ⊎ RefusesControl before ways ports handed_in error after)
-IsRefused before ways ports handed_in NoMemory after = (poll : Waiting) × ((p : Places) × IsHad before ways ports poll p after)
+IsRefused before ways ports handed_in NoMemory after = RefusesRoom before ways ports after

@@ -86,7 +86,7 @@ woken_by_all (event ∷ rest) c = woken_by_all rest (woken_by (event_token event
 -- one it does too
 pub record IsAnswered (bytes : List ℕ) (c c2 : Attending) : Type 0 where
   pub rest : c2 ≡ answered c c2.unanswered
-  pub told : c.awaits ≡ true → IsTold bytes c.unanswered c2.unanswered
+  pub told : c.awaits ≡ true → IsTold bytes c c2
   pub nobody : c.awaits ≡ false → c2.unanswered ≡ c.unanswered
 
 -- ---- the places in turn

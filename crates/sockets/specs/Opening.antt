@@ -1,7 +1,10 @@
 -- What a way needs is opened, as far as nothing is refused.
 use Rattle.std.specs.Prelude.{ℕ, ◌≡◌, ◌⊎◌, List, [], ◌∷◌, Result, Ok, Err}
+use Rattle.std.specs.declared.alloc.AllocError.{AllocError}
+use Rattle.std.specs.declared.alloc.Global.{Global}
 use Rattle.std.specs.declared.io.Error.{Error}
 use Rattle.std.specs.declared.net.socket_addr.SocketAddr.{SocketAddr}
+use Rattle.mio.specs.declared.event.events.Events.{Events}
 use Rattle.sockets.specs.declared.machine.Waiting.{Waiting}
 use Rattle.sockets.specs.Asking.{WasRegistered}
 use Rattle.sockets.specs.Ends.{IsSocketOf, are_on_loopback}
@@ -27,6 +30,10 @@ WasBound before address answer after = Unit {0}
 -- the same where it was asked for what waits for sockets
 unfoldable pub WasPollMade : {M : Type 0} → M → Result Waiting Error → M → Type 0
 WasPollMade before answer after = Unit {0}
+
+-- and where it was asked for memory in which a wait reports so many events
+unfoldable pub WasGivenRoom : {M : Type 0} → M → ℕ → Result (Events Global) AllocError → M → Type 0
+WasGivenRoom before count answer after = Unit {0}
 
 -- and where an inherited descriptor of this number was taken over
 unfoldable pub WasInherited : {M : Type 0} → M → ℕ → Inherited → M → Type 0

@@ -2,7 +2,7 @@
 use Rattle.std.specs.Prelude.{ℕ, zero, suc, Bool, true, false, ◌≡◌, ◌<◌, ◌⊎◌, List, [], Option, Some, None, Result, Ok, Err}
 use Rattle.std.specs.Duration.{as_nanos}
 use Rattle.std.specs.declared.time.Duration.{Duration}
-use Rattle.mio.specs.Events.{items}
+use Rattle.mio.specs.Events.{capacity, items}
 use Rattle.sockets.specs.declared.places.Place.{Place}
 use Rattle.sockets.specs.declared.sockets.Board.{Board}
 use Rattle.sockets.specs.declared.sockets.Sockets.{Sockets}
@@ -15,11 +15,12 @@ use Rattle.sockets.specs.Waking.{AreWoken, TakesAt, is_any_ready}
 -- ---- to wait
 
 -- The system was asked, once, to wait for at most so many nanoseconds, and failed or didn't. All that it reported wakes who it is for, and nothing
--- else is changed.
+-- else is changed: there is room for as many events as before.
 pub record Waits (nanoseconds : ℕ) (failed : Bool) (b b2 : Board) : Type 0 where
   pub limit : Duration
   pub is_limit : as_nanos limit ≡ nanoseconds
-  pub polled : WasPolled b.poll limit failed (items b2.events) b2.poll
+  pub polled : WasPolled b.poll b.events limit failed b2.events b2.poll
+  pub room : capacity b2.events ≡ capacity b.events
   pub nothing : failed ≡ true → items b2.events ≡ []
   pub places : AreWoken (items b2.events) b b2
   pub control : b2.control ≡ woken_by_all (items b2.events) b.control
@@ -57,9 +58,10 @@ AsksFor (Ok (Some found)) b b2 = AsksUpTo found.0 (Ok (Some found.1)) b b2
 AsksFor (Ok None) b b2 = AsksTurns 4 b b2
 AsksFor (Err fault) b b2 = (place : Place) × AsksUpTo place (Err fault) b b2
 
--- so they were, and nothing was waited for meanwhile
+-- so they were, and nothing was waited for meanwhile: the room for events is as it was
 pub record AsksPlaces (result : Result (Option (Place × ℕ)) WireFault) (b b2 : Board) : Type 0 where
   pub poll : b2.poll ≡ b.poll
+  pub events : b2.events ≡ b.events
   pub places : AsksFor result b b2
 
 -- ---- to receive

@@ -1,7 +1,9 @@
 -- What a box's sockets show of its places.
 use Rattle.std.specs.Prelude.{ℕ, Bool, true, false, ◌≡◌, ◌⊎◌, [], Option, Some, None, Result, Ok, Err}
+use Rattle.std.specs.declared.alloc.Global.{Global}
 use Rattle.std.specs.declared.time.Duration.{Duration}
 use Rattle.mio.specs.Events.{items}
+use Rattle.mio.specs.declared.event.events.Events.{Events}
 use Rattle.sockets.specs.declared.machine.Waiting.{Waiting}
 use Rattle.nat_types.specs.declared.gateways.Side.TheVariants.{Inside, Outside}
 use Rattle.sockets.specs.declared.channels.Channel.{Channel}
@@ -63,7 +65,8 @@ TurnsFor (Err fault) b b2 = Unit {0}
 
 -- a wait failed, and so reported nothing
 abbrev pub IsOfWait : Board → Type 0
-IsOfWait b = (items b.events ≡ []) × ((before : Waiting) × ((limit : Duration) × WasPolled before limit true (items b.events) b.poll))
+IsOfWait b = (items b.events ≡ [])
+    × ((before : Waiting) × ((room : Events Global) × ((limit : Duration) × WasPolled before room limit true b.events b.poll)))
 
 -- the place that was asked last fails; or a wait did
 abbrev pub HasFailed : Board → Type 0

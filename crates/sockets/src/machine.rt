@@ -4,7 +4,7 @@ ghost use Rattle.control.specs.Attending.{HasLooked, SaysWord, is_ready, nobody_
 ghost use Rattle.mio.specs.Events.{capacity, items};
 ghost use Rattle.sockets.specs.Asking.{WasControlRegistered, WasReceived, WasRegistered, WasSent};
 ghost use Rattle.sockets.specs.Inheriting.{WasUnblocked, WasUnblockedBy};
-ghost use Rattle.sockets.specs.Opening.{WasBound, WasConnected, WasHandedOut, WasInherited, WasPollMade};
+ghost use Rattle.sockets.specs.Opening.{WasBound, WasConnected, WasGivenRoom, WasHandedOut, WasInherited, WasPollMade};
 ghost use Rattle.sockets.specs.Polling.{WasPolled};
 
 use crate::channels::{counted, fault_of, settled, taken_whole};
@@ -13,7 +13,7 @@ use control::{Bound, Control, Waits};
 use mio::net::UdpSocket;
 use mio::unix::SourceFd;
 use mio::{Events, Interest, Poll, Token};
-use std::alloc::Global;
+use std::alloc::{AllocError, Global};
 use std::io::{self, ErrorKind};
 use std::net::{Net, SocketAddr};
 use std::os::fd::RawFd;
@@ -35,6 +35,19 @@ impl<'a, R: Net> Machine<'a, R> {
         ensures { WasPollMade self.old result self.new }
     {
         Ok(Waiting(Poll::new(self.0)?))
+    }
+
+    /// Asks the system for memory in which a wait reports so many events.
+    #[tactic(auto, unfolding(crate::specs::Opening::WasGivenRoom))]
+    pub(crate) fn told_to_make_room(
+        &mut self,
+        alloc: Global,
+        count: usize,
+    ) -> Result<Events<Global>, AllocError>
+        ensures asked { WasGivenRoom self.old count result self.new }
+        ensures room { IfOk result (λ events. capacity events ≡ count) }
+    {
+        Events::with_capacity(alloc, count)
     }
 
     /// Asks the system for a socket at an address.
@@ -100,7 +113,7 @@ impl<'a, R: Net> Machine<'a, R> {
         token: Token,
     ) -> io::Result<Control>
         ensures asked { WasControlRegistered self.old bound token.0 result self.new }
-        ensures ok { IfOk result (λ control. control ≡ nobody_yet token) }
+        ensures ok { IfOk result (λ control. control ≡ nobody_yet control.listener token) }
     {
         bound.register(&mut Waits::new(waits.0.registry()), token)
     }
@@ -120,7 +133,7 @@ impl Waiting {
         events: &mut Events<Global>,
         limit: Duration,
     ) -> Result<(), WireFault>
-        ensures polled { WasPolled self.old limit (is_err result) (items events.new) self.new }
+        ensures polled { WasPolled self.old events.old limit (is_err result) events.new self.new }
         ensures failed { OnErr result (items events.new ≡ []) }
         ensures room { capacity events.new ≡ capacity events.old }
     {

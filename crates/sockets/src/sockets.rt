@@ -1,6 +1,6 @@
 //! The sockets of a box, all waited for at once.
 ghost use Rattle.control.specs.Attending.{is_ready};
-ghost use Rattle.mio.specs.Events.{capacity, items};
+ghost use Rattle.mio.specs.Events.{items};
 ghost use Rattle.std.specs.Duration.{as_nanos};
 ghost use Rattle.std.specs.Prelude.{◌≡◌, ◌≤◌, Err, IfErr, IfOk, IfSome, Ok, is_err, option_map, take};
 ghost use Rattle.sockets.specs.Boards.{HearsAt, IsNew, IsRefused, Opens, OpensPlaces, Rests, SendsAt, Tells, after};
@@ -136,6 +136,7 @@ impl Board {
         ensures spent { SpentFor result self.new }
         ensures asks { AsksFor result self.old self.new }
         ensures poll { self.new.poll ≡ self.old.poll }
+        ensures events { self.new.events ≡ self.old.events }
     {
         for _ in 0..4_u8 {
             let place = self.first;
@@ -156,7 +157,6 @@ impl Board {
         ensures first { self.new.first ≡ self.old.first }
         ensures failed { IfErr result (λ fault. IsOfWait self.new) }
         ensures waits { Waits (as_nanos limit) (is_err result) self.old self.new }
-        ensures room { capacity self.new.events ≡ capacity self.old.events }
     {
         match self.poll.told_to_wait(&mut self.events, limit) {
             Ok(()) => {
@@ -386,7 +386,7 @@ impl Sockets {
         let (control, poll) = beside(control, machine.told_to_make_poll())?;
         let places = open_places(machine, &poll, ways, ports);
         let (held, places) = beside((control, poll), places)?;
-        let events = Events::with_capacity(alloc, 8);
+        let events = machine.told_to_make_room(alloc, 8);
         let ((held, places), events) = beside((held, places), events)?;
         let (control, poll) = held;
         let control = machine.told_to_register_control(control, &poll, CONTROL);

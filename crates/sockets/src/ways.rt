@@ -4,6 +4,7 @@ ghost use Rattle.sockets.specs.Inheriting.{AreInherited, AreUnblocked, AreUnbloc
 ghost use Rattle.sockets.specs.Ways.{IsWayText, IsNoWayText, IsVxlanText, IsNoVxlanText, IsDescriptorText, IsNoDescriptorText, IsDescriptor, Names};
 
 use crate::{End, Ends, FarEnd, Machine, Network};
+use outlets::{told_to_show, told_to_show_number};
 use std::fmt;
 use std::net::Net;
 use thiserror::Error;
@@ -90,13 +91,20 @@ pub struct NoDescriptor(pub u16);
 
 /// As `way 2 NoDescriptor 5`.
 impl fmt::Display for NoDescriptor {
-    ghost use Rattle.std.specs.Prelude.{Some};
+    ghost use Rattle.std.specs.Fmt.{WritesOnOk};
+    ghost use Rattle.std.specs.Prelude.{OnErr, Some};
+    ghost use Rattle.outlets.specs.Showing.{HasRefused};
     ghost use Rattle.sockets.specs.Ways.{no_descriptor_text};
 
     ghost output = { λ fault. Some (no_descriptor_text fault) };
 
-    fn fmt<W: fmt::Write>(&self, f: &mut fmt::Formatter<W>) -> fmt::Result {
-        write!(f, "way 2 NoDescriptor {}", self.0)
+    fn fmt<W: fmt::Write>(&self, f: &mut fmt::Formatter<W>) -> fmt::Result
+        ensures writes { WritesOnOk W.write_str_gives f.old result (no_descriptor_text self.now)
+            f.new }
+        ensures refused { OnErr result (HasRefused f.new) }
+    {
+        told_to_show(f, "way 2 NoDescriptor ")?;
+        told_to_show_number(f, u64::from(self.0))
     }
 }
 

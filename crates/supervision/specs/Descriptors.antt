@@ -19,6 +19,16 @@ NeverWaits descriptor = (answer : ℤ) × (WasAnswered descriptor answer × ¬ (
 abbrev pub IsRefused : ℕ → Type 0
 IsRefused descriptor = (answer : ℤ) × (WasAnswered descriptor answer × (answer <ℤ pos 0))
 
+-- this process asked it for this descriptor alone, once, and it did so
+abbrev pub IsSet : {M : Type 0} → M → ℕ → M → Type 0
+IsSet before descriptor after =
+    (answer : ℤ) × (WasAsked before descriptor answer after × (WasAnswered descriptor answer × ¬ (answer <ℤ pos 0)))
+
+-- and it refused to
+abbrev pub IsUnset : {M : Type 0} → M → ℕ → M → Type 0
+IsUnset before descriptor after =
+    (answer : ℤ) × (WasAsked before descriptor answer after × (WasAnswered descriptor answer × (answer <ℤ pos 0)))
+
 -- this process asked it for this descriptor alone, once
 abbrev pub IsSetOnce : {M : Type 0} → M → ℕ → M → Type 0
 IsSetOnce before descriptor after = (answer : ℤ) × WasAsked before descriptor answer after

@@ -1,7 +1,7 @@
 //! This process, as who has inherited descriptors, and what the system was handed for them. Nothing else of this crate
 //! asks the system.
 ghost use Rattle.std.specs.Prelude.{◌≡◌, ◌↔◌, ◌++◌, ◌∷◌, ◌<ℤ◌, [], pos, IfErr, IfOk, IsTrue, OnErr, OnOk};
-ghost use Rattle.supervision.specs.Descriptors.{IsRefused, IsSetOnce, NeverWaits, WasAnswered, WasAsked};
+ghost use Rattle.supervision.specs.Descriptors.{IsRefused, IsSet, IsSetOnce, IsUnset, NeverWaits, WasAnswered, WasAsked};
 
 use crate::NotOpen;
 use arrayvec::ArrayString;
@@ -32,6 +32,8 @@ impl<'a, R: Net> Machine<'a, R> {
         ensures none { IfOk result (λ messages. messages ≡ []) }
         ensures ok { OnOk result (NeverWaits descriptor) }
         ensures err { OnErr result (IsRefused descriptor) }
+        ensures set { OnOk result (IsSet self.old descriptor self.new) }
+        ensures unset { OnErr result (IsUnset self.old descriptor self.new) }
         ensures named { IfErr result (λ fault. fault.0 ≡ descriptor) }
     {
         if is_refused(self.told_to_set(descriptor)) {

@@ -1,12 +1,13 @@
 //! A service manager at the other end of a socket.
 ghost use Rattle.std.specs.Prelude.{◌≡◌, IfErr, IfOk, MatchOption, OnErr, OnOk};
-ghost use Rattle.supervision.specs.Descriptors.{IsRefused, IsSetOnce, NeverWaits};
+ghost use Rattle.supervision.specs.Descriptors.{IsRefused, IsSet, IsSetOnce, IsUnset, NeverWaits};
 ghost use Rattle.supervision.specs.Hearing.{gets};
 ghost use Rattle.supervision.specs.Managers.{IsManagerText, IsNoManagerText, descriptor_of, manager_at};
 
 use crate::Supervisor;
 use crate::machine::{Machine, Messages};
 use crate::notices::{Notice, laid_out};
+use outlets::{told_to_show, told_to_show_number};
 use sockets::Way;
 use std::fmt;
 use std::net::Net;
@@ -35,13 +36,19 @@ pub struct NotOpen(pub u16);
 
 /// As `notify 2 NoDescriptor 5`.
 impl fmt::Display for NotOpen {
-    ghost use Rattle.std.specs.Prelude.{Some};
+    ghost use Rattle.std.specs.Fmt.{WritesOnOk};
+    ghost use Rattle.std.specs.Prelude.{OnErr, Some};
+    ghost use Rattle.outlets.specs.Showing.{HasRefused};
     ghost use Rattle.supervision.specs.Managers.{not_open_text};
 
     ghost output = { λ fault. Some (not_open_text fault) };
 
-    fn fmt<W: fmt::Write>(&self, f: &mut fmt::Formatter<W>) -> fmt::Result {
-        write!(f, "notify 2 NoDescriptor {}", self.0)
+    fn fmt<W: fmt::Write>(&self, f: &mut fmt::Formatter<W>) -> fmt::Result
+        ensures writes { WritesOnOk W.write_str_gives f.old result (not_open_text self.now) f.new }
+        ensures refused { OnErr result (HasRefused f.new) }
+    {
+        told_to_show(f, "notify 2 NoDescriptor ")?;
+        told_to_show_number(f, u64::from(self.0))
     }
 }
 
@@ -67,6 +74,8 @@ impl Manager {
         ensures made { IfOk result (λ manager. manager ≡ manager_at descriptor) }
         ensures ok { OnOk result (NeverWaits descriptor) }
         ensures err { OnErr result (IsRefused descriptor) }
+        ensures set { OnOk result (IsSet machine.old descriptor machine.new) }
+        ensures unset { OnErr result (IsUnset machine.old descriptor machine.new) }
         ensures named { IfErr result (λ fault. fault.0 ≡ descriptor) }
     {
         let messages = machine.taken_over(descriptor)?;

@@ -1,9 +1,12 @@
 //! What a service manager is told, as it reads it.
-ghost use Rattle.std.specs.Prelude.{◌≡◌, ◌≤◌, ◌+◌, ◌++◌, Some, length};
+ghost use Rattle.std.specs.Fmt.{WritesOnOk};
+ghost use Rattle.std.specs.Prelude.{◌≡◌, ◌≤◌, ◌+◌, ◌++◌, OnErr, Some, length};
+ghost use Rattle.outlets.specs.Showing.{HasRefused};
 ghost use Rattle.supervision.specs.Notices.{text_of};
 
 use arrayvec::ArrayString;
 use itoa::Buffer;
+use outlets::{told_to_show, told_to_show_number};
 use std::fmt::{self, Display, Formatter};
 
 /// What a service manager is told.
@@ -21,11 +24,18 @@ pub enum Notice {
 impl Display for Notice {
     ghost output = { λ n. Some (text_of n) };
 
-    fn fmt<W: fmt::Write>(&self, f: &mut Formatter<W>) -> fmt::Result {
+    fn fmt<W: fmt::Write>(&self, f: &mut Formatter<W>) -> fmt::Result
+        ensures writes { WritesOnOk W.write_str_gives f.old result (text_of self.now) f.new }
+        ensures refused { OnErr result (HasRefused f.new) }
+    {
         match self {
-            Notice::Ready(boot) => write!(f, "READY=1\nSTATUS=boot {boot}\n"),
-            Notice::Alive => f.write_str("WATCHDOG=1\n"),
-            Notice::Ending => f.write_str("STOPPING=1\n"),
+            Notice::Ready(boot) => {
+                told_to_show(f, "READY=1\nSTATUS=boot ")?;
+                told_to_show_number(f, *boot)?;
+                told_to_show(f, "\n")
+            }
+            Notice::Alive => told_to_show(f, "WATCHDOG=1\n"),
+            Notice::Ending => told_to_show(f, "STOPPING=1\n"),
         }
     }
 }

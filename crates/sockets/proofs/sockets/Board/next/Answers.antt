@@ -14,6 +14,7 @@ loop-init c = record {
   heard = none_heard _ _ (record { link = refl; inside = refl; outside = refl });
   first = refl;
   poll = refl;
+  events = refl;
   asked = refl;
   looked = none_asked c.args.self.now.first c.args.self.now.control c.args.self.now.control;
   vain = vain_yet c.args.self.now.control;
@@ -69,6 +70,7 @@ loop-preserved c =
       first = turned_on c.loop.counter c.args.self.now.first c.loop.self.first c.take.new.self.first c.loop.invariant.first
           (c.take.ensures.rests.first ∙ c.after-self.ensures);
       poll = c.take.ensures.rests.poll ∙ c.loop.invariant.poll;
+      events = c.take.ensures.rests.events ∙ c.loop.invariant.events;
       asked = asks_on c.loop.counter c.args.self.now c.loop.self c.take.new.self c.loop.self.first c.in-Ok-None.field-0 c.loop.invariant.first
           c.loop.invariant.asked
           (record { link = c.in-Ok-None.ensures.takes.link; inside = c.in-Ok-None.ensures.takes.inside; outside = c.in-Ok-None.ensures.takes.outside; control = c.in-Ok-None.ensures.takes.control })

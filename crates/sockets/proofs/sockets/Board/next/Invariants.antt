@@ -13,6 +13,7 @@ invariant-loop l = record {
   heard : HearsAt l.fn.self l.self Operator [];
   first : l.self.first ≡ turned l.counter l.fn.self.first;
   poll : l.self.poll ≡ l.fn.self.poll;
+  events : l.self.events ≡ l.fn.self.events;
   asked : AsksTurns l.counter l.fn.self l.self;
   looked : is_among l.counter l.fn.self.first ≡ true → IsLookedAt l.fn.self.control l.self.control;
   vain : PassesInVain l.fn.self.control l.self.control;

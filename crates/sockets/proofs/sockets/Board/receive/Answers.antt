@@ -61,19 +61,19 @@ pub returns-in-Ok-Some-clause-waits : goal.returns-in-Ok-Some-clause-waits
 returns-in-Ok-Some-clause-waits c =
     at_once (as_nanos c.args.limit) c.args.self.now c.catch_up.new.self c.next.new.self c.in-Ok-Some.field-0 _
     (caught c.catch_up.result false _ _ _ c.catch_up.ensures.catches (sym c.is_err.ensures.value ∙ c.if-is_err.false))
-    c.next.ensures.poll c.in-Ok-Some.ensures.asks c.in-Ok-Some.field-0-is
+    c.next.ensures.poll c.next.ensures.events c.in-Ok-Some.ensures.asks c.in-Ok-Some.field-0-is
 
 pub returns-in-Err-clause-waits : goal.returns-in-Err-clause-waits
 returns-in-Err-clause-waits c =
     at_once_failed (as_nanos c.args.limit) c.args.self.now c.catch_up.new.self c.next.new.self c.in-Err.fault
     (caught c.catch_up.result false _ _ _ c.catch_up.ensures.catches (sym c.is_err.ensures.value ∙ c.if-is_err.false))
-    c.next.ensures.poll c.in-Err.ensures.asks
+    c.next.ensures.poll c.next.ensures.events c.in-Err.ensures.asks
 
 pub returns-then-is_err-2-clause-waits : goal.returns-then-is_err-2-clause-waits
 returns-then-is_err-2-clause-waits c =
     inl (inr (has_waited (as_nanos c.args.limit) true c.args.self.now c.catch_up.new.self c.next.new.self c.wait_for_any.new.self c.in-Ok-None.field-0
     (caught c.catch_up.result false _ _ _ c.catch_up.ensures.catches (sym c.is_err.ensures.value ∙ c.if-is_err.false))
-    c.next.ensures.poll c.in-Ok-None.ensures.asks c.in-Ok-None.field-0-is
+    c.next.ensures.poll c.next.ensures.events c.in-Ok-None.ensures.asks c.in-Ok-None.field-0-is
     (waits_for c.wait_for_any.result true _ _ _ c.wait_for_any.ensures.waits (sym c.is_err-2.ensures.value ∙ c.if-is_err-2.true))))
 
 pub returns-clause-waits : goal.returns-clause-waits
@@ -81,9 +81,9 @@ returns-clause-waits c =
     behind_wait (as_nanos c.args.limit) c.args.self.now c.wait_for_any.new.self c.next-2.new.self c.next-2.result
     (has_waited (as_nanos c.args.limit) false c.args.self.now c.catch_up.new.self c.next.new.self c.wait_for_any.new.self c.in-Ok-None.field-0
     (caught c.catch_up.result false _ _ _ c.catch_up.ensures.catches (sym c.is_err.ensures.value ∙ c.if-is_err.false))
-    c.next.ensures.poll c.in-Ok-None.ensures.asks c.in-Ok-None.field-0-is
+    c.next.ensures.poll c.next.ensures.events c.in-Ok-None.ensures.asks c.in-Ok-None.field-0-is
     (waits_for c.wait_for_any.result false _ _ _ c.wait_for_any.ensures.waits (sym c.is_err-2.ensures.value ∙ c.if-is_err-2.false)))
-    c.next-2.ensures.poll c.next-2.ensures.asks
+    c.next-2.ensures.poll c.next-2.ensures.events c.next-2.ensures.asks
 
 pub returns-then-is_err-clause-failed : goal.returns-then-is_err-clause-failed
 returns-then-is_err-clause-failed c = inr (if_err c.catch_up.result _ c.catch_up.ensures.failed (sym c.is_err.ensures.value ∙ c.if-is_err.true))
