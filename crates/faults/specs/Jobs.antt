@@ -4,11 +4,12 @@ use Rattle.std.specs.Str.Lines.{lines}
 use Rattle.settings.specs.declared.whole.Settings.{Settings}
 use Rattle.toml.specs.Data.{Members}
 use Rattle.toml.specs.Parse.{parse_document}
+use Rattle.settings_file.specs.Memory.{LacksSettings}
 use Rattle.settings_file.specs.Settings.{IsReadFrom, Tells}
 use Rattle.settings_file.specs.declared.faults.SettingFault.{SettingFault}
 use Rattle.settings_file.specs.declared.faults.SettingFault.TheVariants as sets
+use Rattle.scripts.specs.Memory.{LacksEvents}
 use Rattle.scripts.specs.Script.{said, events_of, first_bad_line}
-use Rattle.faults.specs.Memory.{WasShort}
 use Rattle.faults.specs.declared.faults.Fault.{Fault}
 use Rattle.faults.specs.declared.faults.Fault.TheVariants.{Setting, BadLine, NotWritten, NoMemory}
 use Rattle.faults.specs.declared.jobs.Job.{Job}
@@ -20,7 +21,7 @@ pub record IsJobOf (text script : List ℕ) (job : Job) : Type 0 where
 
 -- memory was refused for the settings of a text; or they are read, and it was for the events of a script
 abbrev pub IsJobShort : List ℕ → List ℕ → Type 0
-IsJobShort text script = WasShort text ⊎ (((settings : Settings) × IsReadFrom (parse_document text) settings) × WasShort script)
+IsJobShort text script = LacksSettings text ⊎ (((settings : Settings) × IsReadFrom (parse_document text) settings) × LacksEvents script)
 
 -- a fault of settings tells the first reason for which a document holds none; want of memory is none of settings
 abbrev pub TellsSettings : Option Members → SettingFault → Type 0

@@ -1,2 +1,3 @@
 mod Numbers
 mod Rows
+mod Shortage

@@ -1,2 +1,4 @@
 pub mod Script
 pub mod Faults
+pub mod Limits
+pub mod Memory

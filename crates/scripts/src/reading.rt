@@ -1,6 +1,6 @@
 //! Reads a script: a list of world events, a line each.
 
-ghost use Rattle.std.specs.Prelude.{◌≡◌, map, option_map, Some, IfOk, IfErr, OnOk};
+ghost use Rattle.std.specs.Prelude.{◌≡◌, ◌++◌, ◌∷◌, ◌⊎◌, [], map, option_map, Some, Ok, Err, IfOk, IfErr, OnErr, OnOk};
 ghost use Rattle.std.specs.Str.Lines.{lines};
 ghost use Rattle.scripts.specs.Script.{said, words, is_comment, is_blank, is_silent, is_decimal};
 ghost use Rattle.scripts.specs.Script.{number_named, side_named, bytes_named, gateway_named};
@@ -8,9 +8,14 @@ ghost use Rattle.scripts.specs.Script.{bare_named, counted_named, frame_named, b
 ghost use Rattle.scripts.specs.Script.{up_named, sided_named, cable};
 ghost use Rattle.scripts.specs.Script.{words_event, events_of, first_bad_from, first_bad_line};
 ghost use Rattle.scripts.specs.Faults.{IsTold};
+ghost use Rattle.scripts.specs.Memory.{LackBytes, LackEvents, LacksEvents, LacksLine, WasShort, WasUnspelled};
+ghost use Rattle.hex.specs.Hex.{decode_of};
+ghost use Rattle.hex.specs.declared.error.FromHexError.TheVariants as hex;
+ghost use Rattle.scripts.specs.declared.faults.ScriptFault.TheVariants as faults;
 ghost use Rattle.scripts.specs.declared.reading.TheConstants.{EVENTS};
 
 use crate::ScriptFault;
+use hex::FromHexError;
 use nat_types::{GatewayId, Side, WorldEvent};
 use std::alloc::{AllocError, Global};
 
@@ -21,17 +26,27 @@ const EVENTS: usize = 1_000_000;
 const FRAME: usize = 2_000;
 
 /// All events of a script, or the first fault in it.
+///
+/// # Errors
+///
+/// `BadLine` with the number of the first line, from 1, that is none of a script's, or says an event too many; `NoMemory`
+/// where memory was refused for what the script says.
 pub fn read(alloc: Global, script: &str) -> Result<Vec<WorldEvent>, ScriptFault>
     ensures told { IfErr result (IsTold (lines script.now)) }
     ensures good { OnOk result (first_bad_line script.now ≡ None) }
     ensures events { IfOk result (λ v. map said v.items ≡ events_of (lines script.now)) }
+    ensures short { IfErr result (λ fault. fault ≡ faults.NoMemory → LacksEvents script.now) }
 {
     let lines = lines_of(alloc, script)?;
     events_in(alloc, lines.as_slice())
 }
 
+/// The lines of a script. This one, `words_of`, `add_event` and `decoded` make one call each, and have the name for
+/// memory that was refused there.
+#[tactic(auto, unfolding(crate::specs::Memory::WasShort))]
 fn lines_of(alloc: Global, script: &str) -> Result<Vec<&str>, AllocError>
-    ensures { IfOk result (λ v. map (λ line. line.now) v.items ≡ lines script.now) }
+    ensures lines { IfOk result (λ v. map (λ line. line.now) v.items ≡ lines script.now) }
+    ensures short { OnErr result (WasShort (lines script.now)) }
 {
     script.lines().collect(alloc)
 }
@@ -42,6 +57,8 @@ fn events_in(alloc: Global, lines: &[&str]) -> Result<Vec<WorldEvent>, ScriptFau
         ≡ None) }
     ensures events { IfOk result (λ v. map said v.items
         ≡ events_of (map (λ line. line.now) lines.now)) }
+    ensures short { IfErr result (λ fault. fault ≡ faults.NoMemory
+        → LackEvents (map (λ line. line.now) lines.now)) }
 {
     let mut events = Vec::new(alloc);
     for (above, line) in lines.iter().enumerate() {
@@ -52,9 +69,19 @@ fn events_in(alloc: Global, lines: &[&str]) -> Result<Vec<WorldEvent>, ScriptFau
         if events.len() == EVENTS {
             return Err(ScriptFault::BadLine(above + 1));
         }
-        events.push(event)?;
+        add_event(&mut events, event)?;
     }
     Ok(events)
+}
+
+/// Adds an event.
+#[tactic(auto, unfolding(crate::specs::Memory::WasShort))]
+fn add_event(events: &mut Vec<WorldEvent>, event: WorldEvent) -> Result<(), AllocError>
+    ensures items { OnOk result (events.new.items ≡ events.old.items ++ event ∷ []) }
+    ensures short { OnErr result (WasShort (map said events.old.items ++ said event ∷ [])) }
+{
+    events.push(event)?;
+    Ok(())
 }
 
 /// A line that says nothing.
@@ -79,22 +106,27 @@ fn is_blank(line: &str) -> bool
 
 /// The event that a line names, if it names one.
 fn event_of(alloc: Global, line: &str) -> Result<Option<WorldEvent>, AllocError>
-    ensures { IfOk result (λ event. option_map said event ≡ words_event (words line.now)) }
+    ensures event { IfOk result
+        (λ event. option_map said event ≡ words_event (words line.now)) }
+    ensures short { OnErr result (LacksLine line.now) }
 {
     let words = words_of(alloc, line)?;
     event_named(alloc, words.as_slice())
 }
 
 /// The words of a line, which stand apart by single spaces.
+#[tactic(auto, unfolding(crate::specs::Memory::WasShort))]
 fn words_of(alloc: Global, line: &str) -> Result<Vec<&str>, AllocError>
-    ensures { IfOk result (λ v. map (λ word. word.now) v.items ≡ words line.now) }
+    ensures words { IfOk result (λ v. map (λ word. word.now) v.items ≡ words line.now) }
+    ensures short { OnErr result (WasShort (words line.now)) }
 {
     line.split(' ').collect(alloc)
 }
 
 fn event_named(alloc: Global, words: &[&str]) -> Result<Option<WorldEvent>, AllocError>
-    ensures { IfOk result (λ event. option_map said event
+    ensures event { IfOk result (λ event. option_map said event
         ≡ words_event (map (λ word. word.now) words.now)) }
+    ensures short { OnErr result (LackBytes (map (λ word. word.now) words.now)) }
 {
     match words {
         [verb, gateway] => Ok(bare(verb, gateway)),
@@ -168,9 +200,10 @@ fn sided(
     side: &str,
     text: &str,
 ) -> Result<Option<WorldEvent>, AllocError>
-    ensures { IfOk result (λ event. option_map said event
+    ensures event { IfOk result (λ event. option_map said event
         ≡ by_word (gateway_named gateway.now) (λ id. by_word (side_named side.now)
         (λ at. sided_named verb.now id at text.now))) }
+    ensures short { OnErr result (WasUnspelled text.now) }
 {
     let Some(id) = gateway_of(gateway) else {
         return Ok(None);
@@ -185,8 +218,9 @@ fn sided_by(
     side: &str,
     text: &str,
 ) -> Result<Option<WorldEvent>, AllocError>
-    ensures { IfOk result (λ event. option_map said event
+    ensures event { IfOk result (λ event. option_map said event
         ≡ by_word (side_named side.now) (λ at. sided_named verb.now id at text.now)) }
+    ensures short { OnErr result (WasUnspelled text.now) }
 {
     let Some(side) = side_of(side) else {
         return Ok(None);
@@ -202,7 +236,9 @@ fn sided_at(
     side: Side,
     text: &str,
 ) -> Result<Option<WorldEvent>, AllocError>
-    ensures { IfOk result (λ event. option_map said event ≡ sided_named verb.now id side text.now) }
+    ensures event { IfOk result
+        (λ event. option_map said event ≡ sided_named verb.now id side text.now) }
+    ensures short { OnErr result (WasUnspelled text.now) }
 {
     if verb == "side" {
         Ok(cable(id, side, text))
@@ -237,8 +273,9 @@ fn frame_at(
     side: Side,
     text: &str,
 ) -> Result<Option<WorldEvent>, AllocError>
-    ensures { IfOk result (λ event. option_map said event
+    ensures event { IfOk result (λ event. option_map said event
         ≡ by_word (bytes_named text.now) (λ bytes. frame_named verb.now id side bytes)) }
+    ensures short { OnErr result (WasUnspelled text.now) }
 {
     let Some(bytes) = bytes_of(alloc, text)? else {
         return Ok(None);
@@ -279,7 +316,9 @@ fn is_decimal(word: &str) -> bool
 
 /// The bytes that pairs of hexadecimal digits spell, or none for `-`.
 fn bytes_of(alloc: Global, word: &str) -> Result<Option<Vec<u8>>, AllocError>
-    ensures { IfOk result (λ bytes. option_map (λ v. v.items) bytes ≡ bytes_named word.now) }
+    ensures bytes { IfOk result
+        (λ bytes. option_map (λ v. v.items) bytes ≡ bytes_named word.now) }
+    ensures short { OnErr result (WasUnspelled word.now) }
 {
     if word == "-" {
         return Ok(Some(Vec::new(alloc)));
@@ -287,9 +326,19 @@ fn bytes_of(alloc: Global, word: &str) -> Result<Option<Vec<u8>>, AllocError>
     if word.is_empty() || word.len() > 2 * FRAME {
         return Ok(None);
     }
-    match hex::decode(alloc, word) {
+    match decoded(alloc, word) {
         Ok(bytes) => Ok(Some(bytes)),
-        Err(hex::FromHexError::OutOfMemory) => Err(AllocError),
+        Err(FromHexError::OutOfMemory) => Err(AllocError),
         Err(_) => Ok(None),
     }
+}
+
+/// The bytes that pairs of hexadecimal digits spell.
+#[tactic(auto, unfolding(crate::specs::Memory::WasUnspelled))]
+fn decoded(alloc: Global, word: &str) -> Result<Vec<u8>, FromHexError>
+    ensures ok { IfOk result (λ bytes. decode_of word.now ≡ Ok bytes.items) }
+    ensures err { IfErr result (λ e. (e ≡ hex.OutOfMemory) ⊎ (decode_of word.now ≡ Err e)) }
+    ensures short { IfErr result (λ e. e ≡ hex.OutOfMemory → WasUnspelled word.now) }
+{
+    hex::decode(alloc, word)
 }

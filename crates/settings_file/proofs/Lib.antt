@@ -1,7 +1,9 @@
 mod Agree
 mod Apart
 mod Cuts
+mod Entries
 mod Good
 mod Listed
 mod Lists
 mod Loops
+mod Shortage

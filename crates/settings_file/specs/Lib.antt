@@ -5,6 +5,7 @@ pub mod Faults
 pub mod Ids
 pub mod Keys
 pub mod Listing
+pub mod Memory
 pub mod Missing
 pub mod Neighbours
 pub mod Parts

@@ -1,8 +1,10 @@
 //! Loopback ports that can't be had together.
-ghost use Rattle.std.specs.Prelude.{◌≡◌, ◌++◌, [], Some, OnOk};
+ghost use Rattle.std.specs.Prelude.{◌≡◌, ◌++◌, [], Some, OnErr, OnOk};
 ghost use Rattle.settings_file.specs.Settings.{same_number};
 ghost use Rattle.settings_file.specs.Clashes.{is_taken, first_taken, all_taken, had, section_of, ports_of_one, ports_of_both, clash_of_one, clash_of_both};
+ghost use Rattle.settings_file.specs.Memory.{IsCutShort};
 
+use crate::memory::add_key;
 use crate::{Key, Name, OnLoopback, Section};
 use nat_types::GatewayId;
 use settings::Settings;
@@ -41,11 +43,12 @@ fn first_taken(rows: &[(Key, Option<u16>)]) -> Option<Key>
 }
 
 fn add_taken(rows: &[(Key, Option<u16>)], found: &mut Vec<Key>) -> Result<(), AllocError>
-    ensures { OnOk result (found.new.items ≡ found.old.items ++ all_taken [] rows.now) }
+    ensures items { OnOk result (found.new.items ≡ found.old.items ++ all_taken [] rows.now) }
+    ensures short { OnErr result (IsCutShort (found.old.items ++ all_taken [] rows.now)) }
 {
     for (index, row) in rows.iter().enumerate() {
         if is_taken(&rows[..index], *row) {
-            found.push(row.0)?;
+            add_key(found, row.0)?;
         }
     }
     Ok(())
@@ -140,9 +143,15 @@ pub fn port_clash_of_both(settings: &Settings) -> Option<Key>
 }
 
 /// Adds all keys of which that is so, in the order of the text.
+///
+/// # Errors
+///
+/// Where memory was refused for a beginning of the list with them.
 pub fn add_port_clashes(settings: &Settings, found: &mut Vec<Key>) -> Result<(), AllocError>
-    ensures { OnOk result
+    ensures items { OnOk result
         (found.new.items ≡ found.old.items ++ all_taken [] (ports_of_both settings.now)) }
+    ensures short { OnErr result
+        (IsCutShort (found.old.items ++ all_taken [] (ports_of_both settings.now))) }
 {
     add_taken(&ports_of_both(settings), found)
 }

@@ -1,5 +1,5 @@
 //! The values at the keys of a document.
-ghost use Rattle.std.specs.Prelude.{◌≡◌, ◌↔◌, IsTrue, ◌≤◌, ◌∷◌, [], true, is_some, Some, map, option_map, option_and_then, IfOk, IfErr, IfSome, OnOk, string_bytes};
+ghost use Rattle.std.specs.Prelude.{◌≡◌, ◌≢◌, ◌↔◌, IsSomeAnd, IsTrue, ◌≤◌, ◌∷◌, [], true, is_some, Some, map, option_map, option_and_then, IfOk, IfErr, IfSome, OnOk, string_bytes};
 ghost use Rattle.std.specs.Option.{ForSome};
 ghost use Rattle.toml.specs.Data.{get_member, as_table, as_str, as_bool};
 ghost use Rattle.toml.specs.View.{table_view, view};
@@ -7,9 +7,12 @@ ghost use Rattle.addresses.specs.Address.{IsIn};
 ghost use Rattle.settings_file.specs.Keys.{section_text, key};
 ghost use Rattle.settings_file.specs.Document.{value_of, number_in, number_at, number_or, optional_at, flag_or, text_at, address_at, mac_at};
 ghost use Rattle.settings_file.specs.Document.{network_of_prefix, in_order, range_of, range_items, range_at, list_in, is_in, is_host};
+ghost use Rattle.settings_file.specs.declared.faults.ValueFault.TheVariants as faults;
+ghost use Rattle.settings_file.specs.Memory.{WasShort};
 ghost use Rattle.settings_file.specs.Faults.{IsBadAt, TellsFirst, first_bad};
 
 use crate::faults::ValueFault;
+use crate::memory::copied;
 use crate::{Key, Name, Section, texts};
 use addresses::{Ip, Mac, Port, Prefix};
 use settings::PortRange;
@@ -215,9 +218,11 @@ pub(crate) fn string(
       key section name,
       is_some (text_at (table_view document.now) section name),
     ) ∷ []))) }
+    ensures short { IfErr result (λ fault. fault ≡ faults.NoMemory
+        → IsSomeAnd (text_at (table_view document.now) section name) WasShort) }
 {
     match text(document, section, name) {
-        Some(text) => Ok(String::from_str(alloc, text)?),
+        Some(text) => Ok(copied(alloc, text)?),
         None => Err(ValueFault::BadValue(Key::new(section, name))),
     }
 }
@@ -259,6 +264,7 @@ pub(crate) fn host(
       is_host (Some (network.address.0, network.length))
           (address_at (table_view document.now) section name),
     ) ∷ []))) }
+    ensures memory { IfErr result (λ fault. fault ≢ faults.NoMemory) }
 {
     match address_found(document, section, name) {
         Some(ip) if is_in(ip, network) => Ok(ip),

@@ -1,8 +1,10 @@
 //! What a document sets up one gateway with.
-ghost use Rattle.std.specs.Prelude.{Some, IfOk};
+ghost use Rattle.std.specs.Prelude.{◌≡◌, ◌≢◌, Some, IfErr, IfOk};
 ghost use Rattle.toml.specs.View.{table_view};
 ghost use Rattle.addresses.specs.Address.{IsIn};
 ghost use Rattle.settings_file.specs.Faults.{FindsBad};
+ghost use Rattle.settings_file.specs.Memory.{LacksPath};
+ghost use Rattle.settings_file.specs.declared.faults.ValueFault.TheVariants as faults;
 ghost use Rattle.settings_file.specs.Parts.{AreAddresses, AreSockets, IsRole};
 ghost use Rattle.settings_file.specs.Rows.{bad_addresses, bad_role, bad_sockets, bad_gateway};
 ghost use Rattle.settings_file.specs.Values.{IsGateway};
@@ -29,6 +31,7 @@ fn read_addresses(
         (λ a. IsIn a.outside_ip.0 outside.address.0 outside.length) }
     ensures bad { FindsBad (bad_addresses (Some (inside.address.0, inside.length))
         (Some (outside.address.0, outside.length)) (table_view document.now) section) result }
+    ensures memory { IfErr result (λ fault. fault ≢ faults.NoMemory) }
 {
     let inside_ip = fields::host(document, section, Name::InsideIp, inside)?;
     let inside_mac = fields::mac(document, section, Name::InsideMac)?;
@@ -46,6 +49,8 @@ fn read_addresses(
 fn read_role(alloc: Global, document: &Table, section: Section) -> Result<Role, ValueFault>
     ensures ok { IfOk result (IsRole (table_view document.now) section) }
     ensures bad { FindsBad (bad_role (table_view document.now) section) result }
+    ensures short { IfErr result
+        (λ fault. fault ≡ faults.NoMemory → LacksPath (table_view document.now) section) }
 {
     let priority = fields::number_or(document, section, Name::Priority, 100, 1, 254)? as u8;
     let interval = fields::number_or(document, section, Name::Interval, 100, 1, 4095)?;
@@ -63,6 +68,7 @@ fn read_role(alloc: Global, document: &Table, section: Section) -> Result<Role, 
 fn read_sockets(document: &Table, section: Section) -> Result<Sockets, ValueFault>
     ensures ok { IfOk result (AreSockets (table_view document.now) section) }
     ensures bad { FindsBad (bad_sockets (table_view document.now) section) result }
+    ensures memory { IfErr result (λ fault. fault ≢ faults.NoMemory) }
 {
     let link = fields::number(document, section, Name::Link, 1, 65535)?;
     let inside = fields::number(document, section, Name::InsidePort, 1, 65535)?;
@@ -90,6 +96,8 @@ pub(crate) fn gateway(
         (λ g. IsIn g.outside_ip.0 outside.address.0 outside.length) }
     ensures bad { FindsBad (bad_gateway (Some (inside.address.0, inside.length))
         (Some (outside.address.0, outside.length)) (table_view document.now) section) result }
+    ensures short { IfErr result
+        (λ fault. fault ≡ faults.NoMemory → LacksPath (table_view document.now) section) }
 {
     let addresses = read_addresses(document, section, inside, outside)?;
     let role = read_role(alloc, document, section)?;

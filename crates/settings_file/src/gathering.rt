@@ -1,8 +1,10 @@
 //! Reads all values of a document.
-ghost use Rattle.std.specs.Prelude.{IfOk};
+ghost use Rattle.std.specs.Prelude.{◌≡◌, IfErr, IfOk};
 ghost use Rattle.toml.specs.View.{table_view};
 ghost use Rattle.settings_file.specs.Assembled.{AreValues};
 ghost use Rattle.settings_file.specs.Faults.{FindsBad};
+ghost use Rattle.settings_file.specs.Memory.{LacksValues};
+ghost use Rattle.settings_file.specs.declared.faults.ValueFault.TheVariants as faults;
 ghost use Rattle.settings_file.specs.Settings.{first_bad_value};
 
 use crate::faults::ValueFault;
@@ -18,6 +20,8 @@ use toml::Table;
 pub(crate) fn read_values(alloc: Global, document: &Table) -> Result<Values, ValueFault>
     ensures ok { IfOk result (AreValues (table_view document.now)) }
     ensures bad { FindsBad (first_bad_value (table_view document.now)) result }
+    ensures short { IfErr result
+        (λ fault. fault ≡ faults.NoMemory → LacksValues (table_view document.now)) }
 {
     let (zero_ports, one_ports, host_limit) = sections::ports(document)?;
     let inside = sections::inside(document)?;

@@ -11,6 +11,7 @@ mod keys;
 mod listing;
 mod looking;
 mod looks;
+mod memory;
 mod missing;
 mod neighbours;
 mod parts;

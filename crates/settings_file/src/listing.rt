@@ -1,5 +1,5 @@
 //! The keys of a document, each with whether its value is good.
-ghost use Rattle.std.specs.Prelude.{◌≡◌, ◌≤◌, ◌++◌, is_some, option_map, IfOk, IfSome};
+ghost use Rattle.std.specs.Prelude.{◌≡◌, ◌≤◌, ◌++◌, is_some, option_map, IfOk, IfSome, OnErr};
 ghost use Rattle.std.specs.Option.{ForSome};
 ghost use Rattle.toml.specs.View.{table_view};
 ghost use Rattle.settings_file.specs.declared.keys.Section.TheVariants.{Ports};
@@ -7,6 +7,7 @@ ghost use Rattle.settings_file.specs.declared.keys.Name.TheVariants.{HostLimit};
 ghost use Rattle.settings_file.specs.declared.keys.Name.TheVariants as names;
 ghost use Rattle.settings_file.specs.Document.{network_of_prefix, number_at, number_or, optional_at, flag_or, range_at, is_apart};
 ghost use Rattle.settings_file.specs.Rows.{port_rows, inside_rows, outside_rows, icmp_rows, address_rows, role_rows, socket_rows, network_at};
+ghost use Rattle.settings_file.specs.Memory.{IsCutShort};
 ghost use Rattle.settings_file.specs.Listing.{all_bad_values};
 
 use crate::rows::add_bad;
@@ -203,7 +204,9 @@ fn gateway_rows(
 
 /// All keys whose values are bad, in the order of the text.
 pub(crate) fn all_bad_values(alloc: Global, document: &Table) -> Result<Vec<Key>, AllocError>
-    ensures { IfOk result (λ found. found.items ≡ all_bad_values (table_view document.now)) }
+    ensures keys { IfOk result
+        (λ found. found.items ≡ all_bad_values (table_view document.now)) }
+    ensures short { OnErr result (IsCutShort (all_bad_values (table_view document.now))) }
 {
     let inside = network(document, Section::Inside);
     let outside = network(document, Section::Outside);

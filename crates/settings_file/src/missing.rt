@@ -1,10 +1,12 @@
 //! Keys of a document that can't be left out.
-ghost use Rattle.std.specs.Prelude.{◌≡◌, ◌++◌, filter, map, IfOk, OnOk};
+ghost use Rattle.std.specs.Prelude.{◌≡◌, ◌++◌, filter, map, IfOk, OnErr, OnOk};
 ghost use Rattle.std.specs.List.{find};
 ghost use Rattle.toml.specs.View.{table_view, view};
+ghost use Rattle.settings_file.specs.Memory.{IsCutShort};
 ghost use Rattle.settings_file.specs.Missing.{required, lacks, missing_from, missing_neighbour, first_missing, all_missing};
 ghost use Rattle.settings_file.specs.Neighbours.{all_missing_from};
 
+use crate::memory::add_key;
 use crate::rows::add_bad;
 use crate::{Key, Name, Section, fields, neighbours};
 use std::alloc::{AllocError, Global};
@@ -101,20 +103,24 @@ pub(crate) fn first_missing(document: &Table) -> Option<Key>
 }
 
 fn add_missing(document: &Table, keys: &[Key], found: &mut Vec<Key>) -> Result<(), AllocError>
-    ensures { OnOk result (found.new.items
+    ensures items { OnOk result (found.new.items
         ≡ found.old.items ++ filter (lacks (table_view document.now)) keys.now) }
+    ensures short { OnErr result
+        (IsCutShort (found.old.items ++ filter (lacks (table_view document.now)) keys.now)) }
 {
     for key in keys {
         if lacks(document, *key) {
-            found.push(*key)?;
+            add_key(found, *key)?;
         }
     }
     Ok(())
 }
 
 fn add_missing_from(tables: &[Value], found: &mut Vec<Key>) -> Result<(), AllocError>
-    ensures { OnOk result
+    ensures items { OnOk result
         (found.new.items ≡ found.old.items ++ all_missing_from (map view tables.now)) }
+    ensures short { OnErr result
+        (IsCutShort (found.old.items ++ all_missing_from (map view tables.now))) }
 {
     for table in tables {
         add_bad(&neighbours::present_rows(table), found)?;
@@ -125,7 +131,8 @@ fn add_missing_from(tables: &[Value], found: &mut Vec<Key>) -> Result<(), AllocE
 /// All keys that are missing: of the sections, and then of the neighbours.
 #[tactic(auto, unfolding(crate::specs::Missing::all_missing))]
 pub(crate) fn all_missing(alloc: Global, document: &Table) -> Result<Vec<Key>, AllocError>
-    ensures { IfOk result (λ found. found.items ≡ all_missing (table_view document.now)) }
+    ensures keys { IfOk result (λ found. found.items ≡ all_missing (table_view document.now)) }
+    ensures short { OnErr result (IsCutShort (all_missing (table_view document.now))) }
 {
     let mut found = Vec::new(alloc);
     add_missing(document, &required(), &mut found)?;

@@ -1,16 +1,19 @@
 //! The static neighbours of a document.
-ghost use Rattle.std.specs.Prelude.{◌≡◌, ◌≤◌, ◌++◌, Some, length, map, is_some, option_map, option_and_then, vec_len, IfOk, OnOk};
+ghost use Rattle.std.specs.Prelude.{◌≡◌, ◌≢◌, ◌≤◌, ◌++◌, IfErr, IsSomeAnd, OnErr, Some, length, map, is_some, option_map, option_and_then, vec_len, IfOk, OnOk};
 ghost use Rattle.std.specs.List.{list_all};
 ghost use Rattle.toml.specs.Data.{as_str};
 ghost use Rattle.toml.specs.View.{table_view, view};
 ghost use Rattle.settings_file.specs.Faults.{FindsBad};
 ghost use Rattle.std.specs.List.{flat_map};
 ghost use Rattle.settings_file.specs.declared.keys.Section.TheVariants as sections;
+ghost use Rattle.settings_file.specs.declared.faults.ValueFault.TheVariants as faults;
+ghost use Rattle.settings_file.specs.Memory.{AreCutShort, IsCutShort};
 ghost use Rattle.settings_file.specs.Keys.{key};
 ghost use Rattle.settings_file.specs.Document.{network_of_prefix, is_table};
 ghost use Rattle.settings_file.specs.Neighbours.{all_bad_of_neighbour, all_bad_in, tables_in, neighbours_of, field_of, present_rows, missing_in, neighbour_value_rows, side_named, side_of, ip_of, mac_at_of, bad_neighbour, bad_in, bad_neighbours, neighbour_in};
 
 use crate::faults::ValueFault;
+use crate::memory::{add_key, add_neighbour};
 use crate::rows::{add_bad, first_bad};
 use crate::{Key, Name, Section, fields, texts};
 use addresses::{Ip, Mac, Prefix};
@@ -172,9 +175,12 @@ fn add_bad_in(
     outside: Option<Prefix>,
     found: &mut Vec<Key>,
 ) -> Result<(), AllocError>
-    ensures { OnOk result (found.new.items ≡ found.old.items
+    ensures items { OnOk result (found.new.items ≡ found.old.items
         ++ flat_map (all_bad_of_neighbour (option_map network_of_prefix inside)
         (option_map network_of_prefix outside)) (map view tables.now)) }
+    ensures short { OnErr result (IsCutShort (found.old.items
+        ++ flat_map (all_bad_of_neighbour (option_map network_of_prefix inside)
+        (option_map network_of_prefix outside)) (map view tables.now))) }
 {
     for table in tables {
         add_bad(&value_rows(table, inside, outside), found)?;
@@ -189,16 +195,16 @@ pub(crate) fn add_bad_neighbours(
     outside: Option<Prefix>,
     found: &mut Vec<Key>,
 ) -> Result<(), AllocError>
-    ensures { OnOk result (found.new.items ≡ found.old.items
+    ensures items { OnOk result (found.new.items ≡ found.old.items
         ++ all_bad_in (option_map network_of_prefix inside) (option_map network_of_prefix outside)
         (neighbours_of (table_view document.now))) }
+    ensures short { OnErr result (IsCutShort (found.old.items
+        ++ all_bad_in (option_map network_of_prefix inside) (option_map network_of_prefix outside)
+        (neighbours_of (table_view document.now)))) }
 {
     match tables(document) {
         Some(tables) if tables.len() <= NEIGHBOURS => { add_bad_in(tables, inside, outside, found) }
-        _ => {
-            found.push(Key::whole(Section::Neighbour))?;
-            Ok(())
-        }
+        _ => add_key(found, Key::whole(Section::Neighbour)),
     }
 }
 
@@ -208,6 +214,7 @@ fn neighbour(table: &Value, inside: Prefix, outside: Prefix) -> Result<Neighbour
     ensures ok { IfOk result (λ n. neighbour_in (view table.now) ≡ Some n) }
     ensures bad { FindsBad (bad_neighbour (Some (inside.address.0, inside.length))
         (Some (outside.address.0, outside.length)) (view table.now)) result }
+    ensures memory { IfErr result (λ fault. fault ≢ faults.NoMemory) }
 {
     let Some(side) = side_of(table) else {
         return Err(ValueFault::BadValue(Key::new(Section::Neighbour, Name::Side)));
@@ -236,11 +243,13 @@ fn neighbours_in(
     ensures len { IfOk result (λ v. vec_len v ≡ length tables.now) }
     ensures bad { FindsBad (bad_in (Some (inside.address.0, inside.length))
         (Some (outside.address.0, outside.length)) (map view tables.now)) result }
+    ensures short { IfErr result
+        (λ fault. fault ≡ faults.NoMemory → AreCutShort (map view tables.now)) }
 {
     let mut neighbours = Vec::new(alloc);
     for table in tables {
         let neighbour = neighbour(table, inside, outside)?;
-        neighbours.push(neighbour)?;
+        add_neighbour(&mut neighbours, neighbour)?;
     }
     Ok(neighbours)
 }
@@ -258,6 +267,8 @@ pub(crate) fn neighbours(
     ensures few { IfOk result (λ v. vec_len v ≤ 64) }
     ensures bad { FindsBad (bad_neighbours (Some (inside.address.0, inside.length))
         (Some (outside.address.0, outside.length)) (table_view document.now)) result }
+    ensures short { IfErr result (λ fault. fault ≡ faults.NoMemory
+        → IsSomeAnd (neighbours_of (table_view document.now)) AreCutShort) }
 {
     let whole = Key::whole(Section::Neighbour);
     let Some(tables) = tables(document) else {

@@ -3,6 +3,8 @@ ghost use Rattle.std.specs.Prelude.{◌≡◌, Some, None, option_map, string_by
 ghost use Rattle.toml.specs.Parse.{parse_document};
 ghost use Rattle.toml.specs.View.{table_view};
 ghost use Rattle.settings_file.specs.Faults.{IsOfToml, TellsCantWork, TellsMissing, TellsUnknown};
+ghost use Rattle.settings_file.specs.Memory.{IsUnheld, LacksHeld, LacksSettings};
+ghost use Rattle.settings_file.specs.declared.faults.SettingFault.TheVariants as faults;
 ghost use Rattle.settings_file.specs.Missing.{first_missing};
 ghost use Rattle.settings_file.specs.Unknown.{first_unknown};
 ghost use Rattle.settings_file.specs.Settings.{IsHeld, IsReadFrom, Tells, refusal_of, HoldsValues};
@@ -12,6 +14,7 @@ ghost use Rattle.settings_file.specs.Assembled.{IsAssembled, TellsValues};
 use crate::SettingFault;
 use crate::gathering::read_values;
 use crate::ids::{overlap, same_ids};
+use crate::memory::document_of;
 use crate::missing::first_missing;
 use crate::unknown::first_unknown;
 use crate::values::Values;
@@ -79,6 +82,7 @@ pub(crate) fn held(alloc: Global, document: &Table) -> Result<Settings, SettingF
     ensures free { OnOk result (refusal_of (table_view document.now) ≡ None) }
     ensures values { IfOk result (HoldsValues (table_view document.now)) }
     ensures err { IfErr result (Tells (Some (table_view document.now))) }
+    ensures short { IfErr result (IsUnheld (table_view document.now)) }
 {
     none_unknown(first_unknown(alloc, document)?)?;
     none_missing(document)?;
@@ -102,6 +106,8 @@ fn working(settings: Settings) -> Result<Settings, SettingFault>
 fn settings_of(alloc: Global, document: &Table) -> Result<Settings, SettingFault>
     ensures ok { IfOk result (IsReadFrom (Some (table_view document.now))) }
     ensures err { IfErr result (Tells (Some (table_view document.now))) }
+    ensures short { IfErr result
+        (λ fault. fault ≡ faults.NoMemory → LacksHeld (table_view document.now)) }
 {
     let settings = held(alloc, document)?;
     working(settings)
@@ -124,12 +130,13 @@ fn no_document(fault: &Error) -> SettingFault
 /// The first fault in this order: the text isn't TOML, an unknown key (of several the least path by
 /// bytes), a missing key, a bad value, port ranges that overlap, ids that the two gateways share, a
 /// value that can never work; of missing keys, bad values and values that can't work the first in the
-/// order of the keys. `NoMemory` can come at any point.
+/// order of the keys. `NoMemory` only where memory was refused for what is read.
 pub fn read(alloc: Global, text: &str) -> Result<Settings, SettingFault>
     ensures ok { IfOk result (IsReadFrom (parse_document text.now)) }
     ensures err { IfErr result (Tells (parse_document text.now)) }
+    ensures short { IfErr result (λ fault. fault ≡ faults.NoMemory → LacksSettings text.now) }
 {
-    match toml::table_from_str(alloc, text) {
+    match document_of(alloc, text) {
         Ok(document) => settings_of(alloc, &document),
         Err(fault) => Err(no_document(&fault)),
     }

@@ -1,9 +1,10 @@
 //! The sections of a document: ports, the two networks and the router, and what is said by ICMP.
-ghost use Rattle.std.specs.Prelude.{◌≡◌, IsTrue, ◌<◌, ◌≤◌, Some, IfOk};
+ghost use Rattle.std.specs.Prelude.{◌≡◌, ◌≢◌, IsTrue, ◌<◌, ◌≤◌, Some, IfErr, IfOk};
 ghost use Rattle.std.specs.Option.{ForSome};
 ghost use Rattle.toml.specs.View.{table_view};
 ghost use Rattle.settings_file.specs.declared.keys.Section.TheVariants.{Inside, Outside};
 ghost use Rattle.settings_file.specs.declared.keys.Name.TheVariants.{Zero, One, Router};
+ghost use Rattle.settings_file.specs.declared.faults.ValueFault.TheVariants as faults;
 ghost use Rattle.settings_file.specs.Document.{address_at, is_apart, is_section, IsApart};
 ghost use Rattle.settings_file.specs.Faults.{FindsBad};
 ghost use Rattle.settings_file.specs.Rows.{bad_ports, bad_inside, bad_outside, bad_icmp, network_at};
@@ -23,6 +24,7 @@ pub(crate) fn ports(document: &Table) -> Result<(PortRange, PortRange, Option<u1
     ensures limit { IfOk result (λ r. IsLimit (table_view document.now) r.2) }
     ensures limited { IfOk result (λ r. ForSome r.2 (λ most. 0 < most)) }
     ensures bad { FindsBad (bad_ports (table_view document.now)) result }
+    ensures memory { IfErr result (λ fault. fault ≢ faults.NoMemory) }
 {
     let zero = fields::range(document, Section::Ports, Name::Zero)?;
     let one = fields::range(document, Section::Ports, Name::One)?;
@@ -35,6 +37,7 @@ pub(crate) fn ports(document: &Table) -> Result<(PortRange, PortRange, Option<u1
 pub(crate) fn inside(document: &Table) -> Result<InterfaceSettings, ValueFault>
     ensures ok { IfOk result (IsInterface (table_view document.now) Inside) }
     ensures bad { FindsBad (bad_inside (table_view document.now)) result }
+    ensures memory { IfErr result (λ fault. fault ≢ faults.NoMemory) }
 {
     let virtual_ip = fields::address(document, Section::Inside, Name::Virtual)?;
     let prefix_length = fields::number(document, Section::Inside, Name::Prefix, 8, 30)? as u8;
@@ -74,6 +77,7 @@ pub(crate) fn outside(
         (λ r. address_at (table_view document.now) Outside Router ≡ Some r.1.0) }
     ensures bad { FindsBad (bad_outside (Some (inside.address.0, inside.length))
         (network_at (table_view document.now) Outside) (table_view document.now)) result }
+    ensures memory { IfErr result (λ fault. fault ≢ faults.NoMemory) }
 {
     let virtual_ip = fields::address(document, Section::Outside, Name::Virtual)?;
     let prefix_length = fields::number(document, Section::Outside, Name::Prefix, 8, 30)? as u8;
@@ -111,6 +115,7 @@ pub(crate) fn is_section(document: &Table, section: Section) -> bool
 pub(crate) fn icmp(document: &Table) -> Result<IcmpSettings, ValueFault>
     ensures ok { IfOk result (IsIcmp (table_view document.now)) }
     ensures bad { FindsBad (bad_icmp (table_view document.now)) result }
+    ensures memory { IfErr result (λ fault. fault ≢ faults.NoMemory) }
 {
     if !is_section(document, Section::Icmp) {
         return Err(ValueFault::BadValue(Key::whole(Section::Icmp)));

@@ -1,6 +1,7 @@
 //! Settings that can never work.
-ghost use Rattle.std.specs.Prelude.{◌≡◌, ◌≤◌, ◌++◌, IfOk, OnOk};
+ghost use Rattle.std.specs.Prelude.{◌≡◌, ◌≤◌, ◌++◌, IfOk, OnErr, OnOk};
 ghost use Rattle.std.specs.List.{flat_map};
+ghost use Rattle.settings_file.specs.Memory.{IsCutShort};
 ghost use Rattle.settings_file.specs.Works.{is_first, is_last, is_host_address, is_group, is_station, is_ours, network_rows, gateway_rows, neighbour_rows, neighbours_cant, gateways_cant, cant_work, all_of_neighbour, all_that_cant};
 
 use crate::rows::{add_bad, first_bad};
@@ -181,8 +182,10 @@ fn add_of_neighbours(
     neighbours: &[Neighbour],
     found: &mut Vec<Key>,
 ) -> Result<(), AllocError>
-    ensures { OnOk result (found.new.items
+    ensures items { OnOk result (found.new.items
         ≡ found.old.items ++ flat_map (all_of_neighbour settings.now) neighbours.now) }
+    ensures short { OnErr result
+        (IsCutShort (found.old.items ++ flat_map (all_of_neighbour settings.now) neighbours.now)) }
 {
     for neighbour in neighbours {
         add_bad(&neighbour_rows(settings, neighbour), found)?;
@@ -193,7 +196,8 @@ fn add_of_neighbours(
 /// All keys, in the order of the text, whose values can never work.
 #[tactic(auto, unfolding(crate::specs::Works::all_that_cant))]
 pub(crate) fn all_that_cant(alloc: Global, settings: &Settings) -> Result<Vec<Key>, AllocError>
-    ensures { IfOk result (λ keys. keys.items ≡ all_that_cant settings.now) }
+    ensures keys { IfOk result (λ keys. keys.items ≡ all_that_cant settings.now) }
+    ensures short { OnErr result (IsCutShort (all_that_cant settings.now)) }
 {
     let mut found = Vec::new(alloc);
     add_bad(&network_rows(settings), &mut found)?;

@@ -3,13 +3,14 @@ use Rattle.std.specs.Str.Lines.{lines}
 use Rattle.std.proofs.lemmas.Result.{err_from_is_err_and}
 use Rattle.toml.specs.Parse.{parse_document}
 use Rattle.settings.specs.declared.whole.Settings.{Settings}
+use Rattle.settings_file.specs.Memory.{LacksSettings}
 use Rattle.settings_file.specs.Settings.{IsReadFrom, Tells}
 use Rattle.settings_file.specs.declared.faults.SettingFault.{SettingFault}
 use Rattle.settings_file.specs.declared.faults.SettingFault.TheVariants as sets
 use Rattle.scripts.specs.Faults.{IsTold}
+use Rattle.scripts.specs.Memory.{LacksEvents}
 use Rattle.faults.specs.Faults.{of_script, of_setting}
 use Rattle.faults.specs.Jobs.{IsJobShort, TellsRun}
-use Rattle.faults.specs.Memory.{WasShort}
 use Rattle.faults.specs.declared.faults.Fault.TheVariants.{NoMemory}
 use Rattle.scripts.specs.declared.faults.ScriptFault.{ScriptFault}
 use Rattle.scripts.specs.declared.faults.ScriptFault.TheVariants as scripts
@@ -20,7 +21,7 @@ told_none : (text script : List ℕ) (fault : SettingFault) → Tells (parse_doc
 told_none text script sets.NoMemory told = tt
 told_none text script fault told = told
 
-short_none : (text script : List ℕ) (fault : SettingFault) → (fault ≡ sets.NoMemory → WasShort text) → of_setting fault ≡ NoMemory → IsJobShort text script
+short_none : (text script : List ℕ) (fault : SettingFault) → (fault ≡ sets.NoMemory → LacksSettings text) → of_setting fault ≡ NoMemory → IsJobShort text script
 short_none text script sets.NoMemory short is = inl (short refl)
 short_none text script fault short is = absurd (cc)
 
@@ -31,7 +32,7 @@ told_bad text script (scripts.BadLine n) held told = (held, told)
 told_bad text script scripts.NoMemory held told = tt
 
 short_bad : (text script : List ℕ) (fault : ScriptFault) → ((settings : Settings) × IsReadFrom (parse_document text) settings)
-    → (fault ≡ scripts.NoMemory → WasShort script) → of_script fault ≡ NoMemory → IsJobShort text script
+    → (fault ≡ scripts.NoMemory → LacksEvents script) → of_script fault ≡ NoMemory → IsJobShort text script
 short_bad text script (scripts.BadLine n) held short is = absurd (cc)
 short_bad text script scripts.NoMemory held short is = inr (held, short refl)
 
