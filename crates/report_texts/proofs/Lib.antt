@@ -3,3 +3,4 @@ mod Parts
 mod Objects
 mod Drops
 mod Groups
+mod Refusals

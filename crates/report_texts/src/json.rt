@@ -1,6 +1,7 @@
 //! A report as JSON. No name and no value in it has a character that would want escaping.
-ghost use Rattle.std.specs.Prelude.{◌≡◌, ◌++◌, OnOk, codes, map};
+ghost use Rattle.std.specs.Prelude.{◌≡◌, ◌++◌, OnErr, OnOk, codes, map};
 ghost use Rattle.std.specs.Io.KnownBytes.{Appends};
+ghost use Rattle.report_texts.specs.Refusals.{HasRefused};
 ghost use Rattle.report_texts.specs.Json.{behind, box_members, drop_member, drops_of};
 ghost use Rattle.report_texts.specs.Json.{drops_value, end_members, frames_value, heard_value};
 ghost use Rattle.report_texts.specs.Json.{json_text, member, member_text, object, pairs_value};
@@ -32,8 +33,9 @@ struct Member<'t>(&'t str, Piece<'t>);
 ///
 /// Where output is refused.
 pub fn write_json<O: Write>(output: &mut O, report: &Report) -> io::Result<()>
-    ensures { OnOk result
+    ensures written { OnOk result
         (Appends (O.contents output.old) (O.contents output.new) (json_text report.now)) }
+    ensures refused { OnErr result (HasRefused output.new) }
 {
     let state = &report.gateway;
     put_box(output, report)?;
@@ -56,8 +58,9 @@ fn put_members<'t, O: Write>(
     before: &'t str,
     members: &[Member<'t>],
 ) -> io::Result<()>
-    ensures { OnOk result (Appends (O.contents output.old) (O.contents output.new)
+    ensures written { OnOk result (Appends (O.contents output.old) (O.contents output.new)
         (behind before.now (map member_text members.now))) }
+    ensures refused { OnErr result (HasRefused output.new) }
 {
     let mut lead = before;
     for member in members {
@@ -82,8 +85,9 @@ fn put_object<'t, O: Write>(
     name: &'t str,
     members: &[Member<'t>],
 ) -> io::Result<()>
-    ensures { OnOk result (Appends (O.contents output.old) (O.contents output.new)
+    ensures written { OnOk result (Appends (O.contents output.old) (O.contents output.new)
         (before.now ++ member name.now (object (map member_text members.now)))) }
+    ensures refused { OnErr result (HasRefused output.new) }
 {
     put(
         output,
@@ -95,8 +99,9 @@ fn put_object<'t, O: Write>(
 
 /// Which box it is, and how it stands.
 fn put_box<O: Write>(output: &mut O, report: &Report) -> io::Result<()>
-    ensures { OnOk result (Appends (O.contents output.old) (O.contents output.new)
+    ensures written { OnOk result (Appends (O.contents output.old) (O.contents output.new)
         (behind (codes "{") (box_members report.now))) }
+    ensures refused { OnErr result (HasRefused output.new) }
 {
     put_members(
         output,
@@ -113,8 +118,9 @@ fn put_box<O: Write>(output: &mut O, report: &Report) -> io::Result<()>
 }
 
 fn put_side<O: Write>(output: &mut O, name: &str, side: &SideReport, now: u64) -> io::Result<()>
-    ensures { OnOk result (Appends (O.contents output.old) (O.contents output.new)
+    ensures written { OnOk result (Appends (O.contents output.old) (O.contents output.new)
         (codes "," ++ member name.now (side_value now side.now))) }
+    ensures refused { OnErr result (HasRefused output.new) }
 {
     let since = now.saturating_sub(side.role_since);
     put_object(
@@ -140,8 +146,9 @@ fn heard_value(heard: Option<u64>) -> Piece<'static>
 }
 
 fn put_peer<O: Write>(output: &mut O, peer: &PeerReport) -> io::Result<()>
-    ensures { OnOk result (Appends (O.contents output.old) (O.contents output.new)
+    ensures written { OnOk result (Appends (O.contents output.old) (O.contents output.new)
         (codes "," ++ member (codes "peer") (peer_value peer.now))) }
+    ensures refused { OnErr result (HasRefused output.new) }
 {
     put_object(
         output,
@@ -156,8 +163,9 @@ fn put_peer<O: Write>(output: &mut O, peer: &PeerReport) -> io::Result<()>
 }
 
 fn put_pairs<O: Write>(output: &mut O, counts: &PairCounts) -> io::Result<()>
-    ensures { OnOk result (Appends (O.contents output.old) (O.contents output.new)
+    ensures written { OnOk result (Appends (O.contents output.old) (O.contents output.new)
         (codes "," ++ member (codes "pairs") (pairs_value counts.now))) }
+    ensures refused { OnErr result (HasRefused output.new) }
 {
     put_states(output, ",\"pairs\":{", counts, Protocol::Icmp)?;
     put_states(output, ",", counts, Protocol::Tcp)?;
@@ -172,8 +180,9 @@ fn put_states<O: Write>(
     counts: &PairCounts,
     protocol: Protocol,
 ) -> io::Result<()>
-    ensures { OnOk result (Appends (O.contents output.old) (O.contents output.new)
+    ensures written { OnOk result (Appends (O.contents output.old) (O.contents output.new)
         (before.now ++ states_of counts.now protocol)) }
+    ensures refused { OnErr result (HasRefused output.new) }
 {
     put_object(
         output,
@@ -199,8 +208,9 @@ fn put_states<O: Write>(
 }
 
 fn put_ports<O: Write>(output: &mut O, ports: &PortCounts) -> io::Result<()>
-    ensures { OnOk result (Appends (O.contents output.old) (O.contents output.new)
+    ensures written { OnOk result (Appends (O.contents output.old) (O.contents output.new)
         (codes "," ++ member (codes "ports") (ports_value ports.now))) }
+    ensures refused { OnErr result (HasRefused output.new) }
 {
     put_object(
         output,
@@ -216,8 +226,9 @@ fn put_ports<O: Write>(output: &mut O, ports: &PortCounts) -> io::Result<()>
 }
 
 fn put_waiting<O: Write>(output: &mut O, waiting: &WaitingCounts) -> io::Result<()>
-    ensures { OnOk result (Appends (O.contents output.old) (O.contents output.new)
+    ensures written { OnOk result (Appends (O.contents output.old) (O.contents output.new)
         (codes "," ++ member (codes "waiting") (waiting_value waiting.now))) }
+    ensures refused { OnErr result (HasRefused output.new) }
 {
     put_object(
         output,
@@ -231,8 +242,9 @@ fn put_waiting<O: Write>(output: &mut O, waiting: &WaitingCounts) -> io::Result<
 }
 
 fn put_frames<O: Write>(output: &mut O, counters: &Counters) -> io::Result<()>
-    ensures { OnOk result (Appends (O.contents output.old) (O.contents output.new)
+    ensures written { OnOk result (Appends (O.contents output.old) (O.contents output.new)
         (codes "," ++ member (codes "frames") (frames_value counters.now))) }
+    ensures refused { OnErr result (HasRefused output.new) }
 {
     put_place(output, ",\"frames\":{", "inside", counters, Origin::Inside)?;
     put_place(output, ",", "outside", counters, Origin::Outside)?;
@@ -247,8 +259,9 @@ fn put_place<O: Write>(
     counters: &Counters,
     origin: Origin,
 ) -> io::Result<()>
-    ensures { OnOk result (Appends (O.contents output.old) (O.contents output.new)
+    ensures written { OnOk result (Appends (O.contents output.old) (O.contents output.new)
         (before.now ++ member name.now (place_value counters.now origin))) }
+    ensures refused { OnErr result (HasRefused output.new) }
 {
     put_object(
         output,
@@ -270,8 +283,9 @@ fn put_place<O: Write>(
 }
 
 fn put_drops<O: Write>(output: &mut O, counters: &Counters) -> io::Result<()>
-    ensures { OnOk result (Appends (O.contents output.old) (O.contents output.new)
+    ensures written { OnOk result (Appends (O.contents output.old) (O.contents output.new)
         (codes "," ++ member (codes "dropped") (drops_value counters.now))) }
+    ensures refused { OnErr result (HasRefused output.new) }
 {
     put_dropped(output, ",\"dropped\":{", counters, Origin::Inside)?;
     put_dropped(output, ",", counters, Origin::Outside)?;
@@ -287,8 +301,9 @@ fn put_dropped<O: Write>(
     counters: &Counters,
     origin: Origin,
 ) -> io::Result<()>
-    ensures { OnOk result (Appends (O.contents output.old) (O.contents output.new)
+    ensures written { OnOk result (Appends (O.contents output.old) (O.contents output.new)
         (before.now ++ drops_of counters.now origin)) }
+    ensures refused { OnErr result (HasRefused output.new) }
 {
     put(
         output,
@@ -304,8 +319,9 @@ fn put_dropped<O: Write>(
 
 /// How many were dropped at a place for each reason, and what opens their object.
 fn put_reasons<O: Write>(output: &mut O, counters: &Counters, origin: Origin) -> io::Result<()>
-    ensures { OnOk result (Appends (O.contents output.old) (O.contents output.new)
+    ensures written { OnOk result (Appends (O.contents output.old) (O.contents output.new)
         (behind (codes "{") (map (drop_member counters.now origin) REASONS))) }
+    ensures refused { OnErr result (HasRefused output.new) }
 {
     let mut lead = "{";
     for reason in &REASONS {
@@ -325,8 +341,9 @@ fn put_reasons<O: Write>(output: &mut O, counters: &Counters, origin: Origin) ->
 
 /// What was left out, and the end of the object and of its line.
 fn put_end<O: Write>(output: &mut O, report: &Report) -> io::Result<()>
-    ensures { OnOk result (Appends (O.contents output.old) (O.contents output.new)
+    ensures written { OnOk result (Appends (O.contents output.old) (O.contents output.new)
         (behind (codes ",") (end_members report.now) ++ codes "}\n")) }
+    ensures refused { OnErr result (HasRefused output.new) }
 {
     put_members(
         output,

@@ -1,7 +1,8 @@
 //! A report as metrics in Prometheus' text format: of each family what it is, its kind, and its samples. No label has a
 //! character that would want escaping.
-ghost use Rattle.std.specs.Prelude.{◌≡◌, OnOk, flat_map};
+ghost use Rattle.std.specs.Prelude.{◌≡◌, OnErr, OnOk, flat_map};
 ghost use Rattle.std.specs.Io.KnownBytes.{Appends};
+ghost use Rattle.report_texts.specs.Refusals.{HasRefused};
 ghost use Rattle.report_texts.specs.Metrics.{box_metrics, came_metrics, drops_at, drops_metrics};
 ghost use Rattle.report_texts.specs.Metrics.{end_metrics, family_text, heard_metric, info_metric};
 ghost use Rattle.report_texts.specs.Metrics.{is_active, metrics_text, pair_metrics, pairs_name};
@@ -35,8 +36,9 @@ const COUNTER: &str = "counter";
 ///
 /// Where output is refused.
 pub fn write_metrics<O: Write>(output: &mut O, report: &Report) -> io::Result<()>
-    ensures { OnOk result (Appends (O.contents output.old) (O.contents output.new)
+    ensures written { OnOk result (Appends (O.contents output.old) (O.contents output.new)
         (metrics_text report.now)) }
+    ensures refused { OnErr result (HasRefused output.new) }
 {
     put_info(output, report)?;
     put_box(output, report)?;
@@ -57,8 +59,9 @@ fn put_family<'t, O: Write>(
     help: &'t str,
     samples: &[Sample<'t>],
 ) -> io::Result<()>
-    ensures { OnOk result (Appends (O.contents output.old) (O.contents output.new)
+    ensures written { OnOk result (Appends (O.contents output.old) (O.contents output.new)
         (family_text kind.now name.now help.now samples.now)) }
+    ensures refused { OnErr result (HasRefused output.new) }
 {
     put(
         output,
@@ -83,8 +86,9 @@ fn put_samples<'t, O: Write>(
     name: &'t str,
     samples: &[Sample<'t>],
 ) -> io::Result<()>
-    ensures { OnOk result (Appends (O.contents output.old) (O.contents output.new)
+    ensures written { OnOk result (Appends (O.contents output.old) (O.contents output.new)
         (flat_map (sample_text name.now) samples.now)) }
+    ensures refused { OnErr result (HasRefused output.new) }
 {
     for sample in samples {
         put(
@@ -113,8 +117,9 @@ fn is_heard(heard: Option<u64>) -> bool
 
 /// Which box it is.
 fn put_info<O: Write>(output: &mut O, report: &Report) -> io::Result<()>
-    ensures { OnOk result (Appends (O.contents output.old) (O.contents output.new)
+    ensures written { OnOk result (Appends (O.contents output.old) (O.contents output.new)
         (info_metric report.now)) }
+    ensures refused { OnErr result (HasRefused output.new) }
 {
     put_family(
         output,
@@ -137,8 +142,9 @@ fn put_info<O: Write>(output: &mut O, report: &Report) -> io::Result<()>
 
 /// How it stands.
 fn put_box<O: Write>(output: &mut O, report: &Report) -> io::Result<()>
-    ensures { OnOk result (Appends (O.contents output.old) (O.contents output.new)
+    ensures written { OnOk result (Appends (O.contents output.old) (O.contents output.new)
         (box_metrics report.now)) }
+    ensures refused { OnErr result (HasRefused output.new) }
 {
     let state = &report.gateway;
     put_family(
@@ -181,8 +187,9 @@ fn is_active(role: State) -> bool
 }
 
 fn put_sides<O: Write>(output: &mut O, sides: &Sides, now: u64) -> io::Result<()>
-    ensures { OnOk result (Appends (O.contents output.old) (O.contents output.new)
+    ensures written { OnOk result (Appends (O.contents output.old) (O.contents output.new)
         (side_metrics sides.now now)) }
+    ensures refused { OnErr result (HasRefused output.new) }
 {
     let (inside, outside) = (&sides.inside, &sides.outside);
     put_family(
@@ -224,8 +231,9 @@ fn put_sides<O: Write>(output: &mut O, sides: &Sides, now: u64) -> io::Result<()
 }
 
 fn put_peer<O: Write>(output: &mut O, peer: &PeerReport) -> io::Result<()>
-    ensures { OnOk result (Appends (O.contents output.old) (O.contents output.new)
+    ensures written { OnOk result (Appends (O.contents output.old) (O.contents output.new)
         (peer_metrics peer.now)) }
+    ensures refused { OnErr result (HasRefused output.new) }
 {
     put_family(
         output,
@@ -253,8 +261,9 @@ fn put_peer<O: Write>(output: &mut O, peer: &PeerReport) -> io::Result<()>
 
 /// How long ago the other box was heard, if it was.
 fn put_heard<O: Write>(output: &mut O, heard: Option<u64>) -> io::Result<()>
-    ensures { OnOk result (Appends (O.contents output.old) (O.contents output.new)
+    ensures written { OnOk result (Appends (O.contents output.old) (O.contents output.new)
         (heard_metric heard)) }
+    ensures refused { OnErr result (HasRefused output.new) }
 {
     match heard {
         Some(ago) => put_family(
@@ -269,8 +278,9 @@ fn put_heard<O: Write>(output: &mut O, heard: Option<u64>) -> io::Result<()>
 }
 
 fn put_pairs<O: Write>(output: &mut O, counts: &PairCounts) -> io::Result<()>
-    ensures { OnOk result (Appends (O.contents output.old) (O.contents output.new)
+    ensures written { OnOk result (Appends (O.contents output.old) (O.contents output.new)
         (pair_metrics counts.now)) }
+    ensures refused { OnErr result (HasRefused output.new) }
 {
     put_family(output, GAUGE, "natpair_pairs", "Entries of the table.", &[])?;
     put_states(output, counts, Protocol::Icmp)?;
@@ -280,8 +290,9 @@ fn put_pairs<O: Write>(output: &mut O, counts: &PairCounts) -> io::Result<()>
 
 /// How many entries of a protocol have each state.
 fn put_states<O: Write>(output: &mut O, counts: &PairCounts, protocol: Protocol) -> io::Result<()>
-    ensures { OnOk result (Appends (O.contents output.old) (O.contents output.new)
+    ensures written { OnOk result (Appends (O.contents output.old) (O.contents output.new)
         (states_metrics counts.now protocol)) }
+    ensures refused { OnErr result (HasRefused output.new) }
 {
     let name = pairs_name(protocol);
     put_samples(
@@ -324,8 +335,9 @@ fn pairs_name(protocol: Protocol) -> &'static str
 }
 
 fn put_ports<O: Write>(output: &mut O, state: &GatewayReport) -> io::Result<()>
-    ensures { OnOk result (Appends (O.contents output.old) (O.contents output.new)
+    ensures written { OnOk result (Appends (O.contents output.old) (O.contents output.new)
         (port_metrics state.now)) }
+    ensures refused { OnErr result (HasRefused output.new) }
 {
     let (ports, waiting) = (&state.ports, &state.waiting);
     put_family(
@@ -359,8 +371,9 @@ fn put_ports<O: Write>(output: &mut O, state: &GatewayReport) -> io::Result<()>
 }
 
 fn put_traffic<O: Write>(output: &mut O, counters: &Counters) -> io::Result<()>
-    ensures { OnOk result (Appends (O.contents output.old) (O.contents output.new)
+    ensures written { OnOk result (Appends (O.contents output.old) (O.contents output.new)
         (traffic_metrics counters.now)) }
+    ensures refused { OnErr result (HasRefused output.new) }
 {
     put_came(output, counters)?;
     put_places(
@@ -381,8 +394,9 @@ fn put_traffic<O: Write>(output: &mut O, counters: &Counters) -> io::Result<()>
 
 /// What came and went.
 fn put_came<O: Write>(output: &mut O, counters: &Counters) -> io::Result<()>
-    ensures { OnOk result (Appends (O.contents output.old) (O.contents output.new)
+    ensures written { OnOk result (Appends (O.contents output.old) (O.contents output.new)
         (came_metrics counters.now)) }
+    ensures refused { OnErr result (HasRefused output.new) }
 {
     let (inside, outside, link) = (Origin::Inside, Origin::Outside, Origin::Link);
     put_family(
@@ -435,8 +449,9 @@ fn put_places<'t, O: Write>(
     counters: &Counters,
     what: Count,
 ) -> io::Result<()>
-    ensures { OnOk result (Appends (O.contents output.old) (O.contents output.new)
+    ensures written { OnOk result (Appends (O.contents output.old) (O.contents output.new)
         (places_metric name.now help.now counters.now what)) }
+    ensures refused { OnErr result (HasRefused output.new) }
 {
     put_family(
         output,
@@ -465,8 +480,9 @@ fn put_places<'t, O: Write>(
 }
 
 fn put_drops<O: Write>(output: &mut O, counters: &Counters) -> io::Result<()>
-    ensures { OnOk result (Appends (O.contents output.old) (O.contents output.new)
+    ensures written { OnOk result (Appends (O.contents output.old) (O.contents output.new)
         (drops_metrics counters.now)) }
+    ensures refused { OnErr result (HasRefused output.new) }
 {
     put_family(
         output,
@@ -483,8 +499,9 @@ fn put_drops<O: Write>(output: &mut O, counters: &Counters) -> io::Result<()>
 
 /// How many were dropped at a place for each reason.
 fn put_reasons<O: Write>(output: &mut O, counters: &Counters, origin: Origin) -> io::Result<()>
-    ensures { OnOk result (Appends (O.contents output.old) (O.contents output.new)
+    ensures written { OnOk result (Appends (O.contents output.old) (O.contents output.new)
         (drops_at counters.now origin)) }
+    ensures refused { OnErr result (HasRefused output.new) }
 {
     for reason in &REASONS {
         put(
@@ -505,8 +522,9 @@ fn put_reasons<O: Write>(output: &mut O, counters: &Counters, origin: Origin) ->
 
 /// What was left out.
 fn put_end<O: Write>(output: &mut O, report: &Report) -> io::Result<()>
-    ensures { OnOk result (Appends (O.contents output.old) (O.contents output.new)
+    ensures written { OnOk result (Appends (O.contents output.old) (O.contents output.new)
         (end_metrics report.now)) }
+    ensures refused { OnErr result (HasRefused output.new) }
 {
     put_family(
         output,

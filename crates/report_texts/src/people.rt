@@ -1,6 +1,7 @@
 //! A report for people.
-ghost use Rattle.std.specs.Prelude.{◌≡◌, IfOk, OnOk};
+ghost use Rattle.std.specs.Prelude.{◌≡◌, IfOk, OnErr, OnOk};
 ghost use Rattle.std.specs.Io.KnownBytes.{Appends};
+ghost use Rattle.report_texts.specs.Refusals.{HasRefused};
 ghost use Rattle.report_texts.specs.Names.{away_name, cable_name, serving_name, synced_name};
 ghost use Rattle.report_texts.specs.Names.{traffic_name, wide_name};
 ghost use Rattle.report_texts.specs.People.{before_drop, box_lines, drop_part, drops_line};
@@ -24,8 +25,9 @@ use std::io::{self, Write};
 ///
 /// Where output is refused.
 pub fn write_people<O: Write>(output: &mut O, report: &Report) -> io::Result<()>
-    ensures { OnOk result
+    ensures written { OnOk result
         (Appends (O.contents output.old) (O.contents output.new) (people_text report.now)) }
+    ensures refused { OnErr result (HasRefused output.new) }
 {
     let state = &report.gateway;
     put_box(output, report)?;
@@ -40,8 +42,9 @@ pub fn write_people<O: Write>(output: &mut O, report: &Report) -> io::Result<()>
 
 /// Which box it is, and how it stands.
 fn put_box<O: Write>(output: &mut O, report: &Report) -> io::Result<()>
-    ensures { OnOk result
+    ensures written { OnOk result
         (Appends (O.contents output.old) (O.contents output.new) (box_lines report.now)) }
+    ensures refused { OnErr result (HasRefused output.new) }
 {
     put(
         output,
@@ -63,8 +66,9 @@ fn put_box<O: Write>(output: &mut O, report: &Report) -> io::Result<()>
 }
 
 fn put_side<O: Write>(output: &mut O, name: &str, side: &SideReport, now: u64) -> io::Result<()>
-    ensures { OnOk result (Appends (O.contents output.old) (O.contents output.new)
+    ensures written { OnOk result (Appends (O.contents output.old) (O.contents output.new)
         (side_line name.now now side.now)) }
+    ensures refused { OnErr result (HasRefused output.new) }
 {
     put(
         output,
@@ -84,8 +88,9 @@ fn put_side<O: Write>(output: &mut O, name: &str, side: &SideReport, now: u64) -
 }
 
 fn put_peer<O: Write>(output: &mut O, peer: &PeerReport) -> io::Result<()>
-    ensures { OnOk result
+    ensures written { OnOk result
         (Appends (O.contents output.old) (O.contents output.new) (peer_line peer.now)) }
+    ensures refused { OnErr result (HasRefused output.new) }
 {
     if peer.boot == 0 {
         put(output, &[Piece::Text("peer     not known\n")])
@@ -101,8 +106,9 @@ fn put_known<O: Write>(
     heard: Option<u64>,
     serving: &str,
 ) -> io::Result<()>
-    ensures { OnOk result (Appends (O.contents output.old) (O.contents output.new)
+    ensures written { OnOk result (Appends (O.contents output.old) (O.contents output.new)
         (known_line boot heard serving.now)) }
+    ensures refused { OnErr result (HasRefused output.new) }
 {
     match heard {
         Some(ago) => put(
@@ -171,8 +177,9 @@ fn wide_name(protocol: Protocol) -> &'static str
 
 /// What the table has, and what waits.
 fn put_table<O: Write>(output: &mut O, state: &GatewayReport) -> io::Result<()>
-    ensures { OnOk result
+    ensures written { OnOk result
         (Appends (O.contents output.old) (O.contents output.new) (table_lines state.now)) }
+    ensures refused { OnErr result (HasRefused output.new) }
 {
     put_protocol(output, state, Protocol::Icmp)?;
     put_protocol(output, state, Protocol::Tcp)?;
@@ -197,8 +204,9 @@ fn put_protocol<O: Write>(
     state: &GatewayReport,
     protocol: Protocol,
 ) -> io::Result<()>
-    ensures { OnOk result (Appends (O.contents output.old) (O.contents output.new)
+    ensures written { OnOk result (Appends (O.contents output.old) (O.contents output.new)
         (protocol_line state.now protocol)) }
+    ensures refused { OnErr result (HasRefused output.new) }
 {
     put(
         output,
@@ -222,8 +230,9 @@ fn put_protocol<O: Write>(
 }
 
 fn put_traffic<O: Write>(output: &mut O, counters: &Counters) -> io::Result<()>
-    ensures { OnOk result
+    ensures written { OnOk result
         (Appends (O.contents output.old) (O.contents output.new) (traffic_lines counters.now)) }
+    ensures refused { OnErr result (HasRefused output.new) }
 {
     put_place(output, counters, Origin::Inside)?;
     put_place(output, counters, Origin::Outside)?;
@@ -233,8 +242,9 @@ fn put_traffic<O: Write>(output: &mut O, counters: &Counters) -> io::Result<()>
 
 /// What was received and sent at a place, and what wasn't sent.
 fn put_place<O: Write>(output: &mut O, counters: &Counters, origin: Origin) -> io::Result<()>
-    ensures { OnOk result (Appends (O.contents output.old) (O.contents output.new)
+    ensures written { OnOk result (Appends (O.contents output.old) (O.contents output.new)
         (traffic_line counters.now origin)) }
+    ensures refused { OnErr result (HasRefused output.new) }
 {
     put(
         output,
@@ -266,8 +276,9 @@ fn traffic_name(origin: Origin) -> &'static str
 
 /// What was dropped at each place, where something was.
 fn put_drops<O: Write>(output: &mut O, counters: &Counters) -> io::Result<()>
-    ensures { OnOk result
+    ensures written { OnOk result
         (Appends (O.contents output.old) (O.contents output.new) (drops_lines counters.now)) }
+    ensures refused { OnErr result (HasRefused output.new) }
 {
     put_dropped(output, counters, Origin::Inside)?;
     put_dropped(output, counters, Origin::Outside)?;
@@ -277,8 +288,9 @@ fn put_drops<O: Write>(output: &mut O, counters: &Counters) -> io::Result<()>
 
 /// The line of a place, if something was dropped there: each reason for which something was.
 fn put_dropped<O: Write>(output: &mut O, counters: &Counters, origin: Origin) -> io::Result<()>
-    ensures { OnOk result (Appends (O.contents output.old) (O.contents output.new)
+    ensures written { OnOk result (Appends (O.contents output.old) (O.contents output.new)
         (drops_line counters.now origin)) }
+    ensures refused { OnErr result (HasRefused output.new) }
 {
     let mut is_first = true;
     for reason in &REASONS {
@@ -303,6 +315,7 @@ fn put_drop<O: Write>(
         (drop_part counters.now origin reason is_first)) }
     ensures first { IfOk result
         (λ still. still ≡ is_still_first counters.now origin reason is_first) }
+    ensures refused { OnErr result (HasRefused output.new) }
 {
     let count = dropped(counters, origin, reason);
     if count == 0 {
@@ -347,8 +360,9 @@ fn place_of_drops(origin: Origin) -> &'static str
 
 /// What was left out.
 fn put_end<O: Write>(output: &mut O, report: &Report) -> io::Result<()>
-    ensures { OnOk result
+    ensures written { OnOk result
         (Appends (O.contents output.old) (O.contents output.new) (end_line report.now)) }
+    ensures refused { OnErr result (HasRefused output.new) }
 {
     put(
         output,

@@ -1,10 +1,13 @@
 //! Texts in pieces, and how they are written.
-ghost use Rattle.std.specs.Prelude.{OnOk, flat_map};
+ghost use Rattle.std.specs.Prelude.{◌≡◌, OnErr, OnOk, flat_map};
 ghost use Rattle.std.specs.Io.KnownBytes.{Appends};
+ghost use Rattle.report_texts.specs.Refusals.{HasRefused};
+ghost use Rattle.report_texts.specs.Names.{truth_name};
 ghost use Rattle.report_texts.specs.Pieces.{piece_text, quoted};
 ghost use Rattle.report_texts.specs.Units.{sixteen};
 
-use crate::units::{put_groups, put_seconds, put_sixteen, put_span};
+use crate::asking::told_to_put;
+use crate::units::{put_groups, put_number, put_seconds, put_sixteen, put_span};
 use itoa::Buffer;
 use std::io::{self, Write};
 
@@ -34,8 +37,9 @@ pub(crate) enum Piece<'t> {
 
 /// Writes pieces, one behind the other.
 pub(crate) fn put<O: Write>(output: &mut O, pieces: &[Piece<'_>]) -> io::Result<()>
-    ensures { OnOk result (Appends (O.contents output.old) (O.contents output.new)
+    ensures written { OnOk result (Appends (O.contents output.old) (O.contents output.new)
         (flat_map piece_text pieces.now)) }
+    ensures refused { OnErr result (HasRefused output.new) }
 {
     for piece in pieces {
         put_piece(output, *piece)?;
@@ -44,15 +48,16 @@ pub(crate) fn put<O: Write>(output: &mut O, pieces: &[Piece<'_>]) -> io::Result<
 }
 
 fn put_piece<O: Write>(output: &mut O, piece: Piece<'_>) -> io::Result<()>
-    ensures { OnOk result
+    ensures written { OnOk result
         (Appends (O.contents output.old) (O.contents output.new) (piece_text piece.entry)) }
+    ensures refused { OnErr result (HasRefused output.new) }
 {
     match piece {
-        Piece::Text(text) => output.write_all(text.as_bytes()),
-        Piece::Quoted(text) => write!(output, "\"{text}\""),
-        Piece::Truth(is_so) => write!(output, "{is_so}"),
-        Piece::Flag(is_so) => write!(output, "{}", u64::from(is_so)),
-        Piece::Number(number) => write!(output, "{number}"),
+        Piece::Text(text) => told_to_put(output, text.as_bytes()),
+        Piece::Quoted(text) => put_quoted(output, text.as_bytes()),
+        Piece::Truth(is_so) => told_to_put(output, truth_name(is_so).as_bytes()),
+        Piece::Flag(is_so) => put_number(output, u64::from(is_so)),
+        Piece::Number(number) => put_number(output, number),
         Piece::Grouped(number) => put_groups(output, Buffer::new().format(number).as_bytes()),
         Piece::Seconds(moment) => put_seconds(output, moment),
         Piece::Span(moment) => put_span(output, moment / 100),
@@ -61,12 +66,31 @@ fn put_piece<O: Write>(output: &mut O, piece: Piece<'_>) -> io::Result<()>
     }
 }
 
+/// `true` or `false`.
+fn truth_name(is_so: bool) -> &'static str
+    ensures { result.now ≡ truth_name is_so }
+{
+    if is_so { "true" } else { "false" }
+}
+
+/// Writes bytes in quotation marks.
+fn put_quoted<O: Write>(output: &mut O, bytes: &[u8]) -> io::Result<()>
+    ensures written { OnOk result
+        (Appends (O.contents output.old) (O.contents output.new) (quoted bytes.now)) }
+    ensures refused { OnErr result (HasRefused output.new) }
+{
+    told_to_put(output, b"\"")?;
+    told_to_put(output, bytes)?;
+    told_to_put(output, b"\"")
+}
+
 /// Writes a number as sixteen hexadecimal digits in quotation marks.
 fn put_digest<O: Write>(output: &mut O, number: u64) -> io::Result<()>
-    ensures { OnOk result
+    ensures written { OnOk result
         (Appends (O.contents output.old) (O.contents output.new) (quoted (sixteen number))) }
+    ensures refused { OnErr result (HasRefused output.new) }
 {
-    output.write_all(b"\"")?;
+    told_to_put(output, b"\"")?;
     put_sixteen(output, number)?;
-    output.write_all(b"\"")
+    told_to_put(output, b"\"")
 }

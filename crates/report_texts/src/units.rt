@@ -1,33 +1,77 @@
 //! Numbers with units.
-ghost use Rattle.std.specs.Prelude.{◌≡◌, OnOk};
+ghost use Rattle.std.specs.Prelude.{◌≡◌, ◌++◌, OnErr, OnOk, codes, decimal};
 ghost use Rattle.std.specs.Io.KnownBytes.{Appends};
+ghost use Rattle.report_texts.specs.Refusals.{HasRefused};
 ghost use Rattle.report_texts.specs.Units.{comma_before, in_groups, seconds_text, sixteen, span};
 
+use crate::asking::told_to_put;
+use itoa::Buffer;
 use std::io::{self, Write};
+
+/// Writes a number.
+pub(crate) fn put_number<O: Write>(output: &mut O, number: u64) -> io::Result<()>
+    ensures written { OnOk result
+        (Appends (O.contents output.old) (O.contents output.new) (decimal number)) }
+    ensures refused { OnErr result (HasRefused output.new) }
+{
+    told_to_put(output, Buffer::new().format(number).as_bytes())
+}
 
 /// Writes centiseconds as seconds: `0.06`.
 pub(crate) fn put_seconds<O: Write>(output: &mut O, moment: u64) -> io::Result<()>
-    ensures { OnOk result
+    ensures written { OnOk result
         (Appends (O.contents output.old) (O.contents output.new) (seconds_text moment)) }
+    ensures refused { OnErr result (HasRefused output.new) }
 {
-    let (tenths, hundredths) = (moment / 10 % 10, moment % 10);
-    write!(output, "{}.{tenths}{hundredths}", moment / 100)
+    put_number(output, moment / 100)?;
+    told_to_put(output, b".")?;
+    put_number(output, moment / 10 % 10)?;
+    put_number(output, moment % 10)
+}
+
+/// Writes two numbers, with bytes between them and behind.
+fn put_two<O: Write>(
+    output: &mut O,
+    first: u64,
+    between: &[u8],
+    second: u64,
+    behind: &[u8],
+) -> io::Result<()>
+    ensures written { OnOk result (Appends (O.contents output.old) (O.contents output.new)
+        (decimal first ++ between.now ++ decimal second ++ behind.now)) }
+    ensures refused { OnErr result (HasRefused output.new) }
+{
+    put_number(output, first)?;
+    told_to_put(output, between)?;
+    put_number(output, second)?;
+    told_to_put(output, behind)
+}
+
+/// Writes a number of seconds.
+fn put_rest<O: Write>(output: &mut O, seconds: u64) -> io::Result<()>
+    ensures written { OnOk result (Appends (O.contents output.old) (O.contents output.new)
+        (decimal seconds ++ codes " s")) }
+    ensures refused { OnErr result (HasRefused output.new) }
+{
+    put_number(output, seconds)?;
+    told_to_put(output, b" s")
 }
 
 /// Writes seconds in the two greatest units that they have: `3 d 4 h`, `2 h 10 min`, `5 min 0 s`, `12 s`.
 pub(crate) fn put_span<O: Write>(output: &mut O, seconds: u64) -> io::Result<()>
-    ensures { OnOk result
+    ensures written { OnOk result
         (Appends (O.contents output.old) (O.contents output.new) (span seconds)) }
+    ensures refused { OnErr result (HasRefused output.new) }
 {
     let (minutes, hours, days) = (seconds / 60, seconds / 3600, seconds / 86_400);
     if days > 0 {
-        write!(output, "{days} d {} h", hours % 24)
+        put_two(output, days, b" d ", hours % 24, b" h")
     } else if hours > 0 {
-        write!(output, "{hours} h {} min", minutes % 60)
+        put_two(output, hours, b" h ", minutes % 60, b" min")
     } else if minutes > 0 {
-        write!(output, "{minutes} min {} s", seconds % 60)
+        put_two(output, minutes, b" min ", seconds % 60, b" s")
     } else {
-        write!(output, "{seconds} s")
+        put_rest(output, seconds)
     }
 }
 
@@ -44,13 +88,14 @@ fn comma_before(digits: &[u8]) -> &'static [u8]
 
 /// Writes digits with a comma before each group of three: `1,204`.
 pub(crate) fn put_groups<O: Write>(output: &mut O, digits: &[u8]) -> io::Result<()>
-    ensures { OnOk result
+    ensures written { OnOk result
         (Appends (O.contents output.old) (O.contents output.new) (in_groups digits.now)) }
+    ensures refused { OnErr result (HasRefused output.new) }
 {
     let mut rest = digits;
     while let [digit, others @ ..] = rest {
-        output.write_all(&[*digit])?;
-        output.write_all(comma_before(others))?;
+        told_to_put(output, &[*digit])?;
+        told_to_put(output, comma_before(others))?;
         rest = others;
     }
     Ok(())
@@ -58,12 +103,13 @@ pub(crate) fn put_groups<O: Write>(output: &mut O, digits: &[u8]) -> io::Result<
 
 /// Writes a number as sixteen hexadecimal digits.
 pub(crate) fn put_sixteen<O: Write>(output: &mut O, number: u64) -> io::Result<()>
-    ensures { OnOk result
+    ensures written { OnOk result
         (Appends (O.contents output.old) (O.contents output.new) (sixteen number)) }
+    ensures refused { OnErr result (HasRefused output.new) }
 {
     let mut digits = [0; 16];
     match hex::encode_to_slice(&number.to_be_bytes()[..], &mut digits) {
-        Ok(()) => output.write_all(&digits),
+        Ok(()) => told_to_put(output, &digits),
         Err(_other_length) => unreachable!(),
     }
 }

@@ -8,3 +8,4 @@ pub mod Gateways
 pub mod Fitting
 pub mod Texts
 pub mod Lists
+pub mod Memory

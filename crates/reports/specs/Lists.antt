@@ -20,3 +20,10 @@ version = 2
 -- of a page
 abbrev pub most_entries : ℕ
 most_entries = 128
+
+-- how many counts a report has; and how many counts of pairs
+abbrev pub all_counts : ℕ
+all_counts = 100
+
+abbrev pub all_pair_counts : ℕ
+all_pair_counts = 15

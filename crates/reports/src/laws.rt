@@ -3,11 +3,11 @@ ghost use Rattle.std.specs.Prelude.{◌≡◌, ◌+◌, ◌==◌, ℕ, List, len
 ghost use Rattle.journal.specs.declared.origins.Origin.{Origin as Place};
 ghost use Rattle.reports.specs.Counts.{count_at, counted, key_of, most};
 ghost use Rattle.reports.specs.declared.counters.Count.{Count as What};
-ghost use Rattle.reports.specs.Lists.{all_protocols, all_states, most_entries, version};
+ghost use Rattle.reports.specs.Lists.{all_counts, all_pair_counts, all_protocols, all_states, most_entries, version};
 ghost use Rattle.reports.specs.declared.counters.TheConstants.{COUNTS};
 ghost use Rattle.reports.specs.declared.faults.TheConstants.{VERSION};
 ghost use Rattle.reports.specs.declared.pages.TheConstants.{MOST_ENTRIES};
-ghost use Rattle.reports.specs.declared.pairs.TheConstants.{PROTOCOLS, STATES};
+ghost use Rattle.reports.specs.declared.pairs.TheConstants.{PAIR_COUNTS, PROTOCOLS, STATES};
 
 /// So many more of one thing are so many more of that thing, and of nothing else.
 pub fn counters_law()
@@ -27,4 +27,6 @@ pub fn formats_law()
     ensures states { STATES ≡ all_states }
     ensures version { VERSION ≡ version }
     ensures entries { MOST_ENTRIES ≡ most_entries }
+    ensures counts { COUNTS ≡ all_counts }
+    ensures pairs { PAIR_COUNTS ≡ all_pair_counts }
 {}

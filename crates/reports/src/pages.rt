@@ -1,8 +1,9 @@
 //! Pages of a gateway's entries.
-ghost use Rattle.std.specs.Prelude.{◌≡◌, ◌⊎◌, ◌+◌, ◌*◌, ◌≤◌, ◌++◌, IfOk, IfErr, Ok, Err, Some, length, option_map, vec_len, vec_capacity};
+ghost use Rattle.std.specs.Prelude.{◌≡◌, ◌⊎◌, ◌+◌, ◌*◌, ◌≤◌, ◌++◌, IfOk, IfErr, Ok, Err, OnErr, Some, length, option_map, vec_len, vec_capacity};
 ghost use Rattle.std.specs.List.{AllByRecursion, flat_map};
 ghost use Rattle.reports.specs.Fitting.{EntryFits, PageFits};
 ghost use Rattle.reports.specs.Formats.{alone as alone_in, many_at, reading, spelling};
+ghost use Rattle.reports.specs.Memory.{WasShort};
 ghost use Rattle.reports.specs.Pages.{last_of, listing};
 ghost use Rattle.reports.specs.Parts.{state_numbered as state_of};
 ghost use Rattle.reports.specs.Reports.{entry, page, protocol, state};
@@ -20,7 +21,7 @@ use addresses::{Ip, Port, Protocol};
 use arrayvec::ArrayVec;
 use bindings::Entry;
 use nat_types::{EntryState, Key, Pair};
-use std::alloc::Global;
+use std::alloc::{AllocError, Global};
 use std::marker::Model;
 
 /// The most entries of a page.
@@ -216,6 +217,16 @@ fn read_whole(entries: Vec<Entry>, bytes: &[u8]) -> Result<Page, ReadFault>
     }
 }
 
+/// An empty list with room for 128 entries. It has the name for memory that was refused for them.
+#[tactic(auto, unfolding(crate::specs::Memory::WasShort))]
+fn room(alloc: Global) -> Result<Vec<Entry>, AllocError>
+    ensures empty { IfOk result (λ entries. vec_len entries ≡ 0) }
+    ensures room { IfOk result (λ entries. MOST_ENTRIES ≤ vec_capacity entries) }
+    ensures short { OnErr result (WasShort MOST_ENTRIES) }
+{
+    Vec::with_capacity(alloc, MOST_ENTRIES)
+}
+
 impl Page {
     /// These entries, at most 128, and whether others follow.
     pub fn new(entries: Vec<Entry>, more: bool) -> Page
@@ -269,12 +280,12 @@ impl Page {
     /// where memory for 128 entries is refused.
     pub fn read(alloc: Global, bytes: &[u8]) -> Result<Page, ReadFault>
         ensures ok { IfOk result (λ p. reading page bytes.now ≡ Ok p) }
-        ensures err { IfErr result
-            (λ f. (f ≡ OutOfMemory) ⊎ (reading page bytes.now ≡ Err f)) }
+        ensures err { IfErr result (λ f. ((f ≡ OutOfMemory) × WasShort MOST_ENTRIES)
+            ⊎ (reading page bytes.now ≡ Err f)) }
         // No other bytes are read as that page.
         ensures found { IfOk result (λ p. bytes.now ≡ spelling page p) }
     {
-        let entries = Vec::with_capacity(alloc, MOST_ENTRIES)?;
+        let entries = room(alloc)?;
         read_whole(entries, bytes)
     }
 }

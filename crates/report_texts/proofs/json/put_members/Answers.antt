@@ -12,7 +12,7 @@ pub loop-member-preserved : goal.loop-member-preserved
 loop-member-preserved g c =
     let l = c.loop-member in
     let next = ap (λ ms. behind l.lead.now (map member_text ms)) (drop_more c.args.members.now l.member-index _ c.loop-member-test.true) in
-    record { text = part_then _ _ _ _ _ _ _ c.in_ok-put.ensures l.invariant.text (next ∙ member_step _ _ _ _); utf8 = search rules }
+    record { text = part_then _ _ _ _ _ _ _ c.in_ok-put.ensures.written l.invariant.text (next ∙ member_step _ _ _ _); utf8 = search rules }
 
-pub returns : goal.returns
-returns g c = part_whole _ _ _ _ c.loop-member.invariant.text (rw (drop_all c.loop-member.member-index c.args.members.now c.loop-member-test.false) refl)
+pub returns-clause-written : goal.returns-clause-written
+returns-clause-written g c = part_whole _ _ _ _ c.loop-member.invariant.text (rw (drop_all c.loop-member.member-index c.args.members.now c.loop-member-test.false) refl)

@@ -13,7 +13,7 @@ pub loop-reason-preserved : goal.loop-reason-preserved
 loop-reason-preserved g c =
     let l = c.loop-reason in
     let next = ap (λ rs. behind l.lead.now (map (drop_member c.args.counters.now c.args.origin) rs)) (drop_more REASONS l.reason-index _ c.loop-reason-test.true) in
-    record { text = part_more _ _ _ _ _ _ _ l.invariant.text (next ∙ reason_step _ _ _ _ _ _ _ c.reason_name.ensures c.dropped.ensures) c.in_ok-put.ensures; utf8 = search rules }
+    record { text = part_more _ _ _ _ _ _ _ l.invariant.text (next ∙ reason_step _ _ _ _ _ _ _ c.reason_name.ensures c.dropped.ensures) c.in_ok-put.ensures.written; utf8 = search rules }
 
-pub returns : goal.returns
-returns g c = part_whole _ _ _ _ c.loop-reason.invariant.text (rw (drop_all c.loop-reason.reason-index REASONS c.loop-reason-test.false) refl)
+pub returns-clause-written : goal.returns-clause-written
+returns-clause-written g c = part_whole _ _ _ _ c.loop-reason.invariant.text (rw (drop_all c.loop-reason.reason-index REASONS c.loop-reason-test.false) refl)

@@ -1,5 +1,5 @@
 use Rattle.report_texts.proofs.Parts.{ended}
 use Rattle.report_texts.proofs.metrics.put_family.Goals as goal
 
-pub returns : goal.returns
-returns g c = let r = c.put_samples.result in ended r _ _ _ _ _ c.in_ok-put.ensures c.put_samples.ensures
+pub returns-clause-written : goal.returns-clause-written
+returns-clause-written g c = let r = c.put_samples.result in ended r _ _ _ _ _ c.in_ok-put.ensures.written c.put_samples.ensures.written

@@ -1,5 +1,5 @@
 use Rattle.report_texts.proofs.Parts.{ended}
 use Rattle.report_texts.proofs.metrics.put_info.Goals as goal
 
-pub returns : goal.returns
-returns g c = let r = c.put.result in rw (← c.id_name.ensures) (ended r _ _ _ _ _ c.in_ok-put_family.ensures c.put.ensures)
+pub returns-clause-written : goal.returns-clause-written
+returns-clause-written g c = let r = c.put.result in rw (← c.id_name.ensures) (ended r _ _ _ _ _ c.in_ok-put_family.ensures.written c.put.ensures.written)

@@ -1,5 +1,5 @@
 use Rattle.report_texts.proofs.Parts.{ended}
 use Rattle.report_texts.proofs.metrics.put_ports.Goals as goal
 
-pub returns : goal.returns
-returns g c = let r = c.put_family-3.result in ended r _ _ _ _ _ c.in_ok-put_family.ensures (ended r _ _ _ _ _ c.in_ok-put_family-2.ensures c.put_family-3.ensures)
+pub returns-clause-written : goal.returns-clause-written
+returns-clause-written g c = let r = c.put_family-3.result in ended r _ _ _ _ _ c.in_ok-put_family.ensures.written (ended r _ _ _ _ _ c.in_ok-put_family-2.ensures.written c.put_family-3.ensures.written)

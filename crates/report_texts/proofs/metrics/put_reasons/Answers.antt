@@ -13,7 +13,7 @@ pub loop-reason-preserved : goal.loop-reason-preserved
 loop-reason-preserved g c =
     let l = c.loop-reason in
     let next = ap (flat_map (drop_sample c.args.counters.now c.args.origin)) (drop_more REASONS l.reason-index _ c.loop-reason-test.true) in
-    part_more _ _ _ _ _ _ _ l.invariant (next ∙ sample_step _ _ _ _ _ _ _ c.origin_name.ensures c.reason_name.ensures c.dropped.ensures) c.in_ok-put.ensures
+    part_more _ _ _ _ _ _ _ l.invariant (next ∙ sample_step _ _ _ _ _ _ _ c.origin_name.ensures c.reason_name.ensures c.dropped.ensures) c.in_ok-put.ensures.written
 
-pub returns : goal.returns
-returns g c = part_whole _ _ _ _ c.loop-reason.invariant (rw (drop_all c.loop-reason.reason-index REASONS c.loop-reason-test.false) refl)
+pub returns-clause-written : goal.returns-clause-written
+returns-clause-written g c = part_whole _ _ _ _ c.loop-reason.invariant (rw (drop_all c.loop-reason.reason-index REASONS c.loop-reason-test.false) refl)

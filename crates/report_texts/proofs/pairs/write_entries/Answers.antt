@@ -11,7 +11,7 @@ pub loop-entry-preserved : goal.loop-entry-preserved
 loop-entry-preserved g c =
     let l = c.loop-entry in
     let next = ap (flat_map (wanted_line c.args.filter.now)) (drop_more c.args.entries.now l.entry-index c.entry-item.result c.loop-entry-test.true ∙ ap (λ x. x ∷ drop (l.entry-index + 1) c.args.entries.now) (sym c.entry-item.is)) in
-    part_more _ _ _ _ _ _ _ l.invariant next c.in_ok-write_pair.ensures.line
+    part_more _ _ _ _ _ _ _ l.invariant next c.in_ok-write_pair.ensures.written
 
-pub returns : goal.returns
-returns g c = part_whole _ _ _ _ c.loop-entry.invariant (rw (drop_all c.loop-entry.entry-index c.args.entries.now c.loop-entry-test.false) refl)
+pub returns-clause-written : goal.returns-clause-written
+returns-clause-written g c = part_whole _ _ _ _ c.loop-entry.invariant (rw (drop_all c.loop-entry.entry-index c.args.entries.now c.loop-entry-test.false) refl)

@@ -19,8 +19,8 @@ loop-reason-preserved g c =
     part_same _ _ _ _ _ (part_then _ _ _ _ _ _ _ c.in_ok-is_first.ensures.text l.invariant (next ∙ drop_step l.is_first counts origin _ _))
     (ap (λ b. missing b counts origin (wanted (drop (l.reason-index + 1) REASONS))) (sym c.in_ok-is_first.ensures.first))
 
-pub returns-else-is_first : goal.returns-else-is_first
-returns-else-is_first g c =
+pub returns-else-is_first-clause-written : goal.returns-else-is_first-clause-written
+returns-else-is_first-clause-written g c =
     let l = c.loop-reason in
     part_ended c.put.result _ _ _ _ _ (part_same _ _ _ _ (codes "\n") l.invariant
-    (rw (c.if-is_first.false, drop_all l.reason-index REASONS c.loop-reason-test.false) refl)) c.put.ensures
+    (rw (c.if-is_first.false, drop_all l.reason-index REASONS c.loop-reason-test.false) refl)) c.put.ensures.written

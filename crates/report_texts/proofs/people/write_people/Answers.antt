@@ -1,5 +1,5 @@
 use Rattle.report_texts.proofs.Parts.{ended}
 use Rattle.report_texts.proofs.people.write_people.Goals as goal
 
-pub returns : goal.returns
-returns g c = let r = c.put_end.result in ended r _ _ _ _ _ c.in_ok-put_box.ensures (ended r _ _ _ _ _ c.in_ok-put_side.ensures (ended r _ _ _ _ _ c.in_ok-put_side-2.ensures (ended r _ _ _ _ _ c.in_ok-put_peer.ensures (ended r _ _ _ _ _ c.in_ok-put_table.ensures (ended r _ _ _ _ _ c.in_ok-put_traffic.ensures (ended r _ _ _ _ _ c.in_ok-put_drops.ensures c.put_end.ensures))))))
+pub returns-clause-written : goal.returns-clause-written
+returns-clause-written g c = let r = c.put_end.result in ended r _ _ _ _ _ c.in_ok-put_box.ensures.written (ended r _ _ _ _ _ c.in_ok-put_side.ensures.written (ended r _ _ _ _ _ c.in_ok-put_side-2.ensures.written (ended r _ _ _ _ _ c.in_ok-put_peer.ensures.written (ended r _ _ _ _ _ c.in_ok-put_table.ensures.written (ended r _ _ _ _ _ c.in_ok-put_traffic.ensures.written (ended r _ _ _ _ _ c.in_ok-put_drops.ensures.written c.put_end.ensures.written))))))

@@ -11,7 +11,7 @@ pub loop-piece-preserved : goal.loop-piece-preserved
 loop-piece-preserved g c =
     let l = c.loop-piece in
     let next = ap (flat_map piece_text) (drop_more c.args.pieces.now l.piece-index _ c.loop-piece-test.true) in
-    part_more _ _ _ _ _ _ _ l.invariant next c.in_ok-put_piece.ensures
+    part_more _ _ _ _ _ _ _ l.invariant next c.in_ok-put_piece.ensures.written
 
-pub returns : goal.returns
-returns g c = part_whole _ _ _ _ c.loop-piece.invariant (rw (drop_all c.loop-piece.piece-index c.args.pieces.now c.loop-piece-test.false) refl)
+pub returns-clause-written : goal.returns-clause-written
+returns-clause-written g c = part_whole _ _ _ _ c.loop-piece.invariant (rw (drop_all c.loop-piece.piece-index c.args.pieces.now c.loop-piece-test.false) refl)

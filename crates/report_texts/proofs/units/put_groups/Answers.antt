@@ -8,5 +8,5 @@ loop-rest-init g c = part_none _ _
 
 pub loop-rest-preserved : goal.loop-rest-preserved
 loop-rest-preserved g c =
-    let both = Appends-trans _ _ _ _ _ c.in_ok-write_all.ensures.bytes c.in_ok-write_all-2.ensures.bytes in
+    let both = Appends-trans _ _ _ _ _ c.in_ok-told_to_put.ensures.written c.in_ok-told_to_put-2.ensures.written in
     part_then _ _ _ _ _ _ _ both c.loop-rest.invariant (groups_step _ _ _ c.in-len1-up.len_at_least c.comma_before.ensures)
