@@ -66,7 +66,7 @@ pub refuses_as : (name : Text) (rows : List Row) (wrong : ValueFault) (r : Resul
 refuses_as name rows wrong (Ok t) is h = tt
 refuses_as name rows wrong (Err (Refused e)) is h = absurd h
 refuses_as name rows wrong (Err (Values why)) is h = (is ∙ ap command_at (sym h.0), h.1)
-refuses_as name rows wrong (Err NoMemory) is h = tt
+refuses_as name rows wrong (Err NoMemory) is h = h
 
 -- the task of a command by its name
 pub task_as : (name mine : Text) (rows : List Row) (r : Result Task LineFault) → name ≡ mine → IfOk r (IsTask mine rows) → IfOk r (IsTask name rows)

@@ -35,3 +35,8 @@ with_texts h about below = record h { own = record h.own { about = Some about; b
 abbrev pub with_arguments : Help → List Argument → Help
 with_arguments h [] = h
 with_arguments h (argument ∷ rest) = with_arguments (with_argument h argument) rest
+
+-- The help of this command says this, by what it was told. No clause of clap's says what one does, so this is no more than a name: who tells a command
+-- has it, and nobody else.
+unfoldable pub WasOutlined : {B : Type 0} → B → Help → Type 0
+WasOutlined command help = Unit {0}

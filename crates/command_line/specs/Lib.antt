@@ -1,6 +1,7 @@
 pub mod Line
 pub mod Values
 pub mod Filters
+pub mod Memory
 pub mod Tasks
 pub mod Faults
 pub mod Arguments

@@ -1,5 +1,5 @@
 -- The task that words ask for.
-use Rattle.std.specs.Prelude.{◌≡◌, ◌≢◌, ◌⊎◌, Bool, true, not, List, [], ◌∷◌, codes, Option, Some, None, option_map, string_bytes}
+use Rattle.std.specs.Prelude.{◌≡◌, ◌≢◌, ◌⊎◌, Bool, true, not, List, [], ◌∷◌, codes, Option, Some, None, Err, option_map, string_bytes}
 use Rattle.std.specs.List.{list_any}
 use Rattle.std.specs.Str.{bytes_eq}
 use Rattle.clap.specs.Kinds.{IsAmong}
@@ -7,6 +7,7 @@ use Rattle.clap.specs.Words.{Row, Text, first_of, kind_of, one_of}
 use Rattle.clap.specs.declared.error.kind.ErrorKind.TheVariants.{DisplayVersion}
 use Rattle.command_line.specs.Filters.{IsAddressIf, IsPortIf, LacksFilter, LacksStatus, entry_state_in, form_in, protocol_in, wait_in}
 use Rattle.command_line.specs.Line.{AskVersion, MayAskVersion, Takes, entered_by, faults_of}
+use Rattle.command_line.specs.Memory.{IsRead, LacksEntered, LacksReading, LacksWord, Outlines, Reads, TakesSo, WasRead, WasUntold}
 use Rattle.command_line.specs.Values.{HasId, HasIdIf, HasNumberIf, IsId, IsIdIf, IsReadIf, flag_of, side_in, state_in, word_of}
 use Rattle.command_line.specs.declared.faults.LineFault.{LineFault}
 use Rattle.command_line.specs.declared.faults.LineFault.TheVariants.{Refused, Values, NoMemory}
@@ -181,17 +182,17 @@ IsEnteredFaulty (Some entered) why = IsFaulty entered.0 entered.1 why
 abbrev pub RefusesAs : ValueFault → List Row → LineFault → Type 0
 RefusesAs wrong rows (Refused error) = ⊥
 RefusesAs wrong rows (Values why) = (why ≡ wrong) × AreWrong rows why
-RefusesAs wrong rows NoMemory = Unit {0}
+RefusesAs wrong rows NoMemory = LacksWord rows
 
 abbrev pub RefusesValues : Text → List Row → LineFault → Type 0
 RefusesValues name rows (Refused error) = ⊥
 RefusesValues name rows (Values why) = IsFaulty name rows why
-RefusesValues name rows NoMemory = Unit {0}
+RefusesValues name rows NoMemory = LacksWord rows
 
 abbrev pub RefusesEntered : Option (Text × List Row) → LineFault → Type 0
 RefusesEntered entered (Refused error) = ⊥
 RefusesEntered entered (Values why) = IsEnteredFaulty entered why
-RefusesEntered entered NoMemory = Unit {0}
+RefusesEntered entered NoMemory = LacksEntered entered
 
 -- why clap's parse is refused: by an error of a kind that it finds in the words
 abbrev pub RefusesWords : List Text → LineFault → Type 0
@@ -210,10 +211,20 @@ pub record AskFor (words : List Text) (asked : Task) : Type 0 where
 abbrev pub IsAnswer : List Text → Task → Type 0
 IsAnswer words asked = AskFor words asked ⊎ ((asked ≡ task.Version) × MayAskVersion words)
 
--- why words are no task: `clap` refuses them, by an error of a kind that it finds in them, and not by telling the version;
--- or it takes them, and the values of their command don't go together; or for want of memory
+-- there was no memory for the task of words: in the making of the line that reads them, or where it read them; or clap takes them, the values of
+-- their command go together, and there was none for one of its words
+abbrev pub LacksTask : {B : Type 0} → Outlines B → Reads B → (B → Type 0) → List Text → Type 0
+LacksTask tells reads lacks words = LacksReading tells reads lacks words
+    ⊎ (Takes words × (((why : ValueFault) → ¬ (IsEnteredFaulty (entered_by words) why)) × LacksEntered (entered_by words)))
+
+-- Why words are no task, by whoever is told of commands: `clap` refuses them, by an error of a kind that it finds in them, and not by telling the
+-- version, and which just such a line made of them; or it takes them, and the values of their command don't go together; or for want of memory
+abbrev pub RefusesBy : {B : Type 0} → Outlines B → Reads B → (B → Type 0) → List Text → LineFault → Type 0
+RefusesBy tells reads lacks words (Refused error) = ¬ (Takes words) × ¬ (AskVersion words)
+    × IsAmong (kind_of error) (faults_of words) × (kind_of error ≢ DisplayVersion) × IsRead tells reads words (Err error)
+RefusesBy tells reads lacks words (Values why) = Takes words × IsEnteredFaulty (entered_by words) why
+RefusesBy tells reads lacks words NoMemory = LacksTask tells reads lacks words
+
+-- and where `clap` is told of them
 abbrev pub Refuses : List Text → LineFault → Type 0
-Refuses words (Refused error) = ¬ (Takes words) × ¬ (AskVersion words)
-    × IsAmong (kind_of error) (faults_of words) × (kind_of error ≢ DisplayVersion)
-Refuses words (Values why) = Takes words × IsEnteredFaulty (entered_by words) why
-Refuses words NoMemory = Unit {0}
+Refuses words fault = RefusesBy TakesSo WasRead WasUntold words fault

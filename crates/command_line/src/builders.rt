@@ -88,34 +88,42 @@ fn wanting_command<'a>(command: Command<'a>, version: &'static str) -> Command<'
 }
 
 /// `clap` says of its commands which words they take, and what they make of them by that; not what help prints of them:
-/// of that nothing is claimed.
+/// of that nothing is claimed. What comes of words, and where it lacked memory, has a name, which its calls alone give.
 impl<'a> Builder<'a> for Command<'a> {
-    ghost tells = { λ c a _. (app_of c ≡ a) × ((fields_of c).has_globals ≡ false) };
+    ghost use Rattle.command_line.specs.Memory.{TakesSo, WasRead, WasUntold};
 
-    ghost reads = { λ _ _ _. Unit {0} };
+    ghost tells = { TakesSo };
 
-    ghost lacks = { λ _. Unit {0} };
+    ghost reads = { WasRead };
 
+    ghost lacks = { WasUntold };
+
+    #[tactic(auto, unfolding(crate::specs::Helps::WasOutlined))]
     fn named(alloc: Global, name: &'static str) -> Command<'a> {
         Command::new(alloc, name)
     }
 
+    #[tactic(auto, unfolding(crate::specs::Helps::WasOutlined, crate::specs::Memory::WasUntold))]
     fn takes(self, alloc: Global, argument: &Argument<'static>) -> Result<Command<'a>, AllocError> {
         self.arg(argument.arg(alloc))
     }
 
+    #[tactic(auto, unfolding(crate::specs::Helps::WasOutlined, crate::specs::Memory::WasUntold))]
     fn has(self, command: Command<'a>) -> Result<Command<'a>, AllocError> {
         self.subcommand(command)
     }
 
+    #[tactic(auto, unfolding(crate::specs::Helps::WasOutlined))]
     fn wants_command(self, version: &'static str) -> Command<'a> {
         wanting_command(self, version)
     }
 
+    #[tactic(auto, unfolding(crate::specs::Helps::WasOutlined))]
     fn says(self, about: &'static str, below: &'static str) -> Command<'a> {
         with_texts(self, about, below)
     }
 
+    #[tactic(auto, unfolding(crate::specs::Memory::WasRead))]
     fn read(self, words: &'a [String]) -> Result<ArgMatches<'a>, Error> {
         self.try_get_matches_from(words)
     }

@@ -2,7 +2,7 @@
 ghost use Rattle.std.specs.Prelude.{◌≡◌, IfOk, OnErr};
 ghost use Rattle.command_line.specs.Entries.{app_for, app_in, bare_app, bare_help, help_for, help_in, line_help};
 ghost use Rattle.command_line.specs.Line.{line_app};
-ghost use Rattle.command_line.specs.Reading.{IsShort};
+ghost use Rattle.command_line.specs.Memory.{IsShort};
 
 use crate::VERSION;
 use crate::builders::Builder;

@@ -1,10 +1,11 @@
 //! The task that words ask for.
-ghost use Rattle.std.specs.Prelude.{◌≡◌, ◌⊎◌, codes, string_bytes, map, option_map, true, Err, Ok, IfOk, IfErr, OnOk};
+ghost use Rattle.std.specs.Prelude.{◌≡◌, ◌⊎◌, codes, string_bytes, map, option_map, true, Err, Ok, IfOk, IfErr, OnErr, OnOk};
 ghost use Rattle.clap.specs.Words.{found_of, rows_of, subcommand_rows_of};
 ghost use Rattle.command_line.specs.Line.{AskVersion, Takes, entered_by};
-ghost use Rattle.command_line.specs.Reading.{IsOfLine, IsOfReading};
+ghost use Rattle.command_line.specs.Memory.{LacksWord};
+ghost use Rattle.command_line.specs.Reading.{IsOfReading};
 ghost use Rattle.command_line.specs.Values.{HasId, IsId};
-ghost use Rattle.command_line.specs.Tasks.{AreFiles, AreWays, AreWrong, Asks, Enters, FoundsAtZero, HasNumbers, IsAnswer, IsEnteredFaulty, IsCheck, IsFaulty, IsGate, IsPeerOff, IsTask, Numbered, Refuses, RefusesAs, RefusesEntered, RefusesValues, RefusesWords, is_named, is_plain, wants_id};
+ghost use Rattle.command_line.specs.Tasks.{AreFiles, AreWays, AreWrong, Asks, Enters, FoundsAtZero, HasNumbers, IsAnswer, IsEnteredFaulty, IsCheck, IsFaulty, IsGate, IsPeerOff, IsTask, Numbered, Refuses, RefusesAs, RefusesBy, RefusesEntered, RefusesValues, RefusesWords, is_named, is_plain, wants_id};
 ghost use Rattle.command_line.specs.declared.faults.LineFault.TheVariants as faults;
 ghost use Rattle.command_line.specs.declared.faults.ValueFault.{ValueFault as Why};
 ghost use Rattle.command_line.specs.declared.faults.ValueFault.TheVariants.{FoundNeedsIdZero, NoFilter, NoSide, NoStatus};
@@ -56,7 +57,8 @@ pub enum Task {
 /// What is to be looked at of settings.
 fn check(alloc: Global, matches: &ArgMatches<'_>) -> Result<CheckWords, AllocError>
     requires { HasNumbers (rows_of (found_of matches.now)) }
-    ensures { IfOk result (IsCheck (rows_of (found_of matches.now))) }
+    ensures words { IfOk result (IsCheck (rows_of (found_of matches.now))) }
+    ensures short { OnErr result (LacksWord (rows_of (found_of matches.now))) }
 {
     Ok(CheckWords {
         settings: values::word(alloc, matches, "SETTINGS")?,
@@ -70,7 +72,8 @@ fn check(alloc: Global, matches: &ArgMatches<'_>) -> Result<CheckWords, AllocErr
 }
 
 fn ways(alloc: Global, matches: &ArgMatches<'_>) -> Result<WayWords, AllocError>
-    ensures { IfOk result (AreWays (rows_of (found_of matches.now))) }
+    ensures words { IfOk result (AreWays (rows_of (found_of matches.now))) }
+    ensures short { OnErr result (LacksWord (rows_of (found_of matches.now))) }
 {
     Ok(WayWords {
         inside: values::word(alloc, matches, "inside")?,
@@ -108,6 +111,7 @@ fn gate_words(
     requires id { IsId (rows_of (found_of matches.now)) id }
     ensures words { IfOk result (IsGate (rows_of (found_of matches.now))) }
     ensures id { IfOk result (λ gate. gate.id ≡ id) }
+    ensures short { OnErr result (LacksWord (rows_of (found_of matches.now))) }
 {
     Ok(GateWords {
         ways: ways(alloc, matches)?,
@@ -185,7 +189,8 @@ fn pairs(alloc: Global, matches: &ArgMatches<'_>) -> Result<Task, LineFault>
 /// The gateway that is to end.
 fn stop(alloc: Global, matches: &ArgMatches<'_>) -> Result<Task, AllocError>
     requires { HasId (rows_of (found_of matches.now)) }
-    ensures { IfOk result (IsTask (codes "stop") (rows_of (found_of matches.now))) }
+    ensures task { IfOk result (IsTask (codes "stop") (rows_of (found_of matches.now))) }
+    ensures short { OnErr result (LacksWord (rows_of (found_of matches.now))) }
 {
     let id = values::gateway(matches);
     let settings = values::word(alloc, matches, "SETTINGS")?;
@@ -196,7 +201,8 @@ fn stop(alloc: Global, matches: &ArgMatches<'_>) -> Result<Task, AllocError>
 fn peer_off(alloc: Global, matches: &ArgMatches<'_>) -> Result<PeerOffWords, AllocError>
     requires numbers { HasNumbers (rows_of (found_of matches.now)) }
     requires id { HasId (rows_of (found_of matches.now)) }
-    ensures { IfOk result (IsPeerOff (rows_of (found_of matches.now))) }
+    ensures words { IfOk result (IsPeerOff (rows_of (found_of matches.now))) }
+    ensures short { OnErr result (LacksWord (rows_of (found_of matches.now))) }
 {
     Ok(PeerOffWords {
         settings: values::word(alloc, matches, "SETTINGS")?,
@@ -231,7 +237,8 @@ fn side(alloc: Global, matches: &ArgMatches<'_>) -> Result<Task, LineFault>
 }
 
 fn files(alloc: Global, matches: &ArgMatches<'_>) -> Result<RunWords, AllocError>
-    ensures { IfOk result (AreFiles (rows_of (found_of matches.now))) }
+    ensures words { IfOk result (AreFiles (rows_of (found_of matches.now))) }
+    ensures short { OnErr result (LacksWord (rows_of (found_of matches.now))) }
 {
     Ok(RunWords {
         settings: values::word(alloc, matches, "SETTINGS")?,
@@ -253,7 +260,8 @@ fn plain(alloc: Global, name: &str, matches: &ArgMatches<'_>) -> Result<Task, Al
     requires plain { is_plain name.now ≡ true }
     requires numbers { HasNumbers (rows_of (found_of matches.now)) }
     requires id { wants_id name.now ≡ true → HasId (rows_of (found_of matches.now)) }
-    ensures { IfOk result (IsTask name.now (rows_of (found_of matches.now))) }
+    ensures task { IfOk result (IsTask name.now (rows_of (found_of matches.now))) }
+    ensures short { OnErr result (LacksWord (rows_of (found_of matches.now))) }
 {
     match name {
         "init" => Ok(Task::Init(values::word(alloc, matches, "FILE")?)),
@@ -327,11 +335,10 @@ fn parse<'a, B: Builder<'a>>(
 fn command_by<'a, B: Builder<'a>>(alloc: Global, words: &'a [String]) -> Result<Task, LineFault>
     ensures task { IfOk result (IsAnswer (map string_bytes words.now)) }
     ensures found { IfOk result FoundsAtZero }
-    ensures refused { IfErr result (Refuses (map string_bytes words.now)) }
+    ensures refused { IfErr result
+        (RefusesBy B.tells B.reads B.lacks (map string_bytes words.now)) }
     ensures version { AskVersion (map string_bytes words.now)
         → (result ≡ Ok tasks.Version) ⊎ (result ≡ Err faults.NoMemory) }
-    ensures line { IfErr result
-        (IsOfLine B.tells B.reads B.lacks (map string_bytes words.now)) }
 {
     match parse::<B>(alloc, words) {
         Ok(matches) => of_matches(alloc, &matches),

@@ -9,7 +9,8 @@ use Rattle.command_line.specs.Entries.{line_help}
 use Rattle.command_line.specs.Line.{faults_of, line_app}
 use Rattle.command_line.specs.Tasks.{Enters, Numbered, RefusesWords}
 use Rattle.command_line.specs.Faults.{IsOfClap}
-use Rattle.command_line.specs.Reading.{IsOfReading, IsRead, Outlines, Reads}
+use Rattle.command_line.specs.Memory.{IsRead, Outlines, Reads}
+use Rattle.command_line.specs.Reading.{IsOfReading}
 use Rattle.command_line.specs.declared.faults.LineFault.{LineFault}
 use Rattle.command_line.specs.declared.faults.LineFault.TheVariants.{Refused, Values, NoMemory}
 use Rattle.command_line.proofs.Entering.{enters}
