@@ -4,8 +4,8 @@ use Rattle.settings.specs.declared.whole.Settings.{Settings}
 use Rattle.settings_file.specs.declared.keys.Key.{Key}
 use Rattle.settings_file.specs.declared.keys.Section.TheVariants.{Inside, Outside, GatewayZero, GatewayOne}
 use Rattle.settings_file.specs.Faults.{all_bad}
-use Rattle.checks.specs.Memory.{IsCutShort, WasShort}
-use Rattle.checks.proofs.Shortage.{cut_all, cut_more}
+use Rattle.checks.specs.Memory.{IsCutShort}
+use Rattle.checks.proofs.Shortage.{cut_more}
 use Rattle.checks.specs.Differences.{differing, same_addresses, same_icmp, same_interface, same_list, same_mtu, same_ports, same_role, same_router, same_sockets}
 
 abbrev Rows : Type 0
@@ -61,7 +61,7 @@ differ x y front behind zero one list start a b d e all fs bs zs os ls none ha h
 -- ---- where memory was refused for the keys of one part
 
 module _ (x y : Settings) (start : List Key) (none : start ≡ []) where
-  pub front_cut : (front : Rows) → front ≡ front_rows x y → WasShort (start ++ all_bad front) → IsCutShort (differing x y)
+  pub front_cut : (front : Rows) → front ≡ front_rows x y → IsCutShort (start ++ all_bad front) → IsCutShort (differing x y)
   front_cut front fs short =
       let a : List Key = start ++ all_bad front in
       let b : List Key = a ++ all_bad (behind_rows x y) in
@@ -70,37 +70,37 @@ module _ (x y : Settings) (start : List Key) (none : start ≡ []) where
       subst IsCutShort (differ x y front (behind_rows x y) (zero_rows x y) (one_rows x y) (same_list x y) start a b d e (e ++ all_bad (same_list x y))
       fs refl refl refl refl none refl refl refl refl refl)
       (cut_more e (all_bad (same_list x y)) (cut_more d (all_bad (one_rows x y)) (cut_more b (all_bad (zero_rows x y))
-      (cut_more a (all_bad (behind_rows x y)) (cut_all a short)))))
+      (cut_more a (all_bad (behind_rows x y)) short))))
 
   module _ (front : Rows) (a : List Key) (fs : front ≡ front_rows x y) (ha : a ≡ start ++ all_bad front) where
-    pub behind_cut : (behind : Rows) → behind ≡ behind_rows x y → WasShort (a ++ all_bad behind) → IsCutShort (differing x y)
+    pub behind_cut : (behind : Rows) → behind ≡ behind_rows x y → IsCutShort (a ++ all_bad behind) → IsCutShort (differing x y)
     behind_cut behind bs short =
         let b : List Key = a ++ all_bad behind in
         let d : List Key = b ++ all_bad (zero_rows x y) in
         let e : List Key = d ++ all_bad (one_rows x y) in
         subst IsCutShort (differ x y front behind (zero_rows x y) (one_rows x y) (same_list x y) start a b d e (e ++ all_bad (same_list x y))
         fs bs refl refl refl none ha refl refl refl refl)
-        (cut_more e (all_bad (same_list x y)) (cut_more d (all_bad (one_rows x y)) (cut_more b (all_bad (zero_rows x y)) (cut_all b short))))
+        (cut_more e (all_bad (same_list x y)) (cut_more d (all_bad (one_rows x y)) (cut_more b (all_bad (zero_rows x y)) short)))
 
     module _ (behind : Rows) (b : List Key) (bs : behind ≡ behind_rows x y) (hb : b ≡ a ++ all_bad behind) where
-      pub zero_cut : (zero : Rows) → zero ≡ zero_rows x y → WasShort (b ++ all_bad zero) → IsCutShort (differing x y)
+      pub zero_cut : (zero : Rows) → zero ≡ zero_rows x y → IsCutShort (b ++ all_bad zero) → IsCutShort (differing x y)
       zero_cut zero zs short =
           let d : List Key = b ++ all_bad zero in
           let e : List Key = d ++ all_bad (one_rows x y) in
           subst IsCutShort (differ x y front behind zero (one_rows x y) (same_list x y) start a b d e (e ++ all_bad (same_list x y))
           fs bs zs refl refl none ha hb refl refl refl)
-          (cut_more e (all_bad (same_list x y)) (cut_more d (all_bad (one_rows x y)) (cut_all d short)))
+          (cut_more e (all_bad (same_list x y)) (cut_more d (all_bad (one_rows x y)) short))
 
       module _ (zero : Rows) (d : List Key) (zs : zero ≡ zero_rows x y) (hd : d ≡ b ++ all_bad zero) where
-        pub one_cut : (one : Rows) → one ≡ one_rows x y → WasShort (d ++ all_bad one) → IsCutShort (differing x y)
+        pub one_cut : (one : Rows) → one ≡ one_rows x y → IsCutShort (d ++ all_bad one) → IsCutShort (differing x y)
         one_cut one os short =
             let e : List Key = d ++ all_bad one in
             subst IsCutShort (differ x y front behind zero one (same_list x y) start a b d e (e ++ all_bad (same_list x y))
             fs bs zs os refl none ha hb hd refl refl)
-            (cut_more e (all_bad (same_list x y)) (cut_all e short))
+            (cut_more e (all_bad (same_list x y)) short)
 
         pub list_cut : (one list : Rows) (e : List Key) → one ≡ one_rows x y → e ≡ d ++ all_bad one → list ≡ same_list x y
-            → WasShort (e ++ all_bad list) → IsCutShort (differing x y)
+            → IsCutShort (e ++ all_bad list) → IsCutShort (differing x y)
         list_cut one list e os he ls short =
             subst IsCutShort (differ x y front behind zero one list start a b d e (e ++ all_bad list) fs bs zs os ls none ha hb hd he refl)
-            (cut_all (e ++ all_bad list) short)
+            short

@@ -1,6 +1,6 @@
 -- What a hasher holds, piece by piece.
-use Rattle.std.proofs.Common.{◌≡◌, ◌∙◌, ◌+◌, ◌<◌, ◌++◌, ℕ, List, [], ◌∷◌, length, take, get_or, flat_map, ap, subst, sym, append_assoc, append-nil}
-use Rattle.std.proofs.lemmas.List.{flat_map_more, take_all, take_more}
+use Rattle.std.proofs.Common.{◌≡◌, ◌∙◌, ◌+◌, ◌<◌, ◌++◌, ℕ, List, [], length, take, get_or, flat_map, ap, subst, sym, append_assoc, append-nil}
+use Rattle.std.proofs.lemmas.List.{flat_map_more, take_more}
 use Rattle.sha2.specs.Hashers.{Holds256}
 use Rattle.sha2.specs.declared.Sha256.{Sha256}
 use Rattle.checks.specs.Digests.{Hashes}

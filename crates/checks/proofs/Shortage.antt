@@ -1,5 +1,5 @@
 -- Lists, and texts, for which memory was refused.
-use Rattle.std.proofs.Common.{◌≡◌, ◌∙◌, ◌⊎◌, ◌+◌, ◌<◌, ◌++◌, ℕ, true, List, [], ◌∷◌, Option, Some, None, Result, Ok, Err, IfSome, OnErr, length, take, drop, get_or, flat_map, map, cond, inl, inr, refl, ap, sym, subst, append_assoc, append-nil, take-append-drop}
+use Rattle.std.proofs.Common.{◌≡◌, ◌∙◌, ◌⊎◌, ◌+◌, ◌<◌, ◌++◌, ℕ, true, List, [], ◌∷◌, Result, Ok, Err, OnErr, length, take, drop, get_or, flat_map, map, cond, inl, inr, refl, ap, sym, subst, append_assoc, append-nil, take-append-drop}
 use Rattle.std.specs.List.{list_any}
 use Rattle.std.proofs.lemmas.List.{drop_more}
 use Rattle.std.proofs.lemmas.List.Concat.{flat_map-append}
@@ -25,13 +25,6 @@ cut_all whole short = record { begun = whole; rest = []; is = sym (append-nil wh
 pub cut_more : {X : Type 0} (a b : List X) → IsCutShort a → IsCutShort (a ++ b)
 cut_more a b h =
     record { begun = h.begun; rest = h.rest ++ b; is = ap (λ l. l ++ b) h.is ∙ append_assoc h.begun h.rest b; short = h.short }
-
--- what was to be put behind a text
-pub put_cut : {T E : Type 0} (r : Result T E) (o : Option (List ℕ)) (a : List ℕ) → ((bytes : List ℕ) → o ≡ Some bytes → OnErr r (WasShort (a ++ bytes)))
-    → OnErr r (IfSome o (λ bytes. IsCutShort (a ++ bytes)))
-put_cut (Ok x) o a h = tt
-put_cut (Err e) None a h = tt
-put_cut (Err e) (Some bytes) a h = cut_all (a ++ bytes) (h bytes refl)
 
 -- ---- of two parts behind a list
 

@@ -9,6 +9,7 @@ use Rattle.faults.specs.declared.faults.Fault.{Fault}
 use Rattle.faults.specs.declared.faults.Fault.TheVariants.{File}
 use Rattle.outlets.specs.Telling.{IsToldOf, Telling}
 use Rattle.settings_file.specs.Keys.{key_text}
+use Rattle.settings_file.specs.Memory.{LacksSettings}
 use Rattle.settings_file.specs.Settings.{IsReadFrom, Tells}
 use Rattle.settings_file.specs.declared.faults.SettingFault.{SettingFault}
 use Rattle.settings_file.specs.declared.faults.SettingFault.TheVariants.{NoMemory}
@@ -16,7 +17,7 @@ use Rattle.settings_file.specs.declared.keys.Key.{Key}
 use Rattle.checks.specs.Counts.{must_not, one_if}
 use Rattle.checks.specs.Differences.{differing, word_of}
 use Rattle.checks.specs.Ends.{IsSaid, IsUnsaid}
-use Rattle.checks.specs.Memory.{IsCutShort, WasUnseen}
+use Rattle.checks.specs.Memory.{IsCutShort}
 use Rattle.checks.specs.declared.requests.Source.{Source}
 
 -- as `must not differ: ports.one`
@@ -65,7 +66,7 @@ text_with_path fault path = if names_file fault then fault_text fault else (faul
 
 -- why no settings are read of a text; that memory was refused only where it was for this text
 abbrev pub IsWithout : List ℕ → SettingFault → Type 0
-IsWithout text fault = Tells (parse_document text) fault × (fault ≡ NoMemory → WasUnseen text)
+IsWithout text fault = Tells (parse_document text) fault × (fault ≡ NoMemory → LacksSettings text)
 
 -- the settings of a text were read, and nothing was told; or it holds none, and just why was told, with its file
 abbrev pub IsReadOf : {E : Type 0} → Telling E → Source → Option Settings → E → E → Type 0

@@ -11,3 +11,4 @@ pub mod Memory
 pub mod Reports
 pub mod Comparing
 pub mod Openings
+pub mod Pieces

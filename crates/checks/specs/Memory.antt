@@ -1,30 +1,16 @@
 -- What memory was refused for.
-use Rattle.std.specs.Prelude.{◌≡◌, ◌⊎◌, ◌++◌, ℕ, List, []}
+use Rattle.std.specs.Prelude.{◌⊎◌, ℕ, List, []}
 use Rattle.settings.specs.declared.whole.Settings.{Settings}
 use Rattle.settings_file.specs.Clashes.{all_taken, ports_of_both}
 use Rattle.settings_file.specs.declared.looks.Look.{Look}
 use Rattle.settings_file.specs.declared.looks.Look.TheVariants.{Held}
 use Rattle.checks.specs.Doubts.{warnings_of}
+pub use Rattle.settings_file.specs.Memory.{IsCutShort, WasShort}
 
--- Memory was refused for this list, as a text is one. No clause can say when that is, so this, and those below it, are no more than names: who
--- asks for it has one of them, and nobody else.
-unfoldable pub WasShort : {X : Type 0} → List X → Type 0
-WasShort list = Unit {0}
-
--- for what is seen of this text
-unfoldable pub WasUnseen : List ℕ → Type 0
-WasUnseen text = Unit {0}
-
--- for what the file at this path has, by who was asked for it, before and then
+-- Memory was refused for what the file at this path has, by who was asked for it, before and then. No clause can say when that is, so this is no more
+-- than a name, as is `WasShort`: who asks for it has it, and nobody else.
 unfoldable pub WasUnread : {R : Type 0} → R → List ℕ → R → Type 0
 WasUnread before path after = Unit {0}
-
--- memory was refused for a beginning of this list, which may be all of it
-pub record IsCutShort {X : Type 0} (whole : List X) : Type 0 where
-  pub begun : List X
-  pub rest : List X
-  pub is : whole ≡ begun ++ rest
-  pub short : WasShort begun
 
 -- ---- by what is to be said
 

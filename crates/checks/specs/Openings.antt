@@ -4,10 +4,13 @@ use Rattle.std.specs.Str.{trim}
 use Rattle.std.specs.Str.Parse.{IsNumeral, digits_value, without_leading_plus}
 use Rattle.std.specs.declared.fs.locks.TryLockError.{TryLockError}
 use Rattle.std.specs.declared.fs.locks.TryLockError.TheVariants.{WouldBlock}
+use Rattle.std.specs.declared.fs.options.OpenOptions.{OpenOptions}
 use Rattle.std.specs.declared.io.Error.{Error}
 use Rattle.std.specs.declared.io.ErrorKind.{ErrorKind}
+use Rattle.boot_file.specs.Opened.{IsToRead}
 use Rattle.checks.specs.BootFiles.{found_in}
 use Rattle.checks.specs.Memory.{WasShort, WasUnread}
+use Rattle.checks.specs.Sights.{Finds, Takes, short, taken}
 use Rattle.checks.specs.declared.surroundings.Found.{Found}
 use Rattle.checks.specs.declared.surroundings.Found.TheVariants as found
 use Rattle.checks.specs.declared.surroundings.Seen.{Seen}
@@ -18,13 +21,30 @@ use Rattle.checks.specs.declared.surroundings.Seen.{Seen}
 abbrev pub Begins : Type 0 → Type 1
 Begins F = F → Result (List ℕ) Error → F → Type 0
 
--- which mode it may have
+-- which mode it may have, and what it is then
 abbrev pub Lets : Type 0 → Type 1
-Lets F = F → Option ℕ → Type 0
+Lets F = F → Option ℕ → F → Type 0
 
--- what may be answered where it is to be locked
+-- what may be answered where it is to be locked, and what it is then
 abbrev pub Locks : Type 0 → Type 1
-Locks F = F → Result (Unit {0}) TryLockError → Type 0
+Locks F = F → Result (Unit {0}) TryLockError → F → Type 0
+
+-- Who was asked for the file at this path, where it is a regular one, by these options, answered so, and is this then. No more is known of it, so this is no more than a
+-- name for the call, as are the three below it: who makes the call has it, and nobody else.
+unfoldable pub WasOpened : {P F : Type 0} → P → OpenOptions → List ℕ → Result (Option F) Error → P → Type 0
+WasOpened before options path answer after = Unit {0}
+
+-- a file was asked for its first bytes
+unfoldable pub WasBegun : {F : Type 0} → Begins F
+WasBegun before answer after = Unit {0}
+
+-- for its mode
+unfoldable pub WasLet : {F : Type 0} → Lets F
+WasLet before mode after = Unit {0}
+
+-- and to be locked
+unfoldable pub WasLocked : {F : Type 0} → Locks F
+WasLocked before answer after = Unit {0}
 
 -- a box runs on it: another opening of it is locked
 abbrev pub is_used : Result (Unit {0}) TryLockError → Bool
@@ -32,15 +52,17 @@ is_used (Ok done) = false
 is_used (Err WouldBlock) = true
 is_used (Err other) = false
 
--- it was seen as it answered: its number is that of its first bytes, and its mode and its lock are what they are behind that
+-- it was seen as it answered: its number is that of its first bytes, and it was asked for its mode, and then to be locked, behind that, once each
 pub record IsSeenIn {F : Type 0} (begins : Begins F) (lets : Lets F) (locks : Locks F) (file : F) (seen : Seen) : Type 0 where
   pub first : Result (List ℕ) Error
   pub behind : F
+  pub third : F
   pub lock : Result (Unit {0}) TryLockError
+  pub last : F
   pub has_begun : begins file first behind
   pub is_number : seen.number ≡ found_in first
-  pub is_mode : lets behind seen.mode
-  pub is_lock : locks behind lock
+  pub is_mode : lets behind seen.mode third
+  pub is_lock : locks third lock last
   pub is_use : seen.is_used ≡ is_used lock
 
 -- what there is where it is to be: nothing that can be opened, no regular file, or one, and what was seen of it
@@ -50,7 +72,17 @@ IsSeenAt begins lets locks (Ok None) what = what ≡ found.NoFile
 IsSeenAt begins lets locks (Ok (Some file)) (found.File seen) = IsSeenIn begins lets locks file seen
 IsSeenAt begins lets locks (Ok (Some file)) other = ⊥
 
+-- just what was opened at a path, once, to be read as it is, was seen, and nothing else asked
+abbrev pub IsFoundIn : {P : Type 0} → (F : Type 0) → Finds P
+IsFoundIn F before path what after =
+    (options : OpenOptions) × (IsToRead options × ((opened : Result (Option F) Error)
+    × (WasOpened before options path opened after × IsSeenAt WasBegun WasLet WasLocked opened what)))
+
 -- ---- an MTU
+
+-- who reads files was asked for what the file at this path has, answered so, and is this then: a name, too
+unfoldable pub WasRead : {P : Type 0} → P → List ℕ → Result (List ℕ) ErrorKind → P → Type 0
+WasRead before path answer after = Unit {0}
 
 -- the file that has it
 abbrev pub mtu_path : List ℕ → List ℕ
@@ -75,3 +107,8 @@ IsMtuRead answers None =
 abbrev pub IsUnmeasured : {R : Type 0} → (R → List ℕ → Result (List ℕ) ErrorKind → R → Type 0) → R → List ℕ → R → Type 0
 IsUnmeasured answers before name after = WasShort (mtu_path name)
     ⊎ ((cause : ErrorKind) × (answers before (mtu_path name) (Err cause) after × WasUnread before (mtu_path name) after))
+
+-- just the file of an interface's MTU was asked for, once, and nothing else; or there was no memory for it
+abbrev pub IsTakenIn : {P : Type 0} → Takes P
+IsTakenIn before name (taken mtu) after = IsMtuRead (λ answer. WasRead before (mtu_path name) answer after) mtu
+IsTakenIn before name short after = IsUnmeasured WasRead before name after

@@ -7,6 +7,7 @@ use Rattle.outlets.specs.Telling.{Telling}
 use Rattle.toml.specs.Data.{Members}
 use Rattle.toml.specs.Parse.{parse_document}
 use Rattle.settings_file.specs.Listing.{IsSeen}
+use Rattle.settings_file.specs.Memory.{LacksLook}
 use Rattle.settings_file.specs.declared.looks.Look.{Look}
 use Rattle.settings_file.specs.declared.looks.Look.TheVariants.{Held}
 use Rattle.checks.specs.BootFiles.{boot_file_faults, boot_file_text, boot_file_warnings}
@@ -14,7 +15,7 @@ use Rattle.checks.specs.Counts.{capped, fault_count, left, status_of, stopping}
 use Rattle.checks.specs.Doubts.{warnings_of}
 use Rattle.checks.specs.Ends.{IsSaid, IsUnsaid}
 use Rattle.checks.specs.Interfaces.{interface_text, interface_warnings, link_faults, link_text, link_warnings}
-use Rattle.checks.specs.Memory.{IsCutShort, IsUnwarnedOf, WasUnseen}
+use Rattle.checks.specs.Memory.{IsCutShort, IsUnwarnedOf}
 use Rattle.checks.specs.Saying.{faults_text, total_line, warning_line}
 use Rattle.checks.specs.Sights.{AreFoundFor, Finds, IsSightlessFor, Takes, inside_of, link_of, outside_of}
 use Rattle.checks.specs.declared.requests.Request.{Request}
@@ -104,7 +105,7 @@ IsShortOn finds takes around look request behind = IsSightlessFor takes around l
 
 -- why there is none on a text: memory was refused for what is seen of it, and it was looked nowhere; or for a report on that
 abbrev pub IsShortFor : {P : Type 0} → Finds P → Takes P → P → List ℕ → Request → P → Type 0
-IsShortFor finds takes around text request behind = (WasUnseen text × (behind ≡ around))
+IsShortFor finds takes around text request behind = (LacksLook text × (behind ≡ around))
     ⊎ ((look : Look) × (IsSeen (parse_document text) look × IsShortOn finds takes around look request behind))
 
 -- ---- of a check

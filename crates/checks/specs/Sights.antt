@@ -26,15 +26,6 @@ pub data Measure : Type 0 where
 abbrev pub Takes : Type 0 → Type 1
 Takes P = P → List ℕ → Measure → P → Type 0
 
--- This was found where it was looked at the path of a boot file. It is no more than a name for the call, by what is asked before
--- and then, as is the one below it: who makes the call has it, and nobody else.
-unfoldable pub WasFound : {P : Type 0} → Finds P
-WasFound before path found after = Unit {0}
-
--- this came of it where the interface of this name was looked at
-unfoldable pub WasTaken : {P : Type 0} → Takes P
-WasTaken before name measure after = Unit {0}
-
 -- the names and the address that are asked for
 abbrev pub inside_of : Request → Option (List ℕ)
 inside_of request = option_map (λ name. name.now) request.inside

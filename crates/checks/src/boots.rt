@@ -9,7 +9,7 @@ ghost use Rattle.checks.specs.Counts.{faults_of_start, one_if};
 ghost use Rattle.checks.specs.Memory.{IsCutShort};
 ghost use Rattle.checks.specs.Saying.{fault_at};
 
-use crate::memory::put;
+use crate::pieces::{Piece, put};
 use crate::tallies::{FAULT, NOTHING, Tally, WARNING};
 use crate::{Found, Seen};
 use nat_types::GatewayId;
@@ -34,7 +34,16 @@ fn say_fault(fault: &str, key: Key, text: &mut String) -> Result<Tally, AllocErr
     ensures warnings { IfOk result (λ tally. tally.warnings ≡ 0) }
     ensures short { OnErr result (IsCutShort (string_bytes text.old ++ fault_at fault.now key)) }
 {
-    put(text, format_args!("fault: {fault} {key}\n"))?;
+    put(
+        text,
+        &[
+            Piece::Text("fault: "),
+            Piece::Text(fault),
+            Piece::Text(" "),
+            Piece::Key(key),
+            Piece::Text("\n"),
+        ],
+    )?;
     Ok(FAULT)
 }
 
@@ -45,10 +54,23 @@ fn say_start(boot: u64, key: Key, text: &mut String) -> Result<(), AllocError>
     ensures short { OnErr result (IsCutShort (string_bytes text.old ++ start_line boot key)) }
 {
     match boot {
-        0 => put(text, format_args!("note: {key}: no start yet\n")),
+        0 => put(
+            text,
+            &[
+                Piece::Text("note: "),
+                Piece::Key(key),
+                Piece::Text(": no start yet\n"),
+            ],
+        ),
         _ => put(
             text,
-            format_args!("note: {key}: the last start was boot {boot}\n"),
+            &[
+                Piece::Text("note: "),
+                Piece::Key(key),
+                Piece::Text(": the last start was boot "),
+                Piece::Number(boot),
+                Piece::Text("\n"),
+            ],
         ),
     }
 }
@@ -88,7 +110,13 @@ fn say_mode_line(mode: u32, key: Key, text: &mut String) -> Result<(), AllocErro
     let mode = mode % 0o1000;
     put(
         text,
-        format_args!("warning: {key}: its mode is {mode:o}, and 600 keeps others from it\n"),
+        &[
+            Piece::Text("warning: "),
+            Piece::Key(key),
+            Piece::Text(": its mode is "),
+            Piece::Mode(mode),
+            Piece::Text(", and 600 keeps others from it\n"),
+        ],
     )
 }
 
@@ -116,7 +144,14 @@ fn say_use(is_used: bool, key: Key, text: &mut String) -> Result<(), AllocError>
     ensures short { OnErr result (IsCutShort (string_bytes text.old ++ use_text is_used key)) }
 {
     if is_used {
-        put(text, format_args!("note: {key}: a gate runs on it\n"))
+        put(
+            text,
+            &[
+                Piece::Text("note: "),
+                Piece::Key(key),
+                Piece::Text(": a gate runs on it\n"),
+            ],
+        )
     } else {
         Ok(())
     }

@@ -10,7 +10,6 @@ ghost use Rattle.checks.specs.Reports.{more_warnings, report_text};
 
 use crate::boots::say_boot_file;
 use crate::ends::{refuse, say};
-use crate::memory::seen;
 use crate::places::say_places;
 use crate::saying::{fault_count, say_faults, say_total, say_warnings};
 use crate::sights::sights_for;
@@ -18,7 +17,7 @@ use crate::tallies::{NOTHING, Tally};
 use crate::{Request, Sights, Surroundings};
 use outlets::Tells;
 use settings::Settings;
-use settings_file::Look;
+use settings_file::{Look, look};
 use std::alloc::{AllocError, Global};
 use std::io::Write;
 
@@ -74,7 +73,7 @@ fn report_of<P: Surroundings>(
     ensures short { OnErr result
         (IsShortFor P.finds P.takes around.old text.now request.now around.new) }
 {
-    let look = seen(alloc, text)?;
+    let look = look(alloc, text)?;
     report_on(alloc, around, &look, request)
 }
 

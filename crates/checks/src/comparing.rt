@@ -9,12 +9,12 @@ ghost use Rattle.checks.specs.Counts.{AreAlike, AreTwoAlike, must_not};
 ghost use Rattle.checks.specs.Memory.{IsCutShort};
 
 use crate::ends::{refuse, say};
-use crate::memory::{held, put};
+use crate::pieces::{Piece, put};
 use crate::{Source, differing_keys, may_differ, tell_of};
 use faults::Fault;
 use outlets::Tells;
 use settings::Settings;
-use settings_file::Key;
+use settings_file::{Key, read};
 use std::alloc::{AllocError, Global};
 use std::io::Write;
 
@@ -42,7 +42,7 @@ pub fn compare<O: Write, E: Tells>(
 fn settings_in<E: Tells>(alloc: Global, source: Source<'_>, errors: &mut E) -> Option<Settings>
     ensures { IsReadOf E.tells source.entry result errors.old errors.new }
 {
-    match held(alloc, source.text) {
+    match read(alloc, source.text) {
         Ok(settings) => Some(settings),
         Err(fault) => {
             tell_of(alloc, &Fault::from(fault), source.path, errors);
@@ -149,7 +149,12 @@ fn say_all(keys: &[Key], count: usize, text: &mut String) -> Result<(), AllocErr
     let all = keys.len();
     put(
         text,
-        format_args!("{all} keys differ, {count} of them must not\n"),
+        &[
+            Piece::Count(all),
+            Piece::Text(" keys differ, "),
+            Piece::Count(count),
+            Piece::Text(" of them must not\n"),
+        ],
     )
 }
 
@@ -172,7 +177,15 @@ fn say_key(key: Key, text: &mut String) -> Result<(), AllocError>
     ensures short { OnErr result (IsCutShort (string_bytes text.old ++ differing_line key)) }
 {
     let word = word_of(key);
-    put(text, format_args!("{word} differ: {key}\n"))
+    put(
+        text,
+        &[
+            Piece::Text(word),
+            Piece::Text(" differ: "),
+            Piece::Key(key),
+            Piece::Text("\n"),
+        ],
+    )
 }
 
 /// Whether a key may differ, in a word.

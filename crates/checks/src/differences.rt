@@ -4,10 +4,9 @@ ghost use Rattle.settings_file.specs.declared.keys.Section.TheVariants as sectio
 ghost use Rattle.checks.specs.Differences.{same_range, same_limit, same_neighbour, same_neighbours, same_ports, same_interface, same_router, same_mtu, same_icmp, same_addresses, same_role, same_sockets, same_list, differing, may_differ};
 ghost use Rattle.checks.specs.Memory.{IsCutShort};
 
-use crate::memory::add_keys;
 use crate::warnings::same_host;
 use settings::{GatewaySettings, Neighbour, PortRange, Settings};
-use settings_file::{Key, Name, Section};
+use settings_file::{Key, Name, Section, add_bad};
 use std::alloc::{AllocError, Global};
 
 fn same_range(one: PortRange, other: PortRange) -> bool
@@ -153,13 +152,13 @@ pub fn differing_keys(
     ensures short { OnErr result (IsCutShort (differing one.now other.now)) }
 {
     let mut found = Vec::new(alloc);
-    add_keys(&same_front(one, other), &mut found)?;
-    add_keys(&same_behind(one, other), &mut found)?;
+    add_bad(&same_front(one, other), &mut found)?;
+    add_bad(&same_behind(one, other), &mut found)?;
     let rows = same_gateway(Section::GatewayZero, &one.zero, &other.zero);
-    add_keys(&rows, &mut found)?;
+    add_bad(&rows, &mut found)?;
     let rows = same_gateway(Section::GatewayOne, &one.one, &other.one);
-    add_keys(&rows, &mut found)?;
-    add_keys(&same_list(one, other), &mut found)?;
+    add_bad(&rows, &mut found)?;
+    add_bad(&same_list(one, other), &mut found)?;
     Ok(found)
 }
 

@@ -20,50 +20,58 @@ pub(crate) trait Opening {
     /// What may be answered where its first 32 bytes are read, and what it is then.
     ghost begins: { Self → Result (List ℕ) Error → Self → Type 0 };
 
-    /// Which mode it may have, where that is known.
-    ghost lets: { Self → Option ℕ → Type 0 };
+    /// Which mode it may have, where that is known, and what it is then.
+    ghost lets: { Self → Option ℕ → Self → Type 0 };
 
-    /// What may be answered where it is to be locked.
-    ghost locks: { Self → Result (Unit {0}) TryLockError → Type 0 };
+    /// What may be answered where it is to be locked, and what it is then.
+    ghost locks: { Self → Result (Unit {0}) TryLockError → Self → Type 0 };
 
     /// Its first 32 bytes.
     fn first(&mut self) -> io::Result<[u8; 32]>
         ensures { begins self.old result self.new };
 
     /// Who may use it, where that is known.
-    fn mode(&self) -> Option<u32>
-        ensures { lets self.now result };
+    fn mode(&mut self) -> Option<u32>
+        ensures { lets self.old result self.new };
 
     /// Locks it, unless another opening of it is locked.
-    fn lock(&self) -> Result<(), TryLockError>
-        ensures { locks self.now result };
+    fn lock(&mut self) -> Result<(), TryLockError>
+        ensures { locks self.old result self.new };
 }
 
-/// Of a file whose bytes are known the first are read; of its mode and its lock nothing is known.
+/// Each of its answers has a name, and of its mode and its lock no more is known. Of a file whose bytes are known the first are
+/// read.
 impl<F: Read + OpenFile + Lockable> Opening for F {
     ghost use Rattle.std.specs.Prelude.{◌≡◌, IfOk, IfSome, take};
+    ghost use Rattle.checks.specs.Openings.{WasBegun, WasLet, WasLocked};
 
-    ghost begins = { λ before answer _.
-        IfSome (F.remaining before) (λ bytes. IfOk answer (λ first. first ≡ take 32 bytes)) };
+    ghost begins = { WasBegun };
 
-    ghost lets = { λ _ _. Unit {0} };
+    ghost lets = { WasLet };
 
-    ghost locks = { λ _ _. Unit {0} };
+    ghost locks = { WasLocked };
 
-    fn first(&mut self) -> io::Result<[u8; 32]> {
+    #[tactic(auto, unfolding(crate::specs::Openings::WasBegun))]
+    fn first(&mut self) -> io::Result<[u8; 32]>
+        ensures asked { WasBegun self.old result self.new }
+        ensures bytes { IfSome (F.remaining self.old)
+            (λ bytes. IfOk result (λ first. first ≡ take 32 bytes)) }
+    {
         let mut bytes = [0; 32];
         self.read_exact(&mut bytes)?;
         Ok(bytes)
     }
 
-    fn mode(&self) -> Option<u32> {
+    #[tactic(auto, unfolding(crate::specs::Openings::WasLet))]
+    fn mode(&mut self) -> Option<u32> {
         match self.metadata() {
             Ok(metadata) => Some(metadata.permissions().mode()),
             Err(_) => None,
         }
     }
 
-    fn lock(&self) -> Result<(), TryLockError> {
+    #[tactic(auto, unfolding(crate::specs::Openings::WasLocked))]
+    fn lock(&mut self) -> Result<(), TryLockError> {
         self.try_lock()
     }
 }

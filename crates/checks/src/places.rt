@@ -7,7 +7,7 @@ ghost use Rattle.checks.specs.Interfaces.{link_warnings, mtu_text, no_address_li
 ghost use Rattle.checks.specs.Memory.{IsCutShort};
 ghost use Rattle.checks.specs.Reports.{places_faults, places_text, places_warnings};
 
-use crate::memory::put;
+use crate::pieces::{Piece, put};
 use crate::tallies::{FAULT, NOTHING, Tally, WARNING};
 use crate::{Request, Sights};
 use addresses::Ip;
@@ -67,7 +67,15 @@ fn say_short(side: Side, name: &str, mtu: u32, text: &mut String) -> Result<Tall
     let side = side_name(side);
     put(
         text,
-        format_args!("warning: {side} {name}: its MTU is {mtu}, and frames need 1500\n"),
+        &[
+            Piece::Text("warning: "),
+            Piece::Text(side),
+            Piece::Text(" "),
+            Piece::Text(name),
+            Piece::Text(": its MTU is "),
+            Piece::Number(u64::from(mtu)),
+            Piece::Text(", and frames need 1500\n"),
+        ],
     )?;
     Ok(WARNING)
 }
@@ -84,7 +92,13 @@ fn say_absent(side: Side, name: &str, text: &mut String) -> Result<Tally, AllocE
     let side = side_name(side);
     put(
         text,
-        format_args!("warning: {side} {name}: no such interface\n"),
+        &[
+            Piece::Text("warning: "),
+            Piece::Text(side),
+            Piece::Text(" "),
+            Piece::Text(name),
+            Piece::Text(": no such interface\n"),
+        ],
     )?;
     Ok(WARNING)
 }
@@ -123,9 +137,13 @@ fn say_link_line(side: Side, address: &str, text: &mut String) -> Result<(), All
     let side = side_name(side);
     put(
         text,
-        format_args!(
-            "warning: link {address}: it lies in the network of the {side}, whose cable it goes down with\n"
-        ),
+        &[
+            Piece::Text("warning: link "),
+            Piece::Text(address),
+            Piece::Text(": it lies in the network of the "),
+            Piece::Text(side),
+            Piece::Text(", whose cable it goes down with\n"),
+        ],
     )
 }
 
@@ -183,7 +201,11 @@ fn say_no_address(address: &str, text: &mut String) -> Result<Tally, AllocError>
 {
     put(
         text,
-        format_args!("fault: link {address}: no IPv4 address\n"),
+        &[
+            Piece::Text("fault: link "),
+            Piece::Text(address),
+            Piece::Text(": no IPv4 address\n"),
+        ],
     )?;
     Ok(FAULT)
 }

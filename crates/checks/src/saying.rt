@@ -6,7 +6,7 @@ ghost use Rattle.checks.specs.Saying.{warning_line};
 ghost use Rattle.checks.specs.Counts.{at_least_one, fault_count, is_of, left, stopping, stops};
 ghost use Rattle.checks.specs.Memory.{IsCutShort, IsUnwarned};
 
-use crate::memory::put;
+use crate::pieces::{Piece, put};
 use crate::tallies::{NOTHING, Tally};
 use crate::{Doubt, Warning, warnings_of};
 use nat_types::GatewayId;
@@ -21,7 +21,14 @@ fn say_paths(paths: &[String], text: &mut String) -> Result<(), AllocError>
         (IsCutShort (string_bytes text.old ++ flat_map path_line paths.now)) }
 {
     for path in paths {
-        put(text, format_args!("fault: settings 6 UnknownKey {path}\n"))?;
+        put(
+            text,
+            &[
+                Piece::Text("fault: settings 6 UnknownKey "),
+                Piece::Text(path.as_str()),
+                Piece::Text("\n"),
+            ],
+        )?;
     }
     Ok(())
 }
@@ -33,7 +40,16 @@ fn say_keys(keys: &[Key], fault: &str, text: &mut String) -> Result<(), AllocErr
         (IsCutShort (string_bytes text.old ++ flat_map (key_line fault.now) keys.now)) }
 {
     for key in keys {
-        put(text, format_args!("fault: settings {fault} {key}\n"))?;
+        put(
+            text,
+            &[
+                Piece::Text("fault: settings "),
+                Piece::Text(fault),
+                Piece::Text(" "),
+                Piece::Key(*key),
+                Piece::Text("\n"),
+            ],
+        )?;
     }
     Ok(())
 }
@@ -62,7 +78,14 @@ fn say_whole(fault: &str, text: &mut String) -> Result<(), AllocError>
         (string_bytes text.new ≡ string_bytes text.old ++ fault_line fault.now) }
     ensures short { OnErr result (IsCutShort (string_bytes text.old ++ fault_line fault.now)) }
 {
-    put(text, format_args!("fault: settings {fault}\n"))
+    put(
+        text,
+        &[
+            Piece::Text("fault: settings "),
+            Piece::Text(fault),
+            Piece::Text("\n"),
+        ],
+    )
 }
 
 /// Says each fault of a text.
@@ -115,10 +138,26 @@ fn say_warning(
 {
     let key = warning.key;
     if stops(id, warning) {
-        put(text, format_args!("fault: socket 2 LongPath {key}\n"))
+        put(
+            text,
+            &[
+                Piece::Text("fault: socket 2 LongPath "),
+                Piece::Key(key),
+                Piece::Text("\n"),
+            ],
+        )
     } else {
         let doubt = warning.doubt.as_str();
-        put(text, format_args!("warning: {key}: {doubt}\n"))
+        put(
+            text,
+            &[
+                Piece::Text("warning: "),
+                Piece::Key(key),
+                Piece::Text(": "),
+                Piece::Text(doubt),
+                Piece::Text("\n"),
+            ],
+        )
     }
 }
 
@@ -182,5 +221,13 @@ pub(crate) fn say_total(tally: Tally, text: &mut String) -> Result<(), AllocErro
         (IsCutShort (string_bytes text.old ++ total_line tally.faults tally.warnings)) }
 {
     let Tally { faults, warnings } = tally;
-    put(text, format_args!("{faults} faults, {warnings} warnings\n"))
+    put(
+        text,
+        &[
+            Piece::Count(faults),
+            Piece::Text(" faults, "),
+            Piece::Count(warnings),
+            Piece::Text(" warnings\n"),
+        ],
+    )
 }

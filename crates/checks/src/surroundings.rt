@@ -1,13 +1,15 @@
 //! What a box finds where it is to run.
 ghost use Rattle.std.specs.Prelude.{IfOk, OnErr};
+ghost use Rattle.boot_file.specs.Opened.{IsToRead};
 ghost use Rattle.checks.specs.Openings.{IsMtuRead, IsUnmeasured, IsMtuText, IsSeenAt, mtu_path};
 
+use crate::machine::ThisMachine;
 use crate::memory::{file_text, mtu_path};
 use crate::openings::{Opening, seen_in};
 use boot_file::Lockable;
-use faults::{Fault, Reads, SystemReads};
+use faults::{Fault, Reads};
 use std::alloc::{AllocError, Global};
-use std::fs::{self, OpenOptions};
+use std::fs::OpenOptions;
 use std::io;
 use std::rt::Files;
 
@@ -55,46 +57,34 @@ pub trait Surroundings {
         ensures short { OnErr result (takes self.old name.now short self.new) };
 }
 
-/// This machine: what is found there has a name, and no more is known of it.
-#[derive(Drop)]
-pub struct ThisMachine<'a, R> {
-    rt: &'a R,
+/// How a file is opened that is looked at: it is to be read, and stays as it is.
+fn to_read() -> OpenOptions
+    ensures { IsToRead result }
+{
+    let mut options = OpenOptions::new();
+    options.read(true);
+    options
 }
 
-impl<'a, R> ThisMachine<'a, R> {
-    pub fn new(rt: &'a R) -> ThisMachine<'a, R> {
-        ThisMachine { rt }
-    }
-}
-
+/// Each of its answers has a name, and it is asked by `told_to_open` and `read` alone.
 impl<R: Files + AllocGlobal> Surroundings for ThisMachine<'_, R>
 where
     R::File: Lockable,
 {
-    ghost use Rattle.checks.specs.Sights.{WasFound, WasTaken};
+    ghost use Rattle.checks.specs.Openings.{IsFoundIn, IsTakenIn};
 
-    ghost finds = { WasFound };
+    ghost finds = { IsFoundIn R.File };
 
-    ghost takes = { WasTaken };
+    ghost takes = { IsTakenIn };
 
-    #[tactic(auto, unfolding(crate::specs::Sights::WasFound))]
     fn boot_file(&mut self, path: &str) -> Found {
-        found_by(opened(self.rt, path))
+        let options = to_read();
+        found_by(self.told_to_open(&options, path))
     }
 
-    #[tactic(auto, unfolding(crate::specs::Sights::WasTaken))]
     fn mtu(&mut self, name: &str) -> Result<Option<u32>, AllocError> {
-        mtu_by(self.rt.alloc(), &mut SystemReads(self.rt), name)
+        mtu_by(self.alloc(), self, name)
     }
-}
-
-/// The file at a path, where it is a regular one.
-fn opened<R: Files>(rt: &R, path: &str) -> io::Result<Option<R::File>> {
-    if !fs::metadata(rt, path)?.is_file() {
-        return Ok(None);
-    }
-    let file = OpenOptions::new().read(true).open(rt, path)?;
-    Ok(Some(file))
 }
 
 /// What there is where a boot file is to be, by what was opened there.

@@ -4,12 +4,12 @@ ghost use Rattle.std.specs.List.{list_any};
 ghost use Rattle.checks.specs.Doubts.{given, warning, is_martian, same_bool, has_one_port, network_doubts, gateway_doubts, pair_doubts, same_side, same_host, neighbour_doubts, port_warning, warnings_of};
 ghost use Rattle.checks.specs.Memory.{IsCutShort, IsUnwarned};
 
-use crate::memory::{add_clashes, add_warning};
+use crate::memory::add_warning;
 use crate::{Doubt, Warning};
 use addresses::Ip;
 use nat_types::Side;
 use settings::{GatewaySettings, Neighbour, PortRange, Settings};
-use settings_file::{Key, Name, Section, is_network_address};
+use settings_file::{Key, Name, Section, add_port_clashes, is_network_address};
 use std::alloc::{AllocError, Global};
 
 /// The longest path of a boot file beside which the control socket's has room.
@@ -206,7 +206,7 @@ pub fn warnings_of(alloc: Global, settings: &Settings) -> Result<Vec<Warning>, A
     give(&pair_doubts(&settings.zero, &settings.one), &mut found)?;
     give_neighbours(settings.neighbours.as_slice(), &mut found)?;
     let mut clashes = Vec::new(alloc);
-    add_clashes(settings, &mut clashes)?;
+    add_port_clashes(settings, &mut clashes)?;
     give_clashes(clashes.as_slice(), &mut found)?;
     Ok(found)
 }

@@ -3,7 +3,7 @@ use Rattle.settings_file.specs.Clashes.{all_taken, ports_of_both}
 use Rattle.settings_file.specs.declared.keys.Section.TheVariants.{GatewayOne, GatewayZero}
 use Rattle.checks.specs.Doubts.{gateway_doubts, given, neighbour_doubts, network_doubts, pair_doubts, port_warning, warnings_of}
 use Rattle.checks.specs.declared.doubts.Warning.{Warning}
-use Rattle.checks.proofs.Shortage.{any_err, cut_all, from_none, part_1, part_2, part_3, part_4, part_5, part_6}
+use Rattle.checks.proofs.Shortage.{any_err, from_none, part_1, part_2, part_3, part_4, part_5, part_6}
 use Rattle.checks.proofs.warnings.warnings_of.Goals as goal
 
 pub returns-in_err-give-clause-short : goal.returns-in_err-give-clause-short
@@ -85,13 +85,13 @@ returns-in_err-give_neighbours-clause-short c =
     c.give-4.new.found.items (c.in_ok-give-4.ensures.items ∙ ap (λ l. c.give-3.new.found.items ++ l) (ap given c.pair_doubts.ensures))
     _ (ap (λ ns. given (neighbour_doubts [] ns)) c.as_slice.ensures.value) c.in_err-give_neighbours.ensures.short))
 
-pub returns-in_err-add_clashes-clause-short : goal.returns-in_err-add_clashes-clause-short
+pub returns-in_err-add_port_clashes-clause-short : goal.returns-in_err-add_port_clashes-clause-short
 unfolding warnings_of
-returns-in_err-add_clashes-clause-short c =
+returns-in_err-add_port_clashes-clause-short c =
     let s = c.args.settings.now in
-    any_err c.from_residual-in_err-add_clashes.result
+    any_err c.from_residual-in_err-add_port_clashes.result
     (inr (from_none c.new-clashes.result.items (all_taken [] (ports_of_both s)) c.new-clashes.ensures.items
-    (cut_all (c.new-clashes.result.items ++ all_taken [] (ports_of_both s)) c.in_err-add_clashes.ensures.short)))
+    c.in_err-add_port_clashes.ensures.short))
 
 pub returns-in_err-give_clashes-clause-short : goal.returns-in_err-give_clashes-clause-short
 unfolding warnings_of
@@ -110,4 +110,4 @@ returns-in_err-give_clashes-clause-short c =
     c.give-3.new.found.items (c.in_ok-give-3.ensures.items ∙ ap (λ l. c.give-2.new.found.items ++ l) (ap given c.gateway_doubts-2.ensures))
     c.give-4.new.found.items (c.in_ok-give-4.ensures.items ∙ ap (λ l. c.give-3.new.found.items ++ l) (ap given c.pair_doubts.ensures))
     c.give_neighbours.new.found.items (c.in_ok-give_neighbours.ensures.items ∙ ap (λ l. c.give-4.new.found.items ++ l) (ap (λ ns. given (neighbour_doubts [] ns)) c.as_slice.ensures.value))
-    _ (ap (map port_warning) (c.as_slice-2.ensures.value ∙ c.in_ok-add_clashes.ensures.items ∙ ap (λ l. l ++ all_taken [] (ports_of_both s)) c.new-clashes.ensures.items)) c.in_err-give_clashes.ensures.short))
+    _ (ap (map port_warning) (c.as_slice-2.ensures.value ∙ c.in_ok-add_port_clashes.ensures.items ∙ ap (λ l. l ++ all_taken [] (ports_of_both s)) c.new-clashes.ensures.items)) c.in_err-give_clashes.ensures.short))
