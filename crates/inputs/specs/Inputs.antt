@@ -8,8 +8,7 @@ use Rattle.polls.specs.Polls.{HasNoReport, HasReport}
 -- ---- what the system is asked
 
 -- Who watches the standard input asked it for nothing yet. It is no more than a name for what he is made as, and so is the one below it for a
--- call: who makes the call has it, and nobody else. What he asks by a poll has a name of the crate `polls`. Where it isn't said who asks, he is
--- `tt` before and after: then it is said that the call was made, and not that no other was.
+-- call: who makes the call has it, and nobody else. What he asks by a poll has a name of the crate `polls`.
 unfoldable pub IsUnasked : {I : Type 0} → I → Type 0
 IsUnasked input = Unit {0}
 
@@ -40,7 +39,6 @@ pub record InputIsRead {I : Type 0} (Is : Result ℕ Error → Type 0) (before a
   pub reported : HasReport before between
   pub answer : Result ℕ Error
   pub read : WasRead between 512 answer after
-  pub read_so : WasRead (tt {0}) 512 answer tt
   pub is : Is answer
 
 -- the standard input is at its end: nothing is left there
@@ -64,8 +62,3 @@ abbrev pub TellsNoEnd : {I : Type 0} → Option I → Option I → Type 0
 TellsNoEnd (Some before) (Some after) = InputGoesOn before after
 TellsNoEnd (Some before) None = ⊥
 TellsNoEnd None after = after ≡ None
-
--- the same input, watched or not, of which it isn't said who asks it
-abbrev pub unsaid : {I : Type 0} → Option I → Option (Unit {0})
-unsaid (Some input) = Some tt
-unsaid None = None

@@ -3,13 +3,23 @@ ghost use Rattle.std.specs.Prelude.{◌≡◌, false, true, length};
 ghost use Rattle.polls.specs.Polls.{HasNoReport, HasReport};
 ghost use Rattle.inputs.specs.Inputs.{IsReported, IsUnasked, WasRead};
 
-use polls::standard_input_is_reported;
+use polls::{Asker, standard_input_is_reported};
 use std::io::{self, Read};
+use std::marker::Model;
 
-/// The standard input, of who watches it.
+/// The standard input, and who watches it: for clauses it is who asks.
 #[derive(Drop)]
 pub struct StandardInput<'a, R> {
     rt: &'a R,
+    asker: Asker,
+}
+
+impl<'a, R> Model for StandardInput<'a, R> {
+    ghost use Rattle.polls.specs.declared.askers.Asker.{Asker};
+
+    ghost Value = { Asker };
+
+    ghost view = { λ s. s.asker };
 }
 
 impl<'a, R> StandardInput<'a, R> {
@@ -17,9 +27,11 @@ impl<'a, R> StandardInput<'a, R> {
     #[tactic(auto, unfolding(crate::specs::Inputs::IsUnasked))]
     pub fn new(rt: &'a R) -> StandardInput<'a, R>
         ensures unasked { IsUnasked result }
-        ensures unasked_so { IsUnasked (tt {0}) }
     {
-        StandardInput { rt }
+        StandardInput {
+            rt,
+            asker: Asker::new(),
+        }
     }
 
     /// Asks whether something stands there, or it is closed. It doesn't wait; and it can't read, since of `R` nothing is known.
@@ -27,7 +39,7 @@ impl<'a, R> StandardInput<'a, R> {
         ensures reported { result ≡ true → HasReport self.old self.new }
         ensures none { result ≡ false → HasNoReport self.old self.new }
     {
-        standard_input_is_reported(self)
+        standard_input_is_reported(&mut self.asker)
     }
 }
 
@@ -38,7 +50,6 @@ impl<R: Input> StandardInput<'_, R> {
     pub(crate) fn told_to_read(&mut self, room: &mut [u8]) -> io::Result<usize>
         requires reported { IsReported self.old }
         ensures read { WasRead self.old (length room.old) result self.new }
-        ensures read_so { WasRead (tt {0}) (length room.old) result tt }
     {
         self.rt.reader().read(room)
     }

@@ -32,9 +32,9 @@ pub struct InputEnd<'a, R> {
 
 impl<'a, R> Model for InputEnd<'a, R> {
     ghost use Rattle.std.specs.Prelude.{Option};
-    ghost use Rattle.inputs.specs.declared.standard_input.StandardInput.{StandardInput as Source};
+    ghost use Rattle.polls.specs.declared.askers.Asker.{Asker};
 
-    ghost Value = { Option (Source R) };
+    ghost Value = { Option Asker };
 
     ghost view = { λ i. i.watched };
 }
@@ -74,7 +74,6 @@ fn is_at_end<R: Input>(input: &mut StandardInput<'_, R>) -> bool
 fn read<R: Input>(input: &mut StandardInput<'_, R>) -> io::Result<usize>
     requires reported { IsReported input.old }
     ensures read { WasRead input.old 512 result input.new }
-    ensures read_so { WasRead (tt {0}) 512 result tt }
 {
     let mut room = [0; ROOM];
     input.told_to_read(&mut room)

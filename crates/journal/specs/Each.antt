@@ -1,5 +1,5 @@
 -- Lists that have each value just once.
-use Rattle.std.specs.Prelude.{ℕ, ◌≡◌, ◌==◌, List, count_by}
+use Rattle.std.specs.Prelude.{ℕ, ◌≡◌, ◌<◌, ◌==◌, List, [], ◌∷◌, count_by}
 use Rattle.journal.specs.Origins.{cause_number, place_of}
 use Rattle.journal.specs.declared.origins.Origin.{Origin}
 use Rattle.journal.specs.declared.causes.Cause.{Cause}
@@ -13,3 +13,9 @@ HasEachOrigin origins = (origin : Origin) → StandsOnce place_of origin origins
 
 abbrev pub HasEachCause : List Cause → Type 0
 HasEachCause causes = (cause : Cause) → StandsOnce cause_number cause causes
+
+-- each is less than the next
+abbrev pub IsInOrder : List ℕ → Type 0
+IsInOrder [] = Unit {0}
+IsInOrder (n ∷ []) = Unit {0}
+IsInOrder (n ∷ m ∷ rest) = (n < m) × IsInOrder (m ∷ rest)

@@ -40,21 +40,21 @@ abbrev pub IsRefused : List ℕ → FilterFault → Type 0
 IsRefused text (NoFilter part) = invalid_spec text ≡ Some part.now
 IsRefused text NoMemory = WasRefused text
 
--- The environment was asked for the variable that may hold a filter, and gave this text, or why there is none. It is no more than a name for
--- the call: who makes it has this, and nobody else.
-unfoldable pub WasAsked : Result (List ℕ) VarError → Type 0
-WasAsked answer = Unit {0}
+-- The environment was asked for the variable of this name, and gave this text, or why there is none. It is no more than a name for the call: who makes it
+-- has this, and nobody else.
+unfoldable pub WasAsked : List ℕ → Result (List ℕ) VarError → Type 0
+WasAsked variable answer = Unit {0}
 
 -- the variable holds this text for a filter, or isn't there
 abbrev pub WasSaid : Option (List ℕ) → Type 0
-WasSaid (Some text) = WasAsked (Ok text)
-WasSaid None = WasAsked (Err NotPresent)
+WasSaid (Some text) = WasAsked VARIABLE.now (Ok text)
+WasSaid None = WasAsked VARIABLE.now (Err NotPresent)
 
 -- it is there, and what it holds is no text
 abbrev pub IsNoText : Type 0
-IsNoText = WasAsked (Err NotUnicode)
+IsNoText = WasAsked VARIABLE.now (Err NotUnicode)
 
 -- a fault of the environment's variable names it, and only where that holds no text; or it is of memory that was refused for what it holds
 abbrev pub IsOfVariable : FilterFault → Type 0
 IsOfVariable (NoFilter part) = (part.now ≡ VARIABLE.now) × IsNoText
-IsOfVariable NoMemory = WasAsked (Err OutOfMemory)
+IsOfVariable NoMemory = WasAsked VARIABLE.now (Err OutOfMemory)

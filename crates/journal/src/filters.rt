@@ -3,6 +3,7 @@ ghost use Rattle.std.specs.Prelude.{◌≡◌, ◌≢◌, IfOk, IfErr, IsErr, On
 ghost use Rattle.log.specs.Filter.{builder_rules, filter_rules, insert_directives, invalid_spec, or_errors};
 ghost use Rattle.journal.specs.Filters.{IsOfVariable, IsRefused, IsUnread, WasAsked, WasRefused, WasSaid, rules_of, text_of, usual_rules};
 ghost use Rattle.journal.specs.declared.filters.FilterFault.TheVariants as faults;
+ghost use Rattle.journal.specs.declared.filters.TheConstants.{VARIABLE};
 
 use log::LevelFilter;
 use log::filter::{Builder, Filter, ParseError};
@@ -91,16 +92,16 @@ pub fn environment<R: Env + Alloc<A = Global>>(
 /// What the environment has for the variable.
 #[tactic(auto, unfolding(crate::specs::Filters::WasAsked))]
 fn asked<R: Env + Alloc<A = Global>>(rt: &R) -> Result<String, VarError>
-    ensures text { IfOk result (λ text. WasAsked (Ok (string_bytes text))) }
-    ensures none { IfErr result (λ why. WasAsked (Err why)) }
+    ensures text { IfOk result (λ text. WasAsked VARIABLE.now (Ok (string_bytes text))) }
+    ensures none { IfErr result (λ why. WasAsked VARIABLE.now (Err why)) }
 {
     env::var(rt, VARIABLE)
 }
 
 /// What the variable holds, if it is there.
 fn of_variable(found: Result<String, VarError>) -> Result<Option<String>, FilterFault<'static>>
-    requires text { IfOk found (λ text. WasAsked (Ok (string_bytes text))) }
-    requires none { IfErr found (λ why. WasAsked (Err why)) }
+    requires text { IfOk found (λ text. WasAsked VARIABLE.now (Ok (string_bytes text))) }
+    requires none { IfErr found (λ why. WasAsked VARIABLE.now (Err why)) }
     ensures said { IfOk result (λ text. WasSaid (option_map string_bytes text)) }
     ensures text { IfOk found (λ text. result ≡ Ok (Some text)) }
     ensures none { found ≡ Err VarError.NotPresent → result ≡ Ok None }

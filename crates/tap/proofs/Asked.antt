@@ -1,5 +1,5 @@
 -- What an outlet is asked.
-use Rattle.std.proofs.Common.{◌≡◌, inl, inr, ℕ, List, refl}
+use Rattle.std.proofs.Common.{inl, inr, ℕ, List, refl}
 use Rattle.tap.specs.Outlets.{IsAskedOnce, IsAskedTwice, Looks, Pours, Writes}
 
 -- one look, and what came of it

@@ -1,5 +1,5 @@
 -- A packet's block.
-use Rattle.std.proofs.Common.{◌≡◌, ◌++◌, ◌<◌, ℕ, List, length, refl, arith, length-append}
+use Rattle.std.proofs.Common.{◌≡◌, ◌<◌, ℕ, length, refl, arith, length-append}
 use Rattle.captures.specs.Captures.{Captured, packet_block}
 use Rattle.captures.specs.Fields.{word}
 

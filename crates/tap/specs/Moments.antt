@@ -2,14 +2,16 @@
 use Rattle.std.specs.Prelude.{◌≡◌, ◌⊎◌, ◌≤◌, ◌-◌, ◌/◌, ℕ, Option, Some, None}
 use Rattle.std.specs.Time.{instant_nanos}
 use Rattle.std.specs.declared.time.Instant.{Instant}
+use Rattle.polls.specs.declared.askers.Asker.{Asker}
 
--- The system was asked for the moment of its monotonic clock, and gave this one, or none. It is no more than a name for that call: who makes it has
--- it, and nobody else.
-unfoldable pub WasNow : Option Instant → Type 0
-WasNow now = Unit {0}
+-- By what who asks was before and is then: the system was asked for the moment of its monotonic clock, and gave this one, or none. It is no more than
+-- a name for that call: who makes it has it, and nobody else.
+unfoldable pub WasNow : Asker → Option Instant → Asker → Type 0
+WasNow before now after = Unit {0}
 
--- when it was asked first, where the system said so, and what it read last
+-- who asks, when that was asked first, where the system said so, and what it read last
 pub record Since : Type 0 where
+  pub asker : Asker
   pub start : Option Instant
   pub read : ℕ
 
@@ -32,6 +34,6 @@ first_of None now = now
 -- a reading, by the moment that the system gives
 pub record HasReadSince (s : Since) (moment : ℕ) (s2 : Since) : Type 0 where
   pub now : Option Instant
-  pub asked : WasNow now
+  pub asked : WasNow s.asker now s2.asker
   pub reading : IsReading s.start now s.read moment
-  pub after : s2 ≡ record { start = first_of s.start now; read = moment }
+  pub after : s2 ≡ record { asker = s2.asker; start = first_of s.start now; read = moment }

@@ -44,12 +44,13 @@ IsCapture contents before r ps = Appends before (whole contents r) (capture_of p
 abbrev pub HandsOn : {O : Type 0} → Looks O → Writes O → Reeled O → Reeled O → Type 0
 HandsOn looks writes r r2 = (count : ℕ) × (Pours looks writes r.outlet (front r.owed) count r2.outlet × (r2.owed ≡ drop count r.owed))
 
--- Memory was refused for a capture's head, or for a packet's block. They are no more than names: who asks for that memory has them, and nobody else.
+-- Memory was refused for a capture's head; or for a packet's block, behind so many packets that were left out. They are no more than names: who asks for
+-- that memory has them, and nobody else.
 unfoldable pub WasRefusedHead : Type 0
 WasRefusedHead = Unit {0}
 
-unfoldable pub WasRefusedRoom : Captured → Type 0
-WasRefusedRoom p = Unit {0}
+unfoldable pub WasRefusedRoom : ℕ → Captured → Type 0
+WasRefusedRoom left_out p = Unit {0}
 
 -- why a capture isn't begun, as it is told: memory was refused for its head; or its outlet took nothing of that. It is let go as it is then.
 abbrev pub IsUnbegun : {O : Type 0} → Looks O → Writes O → O → Error → Type 0
@@ -57,5 +58,5 @@ IsUnbegun {O = O} looks writes outlet why = (WasRefusedHead × ((error_kind why 
     ⊎ ((after : O) × (PoursNone looks writes outlet (front head) why after × WasLetGo after))
 
 -- why a packet is left out: the outlet is full, or more than 4,096 bytes were owed, or memory was refused for its block
-abbrev pub IsLeftOut : {O : Type 0} → (O → Type 0) → List ℕ → Captured → O → Type 0
-IsLeftOut IsFull owed p outlet = IsFull outlet ⊎ ((4096 < length owed) ⊎ WasRefusedRoom p)
+abbrev pub IsLeftOut : {O : Type 0} → (O → Type 0) → Reeled O → Captured → O → Type 0
+IsLeftOut IsFull r p outlet = IsFull outlet ⊎ ((4096 < length r.owed) ⊎ WasRefusedRoom r.left_out p)

@@ -2,6 +2,7 @@
 //! for.
 #![tactic(auto)]
 
+mod asked_clock;
 mod asked_files;
 mod capture_files;
 mod laws;

@@ -1,8 +1,9 @@
 //! The moments of packets.
 ghost use Rattle.std.specs.Prelude.{◌≡◌, ◌/◌, ◌≤◌, ℕ, IfSome, IsNone, None};
 ghost use Rattle.std.specs.Duration.{as_nanos};
-ghost use Rattle.tap.specs.Moments.{HasReadSince, IsReading, WasNow};
+ghost use Rattle.tap.specs.Moments.{HasReadSince, IsReading};
 
+use crate::asked_clock::SystemClock;
 use std::marker::Model;
 use std::rt::Clock;
 use std::time::{Duration, Instant};
@@ -21,7 +22,7 @@ pub trait Moments {
 /// counts.
 #[derive(Drop)]
 pub struct SinceFirst<'a, R> {
-    rt: &'a R,
+    clock: SystemClock<'a, R>,
     start: Option<Instant>,
     last: u64,
 }
@@ -31,7 +32,7 @@ impl<'a, R> Model for SinceFirst<'a, R> {
 
     ghost Value = { Since };
 
-    ghost view = { λ s. record { start = s.start; read = s.last } };
+    ghost view = { λ s. record { asker = s.clock; start = s.start; read = s.last } };
 }
 
 /// The centiseconds of a duration, where 64 bits hold them.
@@ -40,14 +41,6 @@ fn centiseconds(passed: Duration) -> Option<u64>
     ensures none { IsNone result → 18_446_744_073_709_551_616 ≤ as_nanos passed / 1_000_000 / 10 }
 {
     u64::try_from(passed.as_millis() / 10).ok()
-}
-
-/// Asks the system for the moment of its monotonic clock, and gives its answer.
-#[tactic(auto, unfolding(crate::specs::Moments::WasNow))]
-fn now<R: Clock>(rt: &R) -> Option<Instant>
-    ensures { WasNow result }
-{
-    Instant::now(rt).ok()
 }
 
 /// What a clock reads that was started at one moment, at a later one, where both could be had; else what it read last.
@@ -63,10 +56,11 @@ fn reading(start: Option<Instant>, now: Option<Instant>, last: u64) -> u64
 impl<'a, R> SinceFirst<'a, R> {
     /// It wasn't asked yet.
     pub fn new(rt: &'a R) -> SinceFirst<'a, R>
-        ensures { result ≡ record { start = None; read = 0 } }
+        ensures start { result.start ≡ None }
+        ensures read { result.read ≡ 0 }
     {
         SinceFirst {
-            rt,
+            clock: SystemClock::new(rt),
             start: None,
             last: 0,
         }
@@ -77,7 +71,7 @@ impl<R: Clock> Moments for SinceFirst<'_, R> {
     ghost reads = { HasReadSince };
 
     fn moment(&mut self) -> u64 {
-        let said = now(self.rt);
+        let said = self.clock.told_to_say();
         self.last = reading(self.start, said, self.last);
         if self.start.is_none() {
             self.start = said;

@@ -81,7 +81,7 @@ impl<O: Outlet> Reel<O> {
             (Adds O.contents self.old self.new (captured_of packet.now))
             (LeavesOut O.contents self.old self.new) }
         ensures why { result ≡ false
-            → IsLeftOut O.IsFull self.old.owed (captured_of packet.now) self.new.outlet }
+            → IsLeftOut O.IsFull self.old (captured_of packet.now) self.new.outlet }
         ensures outlet { IsAskedTwice O.looks O.writes self.old.outlet self.new.outlet }
     {
         let is_kept = self.settle() && self.lay(packet);
@@ -127,10 +127,11 @@ impl<O: Outlet> Reel<O> {
         ensures left_out { self.new.left_out ≡ self.old.left_out }
         ensures outlet { IsAskedOnce O.looks O.writes self.old.outlet self.new.outlet }
         ensures why { result ≡ false
-            → O.IsFull self.new.outlet ⊎ WasRefusedRoom (captured_of packet.now) }
+            → O.IsFull self.new.outlet
+            ⊎ WasRefusedRoom self.old.left_out (captured_of packet.now) }
     {
         self.begun = 0;
-        if !lay_out(&mut self.block, packet) {
+        if !lay_out(&mut self.block, packet, self.left_out) {
             return false;
         }
         if self.hand_on() == 0 {
@@ -190,25 +191,26 @@ fn head_in(alloc: Global) -> io::Result<Vec<u8>>
 }
 
 /// Lays a packet's block out, and says whether it could: where memory is refused it can't, and then nothing is there.
-fn lay_out(block: &mut Vec<u8>, packet: &Packet<'_>) -> bool
+fn lay_out(block: &mut Vec<u8>, packet: &Packet<'_>, left_out: u64) -> bool
     ensures laid { result ≡ true → block.new.items ≡ packet_block (captured_of packet.now) }
     ensures none { result ≡ false → block.new.items ≡ [] }
-    ensures refused { result ≡ false → WasRefusedRoom (captured_of packet.now) }
+    ensures refused { result ≡ false → WasRefusedRoom left_out (captured_of packet.now) }
 {
     block.clear();
-    if has_laid(block, packet) {
+    if has_laid(block, packet, left_out) {
         return true;
     }
     block.clear();
     false
 }
 
-/// Adds a packet's block, and says whether it could: where memory is refused it can't.
+/// Adds a packet's block, behind so many packets that were left out, and says whether it could: where memory is refused it
+/// can't.
 #[tactic(auto, unfolding(crate::specs::Reels::WasRefusedRoom))]
-fn has_laid(block: &mut Vec<u8>, packet: &Packet<'_>) -> bool
+fn has_laid(block: &mut Vec<u8>, packet: &Packet<'_>, _left_out: u64) -> bool
     ensures laid { result ≡ true
         → block.new.items ≡ block.old.items ++ packet_block (captured_of packet.now) }
-    ensures refused { result ≡ false → WasRefusedRoom (captured_of packet.now) }
+    ensures refused { result ≡ false → WasRefusedRoom _left_out (captured_of packet.now) }
 {
     write_packet(block, packet).is_ok()
 }

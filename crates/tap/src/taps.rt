@@ -5,7 +5,7 @@ ghost use Rattle.captures.specs.declared.interfaces.Direction.TheVariants.{Outbo
 ghost use Rattle.std.specs.Io.KnownBytes.{Keeps};
 ghost use Rattle.tap.specs.Outlets.{IsAskedOnce, IsAskedTwice};
 ghost use Rattle.tap.specs.Reels.{whole};
-ghost use Rattle.tap.specs.Taps.{TakesAnswer, TakesDown, TakesNothing, TakesSent, interface_at};
+ghost use Rattle.tap.specs.Taps.{AnswersTapped, DoesTapped, TakesAnswer, TakesDown, TakesNothing, TakesSent, interface_at};
 
 use crate::{Moments, Outlet, Reel};
 use captures::{Direction, Interface, Packet};
@@ -103,19 +103,22 @@ impl<W: Wire, M: Moments, O: Outlet> Tapped<W, M, O> {
 }
 
 impl<W: Wire, M: Moments, O: Outlet> Wire for Tapped<W, M, O> {
-    ghost does = { λ t call t2. W.does t.wire call t2.wire };
+    ghost does = { λ t call t2. DoesTapped W.does O.contents O.IsFull M.reads t call t2 };
 
     ghost waits = { λ t limit t2. W.waits t.wire limit t2.wire };
 
-    ghost answers = { λ t to bytes is_failed t2. W.answers t.wire to bytes is_failed t2.wire };
+    ghost answers = { λ t to bytes is_failed t2.
+        AnswersTapped W.answers O.contents O.IsFull M.reads t to bytes is_failed t2 };
 
     ghost failing = { λ t place is. W.failing t.wire place is };
 
     ghost lost = { λ t place losses. W.lost t.wire place losses };
 
     fn send(&mut self, to: Place, bytes: &[u8]) -> Result<(), WireFault>
-        ensures does { W.does self.old.wire (sent to bytes.now) self.new.wire }
-        ensures answers { W.answers self.old.wire to bytes.now (is_err result) self.new.wire }
+        ensures does { DoesTapped W.does O.contents O.IsFull M.reads self.old
+            (sent to bytes.now) self.new }
+        ensures answers { AnswersTapped W.answers O.contents O.IsFull M.reads self.old
+            to bytes.now (is_err result) self.new }
         ensures taken { TakesSent O.contents O.IsFull M.reads self.old self.new
             to result bytes.now }
         ensures outlet { IsAskedTwice O.looks O.writes self.old.reel.outlet self.new.reel.outlet }
@@ -128,7 +131,8 @@ impl<W: Wire, M: Moments, O: Outlet> Wire for Tapped<W, M, O> {
     }
 
     fn answer(&mut self, bytes: &[u8])
-        ensures does { W.does self.old.wire (answered bytes.now) self.new.wire }
+        ensures does { DoesTapped W.does O.contents O.IsFull M.reads self.old
+            (answered bytes.now) self.new }
         ensures untaken { TakesNothing self.old self.new }
     {
         self.wire.answer(bytes);
@@ -140,7 +144,8 @@ impl<W: Wire, M: Moments, O: Outlet> Wire for Tapped<W, M, O> {
         room: &mut [u8; LONGEST],
     ) -> Result<Option<(Place, usize)>, WireFault>
         ensures within { IfOk result (λ found. IfSome found (λ datagram. datagram.1 ≤ 4096)) }
-        ensures does { W.does self.old.wire (asked (answer_of result room.new)) self.new.wire }
+        ensures does { DoesTapped W.does O.contents O.IsFull M.reads self.old
+            (asked (answer_of result room.new)) self.new }
         ensures waits { W.waits self.old.wire limit self.new.wire }
         ensures taken { TakesAnswer O.contents O.IsFull M.reads self.old self.new result room.new }
         ensures outlet { IsAskedTwice O.looks O.writes self.old.reel.outlet self.new.reel.outlet }

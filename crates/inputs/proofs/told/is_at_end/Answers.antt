@@ -10,7 +10,6 @@ returns-then-is_reported-clause-ends g c ends = record {
   reported = c.is_reported.ensures.reported c.if-is_reported.true;
   answer = c.read.result;
   read = c.read.ensures.read;
-  read_so = c.read.ensures.read_so;
   is = c.is_end.ensures.ends ends;
 }
 
@@ -20,6 +19,5 @@ returns-then-is_reported-clause-goes_on g c more = inr (record {
   reported = c.is_reported.ensures.reported c.if-is_reported.true;
   answer = c.read.result;
   read = c.read.ensures.read;
-  read_so = c.read.ensures.read_so;
   is = c.is_end.ensures.more more;
 })

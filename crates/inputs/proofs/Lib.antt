@@ -1,2 +1,0 @@
-mod Asking
-pub mod Offered
