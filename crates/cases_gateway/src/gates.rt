@@ -11,7 +11,7 @@ use cases_words::Case;
 use gateway::{Event, Gateway, Hashers, NoMemory, Out, Outcome};
 use journal::Journal;
 use nat_types::{GatewayId, Key};
-use reports::{GatewayReport, Page, Sides};
+use reports::{Counters, GatewayReport, Page, Sides};
 use rounds::{Identity, Teller, run_rounds};
 use settings::Settings;
 use sockets::Wire;
@@ -144,11 +144,11 @@ impl Gate for Gateway {
     }
 
     fn report(&self) -> Option<GatewayReport> {
-        rounds::gateway_report(self).ok()
+        rounds::gateway_report(self, &Counters::new()).ok()
     }
 
     fn page_behind(&self, alloc: Global, last: Option<Key>) -> Option<Page> {
-        rounds::page_behind(alloc, self, last).ok()
+        rounds::page_behind(alloc, self, last, &Counters::new()).ok()
     }
 
     fn go_on<L: Journal>(

@@ -1,4 +1,5 @@
 mod Ending
+mod Handing
 mod Hearing
 mod Lacking
 mod Takings

@@ -2,11 +2,12 @@
 use Rattle.std.specs.Prelude.{◌≡◌, ◌≤◌, ◌-◌, ◌/◌, ℕ, Option, Some, None, unwrap_or}
 use Rattle.std.specs.Time.{instant_nanos}
 use Rattle.std.specs.declared.time.Instant.{Instant}
+use Rattle.polls.specs.declared.askers.Asker.{Asker}
 
--- The system was asked for the moment of its monotonic clock, and gave this one, or none. It says nothing of such a call, so this is no more than
--- a name for it: whoever makes the call has it, and nobody else.
-unfoldable pub WasNow : Option Instant → Type 0
-WasNow now = Unit {0}
+-- By what who asks was before and is then: the system was asked for the moment of its monotonic clock, and gave this one, or none. It says nothing of
+-- such a call, so this is no more than a name for it: who makes the call has it, and nobody else.
+unfoldable pub WasNow : Asker → Option Instant → Asker → Type 0
+WasNow before now after = Unit {0}
 
 -- the centiseconds from one moment to a later one, rounded down
 abbrev pub centiseconds : Instant → Instant → ℕ
@@ -23,16 +24,21 @@ HasPassed (Some start) (Some now) passed = IsSpan (centiseconds start now) passe
 HasPassed (Some start) None passed = passed ≡ None
 HasPassed None now passed = passed ≡ None
 
--- a stopwatch: the moment of its start, and what it read last
+-- a stopwatch: who asks, the moment of its start, and what it read last
 pub record Watch : Type 0 where
+  pub asker : Asker
   pub start : Option Instant
   pub read : ℕ
+
+-- the system was asked last for the moment of its start
+abbrev pub WasStarted : Watch → Type 0
+WasStarted watch = (before : Asker) × WasNow before watch.start watch.asker
 
 -- it reads what has passed from its start to the moment that the system gives it; or, where that isn't known, what it read last
 pub record HasRead (watch : Watch) (moment : ℕ) (watch2 : Watch) : Type 0 where
   pub now : Option Instant
-  pub asked : WasNow now
+  pub asked : WasNow watch.asker now watch2.asker
   pub passed : Option ℕ
   pub since : HasPassed watch.start now passed
   pub is : moment ≡ unwrap_or passed watch.read
-  pub after : watch2 ≡ record watch { read = moment }
+  pub after : watch2 ≡ record watch { asker = watch2.asker; read = moment }

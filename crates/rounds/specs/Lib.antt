@@ -13,3 +13,5 @@ pub mod Clocks
 pub mod Records
 pub mod Losing
 pub mod Tellings
+pub mod Handing
+pub mod Ends

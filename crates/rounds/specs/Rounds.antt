@@ -159,7 +159,7 @@ TakesBy does true b event b2 = (out : Output) × ((counts : List ℕ) × (IsStep
     × ((b2.counts ≡ with_lost (origin_of event) (cause_on b.shown event true) counts) × (b2.left_out ≡ b.left_out)))))
 TakesBy does false b event b2 = (b2.shown ≡ b.shown) × ((b2.wire ≡ b.wire)
     × ((b2.counts ≡ with_lost (origin_of event) (cause_on b.shown event false) b.counts)
-    × ((b2.left_out ≡ b.left_out + 1) × WasLeftOut b.shown event)))
+    × ((b2.left_out ≡ b.left_out + 1) × WasLeftOut b.left_out b.shown event)))
 
 -- the log is told just what has changed with it; and that nothing came of it, if so
 abbrev pub IsRecorded : {W : Type 0} → Bool → Box W → Event → Box W → Type 0
@@ -197,7 +197,7 @@ abbrev pub AnswersOwed : {W : Type 0} → Calls W → WireSays W → Identity �
 AnswersOwed does says who None b b2 = b2 ≡ b
 AnswersOwed does says who (Some question) b b2 =
     (bytes : List ℕ) × ((asked : List Telling)
-    × (((((bytes ≡ []) × (asked ≡ [])) × MayLack b.shown question) ⊎ IsAnswerTo says.lost b.wire who b.shown b.counts b.sides question asked bytes)
+    × (((((bytes ≡ []) × (asked ≡ [])) × MayLack b.counts b.shown question) ⊎ IsAnswerTo says.lost b.wire who b.shown b.counts b.sides question asked bytes)
     × IsAnswered does bytes (record b { owed = None; told = asked ++ b.told }) b2))
 
 -- the event that a letter is to a gateway that stands so, or that it is none; carriers are tracked or not

@@ -1,7 +1,8 @@
 //! The clock of a box.
 ghost use Rattle.std.specs.Prelude.{◌≡◌, ℕ, ◌≤◌, IfSome, IsNone};
-ghost use Rattle.rounds.specs.Clocks.{HasPassed, HasRead, WasNow, centiseconds as span_of};
+ghost use Rattle.rounds.specs.Clocks.{HasPassed, HasRead, WasStarted, centiseconds as span_of};
 
+use crate::asked_clock::SystemClock;
 use std::marker::Model;
 use std::rt::Clock;
 use std::time::Instant;
@@ -20,7 +21,7 @@ pub trait Clockwork {
 /// counts.
 #[derive(Drop)]
 pub struct Stopwatch<'a, R> {
-    rt: &'a R,
+    clock: SystemClock<'a, R>,
     start: Option<Instant>,
     last: u64,
 }
@@ -30,15 +31,7 @@ impl<'a, R> Model for Stopwatch<'a, R> {
 
     ghost Value = { Watch };
 
-    ghost view = { λ s. record { start = s.start; read = s.last } };
-}
-
-/// Asks the system for the moment of its monotonic clock, and gives its answer.
-#[tactic(auto, unfolding(crate::specs::Clocks::WasNow))]
-fn now<R: Clock>(rt: &R) -> Option<Instant>
-    ensures { WasNow result }
-{
-    Instant::now(rt).ok()
+    ghost view = { λ s. record { asker = s.clock; start = s.start; read = s.last } };
 }
 
 /// The centiseconds from one reading of the clock to a later one, where 64 bits hold them.
@@ -59,12 +52,14 @@ fn passed(start: Option<Instant>, now: Option<Instant>) -> Option<u64>
 impl<'a, R: Clock> Stopwatch<'a, R> {
     /// Begins at 0.
     pub fn start(rt: &'a R) -> Stopwatch<'a, R>
-        ensures start { WasNow result.start }
+        ensures start { WasStarted result }
         ensures read { result.read ≡ 0 }
     {
+        let mut clock = SystemClock::new(rt);
+        let start = clock.told_to_say();
         Stopwatch {
-            rt,
-            start: now(rt),
+            clock,
+            start,
             last: 0,
         }
     }
@@ -74,7 +69,7 @@ impl<R: Clock> Clockwork for Stopwatch<'_, R> {
     ghost reads = { HasRead };
 
     fn moment(&mut self) -> u64 {
-        self.last = passed(self.start, now(self.rt)).unwrap_or(self.last);
+        self.last = passed(self.start, self.clock.told_to_say()).unwrap_or(self.last);
         self.last
     }
 }

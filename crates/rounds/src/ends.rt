@@ -2,6 +2,7 @@
 ghost use Rattle.std.specs.Prelude.{OnErr, OnOk, codes};
 ghost use Rattle.outlets.specs.Outputs.{IsPrinted, IsUnput};
 ghost use Rattle.outlets.specs.Printed.{Prints};
+ghost use Rattle.rounds.specs.Ends.{WasEnded};
 ghost use Rattle.rounds.specs.Polls.{WasStopped};
 ghost use Rattle.rounds.specs.Rounds.{calls};
 
@@ -26,12 +27,14 @@ pub trait EndLine {
         requires stopped { WasStopped (calls W.does W.answers) gateway.now wire.now }
         ensures ended { Prints (contents self.old) result (contents self.new) (codes "end\n") }
         ensures written { OnOk result (IsPrinted self.old (codes "end\n") self.new) }
-        ensures unwritten { OnErr result (IsUnput self.old (codes "end\n") self.new) };
+        ensures unwritten { OnErr result (IsUnput self.old (codes "end\n") self.new) }
+        ensures behind { WasEnded gateway.now self.old self.new };
 }
 
 impl<O: Write> EndLine for O {
     ghost contents = { O.contents };
 
+    #[tactic(auto, unfolding(crate::specs::Ends::WasEnded))]
     fn end<W: Wire>(&mut self, _gateway: &Gateway, _wire: &W) -> io::Result<()> {
         put_end(self)
     }

@@ -2,6 +2,7 @@
 //! and what the gateway tells is sent.
 #![tactic(auto)]
 
+mod asked_clock;
 mod clocks;
 mod desk;
 mod ends;

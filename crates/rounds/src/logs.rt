@@ -1,5 +1,6 @@
 //! What a box's log is told of a step.
 ghost use Rattle.std.specs.Prelude.{◌≡◌, ◌++◌};
+ghost use Rattle.rounds.specs.Handing.{HandsOn};
 ghost use Rattle.rounds.specs.Losing.{cause_of, origin_of as event_origin};
 ghost use Rattle.rounds.specs.Records.{is_same, loss_told, peer_told, role_of, role_told, stopped_told, stops, turn, with_step};
 
@@ -20,7 +21,7 @@ pub(crate) fn tell_step<L: Journal>(
 )
     ensures told { log.new.told
         ≡ with_step event.now cause is_done before.now after.now log.old.told }
-    ensures same_log { log.new.log ≡ log.old.log }
+    ensures handed { HandsOn L.enables log.old log.new }
 {
     let moment = after.moment;
     let has_stopped = stops(event, is_done);
@@ -76,7 +77,7 @@ pub(crate) fn origin_of(event: &Event<'_>) -> Origin
 
 fn tell_loss<L: Journal>(log: &mut Teller<'_, L>, moment: u64, origin: Origin, cause: Option<Cause>)
     ensures told { log.new.told ≡ loss_told moment origin cause ++ log.old.told }
-    ensures same_log { log.new.log ≡ log.old.log }
+    ensures handed { HandsOn L.enables log.old log.new }
 {
     if let Some(cause) = cause {
         log.lose(moment, origin, cause);
@@ -93,7 +94,7 @@ fn tell_turn<L: Journal>(
 )
     ensures told { log.new.told
         ≡ turn moment entries.0 entries.1 before after ++ log.old.told }
-    ensures same_log { log.new.log ≡ log.old.log }
+    ensures handed { HandsOn L.enables log.old log.new }
 {
     match (before, after) {
         (false, true) => log.change(moment, entries.0),
@@ -139,7 +140,7 @@ fn tell_role<L: Journal>(
 )
     ensures told { log.new.told
         ≡ role_told has_stopped before.now after.now side ++ log.old.told }
-    ensures same_log { log.new.log ≡ log.old.log }
+    ensures handed { HandsOn L.enables log.old log.new }
 {
     let role = role_of(after, side, has_stopped);
     if !is_same(role_of(before, side, false), role) {
@@ -149,7 +150,7 @@ fn tell_role<L: Journal>(
 
 fn tell_peer<L: Journal>(log: &mut Teller<'_, L>, before: &View, after: &View)
     ensures told { log.new.told ≡ peer_told before.now after.now ++ log.old.told }
-    ensures same_log { log.new.log ≡ log.old.log }
+    ensures handed { HandsOn L.enables log.old log.new }
 {
     if before.peer != after.peer {
         log.change(after.moment, Entry::PeerBoot(after.peer));
@@ -158,7 +159,7 @@ fn tell_peer<L: Journal>(log: &mut Teller<'_, L>, before: &View, after: &View)
 
 fn tell_stop<L: Journal>(log: &mut Teller<'_, L>, moment: u64, has_stopped: bool)
     ensures told { log.new.told ≡ stopped_told moment has_stopped ++ log.old.told }
-    ensures same_log { log.new.log ≡ log.old.log }
+    ensures handed { HandsOn L.enables log.old log.new }
 {
     if has_stopped {
         log.change(moment, Entry::Stopped);

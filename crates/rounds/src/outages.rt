@@ -1,5 +1,6 @@
 //! How long a place fails, or works again, before its operator is told.
 ghost use Rattle.std.specs.Prelude.{◌≡◌};
+ghost use Rattle.rounds.specs.Handing.{HandsOn};
 ghost use Rattle.rounds.specs.Outages.{TellsPlace, TellsPlaces, is_turn, looked, none_told_of, turn_of, unmarked, untold};
 
 use crate::teller::Teller;
@@ -81,7 +82,7 @@ impl Watched {
     )
         ensures told { TellsPlace W.failing W.lost wire.now place origin moment self.old self.new
             log.old.told log.new.told }
-        ensures same_log { log.new.log ≡ log.old.log }
+        ensures handed { HandsOn L.enables log.old log.new }
     {
         let fails = wire.is_failing(place);
         let is_long = 0 < wire.losses(place).too_long;
@@ -136,7 +137,7 @@ impl Outages {
     )
         ensures told { TellsPlaces W.failing W.lost wire.now moment self.old self.new
             log.old.told log.new.told }
-        ensures same_log { log.new.log ≡ log.old.log }
+        ensures handed { HandsOn L.enables log.old log.new }
     {
         let inside = Place::Side(Side::Inside);
         self.inside.tell(wire, inside, Origin::Inside, moment, log);

@@ -8,7 +8,7 @@ ghost use Rattle.rounds.specs.declared.judging.Question.TheVariants.{Pairs};
 use bindings::Entry;
 use gateway::Gateway;
 use nat_types::{Key, NoMemory, Pair};
-use reports::{MOST_ENTRIES, Page};
+use reports::{Counters, MOST_ENTRIES, Page};
 use std::alloc::Global;
 
 pub(crate) fn key_of(pair: Pair) -> Key
@@ -40,28 +40,33 @@ fn list_behind(gateway: &Gateway, last: Option<Key>, entries: &mut Vec<Entry>) -
 }
 
 /// The next entries behind a key, or the first ones, whatever their state. A list that is read on from the last key of
-/// each page has each entry that stays once. It looks at 129 entries at most.
+/// each page has each entry that stays once. It looks at 129 entries at most. It is asked for where so much was counted.
 ///
 /// # Errors
 ///
 /// Where memory for 128 entries is refused.
-pub fn page_behind(alloc: Global, gateway: &Gateway, last: Option<Key>) -> Result<Page, NoMemory>
+pub fn page_behind(
+    alloc: Global,
+    gateway: &Gateway,
+    last: Option<Key>,
+    counters: &Counters,
+) -> Result<Page, NoMemory>
     ensures entries { IfOk result (λ p. p.entries
         ≡ take MOST_ENTRIES (behind last gateway.now.ledger.book.entries)) }
     ensures more { IfOk result (λ p. p.more
         ≡ nat_lt MOST_ENTRIES (length (behind last gateway.now.ledger.book.entries))) }
-    ensures refused { OnErr result (WasRefused (Pairs last)) }
+    ensures refused { OnErr result (WasRefused counters.now (Pairs last)) }
 {
-    let entries = room_for(alloc, last)?;
+    let entries = room_for(alloc, last, counters)?;
     Ok(fill_page(entries, gateway, last))
 }
 
 /// An empty list with room for the page behind a key.
 #[tactic(auto, unfolding(crate::specs::Memory::WasRefused))]
-fn room_for(alloc: Global, _last: Option<Key>) -> Result<Vec<Entry>, NoMemory>
+fn room_for(alloc: Global, _last: Option<Key>, _counters: &Counters) -> Result<Vec<Entry>, NoMemory>
     ensures empty { IfOk result (λ v. vec_len v ≡ 0) }
     ensures room { IfOk result (λ v. vec_capacity v ≡ MOST_ENTRIES) }
-    ensures refused { OnErr result (WasRefused (Pairs _last)) }
+    ensures refused { OnErr result (WasRefused _counters.now (Pairs _last)) }
 {
     Ok(Vec::with_capacity(alloc, MOST_ENTRIES)?)
 }

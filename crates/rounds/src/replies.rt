@@ -6,6 +6,7 @@ ghost use Rattle.reports.specs.declared.counters.Count.TheVariants.{Sent};
 ghost use Rattle.sockets.specs.Letters.{answered};
 ghost use Rattle.spec_step.specs.Shown.{Shown};
 ghost use Rattle.rounds.specs.Answers.{Answers, CountsLosses, SaysOf, with_losses};
+ghost use Rattle.rounds.specs.Handing.{HandsOn};
 ghost use Rattle.rounds.specs.Memory.{MayLack};
 ghost use Rattle.rounds.specs.Rounds.{AnswersOwed, Replies, box, calls, wire_says};
 ghost use Rattle.rounds.specs.declared.judging.Question.TheVariants.{Status};
@@ -65,7 +66,7 @@ pub(crate) fn answer_question<W: Wire, L: Journal>(
         identity desk.old.question
         (box gateway.now wire.old desk.old log.old.told)
         (box gateway.now wire.new desk.new log.new.told) }
-    ensures same_log { log.new.log ≡ log.old.log }
+    ensures handed { HandsOn L.enables log.old log.new }
 {
     let Some(question) = desk.question else {
         return;
@@ -95,9 +96,9 @@ fn answer_to<W: Wire, L: Journal>(
     ensures answers { IfOk result (λ count. Answers W.lost wire.now identity gateway.now
         desk.now.counters desk.now.sides question
         log.old.told log.new.told (take count room.new)) }
-    ensures refused { OnErr result (MayLack gateway.now question) }
+    ensures refused { OnErr result (MayLack desk.now.counters gateway.now question) }
     ensures unasked { OnErr result (log.new.told ≡ log.old.told) }
-    ensures same_log { log.new.log ≡ log.old.log }
+    ensures handed { HandsOn L.enables log.old log.new }
 {
     match question {
         Question::Status => {
@@ -105,7 +106,7 @@ fn answer_to<W: Wire, L: Journal>(
             Ok(lay(begun_report(), report.bytes().as_slice(), room))
         }
         Question::Pairs(after) => {
-            let page = page_behind(desk.alloc, gateway, after)?;
+            let page = page_behind(desk.alloc, gateway, after, &desk.counters)?;
             Ok(lay(begun_page(), page.bytes().as_slice(), room))
         }
     }
@@ -128,15 +129,15 @@ fn report_of<W: Wire, L: Journal>(
         CountsLosses W.lost wire.now desk.now.counters r.counters) }
     ensures lines { IfOk result (λ r.
         log.new.told ≡ Asked r.lines_left_out ∷ log.old.told) }
-    ensures refused { OnErr result (MayLack gateway.now Status) }
+    ensures refused { OnErr result (MayLack desk.now.counters gateway.now Status) }
     ensures unasked { OnErr result (log.new.told ≡ log.old.told) }
-    ensures same_log { log.new.log ≡ log.old.log }
+    ensures handed { HandsOn L.enables log.old log.new }
 {
     Ok(Report {
         id: identity.id,
         boot: identity.boot,
         digest: identity.digest,
-        gateway: gateway_report(gateway)?,
+        gateway: gateway_report(gateway, &desk.counters)?,
         sides: desk.sides,
         counters: counted(wire, desk.counters),
         lines_left_out: log.lines_left_out(),

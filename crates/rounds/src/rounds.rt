@@ -3,6 +3,8 @@ ghost use Rattle.std.specs.Duration.{as_nanos};
 ghost use Rattle.std.specs.Prelude.{◌≡◌, ◌⊎◌, OnErr, OnOk, codes, false, true};
 ghost use Rattle.outlets.specs.Outputs.{IsPrinted, IsUnput};
 ghost use Rattle.outlets.specs.Printed.{Prints};
+ghost use Rattle.rounds.specs.Ends.{WasEnded};
+ghost use Rattle.rounds.specs.Handing.{HandsAll, HandsOn};
 ghost use Rattle.rounds.specs.Rounds.{AreRoundsHeard, IsRound, RoundsTo, RunsTo, TellsRound};
 ghost use Rattle.rounds.specs.Rounds.{all_left, begun, box, calls, most_rounds, wire_says};
 ghost use Rattle.rounds.specs.Polls.{Asks, HasPolled, WasStopped};
@@ -64,11 +66,12 @@ pub fn serve<W: Wire, C: Clockwork, T: Told, S: Supervisor, O: EndLine, L: Journ
         identity C.reads S.hears (most_rounds rounds) T.tells T.goes_on
         (begun gateway.old wire.old log.old.told) clock.old until.old supervisor.old
         gateway.new wire.new log.new.told clock.new until.new supervisor.new result }
-    ensures same_log { log.new.log ≡ log.old.log }
+    ensures handed { HandsAll L.enables log.old log.new }
     ensures ended { Prints (O.contents output.old) result (O.contents output.new)
         (codes "end\n") }
     ensures written { OnOk result (IsPrinted output.old (codes "end\n") output.new) }
     ensures unwritten { OnErr result (IsUnput output.old (codes "end\n") output.new) }
+    ensures behind { WasEnded gateway.new output.old output.new }
 {
     let left = run(
         alloc, gateway, wire, clock, until, rounds, track, identity, supervisor, log,
@@ -94,7 +97,7 @@ pub fn run_rounds<W: Wire, C: Clockwork, T: Told, S: Supervisor, L: Journal>(
         identity C.reads S.hears (most_rounds rounds) T.tells T.goes_on
         (begun gateway.old wire.old log.old.told) clock.old until.old supervisor.old
         gateway.new wire.new log.new.told clock.new until.new supervisor.new result }
-    ensures same_log { log.new.log ≡ log.old.log }
+    ensures handed { HandsAll L.enables log.old log.new }
 {
     let mut desk = Desk::new(alloc, gateway);
     all_rounds(
@@ -121,7 +124,7 @@ fn run<W: Wire, C: Clockwork, T: Told, S: Supervisor, L: Journal>(
         identity C.reads S.hears (most_rounds rounds) T.tells T.goes_on
         (begun gateway.old wire.old log.old.told) clock.old until.old supervisor.old
         gateway.new wire.new log.new.told clock.new until.new supervisor.new (all_left result) }
-    ensures same_log { log.new.log ≡ log.old.log }
+    ensures handed { HandsOn L.enables log.old log.new }
     ensures stopped { WasStopped (calls W.does W.answers) gateway.new wire.new }
 {
     let mut desk = Desk::new(alloc, gateway);
@@ -148,12 +151,13 @@ fn all_rounds<W: Wire, C: Clockwork, T: Told, S: Supervisor, L: Journal>(
     log: &mut Teller<'_, L>,
 )
     ensures rounds { AreRoundsHeard (calls W.does W.answers)
-        (wire_says W.waits W.failing W.lost) track identity C.reads S.hears (most_rounds rounds) T.tells T.goes_on
+        (wire_says W.waits W.failing W.lost) track identity C.reads S.hears
+        (most_rounds rounds) T.tells T.goes_on
         (box gateway.old wire.old desk.old log.old.told)
         clock.old until.old supervisor.old
         (box gateway.new wire.new desk.new log.new.told)
         clock.new until.new supervisor.new }
-    ensures same_log { log.new.log ≡ log.old.log }
+    ensures handed { HandsOn L.enables log.old log.new }
 {
     let mut room = [0; LONGEST];
     let mut last = 0;
@@ -225,7 +229,7 @@ fn round<W: Wire, C: Clockwork, S: Supervisor, L: Journal>(
         (box gateway.new wire.new desk.new log.new.told) clock.new }
     ensures moment { result ≡ gateway.new.moment }
     ensures heard { HearsRound S.hears last gateway.new.moment supervisor.old supervisor.new }
-    ensures same_log { log.new.log ≡ log.old.log }
+    ensures handed { HandsOn L.enables log.old log.new }
 {
     take_what_comes(gateway, wire, track, room, desk, log);
     tick(gateway, wire, clock, track, desk, log);
@@ -245,7 +249,7 @@ fn tell_round<W: Wire, L: Journal>(
     ensures told { TellsRound (wire_says W.waits W.failing W.lost)
         (box gateway.now wire.now desk.old log.old.told)
         (box gateway.now wire.now desk.new log.new.told) }
-    ensures same_log { log.new.log ≡ log.old.log }
+    ensures handed { HandsOn L.enables log.old log.new }
 {
     let moment = gateway.moment();
     desk.outages.tell(wire, moment, log);
@@ -264,7 +268,7 @@ fn take_what_comes<W: Wire, L: Journal>(
     ensures polled { HasPolled (calls W.does W.answers) W.waits track 10_000_000 256
         (box gateway.old wire.old desk.old log.old.told)
         (box gateway.new wire.new desk.new log.new.told) }
-    ensures same_log { log.new.log ≡ log.old.log }
+    ensures handed { HandsOn L.enables log.old log.new }
 {
     let mut limit = Duration::from_millis(WAIT);
     for _ in 0..MOST {
@@ -288,7 +292,7 @@ fn take_next<W: Wire, L: Journal>(
     ensures asks { Asks (calls W.does W.answers) W.waits track (as_nanos limit)
         (box gateway.old wire.old desk.old log.old.told)
         result (box gateway.new wire.new desk.new log.new.told) }
-    ensures same_log { log.new.log ≡ log.old.log }
+    ensures handed { HandsOn L.enables log.old log.new }
 {
     match wire.receive(limit, room) {
         Ok(Some((place, count))) => {

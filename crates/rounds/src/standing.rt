@@ -14,7 +14,7 @@ use addresses::{Port, Protocol};
 use bindings::Entry;
 use gateway::Gateway;
 use nat_types::{Key, NoMemory};
-use reports::{GatewayReport, PairCounts, PeerReport, PortCounts, WaitingCounts};
+use reports::{Counters, GatewayReport, PairCounts, PeerReport, PortCounts, WaitingCounts};
 
 /// How long ago a moment was.
 fn ago(now: u64, moment: Option<u64>) -> Option<u64>
@@ -97,12 +97,12 @@ fn waiting_of(gateway: &Gateway) -> WaitingCounts
 }
 
 /// A gateway's state. It goes once over the whole table, and once over the owned ports for each protocol; it takes
-/// memory for a list of these.
+/// memory for a list of these. It is asked for where so much was counted.
 ///
 /// # Errors
 ///
 /// Where that memory is refused.
-pub fn gateway_report(gateway: &Gateway) -> Result<GatewayReport, NoMemory>
+pub fn gateway_report(gateway: &Gateway, counters: &Counters) -> Result<GatewayReport, NoMemory>
     ensures moment { IfOk result (λ r. r.moment ≡ gateway.now.moment) }
     ensures synced { IfOk result (λ r. r.synced ≡ is_synced gateway.now.ledger.book.stage) }
     ensures away { IfOk result (λ r. r.away ≡ gateway.now.away) }
@@ -119,18 +119,18 @@ pub fn gateway_report(gateway: &Gateway) -> Result<GatewayReport, NoMemory>
     ensures waiting_hop { IfOk result (λ r. r.waiting.next_hop ≡ hop_count gateway.now.kept) }
     // Where it owns none, no memory is taken.
     ensures unsynced { is_synced gateway.now.ledger.book.stage ≡ false → IsOk result }
-    ensures refused { OnErr result (WasRefused Status) }
+    ensures refused { OnErr result (WasRefused counters.now Status) }
 {
-    let owned = owned_ports(gateway)?;
+    let owned = owned_ports(gateway, counters)?;
     Ok(report_with(gateway, owned.as_slice()))
 }
 
 /// A list of the ports that a gateway owns.
 #[tactic(auto, unfolding(crate::specs::Memory::WasRefused))]
-fn owned_ports(gateway: &Gateway) -> Result<Vec<Port>, NoMemory>
+fn owned_ports(gateway: &Gateway, _counters: &Counters) -> Result<Vec<Port>, NoMemory>
     ensures ports { IfOk result (λ v. v.items ≡ owned_by gateway.now) }
     ensures unsynced { is_synced gateway.now.ledger.book.stage ≡ false → IsOk result }
-    ensures refused { OnErr result (WasRefused Status) }
+    ensures refused { OnErr result (WasRefused _counters.now Status) }
 {
     gateway.owned()
 }

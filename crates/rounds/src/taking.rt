@@ -5,6 +5,7 @@ ghost use Rattle.spec_step.specs.Shown.{scene};
 ghost use Rattle.spec_step.specs.Steps.{IsStepOn};
 ghost use Rattle.spec_step.specs.declared.events.Event.TheVariants.{Stop};
 ghost use Rattle.supervision.specs.declared.notices.Notice.TheVariants.{Ending};
+ghost use Rattle.rounds.specs.Handing.{HandsOn};
 ghost use Rattle.rounds.specs.Losing.{cause_of as cause_in, cause_on};
 ghost use Rattle.rounds.specs.Memory.{WasLeftOut};
 ghost use Rattle.rounds.specs.Polls.{Ticks, WasPolledOut};
@@ -13,6 +14,7 @@ ghost use Rattle.rounds.specs.Told.{HasHeard};
 
 use crate::Clockwork;
 use crate::desk::{Desk, origin_at};
+use crate::left::LeftOut;
 use crate::letters::{event_of, reply_at};
 use crate::logs::{cause_of, tell_step};
 use crate::replies::reply;
@@ -40,7 +42,7 @@ pub(crate) fn take_letter<W: Wire, L: Journal>(
         (box gateway.old wire.old desk.old log.old.told)
         (record { place = place; bytes = bytes.now })
         (box gateway.new wire.new desk.new log.new.told) }
-    ensures same_log { log.new.log ≡ log.old.log }
+    ensures handed { HandsOn L.enables log.old log.new }
 {
     desk.hear(place, bytes);
     let owed = reply_at(gateway, place, bytes);
@@ -63,7 +65,7 @@ pub(crate) fn tick<W: Wire, C: Clockwork, L: Journal>(
     ensures ticks { Ticks (calls W.does W.answers) C.reads
         (box gateway.old wire.old desk.old log.old.told) clock.old
         (box gateway.new wire.new desk.new log.new.told) clock.new }
-    ensures same_log { log.new.log ≡ log.old.log }
+    ensures handed { HandsOn L.enables log.old log.new }
 {
     hand_in(gateway, Event::Tick(clock.moment()), wire, desk, log);
 }
@@ -80,7 +82,7 @@ pub(crate) fn stop<W: Wire, S: Supervisor, L: Journal>(
     ensures taken { Takes (calls W.does W.answers) result
         (box gateway.old wire.old desk.old log.old.told) Stop
         (box gateway.new wire.new desk.new log.new.told) }
-    ensures same_log { log.new.log ≡ log.old.log }
+    ensures handed { HandsOn L.enables log.old log.new }
 {
     hand_in(gateway, Event::Stop, wire, desk, log)
 }
@@ -96,7 +98,7 @@ fn take_event<W: Wire, L: Journal>(
     ensures taken { TakesAny (calls W.does W.answers) result
         (box gateway.old wire.old desk.old log.old.told) event.entry
         (box gateway.new wire.new desk.new log.new.told) }
-    ensures same_log { log.new.log ≡ log.old.log }
+    ensures handed { HandsOn L.enables log.old log.new }
 {
     match event {
         Some(event) => hand_in(gateway, event, wire, desk, log),
@@ -116,11 +118,11 @@ fn hand_in<W: Wire, L: Journal>(
     ensures taken { Takes (calls W.does W.answers) result
         (box gateway.old wire.old desk.old log.old.told) event.entry
         (box gateway.new wire.new desk.new log.new.told) }
-    ensures same_log { log.new.log ≡ log.old.log }
+    ensures handed { HandsOn L.enables log.old log.new }
 {
     desk.out.clear();
     let before = view_of(gateway);
-    let outcome = stepped(gateway, event, &mut desk.out);
+    let outcome = stepped(gateway, event, &mut desk.out, &desk.left);
     if let Err(refusal) = outcome {
         desk.left.count(refusal);
     }
@@ -132,14 +134,19 @@ fn hand_in<W: Wire, L: Journal>(
     is_done
 }
 
-/// Hands an event to the gateway.
+/// Hands an event to the gateway, behind so many that were left out.
 #[tactic(auto, unfolding(crate::specs::Memory::WasLeftOut))]
-fn stepped(gateway: &mut Gateway, event: Event<'_>, out: &mut Out) -> Result<Outcome, NoMemory>
+fn stepped(
+    gateway: &mut Gateway,
+    event: Event<'_>,
+    out: &mut Out,
+    _left: &LeftOut,
+) -> Result<Outcome, NoMemory>
     ensures step { OnOk result (IsStepOn (scene gateway.old out.old) event.entry
         (scene gateway.new out.new)) }
     ensures err { OnErr result (gateway.new ≡ gateway.old) }
     ensures untold { OnErr result (out.new ≡ out.old) }
-    ensures refused { OnErr result (WasLeftOut gateway.old event.entry) }
+    ensures refused { OnErr result (WasLeftOut _left.now gateway.old event.entry) }
     ensures cause { cause_in result ≡ cause_on gateway.old event.entry (is_ok result) }
 {
     gateway.step(event, out)

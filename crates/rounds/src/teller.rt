@@ -2,6 +2,7 @@
 ghost use Rattle.std.specs.Prelude.{◌≡◌, ◌∷◌, [], Some};
 ghost use Rattle.journal.specs.Handed.{IsTold, IsToldLoss, IsToldTurn, WasAskedLines};
 ghost use Rattle.journal.specs.Tally.{ended, noted, turned};
+ghost use Rattle.rounds.specs.Handing.{HandsOn};
 ghost use Rattle.rounds.specs.Tellings.{IsNewTeller};
 ghost use Rattle.rounds.specs.declared.teller.Telling.TheVariants as telling;
 
@@ -74,7 +75,12 @@ impl<'a, L> Model for Teller<'a, L> {
 
     ghost Value = { ToldLog L };
 
-    ghost view = { λ t. record { log = log_of t.pen; pen = t.pen; told = t.tape; tally = t.tally } };
+    ghost view = { λ t. record {
+      log = log_of t.pen;
+      pen = t.pen;
+      told = t.tape;
+      tally = t.tally;
+    } };
 }
 
 impl<'a, L> Teller<'a, L> {
@@ -98,6 +104,18 @@ impl<L: Journal> Teller<'_, L> {
           told = telling.Loss moment origin cause ∷ self.old.told;
           tally = noted origin cause (turned moment self.old.tally);
         } }
+        ensures goes_on { HandsOn L.enables self.old self.new }
+    {
+        self.hand_loss(moment, origin, cause);
+    }
+
+    /// Hands the log what that is, and writes it on the tape.
+    fn hand_loss(&mut self, moment: u64, origin: Origin, cause: Cause)
+        ensures told { self.new ≡ record self.old {
+          pen = self.new.pen;
+          told = telling.Loss moment origin cause ∷ self.old.told;
+          tally = noted origin cause (turned moment self.old.tally);
+        } }
         ensures handed { IsToldLoss L.enables self.old.pen moment self.old.tally
             origin cause self.new.pen }
     {
@@ -111,6 +129,17 @@ impl<L: Journal> Teller<'_, L> {
           pen = self.new.pen;
           told = telling.Change moment entry ∷ self.old.told;
         } }
+        ensures goes_on { HandsOn L.enables self.old self.new }
+    {
+        self.hand_change(moment, entry);
+    }
+
+    /// Likewise.
+    fn hand_change(&mut self, moment: u64, entry: Entry)
+        ensures told { self.new ≡ record self.old {
+          pen = self.new.pen;
+          told = telling.Change moment entry ∷ self.old.told;
+        } }
         ensures handed { IsTold L.enables self.old.pen moment entry self.new.pen }
     {
         self.pen.tell(moment, entry);
@@ -119,6 +148,18 @@ impl<L: Journal> Teller<'_, L> {
 
     /// Tells what a second that has ended owes.
     pub(crate) fn turn(&mut self, moment: u64)
+        ensures told { self.new ≡ record self.old {
+          pen = self.new.pen;
+          told = telling.Turn moment ∷ self.old.told;
+          tally = turned moment self.old.tally;
+        } }
+        ensures goes_on { HandsOn L.enables self.old self.new }
+    {
+        self.hand_turn(moment);
+    }
+
+    /// Likewise.
+    fn hand_turn(&mut self, moment: u64)
         ensures told { self.new ≡ record self.old {
           pen = self.new.pen;
           told = telling.Turn moment ∷ self.old.told;
@@ -137,6 +178,17 @@ impl<L: Journal> Teller<'_, L> {
           pen = self.new.pen;
           told = telling.End moment ∷ self.old.told;
         } }
+        ensures goes_on { HandsOn L.enables self.old self.new }
+    {
+        self.hand_end(moment);
+    }
+
+    /// Likewise.
+    fn hand_end(&mut self, moment: u64)
+        ensures told { self.new ≡ record self.old {
+          pen = self.new.pen;
+          told = telling.End moment ∷ self.old.told;
+        } }
         ensures handed { IsToldTurn L.enables self.old.pen moment (Some self.old.tally)
             self.new.pen }
     {
@@ -146,6 +198,17 @@ impl<L: Journal> Teller<'_, L> {
 
     /// Asks how many lines the log has left out.
     pub(crate) fn lines_left_out(&mut self) -> u64
+        ensures told { self.new ≡ record self.old {
+          pen = self.new.pen;
+          told = telling.Asked result ∷ self.old.told;
+        } }
+        ensures goes_on { HandsOn L.enables self.old self.new }
+    {
+        self.ask_lines()
+    }
+
+    /// Asks it, and writes that on the tape.
+    fn ask_lines(&mut self) -> u64
         ensures told { self.new ≡ record self.old {
           pen = self.new.pen;
           told = telling.Asked result ∷ self.old.told;

@@ -1,4 +1,4 @@
-use Rattle.std.proofs.Common.{◌≡◌}
+use Rattle.rounds.specs.Handing.{HandsOn}
 use Rattle.rounds.specs.Rounds.{box, calls, wire_says}
 use Rattle.rounds.proofs.Hearing.{HasHad}
 use Rattle.rounds.proofs.rounds.all_rounds.Given as goal
@@ -10,5 +10,5 @@ invariant-loop g l = record {
       l.counter l.last
       (box l.fn.gateway l.fn.wire l.fn.desk l.fn.log.told) l.fn.clock l.fn.until l.fn.supervisor
       (box l.gateway l.wire l.desk l.log.told) l.clock l.until l.supervisor;
-  same_log : l.log.log ≡ l.fn.log.log;
+  handed : HandsOn g.L.Log.enables l.fn.log l.log;
 }

@@ -1,4 +1,5 @@
 use Rattle.std.proofs.Common.{refl}
+use Rattle.rounds.proofs.Handing.{all_handed}
 use Rattle.rounds.proofs.Tellings.{tells_end}
 use Rattle.rounds.proofs.rounds.run_rounds.Goals as goal
 
@@ -13,3 +14,7 @@ returns-clause-rounds g c = record {
   told_is = refl;
   left_out = refl;
 }
+
+pub returns-clause-handed : goal.returns-clause-handed
+returns-clause-handed g c =
+    all_handed g.L.Log.enables _ _ (λ first all. c.end.ensures.goes_on first (c.all_rounds.ensures.handed first all))

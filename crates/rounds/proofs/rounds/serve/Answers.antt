@@ -1,5 +1,6 @@
 use Rattle.outlets.proofs.Offered.{err_begun}
 use Rattle.rounds.proofs.Ending.{of_err}
+use Rattle.rounds.proofs.Handing.{all_handed}
 use Rattle.rounds.proofs.rounds.serve.Goals as goal
 
 pub returns-in_err-end-clause-rounds : goal.returns-in_err-end-clause-rounds
@@ -26,3 +27,9 @@ returns-clause-rounds g c = record {
   told_is = c.run-left.ensures.run.told_is;
   answered = c.run-left.ensures.run.answered;
 }
+
+pub returns-in_err-end-clause-handed : goal.returns-in_err-end-clause-handed
+returns-in_err-end-clause-handed g c = all_handed g.L.Log.enables _ _ c.run-left.ensures.handed
+
+pub returns-clause-handed : goal.returns-clause-handed
+returns-clause-handed g c = all_handed g.L.Log.enables _ _ c.run-left.ensures.handed

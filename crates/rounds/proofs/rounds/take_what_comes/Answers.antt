@@ -1,9 +1,9 @@
-use Rattle.std.proofs.Common.{◌∙◌, refl, sym, arith, rules}
+use Rattle.std.proofs.Common.{refl, sym, arith, rules}
 use Rattle.rounds.proofs.Takings.{asked_on, none_asked, none_then, polled_most, polled_out}
 use Rattle.rounds.proofs.rounds.take_what_comes.Goals as goal
 
 pub loop-init : goal.loop-init
-loop-init g c = record { limited = c.from_millis-limit.ensures; had = none_asked _ _ _ _ _ _ refl; same_log = refl }
+loop-init g c = record { limited = c.from_millis-limit.ensures; had = none_asked _ _ _ _ _ _ refl; handed = λ first all. all }
 
 pub returns-then-not-take_next-clause-polled : goal.returns-then-not-take_next-clause-polled
 returns-then-not-take_next-clause-polled g c =
@@ -13,7 +13,7 @@ pub loop-preserved : goal.loop-preserved
 loop-preserved g c = record {
   limited = sym (none_then c.loop.counter 10_000_000);
   had = asked_on _ _ _ _ _ _ _ _ _ _ c.loop.invariant.limited c.loop.invariant.had c.take_next.ensures.asks (search rules);
-  same_log = c.take_next.ensures.same_log ∙ c.loop.invariant.same_log;
+  handed = λ first all. c.take_next.ensures.handed first (c.loop.invariant.handed first all);
 }
 
 pub returns-clause-polled : goal.returns-clause-polled

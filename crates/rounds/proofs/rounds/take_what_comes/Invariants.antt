@@ -1,5 +1,6 @@
 use Rattle.std.proofs.Common.{◌≡◌}
 use Rattle.std.specs.Duration.{as_nanos}
+use Rattle.rounds.specs.Handing.{HandsOn}
 use Rattle.rounds.specs.Rounds.{box, calls}
 use Rattle.rounds.specs.Polls.{HasAsked}
 use Rattle.rounds.proofs.Takings.{limit_at}
@@ -11,5 +12,5 @@ invariant-loop g l = record {
   had :
       HasAsked (calls g.W.Wire.does g.W.Wire.answers) g.W.Wire.waits l.track 10_000_000 l.counter (box l.fn.gateway l.fn.wire l.fn.desk l.fn.log.told)
       (box l.gateway l.wire l.desk l.log.told);
-  same_log : l.log.log ≡ l.fn.log.log;
+  handed : HandsOn g.L.Log.enables l.fn.log l.log;
 }

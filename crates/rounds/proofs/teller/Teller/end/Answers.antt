@@ -1,4 +1,6 @@
+use Rattle.rounds.specs.declared.teller.Telling.TheVariants.{End}
+use Rattle.rounds.proofs.Handing.{one_handed}
 use Rattle.rounds.proofs.teller.Teller.end.Goals as goal
 
-pub returns-clause-handed : goal.returns-clause-handed
-returns-clause-handed g c = rw (← c.self.view_is) c.tell_end.ensures.told
+pub returns-clause-goes_on : goal.returns-clause-goes_on
+returns-clause-goes_on g c = one_handed g.L.Log.enables _ _ (End c.args.moment) (c.hand_end.ensures.handed, c.hand_end.ensures.told)

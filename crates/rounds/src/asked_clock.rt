@@ -1,0 +1,42 @@
+//! The system's monotonic clock. Only here it is at hand, and what it is asked has names.
+ghost use Rattle.rounds.specs.Clocks.{WasNow};
+
+use polls::Asker;
+use std::marker::Model;
+use std::rt::Clock;
+use std::time::Instant;
+
+/// The system's monotonic clock, and who asks it: for clauses it is who asks.
+#[derive(Drop)]
+pub(crate) struct SystemClock<'a, R> {
+    rt: &'a R,
+    asker: Asker,
+}
+
+impl<'a, R> Model for SystemClock<'a, R> {
+    ghost use Rattle.polls.specs.declared.askers.Asker.{Asker};
+
+    ghost Value = { Asker };
+
+    ghost view = { λ c. c.asker };
+}
+
+impl<'a, R> SystemClock<'a, R> {
+    /// It wasn't asked yet.
+    pub(crate) fn new(rt: &'a R) -> SystemClock<'a, R> {
+        SystemClock {
+            rt,
+            asker: Asker::new(),
+        }
+    }
+}
+
+impl<R: Clock> SystemClock<'_, R> {
+    /// Asks the system for the moment, and gives its answer.
+    #[tactic(auto, unfolding(crate::specs::Clocks::WasNow))]
+    pub(crate) fn told_to_say(&mut self) -> Option<Instant>
+        ensures { WasNow self.old result self.new }
+    {
+        Instant::now(self.rt).ok()
+    }
+}
