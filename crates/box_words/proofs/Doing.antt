@@ -9,11 +9,12 @@ use Rattle.nat_types.specs.declared.pairs.Key.{Key}
 use Rattle.toml.specs.Parse.{parse_document}
 use Rattle.settings.specs.declared.whole.Settings.{Settings}
 use Rattle.settings.specs.Parts.{gateway_of}
+use Rattle.settings_file.specs.Memory.{LacksSettings}
 use Rattle.settings_file.specs.Settings.{IsReadFrom, Tells as TellsReason}
 use Rattle.settings_file.specs.declared.faults.SettingFault.{SettingFault}
 use Rattle.settings_file.specs.declared.faults.SettingFault.TheVariants as setting
 use Rattle.control.specs.Answers.{Content, heard}
-use Rattle.control.specs.Paths.{IsBeside, Paths, socket_of}
+use Rattle.control.specs.Paths.{IsBeside, LacksSocketPath, Paths, socket_of}
 use Rattle.control.specs.declared.paths.PathFault.{PathFault}
 use Rattle.control.specs.declared.paths.PathFault.TheVariants as path
 use Rattle.control.specs.declared.words.Word.{Word}
@@ -25,7 +26,6 @@ use Rattle.reports.specs.declared.reports.Report.{Report}
 use Rattle.report_texts.specs.declared.pairs.Filter.{Filter}
 use Rattle.box_words.specs.Deeds.{Does, Fails, HasFailed, HasListed, HasPage, HasPages, HasReported, HasSynced, HasTaken, HasUnlisted, HasUnreported, IsAskedOnce, IsAwaited, IsAwaitedInVain, IsBoxOf, IsBroken, IsCutShort, IsInVain, IsNotSynced, IsSyncedAt, IsUnpaged, IsUnprinted, IsUnreached, IsUnreported, IsWaitedFor, Lists, Reports, asked, awaits, lines_of, page_lines, past, read, rested, text_of, unread}
 use Rattle.box_words.specs.Faults.{TellsPathless, TellsSocket, of_path}
-use Rattle.box_words.specs.Memory.{WasShort}
 use Rattle.outlets.specs.Outputs.{IsUnflushed, WasFlushed, WasPut}
 use Rattle.box_words.specs.declared.asking.Form.{Form}
 use Rattle.box_words.specs.declared.refusals.BoxFault.{BoxFault}
@@ -49,7 +49,7 @@ file_unread r does settings id reason before after done told is =
 
 -- its text holds no settings
 pub no_settings : {S T : Type 0} (r : Result T BoxFault) (does : Does S) (settings : List ℕ) (id : GatewayId) (text : List ℕ) (reason : SettingFault) (before after : S)
-    → does before (read settings text) after → TellsReason (parse_document text) reason → (reason ≡ setting.NoMemory → WasShort text)
+    → does before (read settings text) after → TellsReason (parse_document text) reason → (reason ≡ setting.NoMemory → LacksSettings text)
     → IsErrAnd r (λ e. e ≡ fault.Run (of_setting reason)) → IfErr r (λ why. IsUnreached does settings id why before after)
 no_settings r does settings id text reason before after done told short is =
     handed_on r (λ why. IsUnreached does settings id why before after) (fault.Run (of_setting reason)) is
@@ -65,9 +65,9 @@ no_path r does settings id text values why before after done held told is =
 
 -- why its path can't be had
 pub tells_path : {T : Type 0} (boot_file : List ℕ) (reason : PathFault) → (IsErrOf {T = T} (Err reason) path.LongPath → 107 < length (socket_of boot_file))
-    → (reason ≡ path.NoMemory → WasShort (socket_of boot_file)) → TellsPathless boot_file (of_path reason)
-tells_path boot_file path.LongPath long short = long refl
-tells_path boot_file path.NoMemory long short = (refl, inl (short refl))
+    → (IsErrOf {T = T} (Err reason) path.NoMemory → LacksSocketPath boot_file) → TellsPathless boot_file (of_path reason)
+tells_path boot_file path.LongPath long memory = long refl
+tells_path boot_file path.NoMemory long memory = (refl, inl (memory refl))
 
 -- so the command ends
 pub none_reached : {S T : Type 0} (r : Result T BoxFault) (does : Does S) (settings : List ℕ) (id : GatewayId) (fails : Fails S) (why : BoxFault) (before after : S)
@@ -134,7 +134,7 @@ wait_begun does path seconds before begun did = (0, (refl, (begun, (did, refl)))
 
 -- it was asked once more in vain
 pub asked_again : {S : Type 0} (does : Does S) (path : Paths) (seconds count more : ℕ) (why : BoxFault) (before between early told after : S)
-    → IsWaited does path seconds count before between → does between (past false) early → IsNotSynced does path why early told → does told rested after
+    → IsWaited does path seconds count before between → does between (past false) early → IsNotSynced does path why early told → does told (rested 100) after
     → more ≡ suc count → IsWaited does path seconds more before after
 asked_again does path seconds count more why before between early told after had in_time vain rest one =
     let once : IsAskedOnce does path between after = record { early = early; told = told; in_time = in_time; why = why; in_vain = vain; rest = rest } in

@@ -28,7 +28,7 @@ use Rattle.report_texts.specs.Pairs.{wanted_line}
 use Rattle.report_texts.specs.People.{people_text}
 use Rattle.report_texts.specs.declared.pairs.Filter.{Filter}
 use Rattle.box_words.specs.Faults.{TellsBootFile, TellsNoSettings, TellsPathless, TellsSocket, TellsUnlisted, TellsUnreported, TellsUntaken}
-use Rattle.box_words.specs.Memory.{WasShort}
+use Rattle.box_words.specs.Memory.{LacksText, WasShort}
 use Rattle.outlets.specs.Outputs.{IsRefused, IsUnflushed, WasPut}
 use Rattle.box_words.specs.Said.{said_status}
 use Rattle.box_words.specs.declared.refusals.BoxFault.{BoxFault}
@@ -39,7 +39,7 @@ use Rattle.box_words.specs.declared.asking.Form.TheVariants as form
 -- a file was read, which has this text, or couldn't be, for this fault; a boot file was made, or couldn't be; a box that is reached so
 -- was said this word, and heard it; or was said it, and gave this answer, or wasn't heard from: whether it took the word isn't known
 -- then. What was said, or answered, may be none. A wait of so many seconds began; whether they have passed was looked up, and is so; or it was
--- rested, until a box is asked again
+-- rested for so many milliseconds
 pub data Deed : Type 0 where
   read : List ℕ → List ℕ → Deed
   unread : List ℕ → Fault → Deed
@@ -50,7 +50,7 @@ pub data Deed : Type 0 where
   unsaid : Paths → Option Word → Deed
   awaits : ℕ → Deed
   past : Bool → Deed
-  rested : Deed
+  rested : ℕ → Deed
 
 -- what a deed is to a site, and what the site is then
 abbrev pub Does : Type 0 → Type 1
@@ -176,7 +176,7 @@ IsUnreported does path why before after = IsInVain does path (Some said_status) 
 
 -- memory for a text was refused, and nothing was printed; or the output refused it, and has a beginning of it
 abbrev pub IsCutShort : {O : Type 0} → (O → Option (List ℕ)) → List ℕ → BoxFault → O → O → Type 0
-IsCutShort prints text why old new = ((why ≡ fault.Run NoMemory) × ((new ≡ old) × WasShort text))
+IsCutShort prints text why old new = ((why ≡ fault.Run NoMemory) × ((new ≡ old) × LacksText text))
     ⊎ ((why ≡ fault.Run NotWritten) × (IsBegun (prints old) (prints new) text × IsRefused old text new))
 
 -- the output has all of a text, and refused to be flushed
@@ -215,14 +215,14 @@ abbrev pub IsNotSynced : {S : Type 0} → Does S → Paths → BoxFault → S �
 IsNotSynced does path why before after = IsUnreported does path why before after
     ⊎ (IsUnsyncedAt does path before after × (why ≡ fault.NotSynced))
 
--- the time hadn't passed; a box was asked how it stands, in vain; and then it was rested
+-- the time hadn't passed; a box was asked how it stands, in vain; and then it was rested for a tenth of a second
 pub record IsAskedOnce {S : Type 0} (does : Does S) (path : Paths) (before after : S) : Type 0 where
   pub early : S
   pub told : S
   pub in_time : does before (past false) early
   pub why : BoxFault
   pub in_vain : IsNotSynced does path why early told
-  pub rest : does told rested after
+  pub rest : does told (rested 100) after
 
 -- so many times
 abbrev pub IsAskedTimes : {S : Type 0} → Does S → Paths → ℕ → S → S → Type 0

@@ -9,7 +9,7 @@ use Rattle.nat_types.specs.declared.gateways.Side.{Side}
 use Rattle.nat_types.specs.declared.gateways.Side.TheVariants.{Inside, Outside}
 use Rattle.toml.specs.Parse.{parse_document}
 use Rattle.control.specs.Answers.{Content, heard, page, refusal_text, refused, report}
-use Rattle.control.specs.Paths.{socket_of}
+use Rattle.control.specs.Paths.{LacksSocketPath, socket_of}
 use Rattle.control.specs.declared.answers.PeerOffRefusal.{PeerOffRefusal}
 use Rattle.control.specs.declared.answers.PeerOffRefusal.TheVariants as refusal
 use Rattle.control.specs.declared.paths.PathFault.{PathFault}
@@ -21,15 +21,18 @@ use Rattle.faults.specs.Texts.{fault_text as run_text}
 use Rattle.faults.specs.declared.files.Refusal.{Refusal}
 use Rattle.faults.specs.declared.files.Refusal.TheVariants.{Exists, NoFile, NotWritten}
 use Rattle.faults.specs.declared.faults.Fault.TheVariants.{NoMemory, Setting}
+use Rattle.settings_file.specs.Memory.{LacksSettings}
 use Rattle.settings_file.specs.Settings.{Tells as TellsReason}
 use Rattle.settings_file.specs.declared.faults.SettingFault.{SettingFault}
 use Rattle.settings_file.specs.declared.faults.SettingFault.TheVariants as setting
 use Rattle.settings_file.specs.declared.keys.Key.{Key}
 use Rattle.reports.specs.Formats.{reading}
+use Rattle.reports.specs.Memory.{WasShort as AreShort}
 use Rattle.reports.specs.Reports.{page as page_format, report as report_format}
 use Rattle.reports.specs.Texts.{fault_text as read_text}
 use Rattle.reports.specs.declared.faults.ReadFault.{ReadFault}
 use Rattle.reports.specs.declared.faults.ReadFault.TheVariants as read
+use Rattle.reports.specs.declared.pages.TheConstants.{MOST_ENTRIES}
 use Rattle.sockets.specs.Ways.{no_descriptor_text}
 use Rattle.supervision.specs.Managers.{not_open_text}
 use Rattle.box_words.specs.Ends.{refused_text}
@@ -56,7 +59,7 @@ TellsSettings text why = (reason : SettingFault) × (TellsReason (parse_document
 -- the same, and memory for them was refused where there is none
 abbrev pub TellsNoSettings : List ℕ → BoxFault → Type 0
 TellsNoSettings text why =
-    (reason : SettingFault) × (TellsReason (parse_document text) reason × ((reason ≡ setting.NoMemory → WasShort text) × (why ≡ fault.Run (of_setting reason))))
+    (reason : SettingFault) × (TellsReason (parse_document text) reason × ((reason ≡ setting.NoMemory → LacksSettings text) × (why ≡ fault.Run (of_setting reason))))
 
 -- the control socket beside this boot file has no path: it would have more than 107 bytes, or there is no memory for it
 abbrev pub TellsNoPath : List ℕ → BoxFault → Type 0
@@ -67,7 +70,7 @@ TellsNoPath boot_file other = ⊥
 -- the same, and memory for it, or for the boot file's own name, was refused where there is none
 abbrev pub TellsPathless : List ℕ → BoxFault → Type 0
 TellsPathless boot_file fault.LongPath = 107 < length (socket_of boot_file)
-TellsPathless boot_file (fault.Run why) = (why ≡ NoMemory) × (WasShort (socket_of boot_file) ⊎ WasShort boot_file)
+TellsPathless boot_file (fault.Run why) = (why ≡ NoMemory) × (LacksSocketPath boot_file ⊎ WasShort boot_file)
 TellsPathless boot_file other = ⊥
 
 -- just this is told of the file at this path; or there is no memory to tell it
@@ -120,10 +123,10 @@ abbrev pub TellsUnreported : List ℕ → Option Content → BoxFault → Type 0
 TellsUnreported socket (Some (report bytes)) why = (reason : ReadFault) × ((reading report_format bytes ≡ Err reason) × (why ≡ fault.NoReport reason))
 TellsUnreported socket other why = TellsSocket socket why
 
--- its pairs: so does a page, and also one for which memory was refused
+-- its pairs: so does a page, and also one for whose entries memory was refused
 abbrev pub TellsUnlisted : List ℕ → Option Content → BoxFault → Type 0
 TellsUnlisted socket (Some (page bytes)) why =
-    (reason : ReadFault) × ((((reason ≡ read.NoMemory) × WasShort bytes) ⊎ (reading page_format bytes ≡ Err reason)) × (why ≡ fault.NoReport reason))
+    (reason : ReadFault) × ((((reason ≡ read.NoMemory) × AreShort MOST_ENTRIES) ⊎ (reading page_format bytes ≡ Err reason)) × (why ≡ fault.NoReport reason))
 TellsUnlisted socket other why = TellsSocket socket why
 
 -- it is of settings, of a file, of output or of memory

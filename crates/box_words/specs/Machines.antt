@@ -1,5 +1,8 @@
 -- What an operator's command does at this machine.
-use Rattle.std.specs.Prelude.{◌≡◌, ◌≤◌, ◌⊎◌, ℕ, List, Option}
+use Rattle.std.specs.Prelude.{◌≡◌, ◌≤◌, ◌⊎◌, ◌*◌, ℕ, Bool, true, List, Option, Some, None, nat_le}
+use Rattle.std.specs.Duration.{as_nanos}
+use Rattle.std.specs.declared.time.Duration.{Duration}
+use Rattle.std.specs.declared.time.Instant.{Instant}
 use Rattle.control.specs.Answers.{Content, answer_of}
 use Rattle.control.specs.Speaking.{IsAnsweredBy, IsTaken, IsUnanswered, IsUntaken}
 use Rattle.control.specs.Words.{word_of}
@@ -23,7 +26,7 @@ IsSpelled word holds = (bytes : List ℕ) × ((word_of bytes ≡ word) × holds 
 abbrev pub IsAnswer : Option Content → (List ℕ → Type 0) → Type 0
 IsAnswer answer holds = (bytes : List ℕ) × ((answer_of bytes ≡ answer) × holds bytes)
 
--- What comes of a deed, by what makes the machine's lines to boxes before and then. Of files and of the time no more is known, and no line is made. A word
+-- What comes of a deed, by what makes the machine's lines to boxes before and then. Of files no more is known, and of the time none; no line is made. A word
 -- was said by a line of its own to the socket at that path, and taken, or answered, as far as there was room, which the longest answer has;
 -- or no line was to be had, or it isn't known that it was taken, or answered.
 abbrev pub ComesOf : {L : Type 0} → L → Deed → L → Type 0
@@ -33,13 +36,59 @@ ComesOf lines (made path) lines2 = lines2 ≡ lines
 ComesOf lines (unmade path why) lines2 = lines2 ≡ lines
 ComesOf lines (awaits seconds) lines2 = lines2 ≡ lines
 ComesOf lines (past answer) lines2 = lines2 ≡ lines
-ComesOf lines rested lines2 = lines2 ≡ lines
+ComesOf lines (rested milliseconds) lines2 = lines2 ≡ lines
 ComesOf lines (said path word) lines2 = IsSpelled word (λ bytes. IsTaken path bytes lines lines2)
 ComesOf lines (asked path word answer) lines2 =
     IsSpelled word (λ bytes. IsAnswer answer (λ had. (room : ℕ) × ((4096 ≤ room) × IsAnsweredBy path bytes room had lines lines2)))
 ComesOf lines (unsaid path word) lines2 =
     IsSpelled word (λ bytes. IsUntaken path bytes lines lines2 ⊎ ((room : ℕ) × ((4096 ≤ room) × IsUnanswered path bytes room lines lines2)))
 
--- what a deed is to this machine, by what makes its lines, too
-abbrev pub MachineDoes : {M L : Type 0} → M → L → Deed → M → L → Type 0
-MachineDoes before lines deed after lines2 = WasDone before deed after × ComesOf lines deed lines2
+-- ---- its clock
+
+-- The two names below are each of a call, as the one above: the system's clock was asked for the moment, or for how much time has passed since one,
+-- and gave this, or nothing.
+unfoldable pub WasNow : {M : Type 0} → M → Option Instant → M → Type 0
+WasNow before now after = Unit {0}
+
+unfoldable pub WasSince : {M : Type 0} → M → Instant → Option Duration → M → Type 0
+WasSince before since passed after = Unit {0}
+
+-- since when it is waited, as far as the clock could be read, and for how many nanoseconds
+pub record Waiting : Type 0 where
+  pub since : Option Instant
+  pub limit : ℕ
+
+abbrev pub waiting : Option Instant → Duration → Waiting
+waiting since limit = record { since = since; limit = as_nanos limit }
+
+-- so much time has passed since then, by what the clock gives now; it isn't known where it couldn't be read
+abbrev pub HasBeen : {M : Type 0} → M → Option Instant → Option Duration → M → Type 0
+HasBeen before (Some since) passed after = WasSince before since passed after
+HasBeen before None passed after = (passed ≡ None) × (after ≡ before)
+
+-- so many nanoseconds are over, where it is known how much time has passed; else they count as over
+abbrev pub is_past : Option Duration → ℕ → Bool
+is_past (Some passed) limit = nat_le limit (as_nanos passed)
+is_past None limit = true
+
+-- What comes of a deed for the machine's wait. One of so many seconds begins at the moment that its clock gives. Whether it is over is by what the clock
+-- gives then. Nothing else changes it.
+abbrev pub TimesOf : {M : Type 0} → M → Waiting → Deed → M → Waiting → Type 0
+TimesOf {M = M} before wait (awaits seconds) after wait2 =
+    ((middle : M) × WasNow before wait2.since middle) × (wait2.limit ≡ seconds * 1_000_000_000)
+TimesOf before wait (past answer) after wait2 =
+    ((passed : Option Duration) × (HasBeen before wait.since passed after × (answer ≡ is_past passed wait.limit))) × (wait2 ≡ wait)
+TimesOf before wait (read path text) after wait2 = wait2 ≡ wait
+TimesOf before wait (unread path why) after wait2 = wait2 ≡ wait
+TimesOf before wait (made path) after wait2 = wait2 ≡ wait
+TimesOf before wait (unmade path why) after wait2 = wait2 ≡ wait
+TimesOf before wait (rested milliseconds) after wait2 = wait2 ≡ wait
+TimesOf before wait (said path word) after wait2 = wait2 ≡ wait
+TimesOf before wait (asked path word answer) after wait2 = wait2 ≡ wait
+TimesOf before wait (unsaid path word) after wait2 = wait2 ≡ wait
+
+-- what a deed is to this machine, by what makes its lines, and by its wait, too
+pub record MachineDoes {M L : Type 0} (before : M) (lines : L) (wait : Waiting) (deed : Deed) (after : M) (lines2 : L) (wait2 : Waiting) : Type 0 where
+  pub was : WasDone before deed after
+  pub comes : ComesOf lines deed lines2
+  pub times : TimesOf before wait deed after wait2

@@ -10,15 +10,10 @@ ghost use Rattle.box_words.specs.Deeds.{HasUnlisted, HasUnreported, HasUnsynced,
 ghost use Rattle.box_words.specs.Deeds.{IsCutShort, IsNotSynced, IsSyncedAt, IsUnheard, IsUnlisted, IsUnpaged, IsUnprinted, IsUnreported};
 ghost use Rattle.box_words.specs.Deeds.{Lists, Reports, asked as deed_asked, next_of, page_lines, text_of};
 ghost use Rattle.box_words.specs.Faults.{fault_text};
-ghost use Rattle.box_words.specs.Memory.{WasShort};
+ghost use Rattle.box_words.specs.Memory.{LacksText};
 ghost use Rattle.outlets.specs.Outputs.{IsFlushed};
 ghost use Rattle.box_words.specs.Said.{said_status};
-ghost use Rattle.reports.specs.Formats.{reading};
-ghost use Rattle.reports.specs.Reports.{page as page_format};
-ghost use Rattle.reports.specs.declared.faults.ReadFault.TheVariants as read;
-ghost use Rattle.report_texts.specs.Json.{json_text};
-ghost use Rattle.report_texts.specs.Metrics.{metrics_text};
-ghost use Rattle.report_texts.specs.People.{people_text};
+ghost use Rattle.report_texts.specs.Refusals.{HasRefused};
 
 use crate::refusals::BoxFault;
 use crate::saying::{Line, line_to};
@@ -27,7 +22,7 @@ use control::{Answer, spelled_pairs, spelled_pairs_after, spelled_status};
 use nat_types::{GatewayId, Key, NoMemory};
 use outlets::{Tells, told_to_flush, told_to_put};
 use report_texts::{Filter, write_json, write_metrics, write_pairs, write_people};
-use reports::{Page, ReadFault, Report};
+use reports::{Page, Report};
 use std::alloc::Global;
 use std::io::{self, Write};
 
@@ -107,10 +102,11 @@ fn print_report<O: Write>(
     Ok(())
 }
 
-/// The text of a report in a form.
+/// The text of a report in a form. It has the name for memory that was refused for it.
+#[tactic(auto, unfolding(crate::specs::Memory::LacksText))]
 fn report_text(alloc: Global, form: Form, report: &Report) -> Result<Vec<u8>, NoMemory>
     ensures text { IfOk result (λ text. text.items ≡ text_of form report.now) }
-    ensures short { OnErr result (WasShort (text_of form report.now)) }
+    ensures short { OnErr result (LacksText (text_of form report.now)) }
 {
     let mut text = Vec::new(alloc);
     match write_report(&mut text, form, report) {
@@ -123,41 +119,13 @@ fn report_text(alloc: Global, form: Form, report: &Report) -> Result<Vec<u8>, No
 fn write_report<O: Write>(output: &mut O, form: Form, report: &Report) -> io::Result<()>
     ensures written { OnOk result (Appends (O.contents output.old) (O.contents output.new)
         (text_of form report.now)) }
-    ensures short { OnErr result (WasShort (text_of form report.now)) }
+    ensures refused { OnErr result (HasRefused output.new) }
 {
     match form {
-        Form::Plain => told_to_write_people(output, report),
-        Form::Json => told_to_write_json(output, report),
-        Form::Prometheus => told_to_write_metrics(output, report),
+        Form::Plain => write_people(output, report),
+        Form::Json => write_json(output, report),
+        Form::Prometheus => write_metrics(output, report),
     }
-}
-
-/// Writes it for people. This one and the next two have the name for memory that was refused for its text.
-#[tactic(auto, unfolding(faults::specs::Memory::WasShort))]
-fn told_to_write_people<O: Write>(output: &mut O, report: &Report) -> io::Result<()>
-    ensures written { OnOk result
-        (Appends (O.contents output.old) (O.contents output.new) (people_text report.now)) }
-    ensures short { OnErr result (WasShort (people_text report.now)) }
-{
-    write_people(output, report)
-}
-
-#[tactic(auto, unfolding(faults::specs::Memory::WasShort))]
-fn told_to_write_json<O: Write>(output: &mut O, report: &Report) -> io::Result<()>
-    ensures written { OnOk result
-        (Appends (O.contents output.old) (O.contents output.new) (json_text report.now)) }
-    ensures short { OnErr result (WasShort (json_text report.now)) }
-{
-    write_json(output, report)
-}
-
-#[tactic(auto, unfolding(faults::specs::Memory::WasShort))]
-fn told_to_write_metrics<O: Write>(output: &mut O, report: &Report) -> io::Result<()>
-    ensures written { OnOk result
-        (Appends (O.contents output.old) (O.contents output.new) (metrics_text report.now)) }
-    ensures short { OnErr result (WasShort (metrics_text report.now)) }
-{
-    write_metrics(output, report)
 }
 
 /// The report of the box at a line's end.
@@ -383,26 +351,17 @@ fn print_page<O: Write>(
     Ok(())
 }
 
-/// The lines of a page's pairs that pass a filter.
+/// The lines of a page's pairs that pass a filter. It has the same name for them.
+#[tactic(auto, unfolding(crate::specs::Memory::LacksText))]
 fn page_text(alloc: Global, page: &Page, filter: &Filter) -> Result<Vec<u8>, NoMemory>
     ensures text { IfOk result (λ text. text.items ≡ page_lines filter.now page.now) }
-    ensures short { OnErr result (WasShort (page_lines filter.now page.now)) }
+    ensures short { OnErr result (LacksText (page_lines filter.now page.now)) }
 {
     let mut text = Vec::new(alloc);
-    match told_to_write_pairs(&mut text, page, filter) {
+    match write_pairs(&mut text, page, filter) {
         Ok(()) => Ok(text),
         Err(_) => Err(NoMemory),
     }
-}
-
-/// Writes them. It has the name for memory that was refused for them.
-#[tactic(auto, unfolding(faults::specs::Memory::WasShort))]
-fn told_to_write_pairs<O: Write>(output: &mut O, page: &Page, filter: &Filter) -> io::Result<()>
-    ensures written { OnOk result (Appends (O.contents output.old) (O.contents output.new)
-        (page_lines filter.now page.now)) }
-    ensures short { OnErr result (WasShort (page_lines filter.now page.now)) }
-{
-    write_pairs(output, page, filter)
 }
 
 /// The key behind which the next page begins, where others follow.
@@ -431,17 +390,7 @@ fn page_behind<S: Site>(
         None => asked(alloc, site, line, &spelled_pairs(), &mut room)?,
     };
     match Answer::read(&room[..count]) {
-        Some(Answer::Page(bytes)) => Ok(page_in(alloc, bytes)?),
+        Some(Answer::Page(bytes)) => Ok(Page::read(alloc, bytes)?),
         _ => Err(line.unheard(alloc)),
     }
-}
-
-/// The page that bytes spell.
-#[tactic(auto, unfolding(faults::specs::Memory::WasShort))]
-fn page_in(alloc: Global, bytes: &[u8]) -> Result<Page, ReadFault>
-    ensures read { IfOk result (λ page. reading page_format bytes.now ≡ Ok page) }
-    ensures unread { IfErr result (λ fault. ((fault ≡ read.NoMemory) × WasShort bytes.now)
-        ⊎ (reading page_format bytes.now ≡ Err fault)) }
-{
-    Page::read(alloc, bytes)
 }

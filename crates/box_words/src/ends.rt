@@ -1,10 +1,12 @@
 //! The end of its own that a box can't have.
-ghost use Rattle.std.specs.Prelude.{◌≡◌, ◌∷◌, [], Some};
+ghost use Rattle.std.specs.Fmt.{WritesOnOk};
+ghost use Rattle.std.specs.Prelude.{◌≡◌, ◌∷◌, [], OnErr, Some};
 ghost use Rattle.box_words.specs.Ends.{AsksSystem, IsAsked, IsAt, IsFirstRefused, own_end, own_ends, refused_text};
+ghost use Rattle.outlets.specs.Showing.{HasRefused};
 
 use crate::machine::Machine;
 use sockets::{End, Ends, Ports, Way, Ways};
-use std::fmt;
+use std::fmt::{self, Formatter};
 use std::net::{Ipv4Addr, Net, SocketAddr, SocketAddrV4};
 
 /// Who says which ends a box can have.
@@ -98,14 +100,23 @@ pub struct Refused(pub Option<End>);
 impl fmt::Display for Refused {
     ghost output = { λ refused. Some (refused_text refused.0) };
 
-    #[tactic(auto, unfolding(std::specs::Net::Addr::IsIpv4OfBits))]
-    fn fmt<W: fmt::Write>(&self, f: &mut fmt::Formatter<W>) -> fmt::Result {
+    fn fmt<W: fmt::Write>(&self, f: &mut Formatter<W>) -> fmt::Result
+        ensures writes { WritesOnOk W.write_str_gives f.old result (refused_text self.now.0) f.new }
+        ensures refused { OnErr result (HasRefused f.new) }
+    {
         match self.0 {
-            Some(end) => {
-                let address = Ipv4Addr::from_bits(end.address.0);
-                write!(f, " {address}:{}", end.port)
-            }
+            Some(end) => told_to_show_end(f, end),
             None => Ok(()),
         }
     }
+}
+
+/// Has a formatter write an end, behind a space. It has the name for a refusal.
+#[tactic(auto, unfolding(std::specs::Net::Addr::IsIpv4OfBits, outlets::specs::Showing::HasRefused))]
+fn told_to_show_end<W: fmt::Write>(f: &mut Formatter<W>, end: End) -> fmt::Result
+    ensures shown { WritesOnOk W.write_str_gives f.old result (refused_text (Some end)) f.new }
+    ensures refused { OnErr result (HasRefused f.new) }
+{
+    let address = Ipv4Addr::from_bits(end.address.0);
+    write!(f, " {address}:{}", end.port)
 }

@@ -6,7 +6,6 @@ mod ends;
 mod machine;
 mod refusals;
 mod saying;
-mod showing;
 mod sites;
 
 pub use asking::{Form, await_synced, pairs, status};

@@ -1,13 +1,14 @@
 //! This machine, as an operator's commands ask it. What it is asked has names, and no more is known of it.
 ghost use Rattle.std.specs.Duration.{as_nanos};
-ghost use Rattle.std.specs.Prelude.{◌≡◌, ◌<◌, ◌≤◌, ◌*◌, IfErr, IfOk, IfSome, IsNone, OnErr, OnOk, false, length, string_bytes, take, true};
+ghost use Rattle.std.specs.Prelude.{◌≡◌, ◌≤◌, ◌*◌, IfErr, IfOk, OnErr, OnOk, length, string_bytes, take};
 ghost use Rattle.control.specs.Answers.{answer_of};
 ghost use Rattle.control.specs.Speaking.{IsAnsweredBy, IsTaken, IsUnanswered, IsUntaken};
 ghost use Rattle.control.specs.Words.{word_of};
 ghost use Rattle.faults.specs.Faults.{IsUnread, status_of};
 ghost use Rattle.box_words.specs.Deeds.{asked, awaits, made, past, read, rested, said, unmade, unread, unsaid};
 ghost use Rattle.box_words.specs.Ends.{WasAsked, WasAskedBy};
-ghost use Rattle.box_words.specs.Machines.{IsUntouched, WasDone};
+ghost use Rattle.box_words.specs.Machines.{HasBeen, IsUntouched, TimesOf, WasDone, WasNow, WasSince};
+ghost use Rattle.box_words.specs.Machines.{is_past, waiting};
 
 use boot_file::{Blocks, FileFault};
 use control::{ControlPath, NoSocket};
@@ -19,7 +20,7 @@ use std::thread;
 use std::time::{Duration, Instant};
 
 /// How long it is rested until a box is asked again, in milliseconds.
-const PAUSE: u64 = 100;
+pub(crate) const PAUSE: u64 = 100;
 
 /// This machine: of its files nothing is known but that it was asked for them, and what it answered; boxes are spoken to at
 /// their control sockets; and it is waited by its clock. What it is asked it is asked by the calls below alone.
@@ -59,6 +60,8 @@ where
             (λ text. WasDone self.old (read path.now (string_bytes text)) self.new) }
         ensures unread { IfErr result (λ why. WasDone self.old (unread path.now why) self.new) }
         ensures lines { self.new.lines ≡ self.old.lines }
+        ensures wait { waiting self.new.since self.new.limit
+            ≡ waiting self.old.since self.old.limit }
         ensures told { IfErr result (IsUnread path.now) }
         ensures status { IfErr result (λ why. status_of why ≡ 1) }
     {
@@ -71,6 +74,8 @@ where
         ensures made { OnOk result (WasDone self.old (made path.now) self.new) }
         ensures unmade { IfErr result (λ why. WasDone self.old (unmade path.now why) self.new) }
         ensures lines { self.new.lines ≡ self.old.lines }
+        ensures wait { waiting self.new.since self.new.limit
+            ≡ waiting self.old.since self.old.limit }
     {
         boot_file::create(self.rt, path)?;
         Ok(())
@@ -84,6 +89,8 @@ where
             (WasDone self.old (unsaid path.now (word_of word.now)) self.new) }
         ensures taken { OnOk result (IsTaken path.now word.now self.old.lines self.new.lines) }
         ensures untaken { OnErr result (IsUntaken path.now word.now self.old.lines self.new.lines) }
+        ensures wait { waiting self.new.since self.new.limit
+            ≡ waiting self.old.since self.old.limit }
     {
         control::say(&mut self.lines, path, word)
     }
@@ -107,6 +114,8 @@ where
             (take count room.new) self.old.lines self.new.lines) }
         ensures unanswered { OnErr result (IsUnanswered path.now word.now (length room.new)
             self.old.lines self.new.lines) }
+        ensures wait { waiting self.new.since self.new.limit
+            ≡ waiting self.old.since self.old.limit }
     {
         control::ask(&mut self.lines, path, word, room)
     }
@@ -117,10 +126,11 @@ impl<R: Clock> Machine<'_, R> {
     #[tactic(auto, unfolding(crate::specs::Machines::WasDone))]
     pub(crate) fn told_to_await(&mut self, seconds: u32)
         ensures begun { WasDone self.old (awaits seconds) self.new }
-        ensures limit { as_nanos self.new.limit ≡ seconds * 1_000_000_000 }
+        ensures times { TimesOf self.old (waiting self.old.since self.old.limit) (awaits seconds)
+            self.new (waiting self.new.since self.new.limit) }
         ensures lines { self.new.lines ≡ self.old.lines }
     {
-        self.since = Instant::now(self.rt).ok();
+        self.since = self.asked_now();
         self.limit = limit_of(seconds);
     }
 
@@ -128,24 +138,58 @@ impl<R: Clock> Machine<'_, R> {
     #[tactic(auto, unfolding(crate::specs::Machines::WasDone))]
     pub(crate) fn asked_whether_past(&mut self) -> bool
         ensures past { WasDone self.old (past result) self.new }
-        ensures limit { self.new.limit ≡ self.old.limit }
+        ensures times { TimesOf self.old (waiting self.old.since self.old.limit) (past result)
+            self.new (waiting self.new.since self.new.limit) }
         ensures lines { self.new.lines ≡ self.old.lines }
     {
-        let passed = match self.since {
-            Some(since) => since.elapsed(self.rt).ok(),
-            None => None,
-        };
+        let passed = self.asked_how_long();
         is_past(passed, self.limit)
     }
 
-    /// Rests for a tenth of a second.
-    #[tactic(auto, unfolding(crate::specs::Machines::WasDone))]
-    pub(crate) fn told_to_rest(&mut self)
-        ensures rested { WasDone self.old rested self.new }
+    /// How long it is waited already, as far as that clock can be read.
+    fn asked_how_long(&mut self) -> Option<Duration>
+        ensures passed { HasBeen self.old self.old.since result self.new }
+        ensures wait { waiting self.new.since self.new.limit
+            ≡ waiting self.old.since self.old.limit }
         ensures limit { self.new.limit ≡ self.old.limit }
         ensures lines { self.new.lines ≡ self.old.lines }
     {
-        thread::sleep(self.rt, Duration::from_millis(PAUSE));
+        match self.since {
+            Some(since) => self.asked_since(since),
+            None => None,
+        }
+    }
+
+    /// Asks the system's clock for the moment.
+    #[tactic(auto, unfolding(crate::specs::Machines::WasNow))]
+    fn asked_now(&mut self) -> Option<Instant>
+        ensures now { WasNow self.old result self.new }
+        ensures lines { self.new.lines ≡ self.old.lines }
+    {
+        Instant::now(self.rt).ok()
+    }
+
+    /// Asks it how much time has passed since a moment.
+    #[tactic(auto, unfolding(crate::specs::Machines::WasSince))]
+    fn asked_since(&mut self, since: Instant) -> Option<Duration>
+        ensures since { WasSince self.old since result self.new }
+        ensures wait { waiting self.new.since self.new.limit
+            ≡ waiting self.old.since self.old.limit }
+        ensures limit { self.new.limit ≡ self.old.limit }
+        ensures lines { self.new.lines ≡ self.old.lines }
+    {
+        since.elapsed(self.rt).ok()
+    }
+
+    /// Rests for so many milliseconds.
+    #[tactic(auto, unfolding(crate::specs::Machines::WasDone))]
+    pub(crate) fn told_to_rest(&mut self, milliseconds: u64)
+        ensures rested { WasDone self.old (rested milliseconds) self.new }
+        ensures wait { waiting self.new.since self.new.limit
+            ≡ waiting self.old.since self.old.limit }
+        ensures lines { self.new.lines ≡ self.old.lines }
+    {
+        thread::sleep(self.rt, Duration::from_millis(milliseconds));
     }
 }
 
@@ -158,9 +202,7 @@ fn limit_of(seconds: u32) -> Duration
 
 /// Whether so much time has passed, where that is known; else it counts as passed.
 fn is_past(passed: Option<Duration>, limit: Duration) -> bool
-    ensures early { IfSome passed (λ passed. as_nanos passed < as_nanos limit → result ≡ false) }
-    ensures late { IfSome passed (λ passed. as_nanos limit ≤ as_nanos passed → result ≡ true) }
-    ensures unknown { IsNone passed → result ≡ true }
+    ensures { result ≡ is_past passed (as_nanos limit) }
 {
     match passed {
         Some(passed) => limit.as_nanos() <= passed.as_nanos(),

@@ -16,10 +16,6 @@ ghost use Rattle.outlets.specs.Showing.{HasRefused};
 ghost use Rattle.outlets.specs.Telling.{IsTold};
 
 use crate::ends::Refused;
-use crate::showing::{
-    told_to_show_descriptor, told_to_show_end, told_to_show_not_open, told_to_show_reading,
-    told_to_show_refusal,
-};
 use boot_file::FileFault;
 use boot_store::BootFault;
 use control::{PathFault, PeerOffRefusal};
@@ -68,7 +64,7 @@ pub enum BoxFault {
     InUse,
     /// This part of what is to choose the lines is no directive.
     NoFilter(String),
-    /// The file of a capture can't be opened, has something that is none, or none can be begun in it.
+    /// The file of a capture can't be opened, or holds something else, or no capture can be begun in it.
     NoCapture(Fault),
     /// The box doesn't take the word that a boot of the other is off.
     PeerOff(Explained),
@@ -85,18 +81,18 @@ impl Shows for BoxFault {
     fn show<W: fmt::Write>(&self, f: &mut fmt::Formatter<W>) -> fmt::Result {
         match self {
             BoxFault::Run(fault) | BoxFault::NoCapture(fault) => fault.show(f),
-            BoxFault::NoDescriptor(fault) => told_to_show_descriptor(f, fault),
-            BoxFault::NotOpen(fault) => told_to_show_not_open(f, fault),
+            BoxFault::NoDescriptor(fault) => fmt::Display::fmt(fault, f),
+            BoxFault::NotOpen(fault) => fmt::Display::fmt(fault, f),
             BoxFault::NoSocket(end) => {
                 told_to_show(f, "socket 1 NoSocket")?;
-                told_to_show_end(f, end)
+                fmt::Display::fmt(end, f)
             }
             BoxFault::NoControl(path) => show_named(f, "socket 1 NoSocket ", path),
             BoxFault::NoFilter(part) => show_named(f, "log 1 NoFilter ", part),
             BoxFault::PeerOff(why) => fmt::Display::fmt(why, f),
             BoxFault::NoReport(why) => {
                 told_to_show(f, "status 1 NoReport: ")?;
-                told_to_show_reading(f, why)
+                fmt::Display::fmt(why, f)
             }
             BoxFault::NoWay(Side::Inside) => told_to_show(f, "way 1 NoWay inside"),
             BoxFault::NoWay(Side::Outside) => told_to_show(f, "way 1 NoWay outside"),
@@ -151,7 +147,7 @@ impl fmt::Display for Explained {
             f.new }
         ensures refused { OnErr result (HasRefused f.new) }
     {
-        told_to_show_refusal(f, self.0)?;
+        fmt::Display::fmt(&self.0, f)?;
         told_to_show(f, ": ")?;
         told_to_show(f, words_of(self.0))
     }
@@ -213,7 +209,7 @@ impl BoxFault {
         BoxFault::Run(Fault::of_file(alloc, refusal, path, cause))
     }
 
-    /// Of the file of a capture that can't be opened, has something that is none, or in which none can be begun.
+    /// Of the file of a capture that can't be opened, or holds something else, or in which no capture can be begun.
     pub fn no_capture(alloc: Global, path: &str, error: &io::Error) -> BoxFault
         ensures kind { IsOfCapture result }
         ensures memory { error_kind error.now ≡ causes.OutOfMemory

@@ -1,16 +1,13 @@
 //! The words that an operator says to a running box.
 ghost use Rattle.std.specs.Prelude.{◌≡◌, ◌<◌, ◌⊎◌, IfErr, IfOk, IsErrOf, OnOk, Some, length, option_map, string_bytes};
 ghost use Rattle.control.specs.Answers.{content_of, heard};
-ghost use Rattle.control.specs.Paths.{IsBeside, socket_of};
+ghost use Rattle.control.specs.Paths.{IsBeside, LacksSocketPath, socket_of};
 ghost use Rattle.control.specs.Words.{word_of};
 ghost use Rattle.outlets.specs.Telling.{IsToldOf};
 ghost use Rattle.box_words.specs.Deeds.{HasSaid, HasTaken, HasUnsaid, HasUntaken, IsBoxOf, IsUnreached};
 ghost use Rattle.box_words.specs.Faults.{TellsSocket, TellsUntaken, fault_text};
-ghost use Rattle.box_words.specs.Memory.{WasShort};
 ghost use Rattle.box_words.specs.Said.{off_bytes, said_off as meaning_off, said_side, said_stop};
 ghost use Rattle.settings.specs.Parts.{gateway_of};
-ghost use Rattle.settings_file.specs.Settings.{IsReadFrom, Tells as TellsReason};
-ghost use Rattle.toml.specs.Parse.{parse_document};
 
 use crate::asking::asked;
 use crate::refusals::{BoxFault, Explained, copied};
@@ -21,7 +18,6 @@ use control::{
 use nat_types::{GatewayId, Side};
 use outlets::Tells;
 use settings::Settings;
-use settings_file::SettingFault;
 use std::alloc::Global;
 
 /// Tells a running box that a boot of the other is off: this one, or where there is none that which the box knows. Where it
@@ -219,31 +215,20 @@ pub(crate) fn line_to<S: Site>(
         (λ fault. IsUnreached S.does settings.now id fault site.old site.new) }
 {
     let text = site.text(settings)?;
-    let settings = settings_in(alloc, text.as_str())?;
+    let settings = settings_file::read(alloc, text.as_str())?;
     let path = control_path(alloc, &settings, id)?;
     let boot_file = copied(alloc, settings.gateway(id).boot_file.as_str())?;
     Ok(Line { path, boot_file })
 }
 
-/// The settings that a text holds.
-#[tactic(auto, unfolding(faults::specs::Memory::WasShort))]
-fn settings_in(alloc: Global, text: &str) -> Result<Settings, SettingFault>
-    ensures held { IfOk result (IsReadFrom (parse_document text.now)) }
-    ensures none { IfErr result (TellsReason (parse_document text.now)) }
-    ensures short { IfErr result (λ why. why ≡ SettingFault.NoMemory → WasShort text.now) }
-{
-    settings_file::read(alloc, text)
-}
-
 /// Where the gateway's control socket lies: beside its boot file.
-#[tactic(auto, unfolding(faults::specs::Memory::WasShort))]
 fn control_path(alloc: Global, settings: &Settings, id: GatewayId) -> Result<ControlPath, PathFault>
     ensures beside { IfOk result
         (IsBeside (string_bytes (gateway_of settings.now id).boot_file)) }
     ensures long { IsErrOf result PathFault.LongPath
         → 107 < length (socket_of (string_bytes (gateway_of settings.now id).boot_file)) }
-    ensures short { IfErr result (λ why. why ≡ PathFault.NoMemory
-        → WasShort (socket_of (string_bytes (gateway_of settings.now id).boot_file))) }
+    ensures memory { IsErrOf result PathFault.NoMemory
+        → LacksSocketPath (string_bytes (gateway_of settings.now id).boot_file) }
 {
     ControlPath::beside(alloc, settings.gateway(id).boot_file.as_str())
 }

@@ -4,9 +4,9 @@ ghost use Rattle.control.specs.Answers.{answer_of};
 ghost use Rattle.control.specs.Words.{word_of};
 ghost use Rattle.faults.specs.Faults.{IsUnread, status_of};
 ghost use Rattle.box_words.specs.Deeds.{Deed, asked, awaits, made, past, read, rested, said, unmade, unread, unsaid};
-ghost use Rattle.box_words.specs.Machines.{MachineDoes};
+ghost use Rattle.box_words.specs.Machines.{MachineDoes, waiting};
 
-use crate::machine::Machine;
+use crate::machine::{Machine, PAUSE};
 use boot_file::{Blocks, FileFault};
 use control::{ControlPath, NoSocket};
 use faults::Fault;
@@ -57,9 +57,9 @@ pub trait Site {
     fn has_passed(&mut self) -> bool
         ensures { does self.old (past result) self.new };
 
-    /// Rests for a while, until a box is asked again.
+    /// Rests for 100 ms, until a box is asked again.
     fn rest(&mut self)
-        ensures { does self.old rested self.new };
+        ensures { does self.old (rested 100) self.new };
 }
 
 /// This machine: each deed is one call of it.
@@ -67,7 +67,9 @@ impl<R: Files + Net + Clock + AllocGlobal> Site for Machine<'_, R>
 where
     R::File: Blocks,
 {
-    ghost does = { λ before deed after. MachineDoes before before.lines deed after after.lines };
+    ghost does = { λ before deed after.
+        MachineDoes before before.lines (waiting before.since before.limit) deed
+        after after.lines (waiting after.since after.limit) };
 
     fn text(&mut self, path: &str) -> Result<String, Fault> {
         self.told_to_read(path)
@@ -94,6 +96,6 @@ where
     }
 
     fn rest(&mut self) {
-        self.told_to_rest();
+        self.told_to_rest(PAUSE);
     }
 }

@@ -28,7 +28,7 @@ pub returns-in_err-path-clause-unreached : goal.returns-in_err-path-clause-unrea
 returns-in_err-path-clause-unreached g c =
     no_path {S = g.row.S.Denot} c.from_residual-in_err-path.result g.S.Site.does c.args.settings.now c.args.id
     (string_bytes c.in_ok-text.text) c.in_ok-settings.settings _ c.args.site.now c.text.new.self c.in_ok-text.ensures.read
-    (search rules) (tells_path _ _ c.in_err-path.ensures.long c.in_err-path.ensures.short) c.from_residual-in_err-path.ensures.1
+    (search rules) (tells_path _ _ c.in_err-path.ensures.long c.in_err-path.ensures.memory) c.from_residual-in_err-path.ensures.1
 
 pub returns-in_err-boot_file-clause-unreached : goal.returns-in_err-boot_file-clause-unreached
 returns-in_err-boot_file-clause-unreached g c =
