@@ -20,10 +20,6 @@ pub record Passage (B S : Type 0) : Type 0 where
   pub system : B
   pub standing : Standing S
 
--- it was never asked for ports
-abbrev pub IsUnasked : {B S : Type 0} → Passage B S → Type 0
-IsUnasked p = p.standing ≡ unasked
-
 -- A passage that stood so was let go, by what who binds its ports was before and is then; and nothing was sent through its ports, if it had some,
 -- behind that. It is no more than a name: who lets it go has it, and nobody else.
 unfoldable pub WasLetGo : {B S : Type 0} → B → Standing S → B → Type 0

@@ -1,8 +1,7 @@
 //! A passage through UDP sockets on the loopback address.
-ghost use Rattle.std.specs.Prelude.{◌≡◌, IfErr, IfOk, OnOk};
+ghost use Rattle.std.specs.Prelude.{◌≡◌, IfOk};
 ghost use Rattle.loopback_run.specs.Held.{AreOf, AreOfBoth, AsksOne, AsksOneOf, AsksPort};
 ghost use Rattle.loopback_run.specs.Binding.{BindsBoth, BindsPort, BindsPorts};
-ghost use Rattle.loopback_run.specs.Parcels.{parcel_of};
 
 use crate::carriers::{Binds, Carries, Unbound};
 use crate::machine::{SystemBinds, SystemPort};
@@ -10,9 +9,6 @@ use crate::{Channel, Passed, PortFault};
 use nat_types::{GatewayId, Side};
 use settings::{GatewaySettings, Settings};
 use sockets::Place;
-use std::marker::Model;
-use std::net::Net;
-use std::rt::Clock;
 use std::snapshot::Snapshot;
 
 /// A port that sends to itself: its number, and what carries its bytes.
@@ -159,25 +155,25 @@ impl<S: Drop> Hold<S> {
     }
 }
 
-/// Who binds ports, and which are held.
+/// Who binds ports, and which are held: a passage through them. Where they aren't had, all is lost. Of who binds, and of what
+/// carries the bytes of a port, no more is known here than that each can be asked for that; so nobody else can be asked.
 #[derive(Drop)]
-struct Holding<B, S> {
+pub struct Holding<B, S> {
     system: B,
     hold: Hold<S>,
 }
 
-impl<B: Binds<S>, S: Carries + Drop> Holding<B, S> {
-    ghost use Rattle.loopback_run.specs.Holds.{passage_of};
-    ghost use Rattle.loopback_run.specs.Standings.{HasPassed, HasPorts, LacksPorts};
+impl<B: Binds<S>, S: Carries + Drop> Channel for Holding<B, S> {
+    ghost use Rattle.loopback_run.specs.Holds.{HoldsNoPorts, HoldsPorts, PassesOn};
+
+    ghost opens = { HoldsPorts B.binds };
+
+    ghost refuses = { HoldsNoPorts B.binds };
+
+    ghost passes = { PassesOn S.asks };
 
     /// Asks for the ports of settings, each once, after those that it had are let go. After an Err it has none.
-    fn open(&mut self, settings: &Settings) -> Result<(), PortFault>
-        ensures opens { OnOk result
-            (HasPorts B.binds (passage_of self.old) settings.now (passage_of self.new)) }
-        ensures refuses { IfErr result
-            (λ fault. LacksPorts B.binds (passage_of self.old) settings.now fault
-            (passage_of self.new)) }
-    {
+    fn open(&mut self, settings: &Settings) -> Result<(), PortFault> {
         self.hold.let_go(&mut self.system);
         match Both::bind(&mut self.system, settings) {
             Ok(both) => {
@@ -192,11 +188,9 @@ impl<B: Binds<S>, S: Carries + Drop> Holding<B, S> {
         }
     }
 
-    /// Sends bytes through the port of a gateway's place, once, and through no other; without ports they are lost.
-    fn pass(&mut self, id: GatewayId, place: Place, bytes: &[u8]) -> Passed
-        ensures { HasPassed S.asks (passage_of self.old) (parcel_of id place bytes.now) result
-            (passage_of self.new) }
-    {
+    /// Sends bytes through the port of a gateway's place, once, and through no other; without ports, and for the operator's
+    /// place, they are lost.
+    fn pass(&mut self, id: GatewayId, place: Place, bytes: &[u8]) -> Passed {
         match &mut self.hold {
             Hold::Bound(ports) => ports.pass(id, place, bytes),
             Hold::Unasked | Hold::Refused(_) => Passed::Lost,
@@ -204,57 +198,19 @@ impl<B: Binds<S>, S: Carries + Drop> Holding<B, S> {
     }
 }
 
-/// The own UDP ports of both gateways on the loopback address. Where they aren't had, all is lost.
-#[derive(Drop)]
-pub struct Loopback<'a, R> {
-    ports: Holding<SystemBinds<'a, R>, SystemPort<'a, R>>,
-}
-
-impl<'a, R> Model for Loopback<'a, R> {
-    ghost use Rattle.loopback_run.specs.Standings.{Passage};
-    ghost use Rattle.loopback_run.specs.declared.machine.SystemBinds.{SystemBinds as System};
-    ghost use Rattle.loopback_run.specs.declared.machine.SystemPort.{SystemPort as Port};
-    ghost use Rattle.loopback_run.specs.Holds.{passage_of};
-
-    ghost Value = { Passage (System R) (Port R) };
-
-    ghost view = { λ l. passage_of l.ports };
-}
+/// The own UDP ports of both gateways on the loopback address. A send, a receive or a clock that fails loses the bytes.
+pub type Loopback<'a, R> = Holding<SystemBinds<'a, R>, SystemPort<'a, R>>;
 
 impl<'a, R> Loopback<'a, R> {
-    ghost use Rattle.loopback_run.specs.Standings.{IsUnasked};
+    ghost use Rattle.loopback_run.specs.Holds.{IsUnasked};
 
     /// Was never asked for its ports. Nothing is asked of the system here: of an `R` alone nothing can be.
     pub fn new(rt: &'a R) -> Loopback<'a, R>
         ensures { IsUnasked result }
     {
-        Loopback {
-            ports: Holding {
-                system: SystemBinds::new(rt),
-                hold: Hold::Unasked,
-            },
+        Holding {
+            system: SystemBinds::new(rt),
+            hold: Hold::Unasked,
         }
-    }
-}
-
-impl<R: Net + Clock + AllocGlobal> Channel for Loopback<'_, R> {
-    ghost use Rattle.loopback_run.specs.Binding.{HasBound};
-    ghost use Rattle.loopback_run.specs.Carrying.{HasCarried};
-    ghost use Rattle.loopback_run.specs.Standings.{HasPassed, HasPorts, LacksPorts};
-
-    ghost opens = { HasPorts HasBound };
-
-    ghost refuses = { LacksPorts HasBound };
-
-    ghost passes = { HasPassed HasCarried };
-
-    /// After an Err it has no ports, also where it had some before.
-    fn open(&mut self, settings: &Settings) -> Result<(), PortFault> {
-        self.ports.open(settings)
-    }
-
-    /// A send, a receive or a clock that fails loses the bytes, and so does the operator's place.
-    fn pass(&mut self, id: GatewayId, place: Place, bytes: &[u8]) -> Passed {
-        self.ports.pass(id, place, bytes)
     }
 }

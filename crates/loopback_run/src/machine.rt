@@ -23,7 +23,7 @@ pub(crate) struct Waits(Poll);
 
 /// A socket of the system's that never waits but in a poll, and the system's clock.
 #[derive(Drop)]
-pub(crate) struct SystemPort<'a, R> {
+pub struct SystemPort<'a, R> {
     socket: Socket,
     waits: Waits,
     events: Events<Global>,
@@ -85,7 +85,7 @@ pub(crate) fn address_of(number: u16) -> SocketAddr
 
 /// The system, as who binds ports.
 #[derive(Drop)]
-pub(crate) struct SystemBinds<'a, R> {
+pub struct SystemBinds<'a, R> {
     system: &'a R,
 }
 

@@ -1,11 +1,11 @@
 -- A run on a new world.
-use Rattle.std.proofs.Common.{◌≡◌, ◌⊎◌, inl, inr, ◌++◌, ◌∙◌, ℕ, List, [], ◌∷◌, Option, None, IfErr, IfOk, Result, Ok, Err, take, drop, length, ap, sym, subst, refl, arith}
+use Rattle.std.proofs.Common.{◌≡◌, ◌⊎◌, inl, inr, ◌++◌, ◌∙◌, ℕ, List, [], ◌∷◌, Option, None, IfErr, IfOk, OnOk, Result, Ok, Err, take, drop, length, ap, sym, subst, refl, arith}
 use Rattle.std.specs.Io.KnownBytes.{Appends}
 use Rattle.std.proofs.lemmas.List.{append_assoc, append-nil, take-append-drop}
 use Rattle.settings.specs.declared.whole.Settings.{Settings}
 use Rattle.frame_sim.specs.declared.events.Step.{Step}
 use Rattle.nat_types.specs.declared.events.WorldEvent.{WorldEvent}
-use Rattle.frame_sim.specs.World.{World}
+use Rattle.frame_sim.specs.World.{World, founding}
 use Rattle.frame_sim.specs.Lacks.{WasUnrun}
 use Rattle.frame_sim.specs.Runs.{AreSteps}
 use Rattle.frame_sim.specs.Status.{IsNew, run_status}
@@ -24,7 +24,7 @@ use Rattle.simulation.specs.Refusals.{AreUnkept, IsToldUnrun}
 use Rattle.simulation.specs.Stops.{Leaves}
 use Rattle.simulation.specs.Tapes.{IsTapedRun, StopsFrom, StopsTaped, StopsTapedScript, TapesRun, TapesScript}
 use Rattle.simulation.specs.Texts.{run_lines}
-use Rattle.simulation.specs.Watched.{Hears, IsToldAll, Overhears, OverhearsScript}
+use Rattle.simulation.specs.Watched.{HasCome, Hears, IsToldAll, Overhears, OverhearsScript}
 use Rattle.simulation.proofs.Telling.{IsToldBefore, as-many}
 
 -- ---- a run from a world
@@ -43,14 +43,14 @@ run_whole takes prints w events steps taped put counted last t t2 o o2 status is
 
 -- there is no memory for its steps
 pub stops_unrun : {P T O : Type 0} (hears : Hears P) (takes refuses : TakesOn T) (prints : O → Option (List ℕ)) (w : World) (events : List WorldEvent) (p p2 : P) (t : T) (o : O)
-    → IsToldUnrun hears w events p p2 → Overhears hears (length events) p p2 (StopsFrom takes refuses prints w events t t o o) NoMemory
+    → IsToldUnrun hears w events p p2 → Overhears hears w events p p2 (StopsFrom takes refuses prints w events t t o o) NoMemory
 stops_unrun hears takes refuses prints w events p p2 t o unrun =
     record { times = unrun.0; told = unrun.1.0; ended = inl (refl, (unrun.1.1, (refl, refl))) }
 
 -- a tape refuses one of them
 pub stops_tape : {P T O : Type 0} (hears : Hears P) (takes refuses : TakesOn T) (prints : O → Option (List ℕ)) (w : World) (events : List WorldEvent) (steps taped : List Step) (last : World) (p p2 : P) (t t2 : T) (o : O)
-    → taped ≡ steps → AreSteps w events steps last → IsToldAll hears (length events) p p2 → RefusesOne takes refuses last t events taped t2
-    → Overhears hears (length events) p p2 (StopsFrom takes refuses prints w events t t2 o o) NotWritten
+    → taped ≡ steps → AreSteps w events steps last → IsToldAll hears w events p p2 → RefusesOne takes refuses last t events taped t2
+    → Overhears hears w events p p2 (StopsFrom takes refuses prints w events t t2 o o) NotWritten
 stops_tape hears takes refuses prints w events steps taped last p p2 t t2 o is_taped answers told refused = record {
   times = told.times;
   told = told.told;
@@ -65,9 +65,9 @@ stops_tape hears takes refuses prints w events steps taped last p p2 t t2 o is_t
 
 -- the output refuses their text, or there is no memory for the tables
 pub stops_put : {P T O : Type 0} (hears : Hears P) (takes refuses : TakesOn T) (prints : O → Option (List ℕ)) (w : World) (events : List WorldEvent) (steps taped put : List Step) (last : World) (p p2 : P) (t t2 : T) (o o2 : O) (cause : PrintFault)
-    → taped ≡ steps → put ≡ steps → AreSteps w events steps last → IsToldAll hears (length events) p p2 → AreTaken takes last t events taped t2
+    → taped ≡ steps → put ≡ steps → AreSteps w events steps last → IsToldAll hears w events p p2 → AreTaken takes last t events taped t2
     → IsBegun (prints o) (prints o2) (run_lines events put last) → IsUnput events put last cause o o2
-    → Overhears hears (length events) p p2 (StopsFrom takes refuses prints w events t t2 o o2) (of_print cause)
+    → Overhears hears w events p p2 (StopsFrom takes refuses prints w events t t2 o o2) (of_print cause)
 stops_put hears takes refuses prints w events steps taped put last p p2 t t2 o o2 cause is_taped is_put answers told taken begun unput = record {
   times = told.times;
   told = told.told;
@@ -96,15 +96,19 @@ runs_from r takes prints settings w events t t2 o o2 new h = subst (λ (x : Worl
 
 -- and stops so
 pub stops_from : {X P T O : Type 0} (r : Result X Fault) (hears : Hears P) (takes refuses : TakesOn T) (prints : O → Option (List ℕ)) (settings : Settings) (w : World) (events : List WorldEvent) (p p2 : P) (t t2 : T) (o o2 : O)
-    → IsNew settings w → IfErr r (Overhears hears (length events) p p2 (StopsFrom takes refuses prints w events t t2 o o2))
-    → IfErr r (Overhears hears (length events) p p2 (StopsTaped takes refuses prints settings events t t2 o o2))
+    → IsNew settings w → IfErr r (Overhears hears w events p p2 (StopsFrom takes refuses prints w events t t2 o o2))
+    → IfErr r (Overhears hears (founding settings) events p p2 (StopsTaped takes refuses prints settings events t t2 o o2))
 unfolding IsNew
 stops_from (Ok x) hears takes refuses prints settings w events p p2 t t2 o o2 new h = tt
-stops_from (Err why) hears takes refuses prints settings w events p p2 t t2 o o2 new h = record {
-  times = h.times;
-  told = h.told;
-  ended = inr (subst (λ (x : World). StopsFrom takes refuses prints x events t t2 o o2 h.times why) new h.ended);
-}
+stops_from (Err why) hears takes refuses prints settings w events p p2 t t2 o o2 new h =
+    let ends = subst (λ (x : World). Overhears hears x events p p2 (StopsFrom takes refuses prints x events t t2 o o2) why) new h in
+    record { times = ends.times; told = ends.told; ended = inr ends.ended }
+
+-- and so it is told
+pub watched_from : {X : Type 0} {E : Type 0} {P : Type 0} (r : Result X E) (hears : Hears P) (settings : Settings) (w : World) (events : List WorldEvent) (p p2 : P)
+    → IsNew settings w → OnOk r (IsToldAll hears w events p p2) → OnOk r (IsToldAll hears (founding settings) events p p2)
+unfolding IsNew
+watched_from r hears settings w events p p2 new h = subst (λ (x : World). OnOk r (IsToldAll hears x events p p2)) new h
 
 -- ---- of a script
 
@@ -120,11 +124,11 @@ script_run (Ok status) takes prints text script job events t t2 o o2 same is goo
 -- and stops so
 pub script_stops : {X P T O : Type 0} (r : Result X Fault) (hears : Hears P) (takes refuses : TakesOn T) (prints : O → Option (List ℕ)) (text script : List ℕ) (job : Job) (events : List WorldEvent) (p p2 : P) (t t2 : T) (o o2 : O)
     → events ≡ job.events.items → IsJobOf text script job → first_bad_line script ≡ None
-    → IfErr r (Overhears hears (length events) p p2 (StopsTaped takes refuses prints job.settings events t t2 o o2))
+    → IfErr r (Overhears hears (founding job.settings) events p p2 (StopsTaped takes refuses prints job.settings events t t2 o o2))
     → IfErr r (OverhearsScript hears text script p p2 (StopsTapedScript takes refuses prints text script t t2 o o2))
 script_stops (Ok x) hears takes refuses prints text script job events p p2 t t2 o o2 same is good h = tt
 script_stops (Err why) hears takes refuses prints text script job events p p2 t t2 o o2 same is good h =
-    let ends = subst (λ (es : List WorldEvent). Overhears hears (length es) p p2 (StopsTaped takes refuses prints job.settings es t t2 o o2) why) same h in
+    let ends = subst (λ (es : List WorldEvent). Overhears hears (founding job.settings) es p p2 (StopsTaped takes refuses prints job.settings es t t2 o o2) why) same h in
     record {
       times = ends.times;
       told = inr (job, (is, ends.told));
@@ -159,6 +163,17 @@ steps-append w mid w2 [] fs (s ∷ ss) ts h more = absurd h
 steps-append w mid w2 (e ∷ es) fs [] ts h more = absurd h
 steps-append w mid w2 (e ∷ es) fs (s ∷ ss) ts h more = (h.0, h.1, steps-append h.0 mid w2 es fs ss ts h.2 more)
 
+-- so the world has come as far as the steps that are there
+pub come : (w w2 : World) (events rest : List WorldEvent) (ss : List Step) → IsUnderWay w events rest ss w2 → HasCome w events (length ss) w2
+come w w2 events rest ss h = record {
+  done = h.done;
+  others = rest;
+  all = h.split;
+  many = sym (as-many w w2 h.done ss h.so_far);
+  steps = ss;
+  answers = h.so_far;
+}
+
 -- before the first
 pub none-done : (w : World) (events : List WorldEvent) → IsUnderWay w events events [] w
 none-done w events = record { done = []; split = refl; so_far = refl }
@@ -182,7 +197,7 @@ all-done w w2 events ss h = subst (λ (xs : List WorldEvent). AreSteps w xs ss w
 
 -- there is no memory for the next few
 pub cut-short : {P : Type 0} (hears : Hears P) (w mid : World) (events rest next others : List WorldEvent) (ss : List Step) (p p2 : P) → rest ≡ next ++ others
-    → IsUnderWay w events rest ss mid → WasUnrun next ⊎ AreUnkept mid next ss → IsToldBefore hears (length events) (length ss) p p2 → IsToldUnrun hears w events p p2
+    → IsUnderWay w events rest ss mid → WasUnrun next ⊎ AreUnkept mid next ss → IsToldBefore hears w events (length ss) p p2 → IsToldUnrun hears w events p p2
 cut-short hears w mid events rest next others ss p p2 parts h lacks told = (
   told.0,
   (

@@ -40,4 +40,4 @@ IsUnrun w events times = ((times ≡ 0) × WasUnroomed events) ⊎ IsCutShort w 
 
 -- and it is what was told by then
 abbrev pub IsToldUnrun : {P : Type 0} → Hears P → World → List WorldEvent → P → P → Type 0
-IsToldUnrun hears w events p p2 = (times : ℕ) × (IsTold hears (length events) times p p2 × IsUnrun w events times)
+IsToldUnrun hears w events p p2 = (times : ℕ) × (IsTold hears w events times p p2 × IsUnrun w events times)

@@ -1,11 +1,12 @@
 //! A script's run: its events on a new world, their steps and the tables at its end printed.
-ghost use Rattle.std.specs.Prelude.{◌≡◌, ◌⊎◌, ◌++◌, [], None, IfOk, IfErr, OnOk, OnErr, IsSome, length};
+ghost use Rattle.std.specs.Prelude.{◌≡◌, ◌⊎◌, ◌++◌, [], None, IfOk, IfErr, OnOk, OnErr, IsSome};
 ghost use Rattle.frame_sim.specs.Runs.{AreSteps};
 ghost use Rattle.faults.specs.Faults.{status_of};
 ghost use Rattle.scripts.specs.Script.{first_bad_line};
 ghost use Rattle.faults.specs.Jobs.{TellsRun};
 ghost use Rattle.faults.specs.Texts.{fault_text};
 ghost use Rattle.frame_sim.specs.Status.{has_refusal, run_status};
+ghost use Rattle.frame_sim.specs.World.{founding};
 ghost use Rattle.frame_sim.specs.Tapes.{AreTaken, RefusesOne};
 ghost use Rattle.outlets.specs.Printed.{Prints};
 ghost use Rattle.outlets.specs.Telling.{IsToldOf};
@@ -59,7 +60,7 @@ pub fn simulate<O: Write, E: Tells>(
 /// # Errors
 ///
 /// The settings' fault, else the script's first bad line; `NotWritten` where output is refused, `NoMemory`.
-pub fn simulate_watched<P: Progress, O: Write>(
+pub fn simulate_watched<P: Progress<O>, O: Write>(
     alloc: Global,
     settings: &str,
     script: &str,
@@ -72,11 +73,13 @@ pub fn simulate_watched<P: Progress, O: Write>(
     ensures run { IfOk result
         (PutsScript O.contents settings.now script.now output.old output.new) }
     ensures leaves { IfErr result
-        (OverhearsScript P.hears settings.now script.now progress.old progress.new
+        (OverhearsScript (P.hears output.old) settings.now script.now
+        progress.old progress.new
         (Leaves O.contents settings.now script.now output.old output.new)) }
     ensures status { IfOk result (λ status. (status ≡ 0) ⊎ (status ≡ 3)) }
     ensures watched { OnOk result
-        (WatchesScript P.hears settings.now script.now progress.old progress.new) }
+        (WatchesScript (P.hears output.old) settings.now script.now
+        progress.old progress.new) }
 {
     simulate_captured(alloc, settings, script, progress, &mut Untaped, output)
 }
@@ -86,7 +89,7 @@ pub fn simulate_watched<P: Progress, O: Write>(
 /// # Errors
 ///
 /// The settings' fault, else the script's first bad line; `NotWritten` where the tape or output is refused, `NoMemory`.
-pub fn simulate_captured<P: Progress, T: Tape, O: Write>(
+pub fn simulate_captured<P: Progress<O>, T: Tape, O: Write>(
     alloc: Global,
     settings: &str,
     script: &str,
@@ -100,12 +103,14 @@ pub fn simulate_captured<P: Progress, T: Tape, O: Write>(
     ensures run { IfOk result (TapesScript T.takes O.contents settings.now script.now
         tape.old tape.new output.old output.new) }
     ensures stopped { IfErr result
-        (OverhearsScript P.hears settings.now script.now progress.old progress.new
+        (OverhearsScript (P.hears output.old) settings.now script.now
+        progress.old progress.new
         (StopsTapedScript T.takes T.refuses O.contents settings.now script.now
         tape.old tape.new output.old output.new)) }
     ensures status { IfOk result (λ status. (status ≡ 0) ⊎ (status ≡ 3)) }
     ensures watched { OnOk result
-        (WatchesScript P.hears settings.now script.now progress.old progress.new) }
+        (WatchesScript (P.hears output.old) settings.now script.now
+        progress.old progress.new) }
 {
     let job = read_job(alloc, settings, script)?;
     play(
@@ -124,7 +129,7 @@ pub fn simulate_captured<P: Progress, T: Tape, O: Write>(
 /// # Errors
 ///
 /// `NotWritten` where the tape or output is refused, `NoMemory`.
-pub fn play<P: Progress, T: Tape, O: Write>(
+pub fn play<P: Progress<O>, T: Tape, O: Write>(
     alloc: Global,
     settings: &Settings,
     events: &[WorldEvent],
@@ -135,14 +140,16 @@ pub fn play<P: Progress, T: Tape, O: Write>(
     ensures run { IfOk result (IsTapedRun T.takes O.contents settings.now events.now
         tape.old tape.new output.old output.new) }
     ensures stopped { IfErr result
-        (Overhears P.hears (length events.now) progress.old progress.new
+        (Overhears (P.hears output.old) (founding settings.now) events.now
+        progress.old progress.new
         (StopsTaped T.takes T.refuses O.contents settings.now events.now
         tape.old tape.new output.old output.new)) }
     ensures status { IfOk result (λ status. (status ≡ 0) ⊎ (status ≡ 3)) }
     ensures fault { IfErr result
         (λ fault. (fault ≡ faults.NotWritten) ⊎ (fault ≡ faults.NoMemory)) }
     ensures watched { OnOk result
-        (IsToldAll P.hears (length events.now) progress.old progress.new) }
+        (IsToldAll (P.hears output.old) (founding settings.now) events.now
+        progress.old progress.new) }
 {
     match World::founded(alloc, settings) {
         Ok(mut world) => {
@@ -155,7 +162,7 @@ pub fn play<P: Progress, T: Tape, O: Write>(
 }
 
 /// Runs events on a world, has a tape take them down, and prints their steps and its tables.
-fn played<P: Progress, T: Tape, O: Write>(
+fn played<P: Progress<O>, T: Tape, O: Write>(
     alloc: Global,
     world: &mut World<'_>,
     events: &[WorldEvent],
@@ -166,16 +173,16 @@ fn played<P: Progress, T: Tape, O: Write>(
     ensures run { IfOk result (TapesRun T.takes O.contents world.old events.now
         tape.old tape.new output.old output.new) }
     ensures stopped { IfErr result
-        (Overhears P.hears (length events.now) progress.old progress.new
+        (Overhears (P.hears output.old) world.old events.now progress.old progress.new
         (StopsFrom T.takes T.refuses O.contents world.old events.now
         tape.old tape.new output.old output.new)) }
     ensures status { IfOk result (λ status. (status ≡ 0) ⊎ (status ≡ 3)) }
     ensures fault { IfErr result
         (λ fault. (fault ≡ faults.NotWritten) ⊎ (fault ≡ faults.NoMemory)) }
     ensures watched { OnOk result
-        (IsToldAll P.hears (length events.now) progress.old progress.new) }
+        (IsToldAll (P.hears output.old) world.old events.now progress.old progress.new) }
 {
-    let steps = steps_of(alloc, world, events, progress)?;
+    let steps = steps_of(alloc, world, events, progress, output)?;
     take_down(tape, world, events, steps.as_slice())?;
     print(world, events, steps.as_slice(), output)?;
     Ok(status_of(steps.as_slice()))
@@ -225,23 +232,24 @@ fn print<O: Write>(
 /// How many events are run at a time.
 const AT_A_TIME: usize = 64;
 
-/// What the events do to a world, in order.
-fn steps_of<P: Progress>(
+/// What the events do to a world, in order, before anything is printed.
+fn steps_of<P: Progress<O>, O>(
     alloc: Global,
     world: &mut World<'_>,
     events: &[WorldEvent],
     progress: &mut P,
+    output: &O,
 ) -> Result<Vec<Step>, NoMemory>
     ensures steps { IfOk result (λ steps. AreSteps world.old events.now steps.items world.new) }
     ensures watched { OnOk result
-        (IsToldAll P.hears (length events.now) progress.old progress.new) }
+        (IsToldAll (P.hears output.now) world.old events.now progress.old progress.new) }
     ensures unrun { OnErr result
-        (IsToldUnrun P.hears world.old events.now progress.old progress.new) }
+        (IsToldUnrun (P.hears output.now) world.old events.now progress.old progress.new) }
 {
     let mut steps = room_for(alloc, events)?;
     let mut rest = events;
     while !rest.is_empty() {
-        progress.reached(steps.len(), events.len());
+        progress.reached(world, output, steps.len(), events.len());
         let (next, others) = rest.split_at(rest.len().min(AT_A_TIME));
         let more = world.run(next)?;
         append(&mut steps, more)?;

@@ -85,7 +85,8 @@ impl<W: Write + Drop> Capture<W> {
 impl<W: Write> Tape for Capture<W> {
     ghost takes = { λ c w e s c2. Records W.contents c.output c.clocks w e s c2.output c2.clocks };
 
-    ghost refuses = { λ c w e s c2. Refuses c.output c.clocks w e s c2.output c2.clocks c2.is_refused };
+    ghost refuses = { λ c w e s c2.
+        Refuses c.output c.clocks w e s c2.output c2.clocks c2.is_refused };
 
     fn take(&mut self, world: &World<'_>, event: &WorldEvent, step: &Step) -> io::Result<()>
         ensures takes { OnOk result (Records W.contents self.old.output self.old.clocks world.now

@@ -1,6 +1,7 @@
-use Rattle.std.proofs.Common.{List, inl, length, refl, subst}
+use Rattle.std.proofs.Common.{List, inl, refl, subst}
 use Rattle.std.proofs.lemmas.Result.{err_from_is_err_and}
 use Rattle.nat_types.specs.declared.events.WorldEvent.{WorldEvent}
+use Rattle.frame_sim.specs.World.{founding}
 use Rattle.simulation.specs.Watched.{IsToldAll}
 use Rattle.frame_sim.proofs.Offered.{when_done}
 use Rattle.simulation.proofs.Playing.{script_run, script_stops}
@@ -14,7 +15,7 @@ pub returns-clause-watched : goal.returns-clause-watched
 returns-clause-watched g c = when_done c.play.result (λ h. record {
   job = c.in_ok-job.job;
   is = c.in_ok-job.ensures.job;
-  told = subst (λ (es : List WorldEvent). IsToldAll g.P.Progress.hears (length es) c.args.progress.now c.play.new.progress) c.as_slice.ensures.value h;
+  told = subst (λ (es : List WorldEvent). IsToldAll (g.P.Progress.hears c.args.output.now) (founding c.in_ok-job.job.settings) es c.args.progress.now c.play.new.progress) c.as_slice.ensures.value h;
 }) c.play.ensures.watched
 
 pub returns-in_err-job-clause-stopped : goal.returns-in_err-job-clause-stopped

@@ -6,7 +6,7 @@ use Rattle.simulation.proofs.simulation.steps_of.Given as goal
 abbrev pub invariant-loop-rest : goal.invariant-loop-rest
 invariant-loop-rest g l = record {
   under_way : IsUnderWay l.fn.world l.fn.events l.rest l.steps.items l.world;
-  told : IsToldSoFar g.P.Progress.hears (length l.fn.events) (length l.rest) (length l.steps.items) l.fn.progress l.progress;
+  told : IsToldSoFar (g.P.Progress.hears l.fn.output) l.fn.world l.fn.events (length l.rest) (length l.steps.items) l.fn.progress l.progress;
 }
 
 abbrev pub decreases-loop-rest : goal.decreases-loop-rest
