@@ -4,8 +4,9 @@ use Rattle.std.specs.Borrow.{Bor}
 use Rattle.log.specs.Filter.{Rule}
 use Rattle.journal.specs.declared.lines.Format.{Format}
 use Rattle.rounds.specs.Tellings.{IsNewTeller, ToldLog}
+use Rattle.rounds.specs.declared.teller.Telling.{Telling}
 use Rattle.gate.specs.Asked.{IsChosenBy, path_in}
-use Rattle.gate.specs.Logs.{IsLikeLog, IsOwnLog, IsRecorded, IsToldAtMost, IsToldLeftOut}
+use Rattle.gate.specs.Logs.{IsLikeLog, IsOwnLog, IsRecorded, IsToldAtMost, IsToldLeftOut, WasToldRun}
 use Rattle.gate.specs.Named.{WasRecorded}
 use Rattle.gate.specs.declared.running.Start.{Start}
 
@@ -42,3 +43,7 @@ own_again passes writes start log log2 same own = subst (λ l. IsOwnLog passes w
 pub own_like : {L : Type 0} (passes : L → Option (List Rule)) (writes : L → Option Format) (start : Start) (log log2 : L) → IsOwnLog passes writes start log
     → IsLikeLog passes writes log log2 → IsOwnLog passes writes start log2
 own_like passes writes start log log2 own like = (subst (λ p. IfSome p (IsChosenBy start.log)) (sym like.0) own.0, like.1 ∙ own.1)
+
+-- a run told its log what its box did
+pub told_run : (start : Start) (boot : ℕ) (told told2 : List Telling) → told ≡ told2 → WasToldRun start boot told2 → WasToldRun start boot told
+told_run start boot told told2 same was = subst (λ t. WasToldRun start boot t) (sym same) was

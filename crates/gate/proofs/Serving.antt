@@ -1,11 +1,12 @@
 -- A start that is served.
 use Rattle.std.proofs.Common.{◌≡◌, ◌⊎◌, inl, inr, ap, sym, ◌∙◌, ℕ, Bool, false, is_some, List, [], Option, Some, None, IfSome, Result, Ok, Err, OnOk, IfErr, subst, true≢false}
 use Rattle.std.specs.Borrow.{Bor}
+use Rattle.polls.specs.declared.askers.Asker.{Asker}
 use Rattle.inputs.specs.Inputs.{IsUnasked, TellsEnd, TellsNoEnd}
 use Rattle.settings.specs.declared.whole.Settings.{Settings}
 use Rattle.spec_step.specs.Shown.{Shown}
 use Rattle.box_words.specs.declared.refusals.BoxFault.{BoxFault}
-use Rattle.rounds.specs.Clocks.{HasRead, Watch, WasNow}
+use Rattle.rounds.specs.Clocks.{HasRead, Watch, WasStarted}
 use Rattle.rounds.specs.Rounds.{Box, Calls, IsRun, WireSays, begun, most_rounds}
 use Rattle.rounds.specs.declared.desk.Identity.{Identity}
 use Rattle.rounds.specs.declared.teller.Telling.{Telling}
@@ -14,20 +15,21 @@ use Rattle.supervision.specs.declared.managers.Manager.{Manager}
 use Rattle.gate.specs.Asked.{IsFilter, IsNotified, IsWatched, boot_file_of, path_in}
 use Rattle.gate.specs.Boots.{HasStarted, IsIdentity}
 use Rattle.gate.specs.Failing.{IsUnbegun, LacksEnd}
-use Rattle.gate.specs.Named.{IsCaptured, WasGiven, WasHad, WasLetGo, begun_capture, number_of, tapped_wire}
+use Rattle.gate.specs.Named.{IsCaptured, WasGiven, WasHad, WasLetGo, WasTapped, begun_capture, number_of, tapped_wire}
 use Rattle.gate.specs.Served.{HasRun, HasServed, RunsOpened}
 use Rattle.gate.specs.Printing.{HasEnded, HasPrinted, Holds}
+use Rattle.gate.specs.Logs.{WasToldRun}
 use Rattle.gate.specs.Starts.{CanOpen}
-use Rattle.gate.specs.Told.{HearsSome}
-use Rattle.gate.specs.Wires.{IsOfSockets, IsOwnWire, IsSpared, RanOn, RunsOn}
+use Rattle.gate.specs.Told.{HearsAll}
+use Rattle.gate.specs.Wires.{IsLetGo, IsOfSockets, IsOwnWire, IsSpared, RanOn, RunsOn}
 use Rattle.gate.specs.declared.running.Start.{Start}
 
--- a run by the clock of a start, which may be told to end by the input that is watched, with what holds of its moments
-pub runs_on : {W I : Type 0} (does : Calls W) (says : WireSays W) (track until_eof : Bool) (who : Identity) (rounds : Option ℕ) (g g2 : Shown) (w w2 : W) (told : List Telling)
-    (clock clock2 : Watch) (source until until2 : Option I) (last : Box W) → told ≡ [] → WasNow clock.start → clock.read ≡ 0 → until ≡ source → is_some source ≡ until_eof
+-- a run by the clock of a start, which may be told to end by the input that is watched, with what holds of its moments, and of what its log was told
+pub runs_on : {W : Type 0} (does : Calls W) (says : WireSays W) (track until_eof : Bool) (who : Identity) (rounds : Option ℕ) (g g2 : Shown) (w w2 : W) (told : List Telling)
+    (clock clock2 : Watch) (source until until2 : Option Asker) (last : Box W) → told ≡ [] → WasStarted clock → clock.read ≡ 0 → until ≡ source → is_some source ≡ until_eof
     → IfSome source IsUnasked → (h : IsRun does says track who HasRead (most_rounds rounds) TellsEnd TellsNoEnd (begun g w told) clock until last clock2 until2)
     → last.shown ≡ g2 → last.wire ≡ w2 → (Holds : List ℕ → Type 0) → Holds h.all.moments → (Tells : List Telling → Type 0) → Tells last.told
-    → (run : RunsOn I does says who rounds track until_eof g g2 w w2) × (IfSome run.until IsUnasked × (Holds run.had.all.moments × Tells run.last.told))
+    → (run : RunsOn does says who rounds track until_eof g g2 w w2) × (Holds run.had.all.moments × Tells run.last.told)
 runs_on does says track until_eof who rounds g g2 w w2 told clock clock2 source until until2 last untold start at_start same watched unasked h shows wire_is Holds heard Tells tells = (
   record {
     clock = clock;
@@ -36,6 +38,7 @@ runs_on does says track until_eof who rounds g g2 w w2 told clock clock2 source 
     clock2 = clock2;
     until = until;
     watched = ap is_some same ∙ watched;
+    unasked = subst (λ u. IfSome u IsUnasked) (sym same) unasked;
     until2 = until2;
     told = told;
     untold = untold;
@@ -44,7 +47,7 @@ runs_on does says track until_eof who rounds g g2 w w2 told clock clock2 source 
     shows = shows;
     wire_is = wire_is;
   },
-  (subst (λ u. IfSome u IsUnasked) (sym same) unasked, (heard, tells)),
+  (heard, tells),
 )
 
 -- ---- the wire
@@ -60,24 +63,45 @@ pub on_tapped : {W : Type 0} (capture : Option (List ℕ)) (path : List ℕ) (se
     → WasHad (tapped_wire path start.id) wire → IsOwnWire capture settings start wire
 on_tapped capture path settings start wire captured tapped = subst (λ p. IsOwnWire p settings start wire) (sym captured) tapped
 
+-- one without a capture is let go alone
+let_go_bare : {W : Type 0} (capture : Option (Bor (List ℕ))) (wire wire2 : W) → is_some capture ≡ false → WasLetGo wire2 → IsLetGo (path_in capture) wire wire2
+let_go_bare (Some path) wire wire2 none gone = absurd (true≢false none)
+let_go_bare None wire wire2 none gone = gone
+
+-- behind its run
+pub ran_bare : {W : Type 0} (does : Calls W) (says : WireSays W) (who : Identity) (start : Start) (g g2 : Shown) (wire wire2 : W) (m m2 : Option Manager)
+    → is_some start.capture ≡ false → WasLetGo wire2 → (run : RunsOn does says who start.rounds start.track start.until_eof g g2 wire wire2)
+    × (HearsAll who.boot run.had.all.moments m m2 × WasToldRun start who.boot run.last.told) → RanOn does says who start g g2 wire m m2
+ran_bare does says who start g g2 wire wire2 m m2 none gone ran =
+    record { wire2 = wire2; run = ran.0; heard = ran.1.0; recorded = ran.1.1; let_go = let_go_bare start.capture wire wire2 none gone }
+
+-- and one with a capture once it was run through that
+pub let_go_tapped : {W : Type 0} (capture : Option (List ℕ)) (path : List ℕ) (first wire wire2 : W) → capture ≡ Some path → first ≡ wire
+    → WasTapped path first wire2 → WasLetGo wire2 → IsLetGo capture wire wire2
+let_go_tapped {W = W} capture path first wire wire2 same is tapped gone =
+    subst (λ c. IsLetGo c wire wire2) (sym same) (subst (λ (w : W). WasTapped path w wire2) is tapped, gone)
+
 -- where output is refused at the end, there was a run
-pub spared_behind : {T W O : Type 0} (r : Result T BoxFault) (contents : Holds O) (does : Calls W) (says : WireSays W) (settings : Settings) (start : Start) (wire : W) (who : Identity)
-    (first last : Shown) (before between after : O) → IsIdentity settings start.id who first → RanOn does says who start first last wire
-    → HasPrinted contents before who.boot between
-    → IfErr r (LacksEnd contents between after) → IfErr r (IsSpared contents does says settings start before after wire)
-spared_behind (Ok x) contents does says settings start wire who first last before between after identity ran printed is = tt
-spared_behind (Err why) contents does says settings start wire who first last before between after identity ran printed is =
+pub spared_behind : {T W O : Type 0} (r : Result T BoxFault) (contents : Holds O) (does : Calls W) (says : WireSays W) (settings : Settings) (start : Start) (wire : W)
+    (m m2 : Option Manager) (who : Identity) (first last : Shown) (before between after : O) → IsIdentity settings start.id who first
+    → RanOn does says who start first last wire m m2 → HasPrinted contents before who.boot between
+    → IfErr r (LacksEnd contents between after) → IfErr r (IsSpared contents does says settings start wire m m2 before after)
+spared_behind (Ok x) contents does says settings start wire m m2 who first last before between after identity ran printed is = tt
+spared_behind (Err why) contents does says settings start wire m m2 who first last before between after identity ran printed is =
     inr (who, ((between, (printed, is)), (first, (last, (identity, ran)))))
 
--- and else the wire was let go as it was
-pub spared_tapped : {T W O : Type 0} (r : Result T BoxFault) (contents : Holds O) (does : Calls W) (says : WireSays W) (settings : Settings) (start : Start) (wire : W) (who : Identity)
-    (first last : Shown) (before between after : O) (path : List ℕ) (A B : Type 0) → IsIdentity settings start.id who first → HasPrinted contents before who.boot between
-    → IfErr r (λ why. (LacksEnd contents between after why × (RanOn does says who start first last wire × B)) ⊎ ((IsUnbegun (Some path) why × WasLetGo wire) × A))
-    → IfErr r (IsSpared contents does says settings start before after wire)
-spared_tapped (Ok x) contents does says settings start wire who first last before between after path A B identity printed is = tt
-spared_tapped (Err why) contents does says settings start wire who first last before between after path A B identity printed (inl lacks) =
-    inr (who, ((between, (printed, lacks.0)), (first, (last, (identity, lacks.1.0)))))
-spared_tapped (Err why) contents does says settings start wire who first last before between after path A B identity printed (inr unbegun) = inl unbegun.0.1
+-- and else the wire was let go as it was, and the manager is as it was
+pub spared_tapped : {T W O : Type 0} (r : Result T BoxFault) (contents : Holds O) (does : Calls W) (says : WireSays W) (settings : Settings) (start : Start) (wire : W)
+    (m m2 : Option Manager) (who : Identity) (first last : Shown) (before between after : O) (path : List ℕ) (C D : Type 0)
+    → IsIdentity settings start.id who first → HasPrinted contents before who.boot between
+    → IfErr r (λ why. (LacksEnd contents between after why × RanOn does says who start first last wire m m2)
+    ⊎ ((IsUnbegun (Some path) why × WasLetGo wire) × (C × ((m2 ≡ m) × D))))
+    → IfErr r (IsSpared contents does says settings start wire m m2 before after)
+spared_tapped (Ok x) contents does says settings start wire m m2 who first last before between after path C D identity printed is = tt
+spared_tapped (Err why) contents does says settings start wire m m2 who first last before between after path C D identity printed (inl lacks) =
+    inr (who, ((between, (printed, lacks.0)), (first, (last, (identity, lacks.1)))))
+spared_tapped (Err why) contents does says settings start wire m m2 who first last before between after path C D identity printed (inr unbegun) =
+    inl (unbegun.0.1, unbegun.1.1.0)
 
 -- ---- a start, rounds, and the end
 
@@ -92,12 +116,12 @@ pub captured_at : {T E : Type 0} (r : Result T E) (capture : Option (List ℕ)) 
 captured_at (Ok x) capture path same begun = subst IsCaptured (sym same) begun
 captured_at (Err e) capture path same begun = tt
 
-pub has_run : {T E W O : Type 0} (r : Result T E) (contents : Holds O) (does : Calls W) (says : WireSays W) (settings : Settings) (start : Start) (wire : W) (before between after : O)
-    (first last : Shown) (who : Identity) → HasStarted contents settings start.id start.found before between first → IsIdentity settings start.id who first → IsOfSockets settings start wire
-    → OnOk r (RanOn does says who start first last wire) → OnOk r (HasEnded contents between after)
+pub has_run : {T E W O : Type 0} (r : Result T E) (contents : Holds O) (does : Calls W) (says : WireSays W) (settings : Settings) (start : Start) (wire : W) (m m2 : Option Manager)
+    (before between after : O) (first last : Shown) (who : Identity) → HasStarted contents settings start.id start.found before between first → IsIdentity settings start.id who first → IsOfSockets settings start wire
+    → OnOk r (RanOn does says who start first last wire m m2) → OnOk r (HasEnded contents last between after)
     → WasGiven (number_of (boot_file_of settings start.id)) → IsWatched start.notify → IsFilter start.log → OnOk r (IsCaptured (path_in start.capture))
-    → OnOk r (HasRun contents does says settings start wire before after)
-has_run (Ok x) contents does says settings start wire before between after first last who started identity own ran ended numbered watched filter captured = record {
+    → OnOk r (HasRun contents does says settings start wire m m2 before after)
+has_run (Ok x) contents does says settings start wire m m2 before between after first last who started identity own ran ended numbered watched filter captured = record {
   first = first;
   between = between;
   started = started;
@@ -112,7 +136,7 @@ has_run (Ok x) contents does says settings start wire before between after first
   filter = filter;
   captured = captured;
 }
-has_run (Err e) contents does says settings start wire before between after first last who started identity own ran ended numbered watched filter captured = tt
+has_run (Err e) contents does says settings start wire m m2 before between after first last who started identity own ran ended numbered watched filter captured = tt
 
 -- what was had is so at an Ok
 pub always : {T E : Type 0} (r : Result T E) (A : Type 0) → A → OnOk r A
@@ -135,9 +159,9 @@ on_some (Ok y) P x p = (x, p)
 on_some (Err e) P x p = tt
 
 -- with settings and ways by which its boot file can be opened
-pub has_served : {T E O : Type 0} (r : Result T E) (contents : Holds O) (start : Start) (settings : Settings) (ways : Ways) (before after : O) (manager manager2 : Option Manager)
-    → OnOk r (CanOpen start settings ways × RunsOpened contents start settings ways before after) → IsNotified start.notify manager
-    → OnOk r (HearsSome manager manager2) → WasLetGo manager2 → OnOk r (HasServed contents start before after)
-has_served (Ok x) contents start settings ways before after manager manager2 run notified heard gone =
-    record { settings = settings; ways = ways; fits = run.0; run = run.1; told = (manager, (manager2, (notified, (heard, gone)))) }
-has_served (Err e) contents start settings ways before after manager manager2 run notified heard gone = tt
+pub has_served : {T E O : Type 0} (r : Result T E) (contents : Holds O) (start : Start) (settings : Settings) (ways : Ways) (manager manager2 : Option Manager) (before after : O)
+    → OnOk r (CanOpen start settings ways × RunsOpened contents start settings ways manager manager2 before after) → IsNotified start.notify manager
+    → WasLetGo manager2 → OnOk r (HasServed contents start before after)
+has_served (Ok x) contents start settings ways manager manager2 before after run notified gone =
+    record { settings = settings; ways = ways; fits = run.0; manager = manager; manager2 = manager2; notified = notified; run = run.1; let_go = gone }
+has_served (Err e) contents start settings ways manager manager2 before after run notified gone = tt

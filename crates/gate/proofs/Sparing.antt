@@ -16,18 +16,19 @@ use Rattle.gate.specs.Wires.{IsSpared, does_at, says_at}
 use Rattle.gate.specs.declared.running.Start.{Start}
 
 -- the sockets
-pub behind_sockets : {T O : Type 0} (r : Result T BoxFault) (contents : Holds O) (start : Start) (settings : Settings) (ways : Ways) (wire : Sockets) (before after : O)
-    → WasGiven (own_sockets ways (box_ports settings start.id)) → WasHad (own_sockets ways (box_ports settings start.id)) wire
-    → IfErr r (FailsWired contents start before after) → IfErr r (IsSpared contents does_at says_at settings start before after wire) → IfErr r (FailsHeard contents start settings ways before after)
-behind_sockets (Ok x) contents start settings ways wire before after given had fails spared = tt
-behind_sockets (Err why) contents start settings ways wire before after given had fails spared = inr (given, (wire, (had, (fails, spared))))
+pub behind_sockets : {T O : Type 0} (r : Result T BoxFault) (contents : Holds O) (start : Start) (settings : Settings) (ways : Ways) (wire : Sockets) (m m2 : Option Manager)
+    (before after : O) → WasGiven (own_sockets ways (box_ports settings start.id)) → WasHad (own_sockets ways (box_ports settings start.id)) wire
+    → IfErr r (FailsWired contents start before after) → IfErr r (IsSpared contents does_at says_at settings start wire m m2 before after)
+    → IfErr r (FailsHeard contents start settings ways m m2 before after)
+behind_sockets (Ok x) contents start settings ways wire m m2 before after given had fails spared = tt
+behind_sockets (Err why) contents start settings ways wire m m2 before after given had fails spared = inr (given, (wire, (had, (fails, spared))))
 
 -- the service manager
-pub behind_manager : {T O : Type 0} (r : Result T BoxFault) (contents : Holds O) (start : Start) (settings : Settings) (ways : Ways) (before after : O) (manager manager2 : Option Manager)
-    → IsNotified start.notify manager → IfErr r (FailsWatched contents start settings ways before after) → IfErr r (IsUnheard contents before after manager manager2)
-    → WasLetGo manager2 → IfErr r (FailsInherited contents start settings ways before after)
-behind_manager (Ok x) contents start settings ways before after manager manager2 notified fails unheard gone = tt
-behind_manager (Err why) contents start settings ways before after manager manager2 notified fails unheard gone =
+pub behind_manager : {T O : Type 0} (r : Result T BoxFault) (contents : Holds O) (start : Start) (settings : Settings) (ways : Ways) (manager manager2 : Option Manager)
+    (before after : O) → IsNotified start.notify manager → IfErr r (FailsWatched contents start settings ways manager manager2 before after)
+    → IfErr r (IsUnheard contents before after manager manager2) → WasLetGo manager2 → IfErr r (FailsInherited contents start settings ways before after)
+behind_manager (Ok x) contents start settings ways manager manager2 before after notified fails unheard gone = tt
+behind_manager (Err why) contents start settings ways manager manager2 before after notified fails unheard gone =
     inr (manager, (manager2, (notified, (fails, (unheard, gone)))))
 
 -- the ways and their descriptors

@@ -1,19 +1,21 @@
 -- The gateway that a start begins, and the boot that it is in.
-use Rattle.std.specs.Prelude.{◌≡◌, ◌⊎◌, ◌<◌, ℕ, Bool, true, Err, if◌then◌else◌}
+use Rattle.std.specs.Prelude.{◌≡◌, ◌⊎◌, ◌<◌, ℕ, Bool, Err, if◌then◌else◌}
 use Rattle.boot_store.specs.Crash.{Decides}
 use Rattle.boot_store.specs.Moment.{Moment}
 use Rattle.boot_store.specs.declared.faults.BootFault.{BootFault}
 use Rattle.box_words.specs.Faults.{of_boot}
 use Rattle.box_words.specs.declared.refusals.BoxFault.{BoxFault}
 use Rattle.box_words.specs.declared.refusals.BoxFault.TheVariants as fault
+use Rattle.polls.specs.declared.askers.Asker.{Asker}
 use Rattle.nat_types.specs.declared.gateways.GatewayId.{GatewayId}
 use Rattle.settings.specs.declared.whole.Settings.{Settings}
-use Rattle.slots.specs.Hashers.{is_drawn}
+use Rattle.slots.specs.Draws.{HaveDrawnKeys}
 use Rattle.slots.specs.declared.hashers.Hashers.{Hashers}
 use Rattle.spec_step.specs.Shown.{Shown}
 use Rattle.spec_step.specs.Founding.{begun, founded, hashing}
 use Rattle.checks.specs.Digests.{digest}
 use Rattle.rounds.specs.declared.desk.Identity.{Identity}
+use Rattle.gate.specs.Named.{WasDrawn}
 use Rattle.gate.specs.Printing.{HasPrinted, Holds}
 
 -- its end of the link has this number for its own
@@ -25,12 +27,16 @@ HasBoot boot g = g.link.boot ≡ boot
 unfoldable pub IsStart : Settings → GatewayId → Bool → Hashers → ℕ → Shown → Type 0
 IsStart settings id found hashers boot g = g ≡ hashing hashers (if found then founded settings boot else begun settings id boot)
 
--- it begins in some boot above 0, its table hashes by keys that were drawn, and the boot's line is what was printed, and flushed
+-- the keys of these hashers are the system's: each was drawn from it, one after the other
+abbrev pub AreSystemKeys : Hashers → Type 0
+AreSystemKeys hashers = (before : Asker) × ((after : Asker) × HaveDrawnKeys WasDrawn before hashers after)
+
+-- it begins in some boot above 0, its table hashes by keys that were drawn from the system, and the boot's line is what was printed, and flushed
 pub record HasStarted {O : Type 0} (contents : Holds O) (settings : Settings) (id : GatewayId) (found : Bool) (before after : O) (g : Shown) : Type 0 where
   pub boot : ℕ
   pub above_zero : 0 < boot
   pub hashers : Hashers
-  pub drawn : is_drawn hashers ≡ true
+  pub drawn : AreSystemKeys hashers
   pub start : IsStart settings id found hashers boot g
   pub printed : HasPrinted contents before boot after
 

@@ -33,6 +33,8 @@ use Rattle.box_words.specs.Faults.{TellsBootFile, TellsFilter, TellsNoPath, Tell
 use Rattle.box_words.specs.Memory.{WasShort}
 use Rattle.box_words.specs.declared.refusals.BoxFault.{BoxFault}
 use Rattle.box_words.specs.declared.refusals.BoxFault.TheVariants as fault
+use Rattle.spec_step.specs.Shown.{Shown}
+use Rattle.rounds.specs.Ends.{WasEnded}
 use Rattle.gate.specs.Asked.{IsSaid, box_ports, on_loopback}
 use Rattle.gate.specs.Named.{Need, WasAnswered, WasDenied, WasRead, begun_capture, boot_number, capture_file, control_socket, locked_file}
 use Rattle.gate.specs.Named.{own_sockets, path_beside, settings_in, settings_text}
@@ -130,9 +132,10 @@ pub record LacksOutput {O : Type 0} (contents : Holds O) (text : List ℕ) (befo
 abbrev pub LacksLine : {O : Type 0} → Holds O → ℕ → O → O → BoxFault → Type 0
 LacksLine contents boot before after why = IsLineRefused before boot after × LacksOutput contents (boot_line boot) before after why
 
--- it refuses `end`, or to be flushed behind it
+-- it refuses `end`, or to be flushed behind it, and was asked for that behind the Stop of some gateway
 abbrev pub LacksEnd : {O : Type 0} → Holds O → O → O → BoxFault → Type 0
-LacksEnd contents before after why = IsUnput before (codes "end\n") after × LacksOutput contents (codes "end\n") before after why
+LacksEnd contents before after why = (IsUnput before (codes "end\n") after × ((g : Shown) × WasEnded g before after))
+    × LacksOutput contents (codes "end\n") before after why
 
 -- memory is refused for this, or a seed
 abbrev pub LacksMemory : Need → BoxFault → Type 0

@@ -1,13 +1,14 @@
 -- What the log of a box is told.
-use Rattle.std.specs.Prelude.{◌≡◌, ◌⊎◌, ℕ, List, Option, Some, None, IfSome}
+use Rattle.std.specs.Prelude.{◌≡◌, ◌⊎◌, ℕ, List, [], Option, Some, None, IfSome}
 use Rattle.log.specs.Filter.{Rule}
 use Rattle.journal.specs.Handed.{Enables, IsTold, IsToldLeftOut as TellsLeftOut, IsUnhanded, WasPutDown, log_of}
 use Rattle.journal.specs.declared.entries.Entry.TheVariants.{Boot}
 use Rattle.journal.specs.declared.lines.Format.{Format}
 use Rattle.journal.specs.declared.pens.Pen.{Pen}
+use Rattle.rounds.specs.Tellings.{ToldLog}
 use Rattle.rounds.specs.declared.teller.Telling.{Telling}
 use Rattle.gate.specs.Asked.{IsChosenBy}
-use Rattle.gate.specs.Named.{IsTellerOf, IsUntold, WasLeftOut, WasLetGo, WasRecorded}
+use Rattle.gate.specs.Named.{IsTellerOf, IsUntold, WasLeftOut, WasRecorded}
 use Rattle.gate.specs.declared.running.Start.{Start}
 
 -- its records pass by the rules that a start's filter has, where it says by which, and are written in the start's format
@@ -51,9 +52,18 @@ IsToldOfThis {L = L} boot now = (log : L) × (IsUntold log × WasRecorded log bo
 abbrev pub IsOwnTeller : {T : Type 0} → Type 0 → ℕ → T → Type 0
 IsOwnTeller L boot teller = (now : L) × (IsToldOfThis boot now × IsTellerOf now teller)
 
--- who told it of a run told just this, and was let go
-abbrev pub IsToldBy : (T : Type 0) → (T → List Telling) → List Telling → Type 0
-IsToldBy T tellings told = (teller : T) × ((told ≡ tellings teller) × WasLetGo teller)
+-- The log of a start was told just this of its run in this boot, and handed just what that is, by who tells of that one alone, and who was let go
+-- then. It is no more than a name: only who lets him go looks what stands here.
+unfoldable pub WasToldRun : Start → ℕ → List Telling → Type 0
+WasToldRun start boot told = Unit {0}
+
+-- who tells of a run in this boot to the start's own log, and told nothing yet
+pub record IsOwnAndNew {L : Type 0} (passes : L → Option (List Rule)) (writes : L → Option Format) (Records : Type 0) (start : Start) (boot : ℕ)
+    (teller : ToldLog L) : Type 0
+  where
+    pub own : IsOwnTeller Records boot teller
+    pub log : IsOwnLog passes writes start teller.log
+    pub untold : teller.told ≡ []
 
 -- Of a start it was told at most: nothing; or of a boot, once; or, where there is a capture, then how many packets that left out.
 abbrev pub IsToldAtMost : {L : Type 0} → Option (List ℕ) → L → L → Type 0

@@ -1,5 +1,6 @@
 -- What the system gave a start, or refused it, by name.
 use Rattle.std.specs.Prelude.{◌≡◌, ◌⊎◌, ℕ, List, Option, Some, None, Result}
+use Rattle.std.specs.declared.io.Error.{Error}
 use Rattle.nat_types.specs.declared.gateways.GatewayId.{GatewayId}
 use Rattle.boot_store.specs.declared.faults.BootFault.{BootFault}
 use Rattle.sockets.specs.declared.places.Ports.{Ports}
@@ -89,6 +90,19 @@ IsFresh system = Unit {0}
 -- a wire or a service manager was this when it was let go: nothing was asked of it, or told it, behind that
 unfoldable pub WasLetGo : {A : Type 0} → A → Type 0
 WasLetGo it = Unit {0}
+
+-- A wire was this when a capture of its packets was begun in the file at a path, and this when both were let go: between it was run, and through
+-- that capture.
+unfoldable pub WasTapped : {W : Type 0} → List ℕ → W → W → Type 0
+WasTapped path before after = Unit {0}
+
+-- who draws keys from the system was this, drew this number, and is this since
+unfoldable pub WasDrawn : {D : Type 0} → D → ℕ → D → Type 0
+WasDrawn before number after = Unit {0}
+
+-- he was this, was refused a number for this, and is this since
+unfoldable pub WasUndrawn : {D : Type 0} → D → Error → D → Type 0
+WasUndrawn before why after = Unit {0}
 
 -- the file at a path was opened for a capture, where there is a path
 abbrev pub IsOpened : Option (List ℕ) → Type 0

@@ -3,6 +3,8 @@ use Rattle.std.specs.Prelude.{◌⊎◌, ◌++◌, ℕ, List, Option, Ok, codes}
 use Rattle.std.specs.Fmt.{decimal}
 use Rattle.std.specs.Io.KnownBytes.{Appends}
 use Rattle.outlets.specs.Outputs.{IsPrinted, IsRefused, IsUnflushed, WasFlushed, WasPut}
+use Rattle.spec_step.specs.Shown.{Shown}
+use Rattle.rounds.specs.Ends.{WasEnded}
 
 -- what an output holds, where that is known
 abbrev pub Holds : Type 0 → Type 0
@@ -42,6 +44,7 @@ IsLineRefused {O = O} before boot after = IsRefused before (codes "boot ") after
 abbrev pub HasPrinted : {O : Type 0} → Holds O → O → ℕ → O → Type 0
 HasPrinted contents before boot after = IsLinePrinted before boot after × Appends (contents before) (contents after) (boot_line boot)
 
--- it has just `end`, and was flushed
-abbrev pub HasEnded : {O : Type 0} → Holds O → O → O → Type 0
-HasEnded contents before after = IsPrinted before (codes "end\n") after × Appends (contents before) (contents after) (codes "end\n")
+-- it has just `end`, and was flushed, behind the Stop of a gateway that shows this
+abbrev pub HasEnded : {O : Type 0} → Holds O → Shown → O → O → Type 0
+HasEnded contents g before after =
+    (IsPrinted before (codes "end\n") after × WasEnded g before after) × Appends (contents before) (contents after) (codes "end\n")

@@ -41,38 +41,38 @@ FailsWired contents start before after why =
     LacksFilter start.log why ⊎ ((IsFilter start.log × WasClosed (path_in start.capture)) × FailsLogged contents start before after why)
 
 -- The sockets. They are let go as they were, but for a run at whose end output was refused.
-abbrev pub FailsHeard : {O : Type 0} → Holds O → Start → Settings → Ways → O → O → BoxFault → Type 0
-FailsHeard contents start settings ways before after why = LacksPlace settings start.id ways why
+abbrev pub FailsHeard : {O : Type 0} → Holds O → Start → Settings → Ways → Option Manager → Option Manager → O → O → BoxFault → Type 0
+FailsHeard contents start settings ways m m2 before after why = LacksPlace settings start.id ways why
     ⊎ (WasGiven (own_sockets ways (box_ports settings start.id))
     × ((wire : Sockets) × (WasHad (own_sockets ways (box_ports settings start.id)) wire
-    × (FailsWired contents start before after why × IsSpared contents does_at says_at settings start before after wire why))))
+    × (FailsWired contents start before after why × IsSpared contents does_at says_at settings start wire m m2 before after why))))
 
 -- the control socket
-abbrev pub FailsLocked : {O : Type 0} → Holds O → Start → Settings → Ways → O → O → BoxFault → Type 0
-FailsLocked contents start settings ways before after why = LacksControl (boot_file_of settings start.id) why
-    ⊎ (WasGiven (control_socket (socket_of (boot_file_of settings start.id))) × FailsHeard contents start settings ways before after why)
+abbrev pub FailsLocked : {O : Type 0} → Holds O → Start → Settings → Ways → Option Manager → Option Manager → O → O → BoxFault → Type 0
+FailsLocked contents start settings ways m m2 before after why = LacksControl (boot_file_of settings start.id) why
+    ⊎ (WasGiven (control_socket (socket_of (boot_file_of settings start.id))) × FailsHeard contents start settings ways m m2 before after why)
 
 -- The boot file. It is let go as it was locked, or as its number left it.
-abbrev pub FailsOpening : {O : Type 0} → Holds O → Start → Settings → Ways → O → O → BoxFault → Type 0
-FailsOpening contents start settings ways before after why = LacksBootFile (boot_file_of settings start.id) why
+abbrev pub FailsOpening : {O : Type 0} → Holds O → Start → Settings → Ways → Option Manager → Option Manager → O → O → BoxFault → Type 0
+FailsOpening contents start settings ways m m2 before after why = LacksBootFile (boot_file_of settings start.id) why
     ⊎ ((WasGiven (locked_file (boot_file_of settings start.id)) × WasUnlocked (boot_file_of settings start.id))
-    × FailsLocked contents start settings ways before after why)
+    × FailsLocked contents start settings ways m m2 before after why)
 
 -- the path of the control socket
-abbrev pub FailsApart : {O : Type 0} → Holds O → Start → Settings → Ways → O → O → BoxFault → Type 0
-FailsApart contents start settings ways before after why = LacksPath (boot_file_of settings start.id) why
-    ⊎ ((length (socket_of (boot_file_of settings start.id)) ≤ 107) × FailsOpening contents start settings ways before after why)
+abbrev pub FailsApart : {O : Type 0} → Holds O → Start → Settings → Ways → Option Manager → Option Manager → O → O → BoxFault → Type 0
+FailsApart contents start settings ways m m2 before after why = LacksPath (boot_file_of settings start.id) why
+    ⊎ ((length (socket_of (boot_file_of settings start.id)) ≤ 107) × FailsOpening contents start settings ways m m2 before after why)
 
 -- the ports on loopback
-abbrev pub FailsWatched : {O : Type 0} → Holds O → Start → Settings → Ways → O → O → BoxFault → Type 0
-FailsWatched contents start settings ways before after why = Clashes settings start.id ways why
-    ⊎ ((clash_of_one settings start.id (on_loopback ways) ≡ None) × FailsApart contents start settings ways before after why)
+abbrev pub FailsWatched : {O : Type 0} → Holds O → Start → Settings → Ways → Option Manager → Option Manager → O → O → BoxFault → Type 0
+FailsWatched contents start settings ways m m2 before after why = Clashes settings start.id ways why
+    ⊎ ((clash_of_one settings start.id (on_loopback ways) ≡ None) × FailsApart contents start settings ways m m2 before after why)
 
 -- The service manager, where there is to be one. It was told nothing before, and isn't until it is let go, but of such a run.
 abbrev pub FailsInherited : {O : Type 0} → Holds O → Start → Settings → Ways → O → O → BoxFault → Type 0
 FailsInherited contents start settings ways before after why = LacksManager start.notify why
     ⊎ ((manager : Option Manager) × ((manager2 : Option Manager) × (IsNotified start.notify manager
-    × (FailsWatched contents start settings ways before after why × (IsUnheard contents before after manager manager2 why × WasLetGo manager2)))))
+    × (FailsWatched contents start settings ways manager manager2 before after why × (IsUnheard contents before after manager manager2 why × WasLetGo manager2)))))
 
 -- the descriptors of the ways
 abbrev pub FailsWritten : {O : Type 0} → Holds O → Start → Settings → Ways → O → O → BoxFault → Type 0

@@ -17,10 +17,6 @@ HearsAll boot moments m m2 =
 abbrev pub HearsOne : ℕ → Option Manager → Option Manager → Type 0
 HearsOne boot m m2 = (moments : List ℕ) × HearsAll boot moments m m2
 
--- in some boot
-abbrev pub HearsSome : Option Manager → Option Manager → Type 0
-HearsSome m m2 = (boot : ℕ) × HearsOne boot m m2
-
 -- it is told nothing at this refusal; or there was a run, whose boot's line was printed, and then output refused its end
 abbrev pub IsUnheard : {O : Type 0} → Holds O → O → O → Option Manager → Option Manager → BoxFault → Type 0
 IsUnheard contents before after m m2 why = (m2 ≡ m) ⊎ ((boot : ℕ) × (EndIsRefused contents before after boot why × HearsOne boot m m2))

@@ -1,24 +1,29 @@
 -- The wire that a box is run on.
-use Rattle.std.specs.Prelude.{◌≡◌, ◌⊎◌, ℕ, Bool, List, [], Option, Some, None, is_some}
-use Rattle.inputs.specs.Inputs.{TellsEnd, TellsNoEnd}
+use Rattle.std.specs.Prelude.{◌≡◌, ◌⊎◌, ℕ, Bool, List, [], Option, Some, None, IfSome, is_some}
+use Rattle.polls.specs.declared.askers.Asker.{Asker}
+use Rattle.inputs.specs.Inputs.{IsUnasked, TellsEnd, TellsNoEnd}
 use Rattle.settings.specs.declared.whole.Settings.{Settings}
 use Rattle.spec_step.specs.Shown.{Shown}
 use Rattle.box_words.specs.declared.refusals.BoxFault.{BoxFault}
-use Rattle.rounds.specs.Clocks.{HasRead, Watch, WasNow}
+use Rattle.rounds.specs.Clocks.{HasRead, Watch, WasStarted}
 use Rattle.rounds.specs.Rounds.{Box, Calls, IsRun, WireSays, begun, calls, most_rounds, wire_says}
 use Rattle.rounds.specs.declared.desk.Identity.{Identity}
 use Rattle.rounds.specs.declared.teller.Telling.{Telling}
+use Rattle.supervision.specs.declared.managers.Manager.{Manager}
 use Rattle.sockets.specs.Doing.{AnswersAt, DoesAt}
 use Rattle.sockets.specs.Receiving.{WaitsAt}
 use Rattle.sockets.specs.Showing.{failing_at, losses_at}
 use Rattle.sockets.specs.declared.sockets.Sockets.{Sockets}
 use Rattle.sockets.specs.declared.ways.Ways.{Ways}
-use Rattle.gate.specs.Asked.{box_ports}
+use Rattle.tap.specs.Taps.{Tapping}
+use Rattle.gate.specs.Asked.{box_ports, path_in}
 use Rattle.gate.specs.Boots.{IsIdentity}
-use Rattle.gate.specs.Named.{WasHad, WasLetGo, own_sockets, tapped_wire}
+use Rattle.gate.specs.Logs.{WasToldRun}
+use Rattle.gate.specs.Named.{WasHad, WasLetGo, WasTapped, own_sockets, tapped_wire}
 use Rattle.gate.specs.Orders.{EndIsRefused}
 use Rattle.gate.specs.Printing.{Holds}
 use Rattle.gate.specs.Starts.{AreWays}
+use Rattle.gate.specs.Told.{HearsAll}
 use Rattle.gate.specs.declared.running.Start.{Start}
 
 -- what a call is to sockets, and what they answer who has them send
@@ -42,16 +47,17 @@ IsOwnWire (Some path) settings start wire = WasHad (tapped_wire path start.id) w
 -- handed to it is of its rounds and of the one Stop behind them; who asks hears of this box. They end once it was told to end, or had so many. By
 -- its input it is told only where that is watched, and at its end: it is asked before each round, one time after the other, and for nothing beside.
 -- What carriers tell counted or not. Its log was told nothing of it before.
-pub record RunsOn {W : Type 0} (I : Type 0) (does : Calls W) (says : WireSays W) (who : Identity) (rounds : Option ℕ) (track until_eof : Bool)
+pub record RunsOn {W : Type 0} (does : Calls W) (says : WireSays W) (who : Identity) (rounds : Option ℕ) (track until_eof : Bool)
     (g g2 : Shown) (wire wire2 : W) : Type 0
   where
     pub clock : Watch
-    pub start : WasNow clock.start
+    pub start : WasStarted clock
     pub at_start : clock.read ≡ 0
     pub clock2 : Watch
-    pub until : Option I
+    pub until : Option Asker
     pub watched : is_some until ≡ until_eof
-    pub until2 : Option I
+    pub unasked : IfSome until IsUnasked
+    pub until2 : Option Asker
     pub told : List Telling
     pub untold : told ≡ []
     pub last : Box W
@@ -59,18 +65,41 @@ pub record RunsOn {W : Type 0} (I : Type 0) (does : Calls W) (says : WireSays W)
     pub shows : last.shown ≡ g2
     pub wire_is : last.wire ≡ wire2
 
--- So ran the box of a start, as this one, from a gateway to a gateway, on a wire which was let go behind that. Of its input it is known what it was
--- asked and what it answered.
-abbrev pub RanOn : {W : Type 0} → Calls W → WireSays W → Identity → Start → Shown → Shown → W → Type 0
-RanOn {W = W} does says who start g g2 wire =
-    (wire2 : W) × (RunsOn (Unit {0}) does says who start.rounds start.track start.until_eof g g2 wire wire2 × WasLetGo wire2)
+-- a start's box was run so on a wire, from this to this, as somebody, and from some gateway to another
+abbrev pub WasRun : {W : Type 0} → Calls W → WireSays W → Start → W → W → Type 0
+WasRun does says start wire wire2 = (who : Identity) × ((g : Shown) × ((g2 : Shown)
+    × RunsOn does says who start.rounds start.track start.until_eof g g2 wire wire2))
+
+-- what became of a wire that was run: it was let go; where there is a capture at a path, it was run through that, so that each packet is there or was
+-- left out for a reason
+abbrev pub IsLetGo : {W : Type 0} → Option (List ℕ) → W → W → Type 0
+IsLetGo None wire wire2 = WasLetGo wire2
+IsLetGo (Some path) wire wire2 = WasTapped path wire wire2 × WasLetGo wire2
+
+-- A wire whose packets were captured: where it was had for the capture of a start at a path, and the start's box was run on it from then on, the wire
+-- below was run through that capture.
+abbrev pub IsTapped : {W M O : Type 0} → Calls (Tapping W M O) → WireSays (Tapping W M O) → Tapping W M O → Type 0
+IsTapped {W = W} {M = M} {O = O} does says tapped = (start : Start) → (path : List ℕ) → (first : Tapping W M O) → (last : Tapping W M O)
+    → WasHad (tapped_wire path start.id) first → WasRun does says start first last → tapped.wire ≡ last.wire → WasTapped path first.wire tapped.wire
+
+-- So ran the box of a start, as this one, from a gateway to a gateway, on a wire, by its capture where there is one, and the wire was let go behind
+-- that. Its service manager, where it has one, heard of just that run, and its own log was told of it.
+pub record RanOn {W : Type 0} (does : Calls W) (says : WireSays W) (who : Identity) (start : Start) (g g2 : Shown) (wire : W) (m m2 : Option Manager)
+    : Type 0
+  where
+    pub wire2 : W
+    pub run : RunsOn does says who start.rounds start.track start.until_eof g g2 wire wire2
+    pub heard : HearsAll who.boot run.had.all.moments m m2
+    pub recorded : WasToldRun start who.boot run.last.told
+    pub let_go : IsLetGo (path_in start.capture) wire wire2
 
 -- the same, of some gateway of these settings' box, whose boot's line was printed; and then output refused its end
-abbrev pub HasRunUnended : {W O : Type 0} → Holds O → Calls W → WireSays W → Settings → Start → O → O → W → BoxFault → Type 0
-HasRunUnended contents does says settings start before after wire why = (who : Identity) × (EndIsRefused contents before after who.boot why
-    × ((first : Shown) × ((last : Shown) × (IsIdentity settings start.id who first × RanOn does says who start first last wire))))
+abbrev pub HasRunUnended : {W O : Type 0} → Holds O → Calls W → WireSays W → Settings → Start → W → Option Manager → Option Manager → O → O → BoxFault → Type 0
+HasRunUnended contents does says settings start wire m m2 before after why = (who : Identity) × (EndIsRefused contents before after who.boot why
+    × ((first : Shown) × ((last : Shown) × (IsIdentity settings start.id who first × RanOn does says who start first last wire m m2))))
 
--- What became of a wire, where a start is refused: it was let go as it was; or there was such a run before, of the boot that is printed.
-abbrev pub IsSpared : {W O : Type 0} → Holds O → Calls W → WireSays W → Settings → Start → O → O → W → BoxFault → Type 0
-IsSpared contents does says settings start before after wire why =
-    WasLetGo wire ⊎ HasRunUnended contents does says settings start before after wire why
+-- What became of a wire and a service manager, where a start is refused: they were let go as they were; or there was such a run before, of the boot
+-- that is printed.
+abbrev pub IsSpared : {W O : Type 0} → Holds O → Calls W → WireSays W → Settings → Start → W → Option Manager → Option Manager → O → O → BoxFault → Type 0
+IsSpared contents does says settings start wire m m2 before after why =
+    (WasLetGo wire × (m2 ≡ m)) ⊎ HasRunUnended contents does says settings start wire m m2 before after why

@@ -17,7 +17,8 @@ use std::fs::{Files, OpenFile};
 use std::io::{self, Read, Seek, Write};
 use std::net::Net;
 use std::os::fd::AsRawFd;
-use tap::{CaptureFile, Moments, Reel, Tapped, Vacant};
+use std::rt::Clock;
+use tap::{CaptureFile, Reel, SinceFirst, Tapped, Vacant};
 
 /// A file that was opened for a capture, and its path.
 #[derive(Drop)]
@@ -63,15 +64,16 @@ impl<F: Drop> CaptureAt<'_, F> {
 }
 
 impl<F: Read + Write + Seek + OpenFile + AsRawFd + Drop> CaptureAt<'_, F> {
-    /// A wire whose packets go to a capture that is begun in the file, which loses what it has; after an Err the wire was let go.
+    /// A wire whose packets go to a capture that is begun in the file, which loses what it has, at the moments of the system's
+    /// clock; after an Err the wire was let go.
     #[tactic(auto, unfolding(crate::specs::Named::WasHad))]
-    pub(crate) fn begin<W: Wire + Drop, M: Moments + Drop>(
+    pub(crate) fn begin<'m, W: Wire + Drop, C: Clock>(
         self,
         alloc: Global,
         wire: W,
         id: GatewayId,
-        moments: M,
-    ) -> Result<Tapped<W, M, CaptureFile<F>>, BoxFault>
+        moments: SinceFirst<'m, C>,
+    ) -> Result<Tapped<W, SinceFirst<'m, C>, CaptureFile<F>>, BoxFault>
         requires had { WasHad (capture_file self.path.now) self.file }
         requires numbered { WasGiven boot_number }
         ensures begun { OnOk result (WasGiven (begun_capture self.entry.path.now)) }

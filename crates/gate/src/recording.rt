@@ -2,10 +2,14 @@
 ghost use Rattle.std.specs.Prelude.{◌≡◌};
 ghost use Rattle.journal.specs.Handed.{IsTold, IsToldLeftOut};
 ghost use Rattle.journal.specs.declared.entries.Entry.TheVariants.{Boot};
-ghost use Rattle.rounds.specs.Tellings.{IsNewTeller};
+ghost use Rattle.rounds.specs.Handing.{HandsAll};
+ghost use Rattle.rounds.specs.Rounds.{calls, wire_says};
+ghost use Rattle.rounds.specs.Tellings.{IsNewTeller, ToldLog};
 ghost use Rattle.gate.specs.Asked.{path_in};
-ghost use Rattle.gate.specs.Logs.{IsAskedOnce, IsLikeLog, IsToldOfBoot, IsToldOfLeftOut, IsToldSo};
+ghost use Rattle.gate.specs.Logs.{IsAskedOnce, IsLikeLog, IsOwnAndNew, IsToldOfBoot, IsToldOfLeftOut, IsToldSo, WasToldRun};
 ghost use Rattle.gate.specs.Named.{IsTellerOf, WasClosed, WasLeftOut, WasLetGo, WasRecorded};
+ghost use Rattle.gate.specs.Wires.{IsTapped};
+ghost use Rattle.gate.specs.declared.recording.Records.{Records};
 
 use crate::running::Start;
 use journal::{Entry, Journal, Pen};
@@ -59,8 +63,9 @@ impl<L: Journal> Records<L> {
         tell_boot(Pen::new(&self.log), boot);
     }
 
-    /// Lets a wire go whose packets were captured, and hands it how many of them the capture has left out, if it has.
-    #[tactic(auto, unfolding(crate::specs::Named::WasLeftOut, crate::specs::Named::WasLetGo))]
+    /// Lets a wire go whose packets were captured, and hands it how many of them the capture has left out, if it has. Where it was
+    /// run from the capture's beginning on, that was run through it.
+    #[tactic(auto, unfolding(crate::specs::Named::WasLeftOut, crate::specs::Named::WasLetGo, crate::specs::Named::WasTapped))]
     pub(crate) fn told_of_left_out<W: Wire + Drop, M: Moments + Drop, O: Outlet + Drop>(
         &mut self,
         tapped: Tapped<W, M, O>,
@@ -68,10 +73,24 @@ impl<L: Journal> Records<L> {
         ensures told { IsToldOfLeftOut L.enables self.old.log tapped.reel.left_out }
         ensures left_out { WasLeftOut self.old tapped.reel.left_out self.new }
         ensures gone { WasLetGo tapped.wire }
+        ensures tapped { IsTapped
+            (calls ⟦<Tapped<W, M, O> as Wire>⟧.does ⟦<Tapped<W, M, O> as Wire>⟧.answers)
+            (wire_says ⟦<Tapped<W, M, O> as Wire>⟧.waits ⟦<Tapped<W, M, O> as Wire>⟧.failing
+            ⟦<Tapped<W, M, O> as Wire>⟧.lost) tapped }
     {
         tell_left_out(Pen::new(&self.log), tapped.left_out());
         drop(tapped);
     }
+}
+
+/// Lets go who told the records of a run in this boot.
+#[tactic(auto, unfolding(crate::specs::Logs::WasToldRun))]
+pub(crate) fn put_away<L: Journal>(teller: Teller<'_, L>, _start: &Start<'_>, _boot: u64)
+    ensures { (first : ToldLog L)
+        → IsOwnAndNew L.passes L.writes (Records L) _start.now _boot first
+        → HandsAll L.enables first teller.entry → WasToldRun _start.now _boot teller.entry.told }
+{
+    drop(teller);
 }
 
 /// Tells of a boot, and of nothing else.

@@ -1,14 +1,14 @@
 //! The rest of the system, beside what a start has opened: its clock, its seeds, its environment, its standard input and error.
-ghost use Rattle.std.specs.Prelude.{◌≡◌, IfErr, IfOk, IfSome, None, OnOk, Some, [], is_some, option_map, string_bytes, true, unwrap_or};
+ghost use Rattle.std.specs.Prelude.{◌≡◌, IfErr, IfOk, IfSome, None, OnOk, Some, [], is_some, option_map, string_bytes, unwrap_or};
 ghost use Rattle.log.specs.Filter.{filter_rules, filtered_inner, filtered_rules, invalid_spec, or_errors};
-ghost use Rattle.slots.specs.Hashers.{is_drawn};
 ghost use Rattle.journal.specs.Filters.{IsRefused, WasSaid, rules_of};
 ghost use Rattle.journal.specs.Sinks.{format_of};
 ghost use Rattle.inputs.specs.Inputs.{IsUnasked};
-ghost use Rattle.rounds.specs.Clocks.{WasNow};
+ghost use Rattle.rounds.specs.Clocks.{WasStarted};
 ghost use Rattle.gate.specs.Asked.{IsChosenBy, IsFilter};
+ghost use Rattle.gate.specs.Boots.{AreSystemKeys};
 ghost use Rattle.gate.specs.Failing.{LacksFilter, LacksMemory};
-ghost use Rattle.gate.specs.Named.{IsUntold, WasGiven, all_sockets, seed};
+ghost use Rattle.gate.specs.Named.{IsUntold, WasDrawn, WasGiven, WasUndrawn, all_sockets, seed};
 
 use crate::recording::{Records, records_in};
 use box_words::BoxFault;
@@ -17,9 +17,12 @@ use inputs::StandardInput;
 use journal::{FilterFault, Format, StandardError, Unhindered, environment, filter_of};
 use log::filter::{Filter, FilteredLog};
 use nat_types::NoMemory;
+use polls::Asker;
 use rounds::Stopwatch;
-use slots::SystemDraws;
+use slots::Draws;
 use std::alloc::Global;
+use std::io;
+use std::marker::Model;
 use std::random::RandomSource;
 use std::rt::{Clock, Env};
 use tap::SinceFirst;
@@ -89,17 +92,63 @@ impl<R: RandomSource> Means<'_, R> {
     /// that it refuses.
     #[tactic(auto, unfolding(crate::specs::Named::WasGiven, crate::specs::Named::WasDenied))]
     pub(crate) fn drawn(&self) -> Result<Hashers, BoxFault>
-        ensures drawn { IfOk result (λ hashers. is_drawn hashers ≡ true) }
+        ensures drawn { IfOk result AreSystemKeys }
         ensures given { OnOk result (WasGiven seed) }
         ensures err { IfErr result (LacksMemory seed) }
     {
-        let mut draws = SystemDraws(self.rt);
-        let drawn = Hashers::drawn(&mut draws);
-        let SystemDraws(_) = draws;
-        match drawn {
+        let mut seeds = Seeds::new(self.rt);
+        match Hashers::drawn(&mut seeds) {
             Ok(hashers) => Ok(hashers),
             Err(_refused) => Err(BoxFault::from(NoMemory)),
         }
+    }
+}
+
+/// What the keys of a table are drawn from: the system's random numbers. For clauses it is who asks.
+#[derive(Drop)]
+struct Seeds<'a, R> {
+    rt: &'a R,
+    asker: Asker,
+}
+
+impl<'a, R> Model for Seeds<'a, R> {
+    ghost use Rattle.polls.specs.declared.askers.Asker.{Asker};
+
+    ghost Value = { Asker };
+
+    ghost view = { λ s. s.asker };
+}
+
+impl<'a, R> Seeds<'a, R> {
+    /// Nothing was drawn yet.
+    fn new(rt: &'a R) -> Seeds<'a, R> {
+        Seeds {
+            rt,
+            asker: Asker::new(),
+        }
+    }
+}
+
+impl<R: RandomSource> Draws for Seeds<'_, R> {
+    ghost drew = { WasDrawn };
+
+    ghost refused = { WasUndrawn };
+
+    fn draw(&mut self) -> io::Result<u128> {
+        self.told_to_draw()
+    }
+}
+
+impl<R: RandomSource> Seeds<'_, R> {
+    /// The next 16 bytes that the system gives, as a number.
+    #[tactic(auto, unfolding(crate::specs::Named::WasDrawn, crate::specs::Named::WasUndrawn))]
+    fn told_to_draw(&mut self) -> io::Result<u128>
+        ensures drew { IfOk result (λ number. WasDrawn self.old number self.new) }
+        ensures refused { IfErr result (λ why. WasUndrawn self.old why self.new) }
+    {
+        let mut bytes = [0; 16];
+        self.rt.fill_bytes(&mut bytes)?;
+        Ok(u128::from_le_bytes(bytes))
     }
 }
 
@@ -111,7 +160,7 @@ impl<'a, R: Clock> Means<'a, R> {
 
     /// A clock that is started now.
     pub(crate) fn stopwatch(&self) -> Stopwatch<'a, R>
-        ensures start { WasNow result.start }
+        ensures start { WasStarted result }
         ensures read { result.read ≡ 0 }
     {
         Stopwatch::start(self.rt)

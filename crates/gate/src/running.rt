@@ -1,33 +1,31 @@
 //! How a box is run.
-ghost use Rattle.std.specs.Prelude.{◌≡◌, ◌⊎◌, ◌<◌, IfErr, IfSome, IsTrue, OnOk, Some, false, is_some};
+ghost use Rattle.std.specs.Prelude.{◌≡◌, ◌⊎◌, ◌<◌, IfErr, IsTrue, OnOk, Some, false, is_some};
 ghost use Rattle.nat_types.specs.declared.gateways.GatewayId.TheVariants.{Zero};
-ghost use Rattle.inputs.specs.Inputs.{IsUnasked};
-ghost use Rattle.inputs.specs.declared.standard_input.StandardInput.{StandardInput as Source};
 ghost use Rattle.control.specs.Paths.{IsBeside, socket_of};
 ghost use Rattle.sockets.specs.Inheriting.{AreUnblocked};
 ghost use Rattle.rounds.specs.Rounds.{calls, wire_says};
-ghost use Rattle.rounds.specs.Tellings.{IsNewTeller, ToldLog};
+ghost use Rattle.rounds.specs.Tellings.{IsNewTeller};
 ghost use Rattle.box_words.specs.Faults.{fault_text};
 ghost use Rattle.outlets.specs.Telling.{IsToldOf};
 ghost use Rattle.gate.specs.Asking.{AsksBy, AsksFor, AsksUpTo, AsksWatched, WasAskedFor, captures, listeners, openings, pathed, places};
 ghost use Rattle.gate.specs.Asked.{IsFilter, IsNotified, boot_file_of, path_in};
 ghost use Rattle.gate.specs.Boots.{IsIdentity};
 ghost use Rattle.gate.specs.Failing.{IsUnbegun, LacksEnd};
-ghost use Rattle.gate.specs.Logs.{IsOwnLog, IsOwnTeller, IsRecorded, IsToldAtMost, IsToldBy, IsToldLeftOut, IsToldOfThis};
+ghost use Rattle.gate.specs.Logs.{IsOwnLog, IsOwnTeller, IsRecorded, IsToldAtMost, IsToldLeftOut, IsToldOfThis, WasToldRun};
 ghost use Rattle.gate.specs.Named.{IsLeft, IsUntold, WasClosed, WasGiven, WasHad, WasLetGo, all_sockets, begun_capture, boot_number, capture_file, control_socket, locked_file};
 ghost use Rattle.gate.specs.Orders.{IsInOrder, IsInSomeOrder, IsNumbered, IsSilentOrTaken, IsSparing, IsUnrecorded, IsUnrun, IsUnstarted};
 ghost use Rattle.gate.specs.Printing.{HasEnded};
 ghost use Rattle.gate.specs.Served.{HasRun, HasServed, RunsLocked, RunsOpened, RunsWired};
 ghost use Rattle.gate.specs.Sparing.{FailsHeard, FailsHeld, FailsInherited, FailsLocked, FailsLogged, FailsOpening, FailsWatched, FailsWired, IsRefusal};
 ghost use Rattle.gate.specs.Starts.{AreHeld, AreRead, AreWatched, AreWays, CanOpen};
-ghost use Rattle.gate.specs.Told.{HearsAll, HearsOne, HearsSome, IsUnheard};
+ghost use Rattle.gate.specs.Told.{HearsAll, IsUnheard};
 ghost use Rattle.gate.specs.declared.recording.Records.{Records};
 ghost use Rattle.gate.specs.Wires.{IsOfSockets, IsOwnWire, IsSpared, RanOn, RunsOn, does_at, says_at};
 
 use crate::capturing::{CaptureAt, capture_at};
 use crate::machine::{Machine, machine_of};
 use crate::reading::{manager_of, settings_at, without_clash};
-use crate::recording::Records;
+use crate::recording::{Records, put_away};
 use crate::rest::{Means, Rest, rest_of};
 use crate::starting::started;
 use crate::ways::{WayTexts, ways_of};
@@ -229,10 +227,9 @@ where
     requires notified { IsNotified start.now.notify manager.old }
     ensures asks { AsksUpTo machine.old (pathed start.now settings.now ways.now) machine.new }
     ensures ok { OnOk result (CanOpen start.now settings.now ways.now × RunsOpened O.contents
-        start.now settings.now ways.now output.old output.new) }
+        start.now settings.now ways.now manager.old manager.new output.old output.new) }
     ensures err { IfErr result (FailsWatched O.contents start.now settings.now ways.now
-        output.old output.new) }
-    ensures heard { OnOk result (HearsSome manager.old manager.new) }
+        manager.old manager.new output.old output.new) }
     ensures unheard { IfErr result (IsUnheard O.contents output.old output.new
         manager.old manager.new) }
     ensures order { IfErr result (λ why. IsInSomeOrder O.contents (path_in start.now.capture)
@@ -267,10 +264,9 @@ where
     requires beside { IsBeside (boot_file_of settings.now start.now.id) path.now }
     ensures asks { AsksUpTo machine.old (openings start.now settings.now ways.now) machine.new }
     ensures ok { OnOk result (RunsOpened O.contents start.now settings.now ways.now
-        output.old output.new) }
+        manager.old manager.new output.old output.new) }
     ensures err { IfErr result (FailsOpening O.contents start.now settings.now ways.now
-        output.old output.new) }
-    ensures heard { OnOk result (HearsSome manager.old manager.new) }
+        manager.old manager.new output.old output.new) }
     ensures unheard { IfErr result (IsUnheard O.contents output.old output.new
         manager.old manager.new) }
     ensures order { IfErr result (λ why. IsInSomeOrder O.contents (path_in start.now.capture)
@@ -316,9 +312,9 @@ where
     requires beside { IsBeside (boot_file_of settings.now start.now.id) path.now }
     ensures asks { AsksUpTo machine.old (listeners start.now settings.now ways.now) machine.new }
     ensures ok { OnOk result (RunsLocked O.contents start.now settings.now ways.now
-        output.old output.new) }
+        manager.old manager.new output.old output.new) }
     ensures err { IfErr result (FailsLocked O.contents start.now settings.now ways.now
-        output.old output.new) }
+        manager.old manager.new output.old output.new) }
     ensures untouched { IfErr result (λ why. IsUnrun O.contents (path_in start.now.capture)
         output.old output.new why ⊎ ((disk.new ≡ disk.old) × (manager.new ≡ manager.old))) }
     ensures left { IsLeft disk.old disk.new }
@@ -326,7 +322,6 @@ where
         → OnOk result (IsNumbered start.now.found
         (⟦<FileDisk<R::File> as Disk>⟧.now disk.old)
         (⟦<FileDisk<R::File> as Disk>⟧.now disk.new)) }
-    ensures heard { OnOk result (HearsSome manager.old manager.new) }
     ensures unheard { IfErr result (IsUnheard O.contents output.old output.new
         manager.old manager.new) }
     ensures order { IfErr result (λ why. IsInOrder O.contents (path_in start.now.capture)
@@ -367,15 +362,14 @@ where
     requires written { AreWays start.now.ways ways.now }
     ensures asks { AsksUpTo machine.old (places start.now settings.now ways.now) machine.new }
     ensures ok { OnOk result (RunsWired O.contents start.now settings.now ways.now
-        output.old output.new) }
+        manager.old manager.new output.old output.new) }
     ensures err { IfErr result (FailsHeard O.contents start.now settings.now ways.now
-        output.old output.new) }
+        manager.old manager.new output.old output.new) }
     ensures untouched { IfErr result (λ why. IsUnrun O.contents (path_in start.now.capture)
         output.old output.new why ⊎ ((disk.new ≡ disk.old) × (manager.new ≡ manager.old))) }
     ensures left { IsLeft disk.old disk.new }
     ensures decided { D.honest disk.old
         → OnOk result (IsNumbered start.now.found (D.now disk.old) (D.now disk.new)) }
-    ensures heard { OnOk result (HearsSome manager.old manager.new) }
     ensures unheard { IfErr result (IsUnheard O.contents output.old output.new
         manager.old manager.new) }
     ensures order { IfErr result (λ why. IsInOrder O.contents (path_in start.now.capture)
@@ -411,17 +405,16 @@ where
     requires own { IsOfSockets settings.now start.now wire }
     ensures asks { AsksUpTo machine.old (captures (path_in start.now.capture)) machine.new }
     ensures ok { OnOk result (HasRun O.contents does_at says_at settings.now start.now wire
-        output.old output.new) }
+        manager.old manager.new output.old output.new) }
     ensures closed { OnOk result (WasClosed (path_in start.now.capture)) }
     ensures err { IfErr result (FailsWired O.contents start.now output.old output.new) }
     ensures spared { IfErr result (IsSpared O.contents does_at says_at settings.now start.now
-        output.old output.new wire) }
+        wire manager.old manager.new output.old output.new) }
     ensures untouched { IfErr result (λ why. IsUnrun O.contents (path_in start.now.capture)
         output.old output.new why ⊎ ((disk.new ≡ disk.old) × (manager.new ≡ manager.old))) }
     ensures left { IsLeft disk.old disk.new }
     ensures decided { D.honest disk.old
         → OnOk result (IsNumbered start.now.found (D.now disk.old) (D.now disk.new)) }
-    ensures heard { OnOk result (HearsSome manager.old manager.new) }
     ensures unheard { IfErr result (IsUnheard O.contents output.old output.new
         manager.old manager.new) }
     ensures order { IfErr result (λ why. IsInOrder O.contents (path_in start.now.capture)
@@ -482,11 +475,12 @@ where
     requires untold { IsUntold records.old }
     ensures asks { AsksUpTo machine.old (captures (path_in start.now.capture)) machine.new }
     ensures ok { OnOk result (HasRun O.contents (calls W.does W.answers)
-        (wire_says W.waits W.failing W.lost) settings.now start.now wire output.old output.new) }
+        (wire_says W.waits W.failing W.lost) settings.now start.now wire
+        manager.old manager.new output.old output.new) }
     ensures err { IfErr result (FailsLogged O.contents start.now output.old output.new) }
     ensures spared { IfErr result (IsSpared O.contents (calls W.does W.answers)
-        (wire_says W.waits W.failing W.lost) settings.now start.now
-        output.old output.new wire) }
+        (wire_says W.waits W.failing W.lost) settings.now start.now wire
+        manager.old manager.new output.old output.new) }
     ensures untouched { IfErr result (λ why. IsUnrun O.contents (path_in start.now.capture)
         output.old output.new why ⊎ ((disk.new ≡ disk.old) × (manager.new ≡ manager.old))) }
     ensures told { IsToldAtMost (path_in start.now.capture) records.old records.new }
@@ -497,7 +491,6 @@ where
     ensures left { IsLeft disk.old disk.new }
     ensures decided { D.honest disk.old
         → OnOk result (IsNumbered start.now.found (D.now disk.old) (D.now disk.new)) }
-    ensures heard { OnOk result (HearsSome manager.old manager.new) }
     ensures unheard { IfErr result (IsUnheard O.contents output.old output.new
         manager.old manager.new) }
     ensures order { IfErr result (λ why. IsInOrder O.contents (path_in start.now.capture)
@@ -546,14 +539,15 @@ fn tapped<
     requires log { IsOwnLog L.passes L.writes start.now records.old.log }
     requires untold { IsUntold records.old }
     ensures ok { OnOk result (HasRun O.contents (calls W.does W.answers)
-        (wire_says W.waits W.failing W.lost) settings.now start.now wire output.old output.new) }
+        (wire_says W.waits W.failing W.lost) settings.now start.now wire
+        manager.old manager.new output.old output.new) }
     ensures err { IfErr result (IsUnstarted O.contents (path_in start.now.capture)
         ((disk.new ≡ disk.old) × (manager.new ≡ manager.old)) output.old output.new) }
     ensures kept { IfErr result (λ why. IsSparing O.contents (path_in start.now.capture) why
         output.old output.new) }
     ensures spared { IfErr result (IsSpared O.contents (calls W.does W.answers)
-        (wire_says W.waits W.failing W.lost) settings.now start.now
-        output.old output.new wire) }
+        (wire_says W.waits W.failing W.lost) settings.now start.now wire
+        manager.old manager.new output.old output.new) }
     ensures told { IsToldAtMost (path_in start.now.capture) records.old records.new }
     ensures recorded { OnOk result
         (IsRecorded (path_in start.now.capture) records.old records.new) }
@@ -562,7 +556,6 @@ fn tapped<
     ensures left { IsLeft disk.old disk.new }
     ensures decided { D.honest disk.old
         → OnOk result (IsNumbered start.now.found (D.now disk.old) (D.now disk.new)) }
-    ensures heard { OnOk result (HearsSome manager.old manager.new) }
     ensures unheard { IfErr result (IsUnheard O.contents output.old output.new
         manager.old manager.new) }
     ensures order { IfErr result (λ why. IsInOrder O.contents (path_in start.now.capture)
@@ -630,16 +623,15 @@ fn tapped_rounds<
     requires log { IsOwnLog L.passes L.writes start.now records.old.log }
     requires begun { IsToldOfThis identity.boot records.old }
     ensures ran { OnOk result (RanOn (calls W.does W.answers) (wire_says W.waits W.failing W.lost)
-        identity start.now gateway.old gateway.new wire) }
-    ensures ended { OnOk result (HasEnded O.contents output.old output.new) }
+        identity start.now gateway.old gateway.new wire manager.old manager.new) }
+    ensures ended { OnOk result (HasEnded O.contents gateway.new output.old output.new) }
     ensures begun { OnOk result (WasGiven (begun_capture capture.entry.path.now)) }
-    ensures heard { OnOk result (HearsOne identity.boot manager.old manager.new) }
     ensures told { (records.new ≡ records.old) ⊎ IsToldLeftOut records.old records.new }
     ensures recorded { OnOk result (IsToldLeftOut records.old records.new) }
     ensures unrun { IfErr result (λ why.
         (LacksEnd O.contents output.old output.new why
-        × (RanOn (calls W.does W.answers) (wire_says W.waits W.failing W.lost) identity start.now
-        gateway.old gateway.new wire × HearsOne identity.boot manager.old manager.new))
+        × RanOn (calls W.does W.answers) (wire_says W.waits W.failing W.lost) identity start.now
+        gateway.old gateway.new wire manager.old manager.new)
         ⊎ ((IsUnbegun (Some capture.entry.path.now) why × WasLetGo wire)
         × ((output.new ≡ output.old)
         × ((manager.new ≡ manager.old) × (gateway.new ≡ gateway.old))))) }
@@ -680,12 +672,13 @@ fn run<
     requires log { IsOwnLog L.passes L.writes start.now records.old.log }
     requires untold { IsUntold records.old }
     ensures ok { OnOk result (HasRun O.contents (calls W.does W.answers)
-        (wire_says W.waits W.failing W.lost) settings.now start.now wire output.old output.new) }
+        (wire_says W.waits W.failing W.lost) settings.now start.now wire
+        manager.old manager.new output.old output.new) }
     ensures err { IfErr result (IsUnstarted O.contents (path_in start.now.capture)
         ((disk.new ≡ disk.old) × (manager.new ≡ manager.old)) output.old output.new) }
     ensures spared { IfErr result (IsSpared O.contents (calls W.does W.answers)
-        (wire_says W.waits W.failing W.lost) settings.now start.now
-        output.old output.new wire) }
+        (wire_says W.waits W.failing W.lost) settings.now start.now wire
+        manager.old manager.new output.old output.new) }
     ensures told { IsToldAtMost (path_in start.now.capture) records.old records.new }
     ensures recorded { OnOk result
         (IsRecorded (path_in start.now.capture) records.old records.new) }
@@ -694,7 +687,6 @@ fn run<
     ensures left { IsLeft disk.old disk.new }
     ensures decided { D.honest disk.old
         → OnOk result (IsNumbered start.now.found (D.now disk.old) (D.now disk.new)) }
-    ensures heard { OnOk result (HearsSome manager.old manager.new) }
     ensures unheard { IfErr result (IsUnheard O.contents output.old output.new
         manager.old manager.new) }
     ensures order { IfErr result (λ why. IsInOrder O.contents (path_in start.now.capture)
@@ -753,13 +745,13 @@ fn rounds_of<C: Clock + Input + AllocGlobal, W: Wire, O: Write, L: Journal>(
     requires log { IsOwnLog L.passes L.writes start.now teller.log }
     requires fresh { IsNewTeller teller.log gateway.old.moment teller }
     requires teller { IsOwnTeller (Records L) identity.boot teller }
-    ensures runs { (run : RunsOn (Source C) (calls W.does W.answers)
+    ensures runs { (run : RunsOn (calls W.does W.answers)
         (wire_says W.waits W.failing W.lost) identity
         start.now.rounds start.now.track start.now.until_eof
-        gateway.old gateway.new wire.old wire.new) × (IfSome run.until IsUnasked
+        gateway.old gateway.new wire.old wire.new)
         × (HearsAll identity.boot run.had.all.moments manager.old manager.new
-        × IsToldBy (ToldLog L) (λ t. t.told) run.last.told)) }
-    ensures ended { OnOk result (HasEnded O.contents output.old output.new) }
+        × WasToldRun start.now identity.boot run.last.told) }
+    ensures ended { OnOk result (HasEnded O.contents gateway.new output.old output.new) }
     ensures err { IfErr result (LacksEnd O.contents output.old output.new) }
 {
     let alloc = means.alloc();
@@ -779,7 +771,7 @@ fn rounds_of<C: Clock + Input + AllocGlobal, W: Wire, O: Write, L: Journal>(
         output,
         &mut teller,
     );
-    let_go(teller);
+    put_away(teller, start, identity.boot);
     served?;
     Ok(())
 }

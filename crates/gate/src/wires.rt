@@ -3,7 +3,7 @@ ghost use Rattle.std.specs.Prelude.{OnOk};
 ghost use Rattle.gate.specs.Asked.{boot_file_of, path_in};
 ghost use Rattle.gate.specs.Named.{IsLeft, WasHad, WasLetGo, WasUnlocked, locked_file};
 ghost use Rattle.gate.specs.Orders.{IsUntaken};
-ghost use Rattle.gate.specs.Served.{RunsLocked};
+ghost use Rattle.gate.specs.Served.{RanLocked};
 
 use crate::running::Start;
 use box_words::BoxFault;
@@ -33,8 +33,8 @@ pub(crate) fn unlock<D: Drop, O: Write>(
     requires left { (first : D) × (WasHad (locked_file (boot_file_of _settings.now _start.now.id))
         first × (IsLeft first disk × IsUntaken O.contents (path_in _start.now.capture)
         _ended.now first disk _output.now)) }
-    requires ran { OnOk _ended.now ((before : O) × RunsLocked O.contents _start.now
-        _settings.now _ways.now before _output.now) }
+    requires ran { OnOk _ended.now (RanLocked O.contents _start.now _settings.now _ways.now
+        _output.now) }
     ensures { WasUnlocked (boot_file_of _settings.now _start.now.id) }
 {
     drop(disk);

@@ -6,7 +6,7 @@ pub returns-in-Err-clause-err : goal.returns-in-Err-clause-err
 returns-in-Err-clause-err g c = inl c.in-Err.ensures.err
 
 pub returns-in-Err-clause-spared : goal.returns-in-Err-clause-spared
-returns-in-Err-clause-spared g c = inl c.let_go.ensures
+returns-in-Err-clause-spared g c = inl (c.let_go.ensures, refl)
 
 pub returns-in-Ok-Some-clause-err : goal.returns-in-Ok-Some-clause-err
 returns-in-Ok-Some-clause-err g c =
@@ -34,12 +34,6 @@ returns-in-Ok-Some-clause-decided g c = c.tapped.ensures.decided
 
 pub returns-in-Ok-None-clause-decided : goal.returns-in-Ok-None-clause-decided
 returns-in-Ok-None-clause-decided g c = c.run.ensures.decided
-
-pub returns-in-Ok-Some-clause-heard : goal.returns-in-Ok-Some-clause-heard
-returns-in-Ok-Some-clause-heard g c = c.tapped.ensures.heard
-
-pub returns-in-Ok-None-clause-heard : goal.returns-in-Ok-None-clause-heard
-returns-in-Ok-None-clause-heard g c = c.run.ensures.heard
 
 pub returns-in-Ok-Some-clause-spared : goal.returns-in-Ok-Some-clause-spared
 returns-in-Ok-Some-clause-spared g c = c.tapped.ensures.spared

@@ -12,13 +12,14 @@ use Rattle.gate.proofs.running.connected.Goals as goal
 pub returns-clause-ok : goal.returns-clause-ok
 returns-clause-ok g c =
     also c.wired.result (WasGiven (control_socket (socket_of (boot_file_of c.args.settings.now c.args.start.now.id))))
-    (RunsWired g.O.Write.contents c.args.start.now c.args.settings.now c.args.ways.now c.args.output.now c.wired.new.output)
+    (RunsWired g.O.Write.contents c.args.start.now c.args.settings.now c.args.ways.now c.args.manager.now c.wired.new.manager c.args.output.now
+    c.wired.new.output)
     c.in_ok-control.ensures.given c.wired.ensures.ok
 
 pub returns-clause-err : goal.returns-clause-err
 returns-clause-err g c =
     behind_it c.wired.result (LacksControl (boot_file_of c.args.settings.now c.args.start.now.id))
-    (FailsHeard g.O.Write.contents c.args.start.now c.args.settings.now c.args.ways.now _ _)
+    (FailsHeard g.O.Write.contents c.args.start.now c.args.settings.now c.args.ways.now _ _ _ _)
     (WasGiven (control_socket (socket_of (boot_file_of c.args.settings.now c.args.start.now.id)))) c.in_ok-control.ensures.given c.wired.ensures.err
 
 pub returns-clause-asks : goal.returns-clause-asks
@@ -35,14 +36,11 @@ returns-clause-order g c = c.wired.ensures.order
 
 pub returns-in_err-control-clause-err : goal.returns-in_err-control-clause-err
 returns-in_err-control-clause-err g c =
-    handed_on c.from_residual.result (FailsLocked g.O.Write.contents c.args.start.now c.args.settings.now c.args.ways.now _ _) _ c.from_residual.ensures.1
+    handed_on c.from_residual.result (FailsLocked g.O.Write.contents c.args.start.now c.args.settings.now c.args.ways.now _ _ _ _) _ c.from_residual.ensures.1
     (inl c.in_err-control.ensures.err)
 
 pub returns-clause-decided : goal.returns-clause-decided
 returns-clause-decided g c = c.wired.ensures.decided
-
-pub returns-clause-heard : goal.returns-clause-heard
-returns-clause-heard g c = c.wired.ensures.heard
 
 pub returns-clause-unheard : goal.returns-clause-unheard
 returns-clause-unheard g c = c.wired.ensures.unheard

@@ -12,7 +12,7 @@ returns-in-Ok-clause-ok g c = also c.connected-ended.result _ _ (c.in-Ok.ensures
 pub returns-in-Ok-clause-err : goal.returns-in-Ok-clause-err
 returns-in-Ok-clause-err g c =
     behind_it c.connected-ended.result (LacksBootFile (boot_file_of c.args.settings.now c.args.start.now.id))
-    (FailsLocked g.O.Write.contents c.args.start.now c.args.settings.now c.args.ways.now _ _) _ (c.in-Ok.ensures.given, c.unlock.ensures) c.connected-ended.ensures.err
+    (FailsLocked g.O.Write.contents c.args.start.now c.args.settings.now c.args.ways.now _ _ _ _) _ (c.in-Ok.ensures.given, c.unlock.ensures) c.connected-ended.ensures.err
 
 pub returns-in-Ok-clause-order : goal.returns-in-Ok-clause-order
 returns-in-Ok-clause-order g c =
@@ -20,9 +20,6 @@ returns-in-Ok-clause-order g c =
 
 pub returns-in-Err-clause-err : goal.returns-in-Err-clause-err
 returns-in-Err-clause-err g c = inl c.in-Err.ensures.err
-
-pub returns-in-Ok-clause-heard : goal.returns-in-Ok-clause-heard
-returns-in-Ok-clause-heard g c = c.connected-ended.ensures.heard
 
 pub returns-in-Ok-clause-unheard : goal.returns-in-Ok-clause-unheard
 returns-in-Ok-clause-unheard g c = c.connected-ended.ensures.unheard
@@ -46,4 +43,6 @@ unlock-requires-clause-left g c = (
 )
 
 pub unlock-requires-clause-ran : goal.unlock-requires-clause-ran
-unlock-requires-clause-ran g c = on_some c.connected-ended.result _ c.args.output.now c.connected-ended.ensures.ok
+unlock-requires-clause-ran g c =
+    on_some c.connected-ended.result _ c.args.manager.now (on_some c.connected-ended.result _ c.connected-ended.new.manager
+    (on_some c.connected-ended.result _ c.args.output.now c.connected-ended.ensures.ok))

@@ -3,6 +3,8 @@ use Rattle.faults.specs.declared.faults.Fault.TheVariants.{NotWritten}
 use Rattle.box_words.specs.declared.refusals.BoxFault.TheVariants.{Run}
 use Rattle.rounds.specs.Rounds.{calls, wire_says}
 use Rattle.gate.specs.Failing.{LacksEnd}
+use Rattle.gate.specs.Logs.{WasToldRun}
+use Rattle.gate.proofs.Recorded.{told_run}
 use Rattle.gate.proofs.Refusing.{handed_on}
 use Rattle.gate.proofs.Serving.{runs_on}
 use Rattle.gate.proofs.running.rounds_of.Goals as goal
@@ -11,20 +13,22 @@ pub returns-clause-runs : goal.returns-clause-runs
 returns-clause-runs g c =
     runs_on (calls g.W.Wire.does g.W.Wire.answers) (wire_says g.W.Wire.waits g.W.Wire.failing g.W.Wire.lost) _ _ _ _ _ _ _ _ _ _ _ _ _ _ _
     c.requires.fresh.untold c.stopwatch-clock.ensures.start c.stopwatch-clock.ensures.read c.new-until.ensures c.input.ensures.watched c.input.ensures.unasked
-    c.serve-served.ensures.rounds.run c.serve-served.ensures.rounds.shown c.serve-served.ensures.rounds.wire_is _ (_, (c.ready.ensures, c.serve-served.ensures.rounds.told)) _
-    (_, (c.serve-served.ensures.rounds.told_is, c.let_go.ensures))
+    c.serve-served.ensures.rounds.run c.serve-served.ensures.rounds.shown c.serve-served.ensures.rounds.wire_is _ (_, (c.ready.ensures, c.serve-served.ensures.rounds.told)) (WasToldRun c.args.start.now c.args.identity.boot)
+    (told_run c.args.start.now c.args.identity.boot _ _ c.serve-served.ensures.rounds.told_is
+    (c.put_away.ensures c.args.teller (record { own = c.requires.teller; log = c.requires.log; untold = c.requires.fresh.untold }) c.serve-served.ensures.handed))
 
 pub returns-in_err-served-clause-runs : goal.returns-in_err-served-clause-runs
 returns-in_err-served-clause-runs g c =
     runs_on (calls g.W.Wire.does g.W.Wire.answers) (wire_says g.W.Wire.waits g.W.Wire.failing g.W.Wire.lost) _ _ _ _ _ _ _ _ _ _ _ _ _ _ _
     c.requires.fresh.untold c.stopwatch-clock.ensures.start c.stopwatch-clock.ensures.read c.new-until.ensures c.input.ensures.watched c.input.ensures.unasked
-    c.serve-served.ensures.rounds.run c.serve-served.ensures.rounds.shown c.serve-served.ensures.rounds.wire_is _ (_, (c.ready.ensures, c.serve-served.ensures.rounds.told)) _
-    (_, (c.serve-served.ensures.rounds.told_is, c.let_go.ensures))
+    c.serve-served.ensures.rounds.run c.serve-served.ensures.rounds.shown c.serve-served.ensures.rounds.wire_is _ (_, (c.ready.ensures, c.serve-served.ensures.rounds.told)) (WasToldRun c.args.start.now c.args.identity.boot)
+    (told_run c.args.start.now c.args.identity.boot _ _ c.serve-served.ensures.rounds.told_is
+    (c.put_away.ensures c.args.teller (record { own = c.requires.teller; log = c.requires.log; untold = c.requires.fresh.untold }) c.serve-served.ensures.handed))
 
 pub returns-clause-ended : goal.returns-clause-ended
-returns-clause-ended g c = (rw c.in_ok-served.was at c.serve-served.ensures.written, rw c.in_ok-served.was at c.serve-served.ensures.ended)
+returns-clause-ended g c = ((rw c.in_ok-served.was at c.serve-served.ensures.written, c.serve-served.ensures.behind), rw c.in_ok-served.was at c.serve-served.ensures.ended)
 
 pub returns-in_err-served-clause-err : goal.returns-in_err-served-clause-err
 returns-in_err-served-clause-err g c =
     handed_on c.from_residual.result (LacksEnd g.O.Write.contents _ _) (Run NotWritten) c.from_residual.ensures.1
-    (rw c.in_err-served.was at c.serve-served.ensures.unwritten, record { is = refl; begun = rw c.in_err-served.was at c.serve-served.ensures.ended })
+    ((rw c.in_err-served.was at c.serve-served.ensures.unwritten, (_, c.serve-served.ensures.behind)), record { is = refl; begun = rw c.in_err-served.was at c.serve-served.ensures.ended })

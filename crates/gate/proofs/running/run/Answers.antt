@@ -1,19 +1,18 @@
 use Rattle.std.proofs.Common.{inl, inr, refl, sym}
 use Rattle.rounds.specs.Rounds.{calls, wire_says}
-use Rattle.gate.proofs.Below.{ran_below}
 use Rattle.gate.proofs.Heard.{unheard_behind}
 use Rattle.gate.proofs.Recorded.{new_again, own_again, own_like, recorded_alone}
 use Rattle.gate.proofs.Refusing.{end_behind, in_order, recorded_behind, unstarted_behind, unstarted_with, with_capture}
-use Rattle.gate.proofs.Serving.{always, has_run, on_sockets, spared_behind, uncaptured}
+use Rattle.gate.proofs.Serving.{always, has_run, on_sockets, ran_bare, spared_behind, uncaptured}
 use Rattle.gate.proofs.running.run.Goals as goal
 
 pub returns-in-Ok-clause-ok : goal.returns-in-Ok-clause-ok
 returns-in-Ok-clause-ok g c =
-    has_run c.rounds_of-ended.result g.O.Write.contents (calls g.W.Wire.does g.W.Wire.answers) (wire_says g.W.Wire.waits g.W.Wire.failing g.W.Wire.lost) c.args.settings.now c.args.start.now c.args.wire _ _ _ _ _ _
+    has_run c.rounds_of-ended.result g.O.Write.contents (calls g.W.Wire.does g.W.Wire.answers) (wire_says g.W.Wire.waits g.W.Wire.failing g.W.Wire.lost) c.args.settings.now c.args.start.now c.args.wire _ _ _ _ _ _ _ _
     c.in-Ok.ensures.start c.in-Ok.ensures.identity c.requires.own
     (always c.rounds_of-ended.result _ (
-    ran_below (λ w. w) (calls g.W.Wire.does g.W.Wire.answers) (wire_says g.W.Wire.waits g.W.Wire.failing g.W.Wire.lost) _ c.args.start.now _ _ c.args.wire c.rounds_of-ended.new.wire
-    c.rounds_of-ended.new.wire c.args.wire refl refl c.let_go.ensures c.rounds_of-ended.ensures.runs.0
+    ran_bare (calls g.W.Wire.does g.W.Wire.answers) (wire_says g.W.Wire.waits g.W.Wire.failing g.W.Wire.lost) _ c.args.start.now _ _ c.args.wire c.rounds_of-ended.new.wire _ _
+    c.requires.uncaptured c.let_go.ensures c.rounds_of-ended.ensures.runs
     )) c.rounds_of-ended.ensures.ended
     (c.in-Ok.ensures.own_number _ c.requires.had) (_, c.requires.notified) c.requires.valid
     (always c.rounds_of-ended.result _ (uncaptured c.args.start.now.capture c.requires.uncaptured))
@@ -28,17 +27,14 @@ returns-in-Err-clause-err g c = unstarted_with g.O.Write.contents _ _ _ _ _ _ re
 
 pub returns-in-Ok-clause-spared : goal.returns-in-Ok-clause-spared
 returns-in-Ok-clause-spared g c =
-    spared_behind c.rounds_of-ended.result g.O.Write.contents (calls g.W.Wire.does g.W.Wire.answers) (wire_says g.W.Wire.waits g.W.Wire.failing g.W.Wire.lost) c.args.settings.now c.args.start.now c.args.wire _ _ _ _ _
+    spared_behind c.rounds_of-ended.result g.O.Write.contents (calls g.W.Wire.does g.W.Wire.answers) (wire_says g.W.Wire.waits g.W.Wire.failing g.W.Wire.lost) c.args.settings.now c.args.start.now c.args.wire _ _ _ _ _ _ _
     _ c.in-Ok.ensures.identity (
-    ran_below (λ w. w) (calls g.W.Wire.does g.W.Wire.answers) (wire_says g.W.Wire.waits g.W.Wire.failing g.W.Wire.lost) _ c.args.start.now _ _ c.args.wire c.rounds_of-ended.new.wire
-    c.rounds_of-ended.new.wire c.args.wire refl refl c.let_go.ensures c.rounds_of-ended.ensures.runs.0
+    ran_bare (calls g.W.Wire.does g.W.Wire.answers) (wire_says g.W.Wire.waits g.W.Wire.failing g.W.Wire.lost) _ c.args.start.now _ _ c.args.wire c.rounds_of-ended.new.wire _ _
+    c.requires.uncaptured c.let_go.ensures c.rounds_of-ended.ensures.runs
     ) c.in-Ok.ensures.printed c.rounds_of-ended.ensures.err
 
 pub returns-in-Ok-clause-decided : goal.returns-in-Ok-clause-decided
 returns-in-Ok-clause-decided g c h = always c.rounds_of-ended.result _ (_, c.in-Ok.ensures.decided h)
-
-pub returns-in-Ok-clause-heard : goal.returns-in-Ok-clause-heard
-returns-in-Ok-clause-heard g c = always c.rounds_of-ended.result _ (_, (_, c.rounds_of-ended.ensures.runs.1.1.0))
 
 pub returns-in-Ok-clause-order : goal.returns-in-Ok-clause-order
 returns-in-Ok-clause-order g c =
@@ -46,7 +42,7 @@ returns-in-Ok-clause-order g c =
     (end_behind c.rounds_of-ended.result g.O.Write.contents _ _ _ _ _ c.in-Ok.ensures.printed c.rounds_of-ended.ensures.err)
 
 pub returns-in-Err-clause-spared : goal.returns-in-Err-clause-spared
-returns-in-Err-clause-spared g c = inl c.let_go-in-Err.ensures
+returns-in-Err-clause-spared g c = inl (c.let_go-in-Err.ensures, refl)
 
 pub returns-in-Err-clause-order : goal.returns-in-Err-clause-order
 returns-in-Err-clause-order g c = with_capture g.O.Write.contents _ _ _ _ _ _ _ _ c.in-Err.ensures.order
@@ -57,7 +53,7 @@ rounds_of-ended-requires-clause-own g c =
 
 pub returns-in-Ok-clause-unheard : goal.returns-in-Ok-clause-unheard
 returns-in-Ok-clause-unheard g c =
-    unheard_behind c.rounds_of-ended.result g.O.Write.contents _ _ _ _ _ _ c.in-Ok.ensures.printed (_, c.rounds_of-ended.ensures.runs.1.1.0) c.rounds_of-ended.ensures.err
+    unheard_behind c.rounds_of-ended.result g.O.Write.contents _ _ _ _ _ _ c.in-Ok.ensures.printed (_, c.rounds_of-ended.ensures.runs.1.0) c.rounds_of-ended.ensures.err
 
 pub returns-in-Ok-clause-unrecorded : goal.returns-in-Ok-clause-unrecorded
 returns-in-Ok-clause-unrecorded g c =

@@ -1,6 +1,6 @@
 use Rattle.std.proofs.Common.{inl, refl}
 use Rattle.rounds.specs.Rounds.{calls, wire_says}
-use Rattle.gate.proofs.Heard.{heard_in_some, unheard_tapped}
+use Rattle.gate.proofs.Heard.{unheard_tapped}
 use Rattle.gate.proofs.Recorded.{recorded_both, told_behind}
 use Rattle.gate.proofs.Refusing.{in_order, recorded_behind, rounds_behind, sparing_at, sparing_behind, unstarted_behind, unstarted_with, with_capture}
 use Rattle.gate.proofs.Serving.{always, captured_at, has_run, spared_tapped}
@@ -8,7 +8,7 @@ use Rattle.gate.proofs.running.tapped.Goals as goal
 
 pub returns-in-Ok-clause-ok : goal.returns-in-Ok-clause-ok
 returns-in-Ok-clause-ok g c =
-    has_run c.tapped_rounds-ended.result g.O.Write.contents (calls g.W.Wire.does g.W.Wire.answers) (wire_says g.W.Wire.waits g.W.Wire.failing g.W.Wire.lost) c.args.settings.now c.args.start.now c.args.wire _ _ _ _ _ _
+    has_run c.tapped_rounds-ended.result g.O.Write.contents (calls g.W.Wire.does g.W.Wire.answers) (wire_says g.W.Wire.waits g.W.Wire.failing g.W.Wire.lost) c.args.settings.now c.args.start.now c.args.wire _ _ _ _ _ _ _ _
     c.in-Ok.ensures.start c.in-Ok.ensures.identity c.requires.own c.tapped_rounds-ended.ensures.ran c.tapped_rounds-ended.ensures.ended
     (c.in-Ok.ensures.own_number _ c.requires.had) (_, c.requires.notified) c.requires.valid
     (captured_at c.tapped_rounds-ended.result _ _ c.requires.captured c.tapped_rounds-ended.ensures.begun)
@@ -21,15 +21,11 @@ returns-in-Ok-clause-err g c =
 
 pub returns-in-Ok-clause-spared : goal.returns-in-Ok-clause-spared
 returns-in-Ok-clause-spared g c =
-    spared_tapped c.tapped_rounds-ended.result g.O.Write.contents (calls g.W.Wire.does g.W.Wire.answers) (wire_says g.W.Wire.waits g.W.Wire.failing g.W.Wire.lost) c.args.settings.now c.args.start.now c.args.wire _ _ _ _ _ _ _ _ _
+    spared_tapped c.tapped_rounds-ended.result g.O.Write.contents (calls g.W.Wire.does g.W.Wire.answers) (wire_says g.W.Wire.waits g.W.Wire.failing g.W.Wire.lost) c.args.settings.now c.args.start.now c.args.wire _ _ _ _ _ _ _ _ c.args.capture.path.now _ _
     c.in-Ok.ensures.identity c.in-Ok.ensures.printed c.tapped_rounds-ended.ensures.unrun
 
 pub returns-in-Ok-clause-decided : goal.returns-in-Ok-clause-decided
 returns-in-Ok-clause-decided g c h = always c.tapped_rounds-ended.result _ (_, c.in-Ok.ensures.decided h)
-
-pub returns-in-Ok-clause-heard : goal.returns-in-Ok-clause-heard
-returns-in-Ok-clause-heard g c =
-    heard_in_some c.tapped_rounds-ended.result _ c.args.manager.now c.tapped_rounds-ended.new.manager c.tapped_rounds-ended.ensures.heard
 
 pub returns-in-Ok-clause-order : goal.returns-in-Ok-clause-order
 returns-in-Ok-clause-order g c =
@@ -41,14 +37,15 @@ pub returns-in-Err-clause-err : goal.returns-in-Err-clause-err
 returns-in-Err-clause-err g c = unstarted_with g.O.Write.contents _ _ _ _ _ _ refl c.in-Err.ensures.err
 
 pub returns-in-Err-clause-spared : goal.returns-in-Err-clause-spared
-returns-in-Err-clause-spared g c = inl c.let_go.ensures
+returns-in-Err-clause-spared g c = inl (c.let_go.ensures, refl)
 
 pub returns-in-Err-clause-order : goal.returns-in-Err-clause-order
 returns-in-Err-clause-order g c = with_capture g.O.Write.contents _ _ _ _ _ _ _ _ c.in-Err.ensures.order
 
 pub returns-in-Ok-clause-unheard : goal.returns-in-Ok-clause-unheard
 returns-in-Ok-clause-unheard g c =
-    unheard_tapped c.tapped_rounds-ended.result g.O.Write.contents _ _ _ _ c.args.capture.path.now c.args.wire _ _ _ _ _ c.in-Ok.ensures.printed c.tapped_rounds-ended.ensures.unrun
+    unheard_tapped c.tapped_rounds-ended.result g.O.Write.contents (calls g.W.Wire.does g.W.Wire.answers) (wire_says g.W.Wire.waits g.W.Wire.failing g.W.Wire.lost) _ c.args.start.now _ _ _ _ _ c.args.capture.path.now c.args.wire _ _ _ _
+    c.in-Ok.ensures.printed c.tapped_rounds-ended.ensures.unrun
 
 pub returns-in-Ok-clause-unrecorded : goal.returns-in-Ok-clause-unrecorded
 returns-in-Ok-clause-unrecorded g c =

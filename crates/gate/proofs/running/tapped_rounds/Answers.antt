@@ -1,29 +1,38 @@
 use Rattle.std.proofs.Common.{inl, inr, refl, sym}
 use Rattle.rounds.specs.Rounds.{calls, wire_says}
-use Rattle.gate.proofs.Below.{ran_below}
+use Rattle.gate.proofs.Below.{above_tapped, ran_below}
 use Rattle.gate.proofs.Recorded.{new_again, own_again}
 use Rattle.gate.proofs.Refusing.{handed_on, only_this}
-use Rattle.gate.proofs.Serving.{always, on_tapped}
+use Rattle.gate.proofs.Serving.{always, let_go_tapped, on_tapped}
 use Rattle.gate.proofs.running.tapped_rounds.Goals as goal
 
 pub returns-clause-ran : goal.returns-clause-ran
 returns-clause-ran g c =
-    always c.rounds_of-ended.result _
-    (ran_below (λ tapped. tapped.wire) (calls g.W.Wire.does g.W.Wire.answers) (wire_says g.W.Wire.waits g.W.Wire.failing g.W.Wire.lost) c.args.identity c.args.start.now _ _ _ _ c.end.new.self c.args.wire
-    c.in_ok-wire.ensures.tapped.0 c.end.ensures.wire c.told_of_left_out.ensures.gone c.rounds_of-ended.ensures.runs.0)
+    always c.rounds_of-ended.result _ (
+    ran_below (λ tapped. tapped.wire) _ (calls g.W.Wire.does g.W.Wire.answers) (above_tapped g.W.Wire.does g.W.Wire.answers _ _ _)
+    (wire_says g.W.Wire.waits g.W.Wire.failing g.W.Wire.lost) c.args.identity c.args.start.now _ _ _ _ c.end.new.self c.args.wire _ _ c.in_ok-wire.ensures.tapped.0
+    c.end.ensures.wire (
+    let_go_tapped _ c.args.capture.path.now _ c.args.wire c.end.new.self.wire c.requires.captured c.in_ok-wire.ensures.tapped.0 (
+    c.told_of_left_out.ensures.tapped c.args.start.now c.args.capture.path.now _ _ c.in_ok-wire.ensures.had (_, (_, (_, c.rounds_of-ended.ensures.runs.0))) c.end.ensures.wire
+    ) c.told_of_left_out.ensures.gone
+    )
+    c.rounds_of-ended.ensures.runs.0 c.rounds_of-ended.ensures.runs.1.0 c.rounds_of-ended.ensures.runs.1.1
+    )
 
 pub returns-clause-begun : goal.returns-clause-begun
 returns-clause-begun g c = always c.rounds_of-ended.result _ c.in_ok-wire.ensures.begun
 
-pub returns-clause-heard : goal.returns-clause-heard
-returns-clause-heard g c = always c.rounds_of-ended.result _ (_, c.rounds_of-ended.ensures.runs.1.1.0)
-
 pub returns-clause-unrun : goal.returns-clause-unrun
 returns-clause-unrun g c =
     only_this c.rounds_of-ended.result _ _ _ (
-      ran_below (λ tapped. tapped.wire) (calls g.W.Wire.does g.W.Wire.answers) (wire_says g.W.Wire.waits g.W.Wire.failing g.W.Wire.lost) c.args.identity c.args.start.now _ _ _ _ c.end.new.self c.args.wire
-          c.in_ok-wire.ensures.tapped.0 c.end.ensures.wire c.told_of_left_out.ensures.gone c.rounds_of-ended.ensures.runs.0,
-      (_, c.rounds_of-ended.ensures.runs.1.1.0),
+    ran_below (λ tapped. tapped.wire) _ (calls g.W.Wire.does g.W.Wire.answers) (above_tapped g.W.Wire.does g.W.Wire.answers _ _ _)
+    (wire_says g.W.Wire.waits g.W.Wire.failing g.W.Wire.lost) c.args.identity c.args.start.now _ _ _ _ c.end.new.self c.args.wire _ _ c.in_ok-wire.ensures.tapped.0
+    c.end.ensures.wire (
+    let_go_tapped _ c.args.capture.path.now _ c.args.wire c.end.new.self.wire c.requires.captured c.in_ok-wire.ensures.tapped.0 (
+    c.told_of_left_out.ensures.tapped c.args.start.now c.args.capture.path.now _ _ c.in_ok-wire.ensures.had (_, (_, (_, c.rounds_of-ended.ensures.runs.0))) c.end.ensures.wire
+    ) c.told_of_left_out.ensures.gone
+    )
+    c.rounds_of-ended.ensures.runs.0 c.rounds_of-ended.ensures.runs.1.0 c.rounds_of-ended.ensures.runs.1.1
     )
     c.rounds_of-ended.ensures.err
 

@@ -16,7 +16,7 @@ returns-in_err-manager-clause-asks g c = (_, (c.in_err-manager.ensures.asked, in
 pub returns-clause-ok : goal.returns-clause-ok
 returns-clause-ok g c =
     has_served c.apart-ended.result g.O.Write.contents c.args.start.now c.args.settings.now c.args.ways.now _ _ _ _ c.apart-ended.ensures.ok c.in_ok-manager.ensures.ok
-    c.apart-ended.ensures.heard c.let_go.ensures
+    c.let_go.ensures
 
 pub returns-clause-err : goal.returns-clause-err
 returns-clause-err g c =

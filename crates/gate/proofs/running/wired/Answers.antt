@@ -14,7 +14,7 @@ returns-clause-ok g c =
 
 pub returns-clause-err : goal.returns-clause-err
 returns-clause-err g c =
-    behind_sockets c.logged.result g.O.Write.contents c.args.start.now c.args.settings.now c.args.ways.now c.in_ok-wire.wire _ _ c.in_ok-wire.ensures.given
+    behind_sockets c.logged.result g.O.Write.contents c.args.start.now c.args.settings.now c.args.ways.now c.in_ok-wire.wire _ _ _ _ c.in_ok-wire.ensures.given
     c.in_ok-wire.ensures.had c.logged.ensures.err c.logged.ensures.spared
 
 pub returns-clause-untouched : goal.returns-clause-untouched
@@ -25,14 +25,11 @@ returns-clause-order g c = c.logged.ensures.order
 
 pub returns-in_err-wire-clause-err : goal.returns-in_err-wire-clause-err
 returns-in_err-wire-clause-err g c =
-    handed_on c.from_residual.result (FailsHeard g.O.Write.contents c.args.start.now c.args.settings.now c.args.ways.now _ _) _ c.from_residual.ensures.1
+    handed_on c.from_residual.result (FailsHeard g.O.Write.contents c.args.start.now c.args.settings.now c.args.ways.now _ _ _ _) _ c.from_residual.ensures.1
     (inl c.in_err-wire.ensures.err)
 
 pub returns-clause-decided : goal.returns-clause-decided
 returns-clause-decided g c = c.logged.ensures.decided
-
-pub returns-clause-heard : goal.returns-clause-heard
-returns-clause-heard g c = c.logged.ensures.heard
 
 pub returns-clause-unheard : goal.returns-clause-unheard
 returns-clause-unheard g c = c.logged.ensures.unheard
