@@ -1,13 +1,14 @@
 -- Runs that were taken down in a file.
 use Rattle.std.proofs.Common.{◌≡◌, ◌⊎◌, ℕ, Bool, true, List, Option, None, Result, Ok, Err, IfErr, IfOk, OnOk, refl, subst, sym}
 use Rattle.std.specs.IoError.{error_kind}
-use Rattle.std.specs.Prelude.{is_err, length}
+use Rattle.std.specs.Prelude.{is_err}
 use Rattle.std.specs.declared.io.Error.{Error}
 use Rattle.settings_file.specs.Clashes.{clash_of_both}
 use Rattle.faults.specs.declared.faults.Fault.{Fault}
 use Rattle.faults.specs.Jobs.{IsJobOf}
 use Rattle.faults.specs.declared.jobs.Job.{Job}
 use Rattle.frame_sim.specs.Tapes.{TakesOn}
+use Rattle.frame_sim.specs.World.{founding}
 use Rattle.outlets.specs.Telling.{Telling}
 use Rattle.scripts.specs.Script.{first_bad_line}
 use Rattle.simulation.specs.Tapes.{IsTapedRun, StopsTaped}
@@ -37,15 +38,15 @@ closed_of begins closes (Err error) host last ended unended = unended
 pub tapes_sim : {T O C E : Type 0} (r : Result ℕ Fault) (takes refuses : TakesOn T) (contents : O → Option (List ℕ)) (is_watched : Bool) (reads : Reads C)
     (tells : Telling E) (clock : C) (text script : List ℕ) (job : Job) (first last : T) (output printed : O) (before after : E) → IsJobOf text script job
     → first_bad_line script ≡ None → IfOk r (IsTapedRun takes contents job.settings job.events.items first last output printed)
-    → OnOk r (OverhearsAll is_watched reads tells (length job.events.items) clock before after) → IfErr r IsOfEvents
-    → IfErr r (EndsBehind (OverhearsSome is_watched reads tells (length job.events.items) clock)
+    → OnOk r (OverhearsAll is_watched reads tells output (founding job.settings) job.events.items clock before after) → IfErr r IsOfEvents
+    → IfErr r (EndsBehind (OverhearsSome is_watched reads tells output (founding job.settings) job.events.items clock)
     (StopsTaped takes refuses contents job.settings job.events.items first last output printed) before after)
-    → (times : ℕ) × (Overhears is_watched reads tells clock text script times before after
+    → (times : ℕ) × (Overhears is_watched reads tells clock text script output times before after
     × TapesSim takes refuses contents times text script r first last output printed)
 tapes_sim (Ok status) takes refuses contents is_watched reads tells clock text script job first last output printed before after held good taped heard events stopped = (
   heard.0,
   (
-    overheard_of is_watched reads tells text script job clock heard.0 before after held heard.1.1,
+    overheard_of is_watched reads tells text script job clock output heard.0 before after held heard.1.1,
     (
       record {
         run = record { job = job; is = held; good = good; run = taped.run; printed = taped.text };
@@ -59,7 +60,7 @@ tapes_sim (Ok status) takes refuses contents is_watched reads tells clock text s
 tapes_sim (Err why) takes refuses contents is_watched reads tells clock text script job first last output printed before after held good taped heard events stopped = (
   stopped.0,
   (
-    overheard_of is_watched reads tells text script job clock stopped.0 before after held stopped.1.0,
+    overheard_of is_watched reads tells text script job clock output stopped.0 before after held stopped.1.0,
     (events, record { job = job; is = held; good = good; stopped = stopped.1.1 }),
   ),
 )

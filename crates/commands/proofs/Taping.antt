@@ -41,7 +41,7 @@ module _ {H T O X : Type 0} (takes : TakesOn T) (begins : Begins H T) (closes : 
 
 module _ {S H T O E : Type 0} (does : Does S) (takes : TakesOn T) (begins : Begins H T) (closes : Closes H T) (prints : O → Option (List ℕ)) where
   -- with a capture or without, just what is printed of a run was put
-  pub put_of : (hears : Hearing E) (files : RunWords) (status : ℕ) (before after : Scene S H O E)
+  pub put_of : (hears : Hearing O E) (files : RunWords) (status : ℕ) (before after : Scene S H O E)
       → (ran : HasRunOf does takes begins closes prints hears files status before after)
       → PutsScript prints ran.text ran.script before.output after.output status
   put_of hears files status before after ran = put_by takes begins closes prints string_bytes (IsUncaptured before after) files.capture ran.text ran.script

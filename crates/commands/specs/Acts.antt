@@ -168,11 +168,11 @@ HasJobYet times text script = (times ≡ 0) × HasJob text script
 module _ {S H T O E : Type 0} (does : Does S) (takes : TakesOn T) (begins : Begins H T) (closes : Closes H T) (prints : O → Option (List ℕ)) where
   -- just the files that are named were read, the settings first, and the script run with this status; the output was asked for just what is
   -- printed of that, and took it; so much of it was told; and it was captured just where the words name a file for that
-  pub record HasRunOf (hears : Hearing E) (files : RunWords) (status : ℕ) (before after : Scene S H O E) : Type 0 where
+  pub record HasRunOf (hears : Hearing O E) (files : RunWords) (status : ℕ) (before after : Scene S H O E) : Type 0 where
     pub text : List ℕ
     pub script : List ℕ
     pub are_read : AreRead does (string_bytes files.settings) (string_bytes files.script) text script before.site after.site
-    pub told : hears text script before.errors after.errors
+    pub told : hears text script before.output before.errors after.errors
     pub run : MatchOption files.capture (IsUncaptured before after × PutsScript prints text script before.output after.output status)
         (λ path. IsCaptured takes begins closes prints (string_bytes path) text script before.output after.output status before.host after.host)
 
@@ -199,11 +199,11 @@ module _ {S H T O E : Type 0} (does : Does S) (takes refuses : TakesOn T) (begin
 
   -- Just the files that are named were read, the settings first, and a fault ended their run: behind what was heard of it by then just that
   -- fault's line was told
-  pub record IsEndedSim (tells : Telling E) (overhears : Overhearing E) (files : RunWords) (before after : Scene S H O E) : Type 0 where
+  pub record IsEndedSim (tells : Telling E) (overhears : Overhearing O E) (files : RunWords) (before after : Scene S H O E) : Type 0 where
     pub text : List ℕ
     pub script : List ℕ
     pub are_read : AreRead does (string_bytes files.settings) (string_bytes files.script) text script before.site after.site
-    pub told : IsToldBehind tells (overhears text script)
+    pub told : IsToldBehind tells (overhears text script before.output)
         (λ times why. IsEnded (FailsSim prints times) (HoldNoJobYet times) (HasJobYet times) (TapesSim takes refuses prints times) files
         text script why before after) before.errors after.errors
 
@@ -221,7 +221,7 @@ module _ {S H T O E : Type 0} (does : Does S) (takes refuses : TakesOn T) (begin
       × IsUnprinted before after × IsUncaptured before after
 
   -- just why one of the files wasn't had was told; or they were, and a fault ended their run
-  abbrev pub EndsSim : Telling E → Overhearing E → RunWords → Scene S H O E → Scene S H O E → Type 0
+  abbrev pub EndsSim : Telling E → Overhearing O E → RunWords → Scene S H O E → Scene S H O E → Type 0
   EndsSim tells overhears files before after =
       IsToldOf tells fault_text (λ why. IsUnbegunRun files why before after) before.errors after.errors
       ⊎ IsEndedSim tells overhears files before after
@@ -257,7 +257,7 @@ IsSpared others first last = last ≡ first
 -- `status --until synced` print nothing. What `status`, `pairs`, `sim`, `loop` and the version print at 0 is flushed last of all; the version ends with 1 only where
 -- its output refused it, or to be flushed.
 module _ {S H T P O E : Type 0} (does : Does S) (works : Works Work H) (takes refuses : TakesOn T) (begins : Begins H T) (closes : Closes H T)
-    (opens : Opens P) (denies : Refuses P) (passes : Passes P) (prints : O → Option (List ℕ)) (tells : Telling E) (hears : Hearing E) (overhears : Overhearing E) where
+    (opens : Opens P) (denies : Refuses P) (passes : Passes P) (prints : O → Option (List ℕ)) (tells : Telling E) (hears : Hearing O E) (overhears : Overhearing O E) where
   abbrev pub Acts : P → P → Task → ℕ → Scene S H O E → Scene S H O E → Type 0
   Acts first last (task.Init file) status before after = IsUnprinted before after
       × EndsSo tells (λ b a. does b (made (string_bytes file)) a) (HasUnmade does (string_bytes file)) status before after

@@ -7,6 +7,8 @@ use Rattle.faults.specs.Jobs.{IsJobOf}
 use Rattle.faults.specs.Texts.{fault_text}
 use Rattle.faults.specs.declared.faults.Fault.{Fault}
 use Rattle.faults.specs.declared.jobs.Job.{Job}
+use Rattle.frame_sim.specs.World.{World, founding}
+use Rattle.nat_types.specs.declared.events.WorldEvent.{WorldEvent}
 use Rattle.outlets.specs.Telling.{IsToldOf, Telling as Tells}
 use Rattle.simulation.specs.Watched.{Ends, IsTold, IsToldAll, IsToldScript, IsWhole}
 
@@ -47,66 +49,73 @@ pub record IsSilent {C E : Type 0} (moment : ℕ) (before after : Telling C E) :
   pub is_refused : after.is_refused ≡ before.is_refused
   pub errors : after.errors ≡ before.errors
 
--- it was told how far a run is, and says so at the moment that its clock reads
-pub record Hears {C E : Type 0} (reads : Reads C) (tells : Tells E) (before : Telling C E) (taken all : ℕ) (after : Telling C E) : Type 0 where
+-- It was told that so many of a run's events are taken, while its world was this and its output that. It is no more than a name for the call, by
+-- what it was before and is then: who is told has it, and nobody else.
+unfoldable pub WasReached : {C E O : Type 0} → O → Telling C E → World → ℕ → Telling C E → Type 0
+WasReached output before reached taken after = Unit {0}
+
+-- it was told how far a run is, by the world that has come so far, while the output was this; and it says so at the moment that its clock reads
+pub record Hears {C E O : Type 0} (reads : Reads C) (tells : Tells E) (output : O) (before : Telling C E) (reached : World) (taken all : ℕ) (after : Telling C E) : Type 0 where
+  pub called : WasReached output before reached taken after
   pub moment : ℕ
   pub read : reads before.clock moment after.clock
   pub says : IsSilent moment before after ⊎ Says tells moment taken all before after
 
--- who is told of a run of so many events heard so of all of them, by a clock that was this one when it began
-pub record HasHeard {C E : Type 0} (reads : Reads C) (tells : Tells E) (all : ℕ) (clock : C) (before after : E) : Type 0 where
+-- who is told of a run of these events from a world heard so of all of them, while the output was this, by a clock that was this one when it began
+pub record HasHeard {C E O : Type 0} (reads : Reads C) (tells : Tells E) (output : O) (w : World) (events : List WorldEvent) (clock : C) (before after : E) : Type 0 where
   pub last : Telling C E
-  pub told : IsToldAll (Hears reads tells) all (telling clock 200 false before) last
+  pub told : IsToldAll (Hears reads tells output) w events (telling clock 200 false before) last
   pub is_last : after ≡ last.errors
 
 -- the same of a script's events
-pub record HasHeardScript {C E : Type 0} (reads : Reads C) (tells : Tells E) (text script : List ℕ) (clock : C) (before after : E) : Type 0 where
+pub record HasHeardScript {C E O : Type 0} (reads : Reads C) (tells : Tells E) (text script : List ℕ) (clock : C) (output : O) (before after : E) : Type 0 where
   pub job : Job
   pub is : IsJobOf text script job
-  pub heard : HasHeard reads tells (length job.events.items) clock before after
+  pub heard : HasHeard reads tells output (founding job.settings) job.events.items clock before after
 
--- what is told of the run of a script, by the texts of its settings and of the script
-abbrev pub Hearing : Type 0 → Type 1
-Hearing E = List ℕ → List ℕ → E → E → Type 0
+-- what is told of the run of a script, by the texts of its settings and of the script, before anything was printed to an output
+abbrev pub Hearing : Type 0 → Type 0 → Type 1
+Hearing O E = List ℕ → List ℕ → O → E → E → Type 0
 
 -- where a run is watched so much is heard of it; where it isn't, nothing is told
 abbrev pub IfWatched : {E : Type 0} → Bool → Type 0 → E → E → Type 0
 IfWatched is_watched Heard before after = (is_watched ≡ true → Heard) × (is_watched ≡ false → after ≡ before)
 
-abbrev pub Watches : {C E : Type 0} → Bool → Reads C → Tells E → C → Hearing E
-Watches is_watched reads tells clock text script before after =
-    IfWatched is_watched (HasHeardScript reads tells text script clock before after) before after
+abbrev pub Watches : {C O E : Type 0} → Bool → Reads C → Tells E → C → Hearing O E
+Watches is_watched reads tells clock text script output before after =
+    IfWatched is_watched (HasHeardScript reads tells text script clock output before after) before after
 
 -- ---- of a run that a fault ends, by how often who watches was told by then
 
--- who is told of a run of so many events heard of it so often, by a clock that was this one when it began
-pub record HasOverheard {C E : Type 0} (reads : Reads C) (tells : Tells E) (all : ℕ) (clock : C) (times : ℕ) (before after : E) : Type 0 where
+-- who is told of a run of these events heard of it so often, while the output was this, by a clock that was this one when it began
+pub record HasOverheard {C E O : Type 0} (reads : Reads C) (tells : Tells E) (output : O) (w : World) (events : List WorldEvent) (clock : C) (times : ℕ) (before after : E) : Type 0 where
   pub last : Telling C E
-  pub told : IsTold (Hears reads tells) all times (telling clock 200 false before) last
+  pub told : IsTold (Hears reads tells output) w events times (telling clock 200 false before) last
   pub is_last : after ≡ last.errors
 
 -- the same of a script's events; or nothing was heard
-pub record HasOverheardScript {C E : Type 0} (reads : Reads C) (tells : Tells E) (text script : List ℕ) (clock : C) (times : ℕ) (before after : E) : Type 0 where
+pub record HasOverheardScript {C E O : Type 0} (reads : Reads C) (tells : Tells E) (text script : List ℕ) (clock : C) (output : O) (times : ℕ) (before after : E) : Type 0 where
   pub last : Telling C E
-  pub told : IsToldScript (Hears reads tells) text script times (telling clock 200 false before) last
+  pub told : IsToldScript (Hears reads tells output) text script times (telling clock 200 false before) last
   pub is_last : after ≡ last.errors
 
-abbrev pub OverhearsSome : {C E : Type 0} → Bool → Reads C → Tells E → ℕ → C → ℕ → E → E → Type 0
-OverhearsSome is_watched reads tells all clock times before after =
-    IfWatched is_watched (HasOverheard reads tells all clock times before after) before after
+abbrev pub OverhearsSome : {C E O : Type 0} → Bool → Reads C → Tells E → O → World → List WorldEvent → C → ℕ → E → E → Type 0
+OverhearsSome is_watched reads tells output w events clock times before after =
+    IfWatched is_watched (HasOverheard reads tells output w events clock times before after) before after
 
--- of so many events so much is heard to their end
-abbrev pub OverhearsAll : {C E : Type 0} → Bool → Reads C → Tells E → ℕ → C → E → E → Type 0
-OverhearsAll is_watched reads tells all clock before after =
-    (times : ℕ) × (IsWhole all times × OverhearsSome is_watched reads tells all clock times before after)
+-- of these events so much is heard to their end
+abbrev pub OverhearsAll : {C E O : Type 0} → Bool → Reads C → Tells E → O → World → List WorldEvent → C → E → E → Type 0
+OverhearsAll is_watched reads tells output w events clock before after =
+    (times : ℕ) × (IsWhole (length events) times × OverhearsSome is_watched reads tells output w events clock times before after)
 
--- what is told of the run of a script that a fault ends, by the texts of its settings and of the script, and by how often who watches was told
-abbrev pub Overhearing : Type 0 → Type 1
-Overhearing E = List ℕ → List ℕ → ℕ → E → E → Type 0
+-- what is told of the run of a script that a fault ends, by the texts of its settings and of the script, before anything was printed to an output,
+-- and by how often who watches was told
+abbrev pub Overhearing : Type 0 → Type 0 → Type 1
+Overhearing O E = List ℕ → List ℕ → O → ℕ → E → E → Type 0
 
-abbrev pub Overhears : {C E : Type 0} → Bool → Reads C → Tells E → C → Overhearing E
-Overhears is_watched reads tells clock text script times before after =
-    IfWatched is_watched (HasOverheardScript reads tells text script clock times before after) before after
+abbrev pub Overhears : {C O E : Type 0} → Bool → Reads C → Tells E → C → Overhearing O E
+Overhears is_watched reads tells clock text script output times before after =
+    IfWatched is_watched (HasOverheardScript reads tells text script clock output times before after) before after
 
 -- so much was heard of a run, and by then a fault ended it so
 abbrev pub EndsBehind : {E : Type 0} → (ℕ → E → E → Type 0) → Ends → E → E → Fault → Type 0

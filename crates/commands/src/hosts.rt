@@ -97,8 +97,8 @@ pub(crate) trait Host {
 
 /// This machine as a host: who begins captures here, what is looked at around it, who runs gateways, and where memory is asked
 /// for. The first three are asked by what they were before and are then: which capture was begun, or couldn't be, what was
-/// looked at and found, and which start was run have names (`WasBegun`, `WasUnbegun`, `WasFound`, `WasTaken`, `WasServed`), and
-/// so has that a capture was ended (`WasEnded`). All else that it has stays as it is. Beyond that nothing is known of what the
+/// looked at and found (as `checks` has it), and which start was run have names (`WasBegun`, `WasUnbegun`, `WasServed`), and so
+/// has that a capture was ended (`WasEnded`). All else that it has stays as it is. Beyond that nothing is known of what the
 /// system answers, nor of what a file holds.
 #[derive(Drop)]
 pub(crate) struct ThisHost<'a, R, G> {

@@ -6,7 +6,7 @@ ghost use Rattle.nat_types.specs.declared.gateways.GatewayId.TheVariants.{Zero};
 ghost use Rattle.command_line.specs.Line.{AskVersion, MayAskVersion};
 ghost use Rattle.box_words.specs.Machines.{IsUntouched};
 ghost use Rattle.gate.specs.Served.{HasServed};
-ghost use Rattle.loopback_run.specs.Standings.{IsUnasked};
+ghost use Rattle.loopback_run.specs.Holds.{IsUnasked};
 ghost use Rattle.commands.specs.Acts.{Acts};
 ghost use Rattle.commands.specs.Ends.{AreDoneAnew};
 ghost use Rattle.commands.specs.Here.{IsFresh, ServesHere, WasBegun, WasServed, WasUnbegun};
@@ -42,10 +42,11 @@ use std::rt::{Clock, Env};
 /// | 2 | the words are refused: why stands on `errors` |
 /// | 3 | an event of the script was refused |
 pub fn act<
+    'r,
     R: Files + Net + Clock + RandomSource + Eprint + Env + Input + AllocGlobal,
     O: Write,
     E: Tells,
->(rt: &R, words: &[String], is_watched: bool, output: &mut O, errors: &mut E) -> u8
+>(rt: &'r R, words: &[String], is_watched: bool, output: &mut O, errors: &mut E) -> u8
 where
     R::File: Blocks + Lockable + AsRawFd,
     ensures usage { result ≡ 2 → AreRefused (map string_bytes words.now) }
@@ -57,7 +58,7 @@ where
     ensures version { AskVersion (map string_bytes words.now)
         → (result ≡ 0) ⊎ (result ≡ 1) }
     ensures done { (result ≡ 0) ⊎ (result ≡ 3) → AreDoneAnew IsUnasked
-        ⟦<Loopback<'static, R> as Channel>⟧.opens ⟦<Loopback<'static, R> as Channel>⟧.passes
+        ⟦<Loopback<'r, R> as Channel>⟧.opens ⟦<Loopback<'r, R> as Channel>⟧.passes
         (map string_bytes words.now) (written O.contents output.old output.new) result }
     ensures quiet { is_watched ≡ false → (result ≡ 0) ⊎ (result ≡ 3) → errors.new ≡ errors.old }
     ensures most { result ≤ 3 }
@@ -68,8 +69,8 @@ where
         ⟦<Capture<BufWriter<R::File>> as Tape>⟧.refuses
         ⟦<ThisHost<'static, R, SystemServes<'static, R>> as Host>⟧.begins
         ⟦<ThisHost<'static, R, SystemServes<'static, R>> as Host>⟧.ends
-        ⟦<Loopback<'static, R> as Channel>⟧.opens ⟦<Loopback<'static, R> as Channel>⟧.refuses
-        ⟦<Loopback<'static, R> as Channel>⟧.passes O.contents E.tells
+        ⟦<Loopback<'r, R> as Channel>⟧.opens ⟦<Loopback<'r, R> as Channel>⟧.refuses
+        ⟦<Loopback<'r, R> as Channel>⟧.passes O.contents E.tells
         (Watches is_watched ⟦<Stopwatch<'static, R> as Clockwork>⟧.reads E.tells clock)
         (Overhears is_watched ⟦<Stopwatch<'static, R> as Clockwork>⟧.reads E.tells clock))
         (map string_bytes words.now) result output.old output.new errors.old errors.new }

@@ -3,6 +3,7 @@ ghost use Rattle.std.specs.Prelude.{◌≡◌, IfOk, OnErr, string_bytes};
 ghost use Rattle.faults.specs.Memory.{WasShort};
 ghost use Rattle.commands.specs.Meters.{IsSaid, line};
 
+use frame_sim::World;
 use outlets::Tells;
 use rounds::Clockwork;
 use simulation::Progress;
@@ -88,16 +89,17 @@ fn line(alloc: Global, taken: usize, all: usize) -> Result<String, AllocError>
     format!(in alloc; "{taken} of {all} events are done\n")
 }
 
-impl<C: Clockwork, E: Tells> Progress for Meter<'_, C, E> {
+impl<C: Clockwork, E: Tells, O> Progress<O> for Meter<'_, C, E> {
     ghost use Rattle.std.specs.Prelude.{◌≡◌};
     ghost use Rattle.commands.specs.Meters.{Hears, telling};
 
-    ghost hears = { λ old taken all new. (new.errors.ghost_name ≡ old.errors.ghost_name)
-        × Hears C.reads E.tells
-        (telling old.clock old.next old.is_refused old.errors.now) taken all
+    ghost hears = { λ output old reached taken all new.
+        (new.errors.ghost_name ≡ old.errors.ghost_name) × Hears C.reads E.tells output
+        (telling old.clock old.next old.is_refused old.errors.now) reached taken all
         (telling new.clock new.next new.is_refused new.errors.now) };
 
-    fn reached(&mut self, taken: usize, all: usize) {
+    #[tactic(auto, unfolding(crate::specs::Meters::WasReached))]
+    fn reached(&mut self, _world: &World<'_>, _output: &O, taken: usize, all: usize) {
         let moment = self.clock.moment();
         if self.is_refused || moment < self.next {
             return;

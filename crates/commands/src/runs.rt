@@ -1,9 +1,10 @@
 //! Scripts that are run, and captured where that is asked for.
-ghost use Rattle.std.specs.Prelude.{◌≡◌, ◌≢◌, ◌⊎◌, IfErr, IfOk, None, Ok, OnOk, length, string_bytes};
+ghost use Rattle.std.specs.Prelude.{◌≡◌, ◌≢◌, ◌⊎◌, IfErr, IfOk, None, Ok, OnOk, string_bytes};
 ghost use Rattle.faults.specs.Faults.{status_of};
 ghost use Rattle.faults.specs.declared.faults.Fault.TheVariants as faults;
 ghost use Rattle.faults.specs.Jobs.{IsJobOf, TellsRun};
 ghost use Rattle.faults.specs.Texts.{fault_text};
+ghost use Rattle.frame_sim.specs.World.{founding};
 ghost use Rattle.outlets.specs.Telling.{IsToldOf};
 ghost use Rattle.loopback_run.specs.Loops.{TellsLoop};
 ghost use Rattle.loopback_run.specs.Tapes.{IsTapedLoop, StopsTapedLoop};
@@ -86,9 +87,9 @@ fn simulated<C: Clockwork + Drop, O: Write, E: Tells>(
     ensures run { (result ≡ 0) ⊎ (result ≡ 3)
         → PutsScript O.contents settings.now script.now output.old output.new result }
     ensures heard { (result ≡ 0) ⊎ (result ≡ 3) → Watches is_watched C.reads E.tells clock
-        settings.now script.now errors.old errors.new }
+        settings.now script.now output.old errors.old errors.new }
     ensures failed { result ≡ 1 → IsToldBehind E.tells
-        (Overhears is_watched C.reads E.tells clock settings.now script.now)
+        (Overhears is_watched C.reads E.tells clock settings.now script.now output.old)
         (λ times. FailsSim O.contents times settings.now script.now output.old output.new)
         errors.old errors.new }
 {
@@ -116,9 +117,9 @@ fn watched<C: Clockwork + Drop, O: Write, E: Tells>(
     ensures known { IfErr result (λ fault. status_of fault ≡ 1) }
     ensures told { IfErr result (TellsRun settings.now script.now) }
     ensures heard { OnOk result (HasHeardScript C.reads E.tells settings.now script.now
-        clock errors.old errors.new) }
+        clock output.old errors.old errors.new) }
     ensures leaves { IfErr result
-        (EndsBehind (HasOverheardScript C.reads E.tells settings.now script.now clock)
+        (EndsBehind (HasOverheardScript C.reads E.tells settings.now script.now clock output.old)
         (Leaves O.contents settings.now script.now output.old output.new)
         errors.old errors.new) }
 {
@@ -140,11 +141,12 @@ fn metered<C: Clockwork, O: Write, E: Tells>(
     ensures known { IfErr result (λ fault. status_of fault ≡ 1) }
     ensures told { IfErr result (TellsRun settings.now script.now) }
     ensures same_reference { meter.new.errors.ghost_name ≡ meter.old.errors.ghost_name }
-    ensures heard { OnOk result (WatchesScript (Hears C.reads E.tells) settings.now script.now
+    ensures heard { OnOk result
+        (WatchesScript (Hears C.reads E.tells output.old) settings.now script.now
         (telling meter.old.clock meter.old.next meter.old.is_refused meter.old.errors.now)
         (telling meter.new.clock meter.new.next meter.new.is_refused meter.new.errors.now)) }
     ensures leaves { IfErr result
-        (OverhearsScript (Hears C.reads E.tells) settings.now script.now
+        (OverhearsScript (Hears C.reads E.tells output.old) settings.now script.now
         (telling meter.old.clock meter.old.next meter.old.is_refused meter.old.errors.now)
         (telling meter.new.clock meter.new.next meter.new.is_refused meter.new.errors.now)
         (Leaves O.contents settings.now script.now output.old output.new)) }
@@ -169,9 +171,9 @@ fn sim_captured<H: Host, C: Clockwork + Drop, O: Write, E: Tells>(
         O.contents path.now settings.now script.now output.old output.new result
         host.old host.new }
     ensures heard { (result ≡ 0) ⊎ (result ≡ 3) → Watches is_watched C.reads E.tells clock
-        settings.now script.now errors.old errors.new }
+        settings.now script.now output.old errors.old errors.new }
     ensures failed { result ≡ 1 → IsToldBehind E.tells
-        (Overhears is_watched C.reads E.tells clock settings.now script.now)
+        (Overhears is_watched C.reads E.tells clock settings.now script.now output.old)
         (λ times why. LeavesCapture H.begins H.ends path.now
         (HoldNoJobYet times settings.now script.now) (HasJobYet times settings.now script.now)
         (λ run first last. TapesSim H.Record.takes H.Record.refuses O.contents times settings.now
@@ -206,10 +208,11 @@ fn taped<C: Clockwork + Drop, T: Tape, O: Write, E: Tells>(
     ensures status { IfOk result (λ status. (status ≡ 0) ⊎ (status ≡ 3)) }
     ensures known { IfErr result (λ fault. status_of fault ≡ 1) }
     ensures told { IfErr result IsOfEvents }
-    ensures heard { OnOk result (OverhearsAll is_watched C.reads E.tells
-        (length job.now.events.items) clock errors.old errors.new) }
+    ensures heard { OnOk result (OverhearsAll is_watched C.reads E.tells output.old
+        (founding job.now.settings) job.now.events.items clock errors.old errors.new) }
     ensures stopped { IfErr result
-        (EndsBehind (OverhearsSome is_watched C.reads E.tells (length job.now.events.items) clock)
+        (EndsBehind (OverhearsSome is_watched C.reads E.tells output.old
+        (founding job.now.settings) job.now.events.items clock)
         (StopsTaped T.takes T.refuses O.contents job.now.settings job.now.events.items
         tape.old tape.new output.old output.new) errors.old errors.new) }
 {
@@ -237,11 +240,13 @@ fn taped_metered<C: Clockwork, T: Tape, O: Write, E: Tells>(
     ensures told { IfErr result IsOfEvents }
     ensures same_reference { meter.new.errors.ghost_name ≡ meter.old.errors.ghost_name }
     ensures heard { OnOk result
-        (IsToldAll (Hears C.reads E.tells) (length job.now.events.items)
+        (IsToldAll (Hears C.reads E.tells output.old) (founding job.now.settings)
+        job.now.events.items
         (telling meter.old.clock meter.old.next meter.old.is_refused meter.old.errors.now)
         (telling meter.new.clock meter.new.next meter.new.is_refused meter.new.errors.now)) }
     ensures stopped { IfErr result
-        (OverhearsBy (Hears C.reads E.tells) (length job.now.events.items)
+        (OverhearsBy (Hears C.reads E.tells output.old) (founding job.now.settings)
+        job.now.events.items
         (telling meter.old.clock meter.old.next meter.old.is_refused meter.old.errors.now)
         (telling meter.new.clock meter.new.next meter.new.is_refused meter.new.errors.now)
         (StopsTaped T.takes T.refuses O.contents job.now.settings job.now.events.items

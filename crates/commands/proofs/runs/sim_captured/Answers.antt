@@ -16,7 +16,7 @@ returns-in-Err-clause-captured g c done = isnt_1 _ (c.tell.ensures.status ∙ c.
 
 pub returns-in-Ok-begin-clause-heard : goal.returns-in-Ok-begin-clause-heard
 returns-in-Ok-begin-clause-heard g c h =
-    heard_of _ _ _ _ _ _ _ _ _ _ _ _ c.in-Ok.ensures.job c.taped-run.ensures.heard (c.ended.ensures.run h) (c.ended.ensures.quiet h)
+    heard_of _ _ _ _ _ _ _ _ _ _ _ _ _ c.in-Ok.ensures.job c.taped-run.ensures.heard (c.ended.ensures.run h) (c.ended.ensures.quiet h)
 
 pub returns-in-Err-clause-heard : goal.returns-in-Err-clause-heard
 returns-in-Err-clause-heard g c done = isnt_1 _ (c.tell.ensures.status ∙ c.in-Err.ensures.known) done
@@ -52,7 +52,7 @@ returns-in-Err-begin-clause-failed g c one = (
   (
     c.args.errors.now,
     (
-      unheard _ _ _ _ _ _ _,
+      unheard _ _ _ _ _ _ _ _,
       told_as g.E.Tells.tells fault_text _ _ c.args.errors.now c.unmade.new.errors c.unmade.ensures.told (λ why is. inl (
         refl,
         inr (
@@ -74,7 +74,7 @@ returns-in-Err-clause-failed g c one = (
   (
     c.args.errors.now,
     (
-      unheard _ _ _ _ _ _ _,
+      unheard _ _ _ _ _ _ _ _,
       (c.in-Err.fault, (inl (refl, inl (refl, ((refl, c.in-Err.ensures.unheld), c.in-Err.ensures.read))), c.tell.ensures.told)),
     ),
   ),
