@@ -1,4 +1,5 @@
 pub mod Log
 pub mod Macs
+pub mod Memory
 pub mod Neighbours
 pub mod Packet

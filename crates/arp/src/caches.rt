@@ -1,8 +1,10 @@
 //! The cache of neighbours.
-ghost use Rattle.std.specs.Prelude.{◌≡◌, [], ◌↔◌, length, IfOk, IfSome, IsTrue, if◌then◌else◌};
+ghost use Rattle.std.specs.Prelude.{◌≡◌, [], ◌↔◌, length, IfOk, IfSome, OnErr, IsTrue, if◌then◌else◌};
 ghost use Rattle.arp.specs.Macs.{AllSix, KnowsMacs};
 ghost use Rattle.arp.specs.Neighbours.{with_entry, fixed_mac, mac_at, learner_of, IsLearnable};
 ghost use Rattle.arp.specs.Neighbours.{asks_at, asked_at};
+ghost use Rattle.arp.specs.Memory.{LacksCache};
+ghost use Rattle.memory.specs.Memory.{WasRefused};
 
 use crate::learnt::{Learnt, ask_in, learn, mac_in};
 use crate::packets::octets_of;
@@ -74,6 +76,7 @@ impl Cache {
     pub fn new(alloc: Global, fixed: &[Neighbour]) -> Result<Self, AllocError>
         ensures fixed { IfOk result (λ c. c.fixed ≡ fixed.now) }
         ensures learnt { IfOk result (λ c. c.learnt ≡ []) }
+        ensures refused { OnErr result (LacksCache (length fixed.now)) }
     {
         let learnt = Learnt::new(alloc)?;
         let fixed = whole_neighbours(alloc, fixed)?;
@@ -139,10 +142,11 @@ impl Cache {
 fn whole_neighbours(alloc: Global, neighbours: &[Neighbour]) -> Result<Vec<Neighbour>, AllocError>
     ensures same { IfOk result (λ v. v.items ≡ neighbours.now) }
     ensures six { IfOk result (λ v. AllSix (λ n. n.mac) v.items) }
+    ensures refused { OnErr result (WasRefused (length neighbours.now)) }
 {
-    let mut whole = Vec::new(alloc);
+    let mut whole = memory::with_room(alloc, neighbours.len())?;
     for neighbour in neighbours {
-        whole.push(whole_neighbour(neighbour))?;
+        whole.push_reserved(whole_neighbour(neighbour));
     }
     Ok(whole)
 }

@@ -1,8 +1,9 @@
 //! The neighbours that were learnt: a log of them in order, and an index of the log by address.
-ghost use Rattle.std.specs.Prelude.{◌≡◌, ◌≤◌, ◌++◌, ◌∷◌, [], ◌<◌, ◌-◌, ℕ, Some, drop, take, length, vec_len, vec_capacity, IfOk, IfErr, MatchOption, if◌then◌else◌};
+ghost use Rattle.std.specs.Prelude.{◌≡◌, ◌≤◌, ◌++◌, ◌∷◌, [], ◌<◌, ◌-◌, ℕ, Some, drop, take, length, vec_len, vec_capacity, IfOk, IfErr, OnErr, MatchOption, if◌then◌else◌};
 ghost use Rattle.std.specs.List.{insert, remove};
 ghost use Rattle.arp.specs.Neighbours.{without, with_entry, learnt_mac, wants_asking, learnt_asks, learnt_asked};
 ghost use Rattle.arp.specs.Log.{kept, is_of, valid_mac, entry_addresses, spot_addresses, tally, IsRising, IsAt, IsGapFor, IsPlaceOf, IsFirst, IsLearnt, place_without, place_asks, place_asked};
+ghost use Rattle.arp.specs.Memory.{LacksLearnt};
 
 use crate::caches::{ASKED_AFTER, CacheEntry, ENTRIES, RENEWED_AFTER, VALID_FOR};
 use addresses::{Ip, Mac};
@@ -34,9 +35,10 @@ impl Learnt {
     pub fn new(alloc: Global) -> Result<Self, AllocError>
         ensures none { IfOk result (λ l. kept l.log.items ≡ []) }
         ensures holds { IfOk result (λ l. IsLearnt l) }
+        ensures refused { OnErr result LacksLearnt }
     {
-        let log = Vec::with_capacity(alloc, PLACES)?;
-        let index = Vec::with_capacity(alloc, ENTRIES)?;
+        let log = memory::with_room(alloc, PLACES)?;
+        let index = memory::with_room(alloc, ENTRIES)?;
         Ok(Learnt {
             log,
             start: 0,

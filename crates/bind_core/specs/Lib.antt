@@ -2,3 +2,4 @@ pub mod Changes
 pub mod Cores
 pub mod View
 pub mod Grants
+pub mod Memory

@@ -20,6 +20,7 @@ ghost use Rattle.spec_binding.specs.Ledgers.{may_ask as may_ask_at};
 ghost use Rattle.spec_binding.specs.Ledgers.{restarted_ledger, taken_ledger};
 ghost use Rattle.bindings.specs.Table.{idle_keys_of};
 ghost use Rattle.bind_core.specs.Cores.{book_of, core_after, ledger_of};
+ghost use Rattle.slots.specs.Memory.{LacksEndpoints};
 
 use crate::Core;
 use crate::deeds::{is_link_full, may_ask};
@@ -255,6 +256,8 @@ impl Core {
         }) }
         ensures err { OnErr result (self.new ≡ self.old) }
         ensures succeeds { length endpoints.now ≤ self.old.table.ready → IsOk result }
+        ensures refused { OnErr result (LacksEndpoints (length endpoints.now)
+            (length self.old.table.entries)) }
     {
         self.make_ready(endpoints)
     }

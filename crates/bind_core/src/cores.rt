@@ -39,6 +39,9 @@ ghost use Rattle.spec_binding.specs.Ledgers.{alone_ledger, carried_ledger, lives
 ghost use Rattle.spec_binding.specs.Resets.{restart_batch};
 ghost use Rattle.bind_core.specs.Cores.{book_of, carries_pair, core_after, ledger_of};
 ghost use Rattle.bind_core.specs.Cores.{owned_of, revived_with};
+ghost use Rattle.bind_core.specs.Memory.{LacksCore};
+ghost use Rattle.slots.specs.Memory.{LacksEndpoints};
+ghost use Rattle.memory.specs.Memory.{WasRefused};
 
 use crate::deeds::{
     Bounds, carry_by, change_table, count_keys, is_carried, is_link_full, is_wanting,
@@ -56,6 +59,7 @@ use addresses::{Ip, Port, TcpFlags};
 use arrayvec::ArrayVec;
 use bindings::{Entry, Hashers, PortBounds, Table};
 use link::Link;
+use memory::with_room;
 use nat_types::{Endpoint, EntryState, GatewayId, Granted, Key, Note, NoteKind, Pair, Record};
 use resync::{Cursor, Loading, batch_len, steady_batch_law};
 use spec_binding::{
@@ -472,6 +476,8 @@ impl Core {
         }) }
         ensures err { OnErr result (self.new ≡ self.old) }
         ensures succeeds { length endpoints.now ≤ self.old.table.ready → IsOk result }
+        ensures refused { OnErr result (LacksEndpoints (length endpoints.now)
+            (length self.old.table.entries)) }
     {
         self.table.ready(endpoints)
     }
@@ -551,6 +557,7 @@ impl Core {
         ensures ports { IfOk result (λ v. v.items ≡ owned_of self.now) }
         // Where there is none to list, no memory is taken.
         ensures none { is_synced_at self.now.stage ≡ false → IsOk result }
+        ensures refused { OnErr result (WasRefused 1) }
     {
         if is_synced(self.stage) {
             self.table.owned()
@@ -660,11 +667,12 @@ impl Core {
           hashers = hashers;
         }) }
         ensures hashers { IfOk result (λ c. c.table.hashers ≡ hashers) }
+        ensures refused { OnErr result (LacksCore zero one) }
     {
         books_begin();
         recall_port(zero.highest);
         recall_port(one.highest);
-        let idle = Vec::with_capacity(alloc, count_keys(zero, one))?;
+        let idle = with_room(alloc, count_keys(zero, one))?;
         let table = Table::new(alloc, zero, one, hashers)?;
         Ok(Core {
             id,
@@ -695,6 +703,7 @@ impl Core {
           hashers = hashers;
         }) }
         ensures hashers { IfOk result (λ c. c.table.hashers ≡ hashers) }
+        ensures refused { OnErr result (LacksCore zero one) }
     {
         let mut core = Core::unsynced(alloc, GatewayId::Zero, zero, one, limit, hashers)?;
         core.found(zero, one);

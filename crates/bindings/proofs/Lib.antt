@@ -26,4 +26,5 @@ mod Renewed
 mod Listed
 mod Timed
 mod Merged
+mod Readied
 pub mod Offered

@@ -1,6 +1,7 @@
 pub mod Entries
 pub mod Lists
 pub mod Lives
+pub mod Memory
 pub mod Ports
 pub mod Revivals
 pub mod Runs

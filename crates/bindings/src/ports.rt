@@ -1,9 +1,10 @@
 //! The free and owned ports of a table, for each protocol.
-ghost use Rattle.std.specs.Prelude.{◌≡◌, ℕ, [], true, false, IfOk, IfSome, IfNone, if◌then◌else◌, ◌&&◌, ◌||◌, ◌==◌, ◌+◌, ◌*◌, ◌<◌, ◌≤◌};
+ghost use Rattle.std.specs.Prelude.{◌≡◌, ℕ, [], true, false, IfOk, OnErr, IfSome, IfNone, if◌then◌else◌, ◌&&◌, ◌||◌, ◌==◌, ◌+◌, ◌*◌, ◌<◌, ◌≤◌};
 ghost use Rattle.addresses.specs.declared.transport.Protocol.{Protocol as Transport};
 ghost use Rattle.nat_types.specs.declared.pairs.Key.{Key as OutsidePort};
 ghost use Rattle.nat_types.specs.Same.{same_key};
 ghost use Rattle.port_range.specs.Ports.{is_bad, is_within, is_free, is_owned, IsRange, chosen_port};
+ghost use Rattle.port_range.specs.Memory.{LacksMarks};
 ghost use Rattle.port_range.specs.Searches.{IsLastBelow};
 ghost use Rattle.port_range.specs.Words.{is_set};
 ghost use Rattle.bindings.specs.Ports.{range_of, is_free_at, is_spare_in, in_bounds, in_either, lowest_of, highest_of, AreAlike, SameBounds, SameOwned, SameFree};
@@ -53,6 +54,7 @@ fn unowned(alloc: Global, lowest: Port, highest: Port) -> Result<Range, AllocErr
         ≡ is_within lowest.0 highest.0 port) }
     ensures owned { IfOk result (λ r. (port : ℕ) → is_owned r port ≡ false) }
     ensures list { IfOk result (λ r. r.owned ≡ []) }
+    ensures refused { OnErr result LacksMarks }
 {
     match Range::unowned(alloc, lowest, highest) {
         Ok(range) => Ok(range),
@@ -97,6 +99,7 @@ impl Ports {
             ≡ is_within lowest.0 highest.0 q.port.0) }
         ensures owned { IfOk result (λ p. (port : ℕ) → is_owned p.tcp port ≡ false) }
         ensures list { IfOk result (λ p. p.tcp.owned ≡ []) }
+        ensures refused { OnErr result LacksMarks }
     {
         let icmp = unowned(alloc, lowest, highest)?;
         let Ok(tcp) = unowned(alloc, lowest, highest) else {

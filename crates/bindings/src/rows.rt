@@ -1,5 +1,6 @@
 //! Passes over the entries of a store, and questions about them.
-ghost use Rattle.std.specs.Prelude.{◌≡◌, ◌+◌, ◌≤◌, ◌++◌, [], ◌∷◌, if◌then◌else◌, count_by, vec_len, vec_capacity, IfOk, OnOk};
+ghost use Rattle.std.specs.Prelude.{◌≡◌, ◌+◌, ◌≤◌, ◌++◌, [], ◌∷◌, if◌then◌else◌, count_by, vec_len, vec_capacity, IfOk, OnOk, OnErr};
+ghost use Rattle.memory.specs.Memory.{WasRefused};
 ghost use Rattle.bindings.specs.Entries.{is_listed, entry_in, refusal_of, pairs_in};
 ghost use Rattle.bindings.specs.Dues.{idle_among, is_idle_key};
 ghost use Rattle.bindings.specs.Ports.{is_free_in, is_vacant};
@@ -8,6 +9,7 @@ use crate::entries::{endpoint_of, is_pair_state, is_translating, key_of, may_go_
 use crate::store::Store;
 use crate::{Entry, TableFault};
 use addresses::{Port, Protocol};
+use memory::push;
 use nat_types::{EntryState, Key, Pair};
 use std::alloc::{AllocError, Global};
 
@@ -49,11 +51,12 @@ pub(crate) fn is_vacant_port(store: &Store, port: Port) -> bool
 }
 
 fn push_if(pairs: &mut Vec<Pair>, passes: bool, pair: Pair) -> Result<(), AllocError>
-    ensures { OnOk result (pairs.new.items
+    ensures items { OnOk result (pairs.new.items
         ≡ pairs.old.items ++ (if passes then pair ∷ [] else [])) }
+    ensures refused { OnErr result (WasRefused 1) }
 {
     if passes {
-        pairs.push(pair)?;
+        push(pairs, pair)?;
     }
     Ok(())
 }
@@ -74,7 +77,9 @@ pub(crate) fn list_pairs(
     store: &Store,
     translating: bool,
 ) -> Result<Vec<Pair>, AllocError>
-    ensures { IfOk result (λ v. v.items ≡ pairs_in (is_listed translating) store.now.entries) }
+    ensures items { IfOk result (λ v. v.items
+        ≡ pairs_in (is_listed translating) store.now.entries) }
+    ensures refused { OnErr result (WasRefused 1) }
 {
     store.recall();
     let mut pairs = Vec::new(alloc);

@@ -1,10 +1,12 @@
 //! The owned ports of a range, in order.
-ghost use Rattle.std.specs.Prelude.{◌≡◌, ◌+◌, [], ◌∷◌, true, Some, map, IfOk, IfSome, IfNone};
+ghost use Rattle.std.specs.Prelude.{◌≡◌, ◌+◌, [], ◌∷◌, true, Some, map, IfOk, OnErr, IfSome, IfNone};
+ghost use Rattle.memory.specs.Memory.{WasRefused};
 ghost use Rattle.port_range.specs.Ports.{is_owned};
 ghost use Rattle.bindings.specs.Runs.{port_at, run_of, runs_on, first_of, ports_from_on, first_run};
 
 use crate::PortBounds;
 use addresses::Port;
+use memory::push;
 use port_range::Range;
 use std::alloc::{AllocError, Global};
 
@@ -56,13 +58,14 @@ pub(crate) fn list_owned(
 ) -> Result<Vec<Port>, AllocError>
     requires lowest { range.now.lowest ≡ lowest.0 }
     requires highest { range.now.highest ≡ highest.0 }
-    ensures { IfOk result (λ v. v.items ≡ map port_at range.now.owned) }
+    ensures items { IfOk result (λ v. v.items ≡ map port_at range.now.owned) }
+    ensures refused { OnErr result (WasRefused 1) }
 {
     range.recall();
     let mut ports = Vec::new(alloc);
     for port in lowest.0..=highest.0 {
         if range.owns(Port(port)) {
-            ports.push(Port(port))?;
+            push(&mut ports, Port(port))?;
         }
     }
     Ok(ports)

@@ -1,8 +1,10 @@
 //! The entries of a table in slots, each with its life. A slot is found by key and by endpoint.
-ghost use Rattle.std.specs.Prelude.{◌≡◌, ◌+◌, ◌<◌, ◌≤◌, [], Some, None, true, false, not, ◌&&◌, if◌then◌else◌, length, IfOk, IsOk, OnOk};
+ghost use Rattle.std.specs.Prelude.{◌≡◌, ◌+◌, ◌<◌, ◌≤◌, [], Some, None, true, false, not, ◌&&◌, if◌then◌else◌, length, IfOk, IsOk, OnOk, OnErr};
 ghost use Rattle.nat_types.specs.declared.pairs.Endpoint.{Endpoint as InsidePort};
 ghost use Rattle.addresses.specs.declared.internet.Ip.{Ip as Address};
 ghost use Rattle.slots.specs.Endpoints.{slot_of as number_of_endpoint, count_in};
+ghost use Rattle.slots.specs.Memory.{LacksEndpoints};
+ghost use Rattle.bindings.specs.Memory.{LacksStore};
 ghost use Rattle.bindings.specs.Stores.{one_of};
 ghost use Rattle.std.specs.Prelude.{IsSome};
 ghost use Rattle.std.specs.List.{insert};
@@ -27,6 +29,7 @@ use crate::Entry;
 use crate::entries::{endpoint_of, is_pair_state, key_of, may_go_state};
 use activity::{Activity, Packet};
 use addresses::Ip;
+use memory::with_room;
 use nat_types::{Endpoint, EntryState, Key, Pair};
 use slots::{Dues, EndpointIndex, Hashers, PortSlots, SlotNumber};
 use std::alloc::{AllocError, Global};
@@ -324,13 +327,14 @@ impl Store {
         ensures lives { IfOk result (λ s. s.lives ≡ []) }
         ensures room { IfOk result (λ s. s.room ≡ room) }
         ensures hashers { IfOk result (λ s. s.hashers ≡ hashers) }
+        ensures refused { OnErr result (LacksStore room) }
     {
         let slots = PortSlots::new(alloc, room)?;
         let Ok(dues) = Dues::new(alloc, slots.limit()) else {
             drop(slots);
             return Err(AllocError);
         };
-        let Ok(found) = Vec::with_capacity(alloc, slots.limit()) else {
+        let Ok(found) = with_room(alloc, slots.limit()) else {
             drop(slots);
             drop(dues);
             return Err(AllocError);
@@ -365,6 +369,7 @@ impl Store {
         ensures spare { self.old.spare ≤ self.new.spare }
         ensures same { self.new ≡ record self.old { spare = self.new.spare } }
         ensures succeeds { more ≤ self.old.spare → IsOk result }
+        ensures refused { OnErr result (LacksEndpoints more (length self.old.entries)) }
     {
         self.index.ready(more)
     }

@@ -1,5 +1,8 @@
 //! The table of a gateway.
 ghost use Rattle.std.specs.Prelude.{◌≡◌, ◌+◌, ◌-◌, ◌<◌, ◌≤◌, ℕ, [], None, Some, true, false, ◌==◌, ◌++◌, ◌&&◌, length, map, vec_len, vec_capacity, IsOk, if◌then◌else◌, IfOk, IfErr, IfSome, IfNone, OnOk, OnErr};
+ghost use Rattle.memory.specs.Memory.{WasRefused};
+ghost use Rattle.slots.specs.Memory.{LacksEndpoints};
+ghost use Rattle.bindings.specs.Memory.{LacksTable};
 ghost use Rattle.nat_types.specs.declared.pairs.Key.{Key as OutsidePort};
 ghost use Rattle.activity.specs.Lives.{History, came, with_packet, renewed, is_idle, is_unused};
 ghost use Rattle.bindings.specs.declared.entries.Entry.{Entry as Row};
@@ -28,6 +31,7 @@ use crate::store::Store;
 use crate::{Entry, PortBounds, TableFault};
 use activity::{Activity, Packet, Remote, Way};
 use addresses::{Ip, Parity, Port, Protocol, TcpFlags};
+use memory::reserve;
 use nat_types::{Endpoint, EntryState, Key, Pair};
 use slots::Hashers;
 use std::alloc::{AllocError, Global};
@@ -92,6 +96,7 @@ impl Table {
         ensures capacity { IfOk result (λ t. t.capacity ≡ key_count zero one) }
         ensures hashers { IfOk result (λ t. t.hashers ≡ hashers) }
         ensures empty { IfOk result (λ t. t ≡ empty_table zero one hashers) }
+        ensures refused { OnErr result (LacksTable zero one) }
     {
         let capacity = 3 * (port_count(zero) + port_count(one));
         let ports = Ports::new(alloc, lowest_port(zero, one), highest_port(zero, one))?;
@@ -162,6 +167,8 @@ impl Table {
         ensures ok { OnOk result (self.new ≡ record self.old { ready = length endpoints.now }) }
         ensures err { OnErr result (self.new ≡ self.old) }
         ensures succeeds { length endpoints.now ≤ self.old.ready → IsOk result }
+        ensures refused { OnErr result (LacksEndpoints (length endpoints.now)
+            (length self.old.entries)) }
     {
         let more = endpoints.len();
         self.store.ready(more)?;
@@ -277,14 +284,16 @@ impl Table {
 
     /// All pairs but Doomed ones, by protocol (icmp first) and port.
     pub fn pairs(&self) -> Result<Vec<Pair>, AllocError>
-        ensures { IfOk result (λ v. v.items ≡ pairs_in is_pair self.now.entries) }
+        ensures items { IfOk result (λ v. v.items ≡ pairs_in is_pair self.now.entries) }
+        ensures refused { OnErr result (WasRefused 1) }
     {
         list_pairs(self.alloc, &self.store, false)
     }
 
     /// The Live and Held pairs, by protocol (icmp first) and port.
     pub fn translating(&self) -> Result<Vec<Pair>, AllocError>
-        ensures { IfOk result (λ v. v.items ≡ pairs_in translates self.now.entries) }
+        ensures items { IfOk result (λ v. v.items ≡ pairs_in translates self.now.entries) }
+        ensures refused { OnErr result (WasRefused 1) }
     {
         list_pairs(self.alloc, &self.store, true)
     }
@@ -342,7 +351,8 @@ impl Table {
 
     /// The owned ports, rising. While a table is loaded these are the ports that the gateway is to own.
     pub fn owned(&self) -> Result<Vec<Port>, AllocError>
-        ensures { IfOk result (λ v. v.items ≡ map port_at self.now.owned) }
+        ensures items { IfOk result (λ v. v.items ≡ map port_at self.now.owned) }
+        ensures refused { OnErr result (WasRefused 1) }
     {
         let lowest = lowest_port(self.zero, self.one);
         let highest = highest_port(self.zero, self.one);
@@ -460,9 +470,11 @@ impl Table {
         ensures room { vec_len keys.old + length (idle_keys_of self.old lone now)
             ≤ vec_capacity keys.old → IsOk result }
         ensures capacity { vec_capacity keys.old ≤ vec_capacity keys.new }
+        ensures refused { OnErr result (WasRefused (length (idle_keys_of self.old lone now))) }
     {
         self.store.find_due(lone, now);
-        keys.reserve(count_idle(&self.store, self.store.found(), lone, now))?;
+        let count = count_idle(&self.store, self.store.found(), lone, now);
+        reserve(keys, count)?;
         list_idle(&self.store, self.store.found(), lone, now, keys);
         Ok(())
     }

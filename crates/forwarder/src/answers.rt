@@ -1,10 +1,11 @@
 //! Echos to the gateway itself (RFC 1122, section 3.2.2.6): what one is to do, and what it does.
-ghost use Rattle.std.specs.Prelude.{◌≡◌, ◌≤◌, ◌+◌, true, IfOk, OnErr, OnOk, Ok};
+ghost use Rattle.std.specs.Prelude.{◌≡◌, ◌≤◌, ◌+◌, true, IfOk, OnErr, OnOk, Ok, length};
 ghost use Rattle.frames.specs.Frame.{frame_of};
 ghost use Rattle.interfaces.specs.Stations.{with_reply};
 ghost use Rattle.interfaces.specs.Tallies.{may_reply};
 ghost use Rattle.addresses.specs.declared.internet.Ip.{Ip as Address};
 ghost use Rattle.waiting.specs.declared.waits.WaitsFor.TheVariants.{Hop};
+ghost use Rattle.waiting.specs.Memory.{LacksCopy};
 ghost use Rattle.waiting.specs.Packets.{has_place};
 ghost use Rattle.packet_rules.specs.Asked.{IsAskable, asked_of};
 ghost use Rattle.packet_rules.specs.Networks.{network_of};
@@ -190,6 +191,7 @@ impl Forwarder {
         ensures err { OnErr result (scene_on self.new page.new ≡ scene_on self.old page.old) }
         ensures waits { OnErr result
             (outcome_reply (reply_to (shown_of self.old) side echo) ≡ Waiting) }
+        ensures refused { OnErr result (LacksCopy (length bytes.now)) }
         ensures link { self.new.link ≡ self.old.link }
         ensures spends { Spends (frames_alone 2) self.old page.old self.new page.new }
     {

@@ -1,7 +1,8 @@
 //! ICMP errors about translated packets (RFC 5508, section 4): what one is to do, and what it does.
-ghost use Rattle.std.specs.Prelude.{◌≡◌, ◌≤◌, ◌+◌, true, IfOk, OnErr, OnOk};
+ghost use Rattle.std.specs.Prelude.{◌≡◌, ◌≤◌, ◌+◌, true, IfOk, OnErr, OnOk, length};
 ghost use Rattle.waiting.specs.declared.waits.WaitsFor.TheVariants.{Hop};
 ghost use Rattle.nat_types.specs.declared.gateways.Side.{Side as OnSide};
+ghost use Rattle.waiting.specs.Memory.{LacksCopy};
 ghost use Rattle.waiting.specs.Packets.{has_place};
 ghost use Rattle.packet_rules.specs.Errors.{passed_frame};
 ghost use Rattle.packet_rules.specs.Flows.{error_in};
@@ -176,6 +177,7 @@ impl Forwarder {
         ensures waits { OnErr result
             (outcome_by (error_plan (shown_of self.old) side packet.flow packet.length)
             ≡ Waiting) }
+        ensures refused { OnErr result (LacksCopy (length bytes.now)) }
         ensures link { self.new.link ≡ self.old.link }
         ensures spends { Spends (frames_alone 2) self.old page.old self.new page.new }
     {

@@ -1,6 +1,7 @@
 //! Packets that are taken, and those whose wait is over.
 ghost use Rattle.std.specs.Prelude.{◌≡◌, ◌≤◌, [], IfOk, OnErr, OnOk, length, vec_capacity};
 ghost use Rattle.waiting.specs.declared.waits.Ended.TheVariants.{One, AllPairs};
+ghost use Rattle.waiting.specs.Memory.{LacksCopy};
 ghost use Rattle.spec_binding.specs.WellFormed.{IsWellFormedEndpoint};
 ghost use Rattle.packet_rules.specs.Flows.{packet_in, source_of};
 ghost use Rattle.packet_rules.specs.Steps.{IsForwardable};
@@ -69,6 +70,7 @@ impl Forwarder {
         ensures waits { OnErr result
             (outcome_by (plan_of (shown_of self.old) side packet.flow packet.length)
             ≡ Waiting) }
+        ensures refused { OnErr result (LacksCopy (length bytes.now)) }
         ensures spends { Spends a_packet self.old page.old self.new page.new }
         ensures places { LeavesPlaces self.old self.new }
     {

@@ -1,13 +1,28 @@
--- What an event lacks that isn't taken.
-use Rattle.std.specs.Prelude.{Result, Ok, Err, OnErr}
-use Rattle.std.proofs.Common.{refl}
+-- What a gateway lacks that doesn't begin, and what an event that isn't taken.
+use Rattle.std.specs.Prelude.{◌≡◌, Result, Ok, Err, OnErr}
+use Rattle.std.proofs.Common.{inl, inr, refl, subst}
+use Rattle.settings.specs.declared.whole.Settings.{Settings}
+use Rattle.bindings.specs.declared.entries.PortBounds.{PortBounds}
+use Rattle.bind_core.specs.Memory.{LacksCore}
 use Rattle.output.specs.Output.{Paged}
 use Rattle.spec_step.specs.declared.events.Event.{Event}
+use Rattle.spec_step.specs.Founding.{bounds_of}
 use Rattle.forwarder.specs.declared.forwarders.Forwarder.{Forwarder}
 use Rattle.forwarder.specs.Forwarder.{shown_of}
-use Rattle.gateway.specs.Lacks.{Lacks, LacksMemory}
+use Rattle.gateway.specs.Lacks.{Lacks, LacksGateway, LacksMemory, LacksParts}
 
 -- memory that these lack is memory that a gateway lacks that shows itself so
 pub lacks-memory : {T E : Type 0} → (r : Result T E) (event : Event) (f : Forwarder) (page : Paged) → Lacks event f page → OnErr r (LacksMemory (shown_of f) page.told event)
 lacks-memory (Ok x) event f page lacks = tt
 lacks-memory (Err e) event f page lacks = (f, page, refl, lacks)
+
+-- its parts are lacking
+pub lacks-parts : {T E : Type 0} → (r : Result T E) (settings : Settings) → LacksParts settings → OnErr r (LacksGateway settings)
+lacks-parts (Ok x) settings lacks = tt
+lacks-parts (Err e) settings lacks = inl lacks
+
+-- its core is, for just its ranges
+pub lacks-core : {T E : Type 0} → (r : Result T E) (settings : Settings) (low high : PortBounds) → low ≡ bounds_of settings.ports.zero → high ≡ bounds_of settings.ports.one → LacksCore low high → OnErr r (LacksGateway settings)
+lacks-core (Ok x) settings low high a b lacks = tt
+lacks-core (Err e) settings low high a b lacks =
+    inr (subst (λ (z : PortBounds). LacksCore z (bounds_of settings.ports.one)) a (subst (λ (o : PortBounds). LacksCore low o) b lacks))

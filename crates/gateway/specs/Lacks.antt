@@ -1,17 +1,25 @@
--- For want of which memory an event isn't taken.
-use Rattle.std.specs.Prelude.{◌≡◌, ◌≤◌, ◌⊎◌, ℕ, Bool, true, false, Result, Ok, Err, List}
+-- For want of which memory a gateway doesn't begin, or doesn't take an event.
+use Rattle.std.specs.Prelude.{◌≡◌, ◌≤◌, ◌⊎◌, ℕ, Bool, true, false, Result, Ok, Err, List, length}
+use Rattle.memory.specs.Memory.{WasRefused}
 use Rattle.nat_types.specs.declared.gateways.Side.{Side}
+use Rattle.nat_types.specs.declared.gateways.Side.TheVariants.{Inside, Outside}
+use Rattle.settings.specs.declared.whole.Settings.{Settings}
+use Rattle.bind_core.specs.Memory.{LacksCore}
+use Rattle.interfaces.specs.Memory.{LacksInterface}
 use Rattle.link.specs.declared.datagrams.TheConstants.{RECORDS_IN_A_DATAGRAM}
 use Rattle.link.specs.Link.{may_restart}
 use Rattle.link.specs.Reading.{header_at}
 use Rattle.output.specs.declared.pages.Room.{Room}
+use Rattle.output.specs.Memory.{LacksPage}
 use Rattle.output.specs.Output.{IsWithin, Output, Paged}
+use Rattle.waiting.specs.Memory.{LacksCopy, LacksPackets}
 use Rattle.packet_rules.specs.declared.readings.Reading.{Reading}
 use Rattle.packet_rules.specs.declared.reasons.Reason.{Reason}
 use Rattle.packet_rules.specs.declared.reasons.Reason.TheVariants.{TtlOver}
 use Rattle.spec_step.specs.declared.events.Event.{Event}
 use Rattle.spec_step.specs.declared.events.Event.TheVariants.{Frame, Datagram, Tick, Stop, PeerOff, Side as Cable}
 use Rattle.spec_step.specs.declared.events.Outcome.TheVariants.{Waiting}
+use Rattle.spec_step.specs.Founding.{bounds_of, link_places}
 use Rattle.spec_step.specs.Shown.{Shown, scene}
 use Rattle.spec_step.specs.Verdict.{outcome_read, reading_on}
 use Rattle.forwarder.specs.declared.forwarders.Forwarder.{Forwarder}
@@ -19,18 +27,38 @@ use Rattle.forwarder.specs.Forwarder.{scene_on, shown_of}
 use Rattle.forwarder.specs.Room.{Needs, an_arp_packet, frames_alone}
 use Rattle.gateway.specs.Rooms.{both_routers, records_need, restart_needs, room_for, tick_needs, waiting_needs}
 
--- A page was to be made ready for so much, or a core for so many new pairs, and more memory was refused. No clause can say when that is, so this, and
--- those below it, are no more than names: who asks for it has one of them, and nobody else.
+-- ---- of a gateway that begins
+
+-- its link: a place for each record of a whole batch, and for the answers beside it
+abbrev pub LacksLink : Settings → Type 0
+LacksLink settings = WasRefused (link_places (bounds_of settings.ports.zero) (bounds_of settings.ports.one))
+
+-- an interface: that of the inside, or that of the outside
+abbrev pub LacksStations : Settings → Type 0
+LacksStations settings = LacksInterface settings Inside ⊎ LacksInterface settings Outside
+
+-- what it has beside its table: its link, an interface, or the lists of packets that wait
+abbrev pub LacksParts : Settings → Type 0
+LacksParts settings = LacksLink settings ⊎ (LacksStations settings ⊎ LacksPackets)
+
+-- one with these settings: those, or the core with its table
+abbrev pub LacksGateway : Settings → Type 0
+LacksGateway settings = LacksParts settings ⊎ LacksCore (bounds_of settings.ports.zero) (bounds_of settings.ports.one)
+
+-- ---- of what an event asks for
+
+-- A page was to be made ready for so much, or a core for so many new pairs, and more memory was refused. This, and those below it, are names too: who asks
+-- for it has one of them, and nobody else.
 unfoldable pub WasUnready : Room → ℕ → Forwarder → Paged → Type 0
-WasUnready room pairs f page = Unit {0}
+WasUnready room pairs f page = Unit {0} × (LacksPage room ⊎ WasRefused pairs)
 
 -- there was to be a list for all packets that wait
 unfoldable pub WasUnlisted : Forwarder → Type 0
-WasUnlisted f = Unit {0}
+WasUnlisted f = Unit {0} × WasRefused (length f.kept)
 
 -- a frame that came in on that side was to be copied
 unfoldable pub WasUncopied : Shown → Side → List ℕ → Type 0
-WasUncopied g side bytes = Unit {0}
+WasUncopied g side bytes = Unit {0} × LacksCopy (length bytes)
 
 -- ---- of an event
 

@@ -1,5 +1,5 @@
 //! A gateway as it begins.
-ghost use Rattle.std.specs.Prelude.{◌≡◌, ◌<◌, ◌≤◌, ◌^◌, IfOk, IsTrue, false, [], if◌then◌else◌};
+ghost use Rattle.std.specs.Prelude.{◌≡◌, ◌<◌, ◌≤◌, ◌^◌, IfOk, OnErr, IsTrue, false, [], if◌then◌else◌};
 ghost use Rattle.nat_types.specs.declared.gateways.GatewayId.TheVariants.{Zero};
 ghost use Rattle.nat_types.specs.declared.gateways.Side.TheVariants.{Inside, Outside};
 ghost use Rattle.spec_binding.specs.Books.{empty_book, founded_book};
@@ -11,6 +11,7 @@ ghost use Rattle.interfaces.specs.Stations.{new_station};
 ghost use Rattle.spec_step.specs.Founding.{HasRanges, begun, bounds_of as bounds_in, founded};
 ghost use Rattle.spec_step.specs.Founding.{hashing, link_places as places_of};
 ghost use Rattle.forwarder.specs.Forwarder.{shown_of};
+ghost use Rattle.gateway.specs.Lacks.{LacksGateway, LacksLink, LacksParts, LacksStations};
 
 use crate::NoMemory;
 use crate::routers::start_routers;
@@ -85,8 +86,9 @@ fn ports_in(bounds: PortBounds) -> usize
 /// The link of a gateway that has just booted.
 fn link_of(alloc: Global, settings: &Settings, id: GatewayId, boot: u64) -> Result<Link, NoMemory>
     requires { 0 < boot }
-    ensures { IfOk result (λ l. l ≡ fresh id boot (places_of (bounds_in settings.now.ports.zero)
-        (bounds_in settings.now.ports.one))) }
+    ensures fresh { IfOk result (λ l. l ≡ fresh id boot
+        (places_of (bounds_in settings.now.ports.zero) (bounds_in settings.now.ports.one))) }
+    ensures refused { OnErr result (LacksLink settings.now) }
 {
     recall_ranges(settings);
     let zero = bounds_of(settings.ports.zero);
@@ -112,6 +114,7 @@ fn stations_of(
 ) -> Result<(Interface, Interface), NoMemory>
     ensures inside { IfOk result (λ s. s.0 ≡ new_station settings.now id Inside) }
     ensures outside { IfOk result (λ s. s.1 ≡ new_station settings.now id Outside) }
+    ensures refused { OnErr result (LacksStations settings.now) }
 {
     let inside = Interface::new(alloc, settings, id, Side::Inside)?;
     let outside = Interface::new(alloc, settings, id, Side::Outside)?;
@@ -126,6 +129,7 @@ fn parts_of(alloc: Global, settings: &Settings, id: GatewayId, boot: u64) -> Res
     ensures inside { IfOk result (λ p. p.inside ≡ new_station settings.now id Inside) }
     ensures outside { IfOk result (λ p. p.outside ≡ new_station settings.now id Outside) }
     ensures kept { IfOk result (λ p. p.kept ≡ []) }
+    ensures refused { OnErr result (LacksParts settings.now) }
 {
     let link = link_of(alloc, settings, id, boot)?;
     let (inside, outside) = stations_of(alloc, settings, id)?;
@@ -177,6 +181,7 @@ fn begin_unsynced(
     ensures shown { IfOk result (λ f. shown_of f
         ≡ hashing hashers (begun settings.now id boot)) }
     ensures hashers { IfOk result (λ f. f.core.table.hashers ≡ hashers) }
+    ensures refused { OnErr result (LacksGateway settings.now) }
 {
     recall_ranges(settings);
     let zero = bounds_of(settings.ports.zero);
@@ -199,6 +204,7 @@ fn begin_founded(
     ensures shown { IfOk result (λ f. shown_of f
         ≡ hashing hashers (founded settings.now boot)) }
     ensures hashers { IfOk result (λ f. f.core.table.hashers ≡ hashers) }
+    ensures refused { OnErr result (LacksGateway settings.now) }
 {
     recall_ranges(settings);
     let zero = bounds_of(settings.ports.zero);
@@ -228,6 +234,7 @@ pub(crate) fn begin(
     ensures shown { IfOk result (λ f. shown_of f ≡ hashing hashers
         (if found then founded settings.now boot else begun settings.now id boot)) }
     ensures hashers { IfOk result (λ f. f.core.table.hashers ≡ hashers) }
+    ensures refused { OnErr result (LacksGateway settings.now) }
 {
     recall_ranges(settings);
     recall_places(settings, id);

@@ -1,5 +1,6 @@
 //! One gateway of the pair, and its step.
 ghost use Rattle.std.specs.Prelude.{◌≡◌, ◌<◌, ◌≤◌, ◌^◌, ◌∷◌, [], Some, IsTrue, IsOk, IfOk, IfSome, IfNone, OnOk, OnErr, length, map, if◌then◌else◌, true, false};
+ghost use Rattle.memory.specs.Memory.{WasRefused};
 ghost use Rattle.nat_types.specs.declared.gateways.GatewayId.TheVariants.{Zero};
 ghost use Rattle.bindings.specs.Entries.{is_pair, pairs_in, slot_of, translates};
 ghost use Rattle.bindings.specs.Lists.{after_key};
@@ -19,7 +20,7 @@ ghost use Rattle.waiting.specs.Packets.{hop_count as hops_in, pair_count as pair
 ghost use Rattle.spec_step.specs.Rests.{most_notes};
 ghost use Rattle.gateway.specs.Entries.{behind};
 ghost use Rattle.gateway.specs.Gateway.{IsGateway};
-ghost use Rattle.gateway.specs.Lacks.{LacksMemory};
+ghost use Rattle.gateway.specs.Lacks.{LacksGateway, LacksMemory};
 ghost use Rattle.gateway.specs.Rooms.{is_of_side};
 
 use crate::begins::begin;
@@ -76,8 +77,9 @@ impl Gateway {
     ) -> Result<Gateway, NoMemory>
         requires boot { 0 < boot }
         requires found { IsTrue found → id ≡ Zero }
-        ensures { IfOk result (λ g. g ≡ hashing hashers
+        ensures begins { IfOk result (λ g. g ≡ hashing hashers
             (if found then founded settings.now boot else begun settings.now id boot)) }
+        ensures refused { OnErr result (LacksGateway settings.now) }
     {
         beginnings();
         beginnings_settle();
@@ -233,7 +235,9 @@ impl Gateway {
 
     /// All pairs of its table, by protocol (icmp first) and port; a proposal given up is none.
     pub fn pairs(&self) -> Result<Vec<Pair>, NoMemory>
-        ensures { IfOk result (λ v. v.items ≡ pairs_in is_pair self.now.ledger.book.entries) }
+        ensures listed { IfOk result (λ v. v.items
+            ≡ pairs_in is_pair self.now.ledger.book.entries) }
+        ensures refused { OnErr result (WasRefused 1) }
     {
         let pairs = self.forwarder.core.table().pairs()?;
         Ok(pairs)
@@ -241,7 +245,9 @@ impl Gateway {
 
     /// The pairs that translate, in the same order.
     pub fn translating(&self) -> Result<Vec<Pair>, NoMemory>
-        ensures { IfOk result (λ v. v.items ≡ pairs_in translates self.now.ledger.book.entries) }
+        ensures listed { IfOk result (λ v. v.items
+            ≡ pairs_in translates self.now.ledger.book.entries) }
+        ensures refused { OnErr result (WasRefused 1) }
     {
         let pairs = self.forwarder.core.table().translating()?;
         Ok(pairs)
@@ -254,6 +260,7 @@ impl Gateway {
             then map port_at self.now.ledger.book.owned else [])) }
         // Where there is none to list, no memory is taken.
         ensures none { is_synced self.now.ledger.book.stage ≡ false → IsOk result }
+        ensures refused { OnErr result (WasRefused 1) }
     {
         let ports = self.forwarder.core.owned()?;
         Ok(ports)

@@ -10,6 +10,7 @@ use crate::NoMemory;
 use addresses::{Ip, Port, Protocol};
 use forwarder::Forwarder;
 use link::RECORDS_IN_A_DATAGRAM;
+use memory::with_room;
 use nat_types::Endpoint;
 use output::{OutputBuffer, Room};
 use std::alloc::Global;
@@ -125,6 +126,14 @@ pub(crate) fn restart_room(forwarder: &Forwarder) -> Room
     }
 }
 
+/// Reminds the prover that a table has few entries; it does nothing when it runs.
+fn recall_entries(forwarder: &Forwarder)
+    ensures { length forwarder.now.core.table.entries ≤ most_entries }
+{
+    forwarder.core.recall();
+    forwarder.core.table().recall();
+}
+
 /// Makes a page ready for so much, and a core for so many new pairs. An `Err` stands for a refused
 /// growth; nothing shows then. It alone has the name for it.
 #[inline(always)]
@@ -152,6 +161,7 @@ pub(crate) fn make_ready(
         → pairs ≤ forwarder.old.core.table.ready → ⊥) }
     ensures refused { OnErr result (WasUnready room pairs forwarder.old page.old) }
 {
+    recall_entries(forwarder);
     page.ready(room)?;
     forwarder.core.ready(&ENDPOINTS[..pairs])?;
     Ok(())
@@ -175,6 +185,6 @@ pub(crate) fn list_for(alloc: Global, forwarder: &Forwarder) -> Result<Vec<HeldP
     ensures room { IfOk result (λ v. length forwarder.now.kept ≤ vec_capacity v) }
     ensures refused { OnErr result (WasUnlisted forwarder.now) }
 {
-    let list = Vec::with_capacity(alloc, forwarder.kept.len())?;
+    let list = with_room(alloc, forwarder.kept.len())?;
     Ok(list)
 }

@@ -1,3 +1,4 @@
 pub mod Cables
+pub mod Memory
 pub mod Stations
 pub mod Tallies

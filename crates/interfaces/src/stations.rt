@@ -1,5 +1,5 @@
 //! An interface with its state.
-ghost use Rattle.std.specs.Prelude.{◌≡◌, true, ℕ, ◌≤◌, ◌+◌, ◌++◌, IfOk, IfErr, IfSome, length, vec_len, vec_capacity, if◌then◌else◌};
+ghost use Rattle.std.specs.Prelude.{◌≡◌, true, ℕ, ◌≤◌, ◌+◌, ◌++◌, IfOk, IfErr, IfSome, OnErr, length, vec_len, vec_capacity, if◌then◌else◌};
 ghost use Rattle.arp.specs.Neighbours.{mac_at, asks_at, asked_at};
 ghost use Rattle.arp.specs.declared.packets.TheConstants.{ARP_FRAME};
 ghost use Rattle.vrrp_packet.specs.declared.TheConstants.{ADVERT_FRAME};
@@ -14,6 +14,8 @@ ghost use Rattle.packet_rules.specs.Steps.{reading_of, Carries};
 ghost use Rattle.interfaces.specs.Cables.{is_in, is_whole, plugged};
 ghost use Rattle.interfaces.specs.Stations.{is_active, is_active_in, is_on, fixed_of, fixed_on, new_station, IsRouterStep, after_arp, with_complaint, with_plug, with_reply, IsWired};
 ghost use Rattle.interfaces.specs.Tallies.{may_complain, may_reply};
+ghost use Rattle.interfaces.specs.Memory.{LacksInterface};
+ghost use Rattle.memory.specs.Memory.{WasRefused};
 
 use crate::{Cable, Tally};
 use addresses::{Ip, Mac};
@@ -75,18 +77,31 @@ fn fixed(neighbour: &settings::Neighbour) -> Neighbour
     }
 }
 
+/// How many static neighbours are on a side.
+fn fixed_count(set: &[settings::Neighbour], side: Side) -> usize
+    ensures { result ≡ length (fixed_on side set.now) }
+{
+    set.iter()
+        .filter(|neighbour| is_on(neighbour, side))
+        .count()
+}
+
 /// The static neighbours on a side, in their order.
 fn fixed_neighbours(
     alloc: Global,
     set: &[settings::Neighbour],
     side: Side,
 ) -> Result<Vec<Neighbour>, AllocError>
-    ensures { IfOk result (λ v. v.items ≡ fixed_on side set.now) }
+    ensures items { IfOk result (λ v. v.items ≡ fixed_on side set.now) }
+    ensures refused { OnErr result (WasRefused (length (fixed_on side set.now))) }
 {
-    set.iter()
-        .filter(|neighbour| is_on(neighbour, side))
-        .map(|neighbour| fixed(neighbour))
-        .collect(alloc)
+    let mut there = memory::with_room(alloc, fixed_count(set, side))?;
+    for neighbour in set {
+        if is_on(neighbour, side) {
+            there.push_reserved(fixed(neighbour));
+        }
+    }
+    Ok(there)
 }
 
 impl Interface {
@@ -99,7 +114,8 @@ impl Interface {
         id: GatewayId,
         side: Side,
     ) -> Result<Interface, AllocError>
-        ensures { IfOk result (λ s. s ≡ new_station settings.now id side) }
+        ensures station { IfOk result (λ s. s ≡ new_station settings.now id side) }
+        ensures refused { OnErr result (LacksInterface settings.now side) }
     {
         let own = settings.gateway(id);
         let network = Networks::of_gateway(settings, id).of(side);

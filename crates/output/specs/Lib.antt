@@ -1,3 +1,4 @@
+pub mod Memory
 pub mod Piles
 pub mod Readers
 pub mod Output

@@ -3,6 +3,7 @@ ghost use Rattle.std.specs.Prelude.{◌≡◌, ◌≤◌, ◌<◌, ◌+◌, ◌-
 ghost use Rattle.std.specs.Prelude.{OnOk, OnErr, IsOk};
 ghost use Rattle.output.specs.Output.{none_told, no_room, with_frame, with_datagram, with_note};
 ghost use Rattle.output.specs.Output.{without_notes, IsWithin};
+ghost use Rattle.output.specs.Memory.{LacksPage};
 
 use crate::piles::Pile;
 use crate::readers::{ByteStrings, Frames};
@@ -99,12 +100,13 @@ impl OutputBuffer {
         ensures ok { OnOk result (self.new ≡ record self.old { room = room }) }
         ensures err { OnErr result (self.new ≡ self.old) }
         ensures enough { IsWithin room self.old.room → IsOk result }
+        ensures refused { OnErr result (LacksPage room) }
     {
-        self.sides.reserve(room.frames)?;
+        memory::reserve(&mut self.sides, room.frames)?;
         self.frames.ready(room.frames, LONGEST_FRAME * room.frames)?;
         self.datagrams
             .ready(room.datagrams, LONGEST_DATAGRAM * room.datagrams)?;
-        self.notes.reserve(room.notes)?;
+        memory::reserve(&mut self.notes, room.notes)?;
         self.room = room;
         Ok(())
     }

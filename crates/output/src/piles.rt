@@ -1,5 +1,6 @@
 //! Strings of bytes that lie one behind the other, so that none takes memory of its own.
 ghost use Rattle.std.specs.Prelude.{◌≡◌, ◌≤◌, ◌<◌, ◌+◌, ◌++◌, ◌∷◌, [], length, OnOk, OnErr, IsOk};
+ghost use Rattle.output.specs.Memory.{LacksPile};
 
 use crate::readers::ByteStrings;
 use crate::writing::WriteBytes;
@@ -46,9 +47,11 @@ impl Pile {
         ensures places_stay { self.old.places ≤ self.new.places }
         ensures octets_stay { self.old.octets ≤ self.new.octets }
         ensures enough { places ≤ self.old.places → octets ≤ self.old.octets → IsOk result }
+        ensures refused { OnErr result (LacksPile places octets) }
     {
-        self.sizes.reserve(places)?;
-        self.bytes.reserve(octets)
+        memory::reserve(&mut self.sizes, places)?;
+        memory::reserve(&mut self.bytes, octets)?;
+        Ok(())
     }
 
     /// Takes all strings off, and keeps the room.

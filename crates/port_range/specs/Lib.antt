@@ -1,4 +1,5 @@
 pub mod Marks
+pub mod Memory
 pub mod Ports
 pub mod Searches
 pub mod Words

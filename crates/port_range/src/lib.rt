@@ -1,11 +1,13 @@
 //! The ports of a range: which are free, which are owned, and which one an endpoint is given.
 #![tactic(auto)]
 
-ghost use Rattle.std.specs.Prelude.{◌≡◌, ℕ, [], true, false, OnOk, IfOk, IfErr, IfSome, IfNone, ◌+◌, ◌*◌, ◌<◌, ◌≤◌, ◌==◌, ◌&&◌, ◌||◌, not, if◌then◌else◌};
+ghost use Rattle.std.specs.Prelude.{◌≡◌, ℕ, [], true, false, OnOk, IfOk, IfErr, Err, IfSome, IfNone, ◌+◌, ◌*◌, ◌<◌, ◌≤◌, ◌==◌, ◌&&◌, ◌||◌, not, if◌then◌else◌};
 ghost use Rattle.port_range.specs.Ports.{is_free, is_owned, is_available, is_within, is_bad, IsReason, IsRange, IsChosen, chosen_port};
 ghost use Rattle.port_range.specs.Searches.{IsFirstFrom};
 ghost use Rattle.port_range.specs.Words.{is_set};
 ghost use Rattle.port_range.specs.Marks.{words_looked_at};
+ghost use Rattle.port_range.specs.Memory.{LacksMarks};
+ghost use Rattle.port_range.specs.declared.RangeFault.TheVariants.{NoMemory};
 
 mod laws;
 mod marks;
@@ -65,6 +67,7 @@ impl Range {
     fn begin(alloc: Global, lowest: Port, highest: Port, owned: bool) -> Result<Range, RangeFault>
         ensures good { OnOk result (is_bad lowest.0 highest.0 ≡ false) }
         ensures refused { IfErr result (IsReason lowest.0 highest.0) }
+        ensures memory { result ≡ Err NoMemory → LacksMarks }
         ensures lowest { IfOk result (λ r. r.lowest ≡ lowest.0) }
         ensures highest { IfOk result (λ r. r.highest ≡ highest.0) }
         ensures free { IfOk result (λ r. (port : ℕ) → is_free r port
@@ -88,6 +91,7 @@ impl Range {
     pub fn new(alloc: Global, lowest: Port, highest: Port) -> Result<Range, RangeFault>
         ensures good { OnOk result (is_bad lowest.0 highest.0 ≡ false) }
         ensures refused { IfErr result (IsReason lowest.0 highest.0) }
+        ensures memory { result ≡ Err NoMemory → LacksMarks }
         ensures lowest { IfOk result (λ r. r.lowest ≡ lowest.0) }
         ensures highest { IfOk result (λ r. r.highest ≡ highest.0) }
         ensures free { IfOk result (λ r. (port : ℕ) → is_free r port
@@ -102,6 +106,7 @@ impl Range {
     pub fn unowned(alloc: Global, lowest: Port, highest: Port) -> Result<Range, RangeFault>
         ensures good { OnOk result (is_bad lowest.0 highest.0 ≡ false) }
         ensures refused { IfErr result (IsReason lowest.0 highest.0) }
+        ensures memory { result ≡ Err NoMemory → LacksMarks }
         ensures lowest { IfOk result (λ r. r.lowest ≡ lowest.0) }
         ensures highest { IfOk result (λ r. r.highest ≡ highest.0) }
         ensures free { IfOk result (λ r. (port : ℕ) → is_free r port

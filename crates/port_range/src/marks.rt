@@ -1,9 +1,10 @@
 //! Free and owned ports as bits by number, and the search through a summary for each parity.
-ghost use Rattle.std.specs.Prelude.{◌≡◌, ℕ, ◌+◌, ◌*◌, ◌/◌, ◌<◌, ◌≤◌, ◌==◌, ◌&&◌, ◌||◌, false, length, slice_index, nat_lt, bit_and, IfOk, IfSome, IfNone, if◌then◌else◌};
+ghost use Rattle.std.specs.Prelude.{◌≡◌, ℕ, ◌+◌, ◌*◌, ◌/◌, ◌<◌, ◌≤◌, ◌==◌, ◌&&◌, ◌||◌, false, length, slice_index, nat_lt, bit_and, IfOk, OnErr, IfSome, IfNone, if◌then◌else◌};
 ghost use Rattle.addresses.specs.Transport.{parity_of};
 ghost use Rattle.port_range.specs.Ports.{is_within};
 ghost use Rattle.port_range.specs.Searches.{IsFirstFrom};
 ghost use Rattle.port_range.specs.Words.{is_set, has_bit, agrees};
+ghost use Rattle.port_range.specs.Memory.{LacksMarks};
 ghost use Rattle.port_range.specs.Marks.{has_both, other_parity, mask_of, open_word, IsSummary, IsLowestOf};
 
 use crate::words::{fill_between, has_bit, lowest_bit, next_bit, put_bit, set_between, zeros};
@@ -140,6 +141,7 @@ impl Marks {
     pub(crate) fn new(alloc: Global) -> Result<Marks, AllocError>
         ensures free { IfOk result (λ m. (port : ℕ) → has_bit m.free port ≡ false) }
         ensures owned { IfOk result (λ m. (port : ℕ) → has_bit m.owned port ≡ false) }
+        ensures refused { OnErr result LacksMarks }
     {
         let free = zeros(alloc, WORDS)?;
         let owned = zeros(alloc, WORDS)?;

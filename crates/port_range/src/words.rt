@@ -1,15 +1,19 @@
 //! Numbers as bits of words of 64.
-ghost use Rattle.std.specs.Prelude.{◌≡◌, ℕ, ◌+◌, ◌-◌, ◌*◌, ◌/◌, ◌%◌, ◌^◌, ◌<◌, ◌≤◌, ◌==◌, ◌&&◌, ◌||◌, false, length, slice_index, nat_lt, replicate, IfOk, IfSome, IfNone, if◌then◌else◌};
+ghost use Rattle.std.specs.Prelude.{◌≡◌, ℕ, ◌+◌, ◌-◌, ◌*◌, ◌/◌, ◌%◌, ◌^◌, ◌<◌, ◌≤◌, ◌==◌, ◌&&◌, ◌||◌, false, length, slice_index, nat_lt, replicate, IfOk, OnErr, IfSome, IfNone, if◌then◌else◌};
+ghost use Rattle.memory.specs.Memory.{WasRefused};
 ghost use Rattle.port_range.specs.Ports.{is_within};
 ghost use Rattle.port_range.specs.Searches.{IsFirstFrom, IsLastBelow};
 ghost use Rattle.port_range.specs.Words.{is_set, has_bit, agrees, IsLowestBit, AreOthers};
 
+use memory::copies_of;
 use std::alloc::{AllocError, Global};
 
+/// So many words that are 0.
 pub(crate) fn zeros(alloc: Global, count: usize) -> Result<Vec<u64>, AllocError>
-    ensures { IfOk result (λ v. v.items ≡ replicate count 0) }
+    ensures items { IfOk result (λ v. v.items ≡ replicate count 0) }
+    ensures refused { OnErr result (WasRefused count) }
 {
-    vec![in alloc; 0; count]
+    copies_of(alloc, 0, count)
 }
 
 pub(crate) fn has_bit(words: &[u64], number: usize) -> bool

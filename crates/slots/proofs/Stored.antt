@@ -145,7 +145,7 @@ module _ {T : Type 0} where
     pub made : rows_in slots cells ≡ rows
     pub stored : IsStored slots cells places
 
-  pub empty-stored : (slots : Slab T) (cells : List (Option SlotNumber)) (room : ℕ) → slots.slots ≡ [] → length cells ≡ 196608 → ((i : ℕ) → get_or cells i None ≡ None) → room ≤ slots.capacity → slots.capacity ≤ 4294967295 → Changed slots cells room []
+  pub empty-stored : (slots : Slab T) (cells : List (Option SlotNumber)) (room : ℕ) → slots.slots ≡ [] → length cells ≡ 196608 → ((i : ℕ) → get_or cells i None ≡ None) → room ≤ slots.capacity → slots.capacity ≤ 2147483647 → Changed slots cells room []
   empty-stored slots cells room empty all none fits small =
       let rows = rows-none (item_at slots) 0 cells none in
       record {

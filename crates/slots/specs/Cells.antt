@@ -66,4 +66,4 @@ module _ {T : Type 0} where
     pub below : (i : ℕ) (n : SlotNumber) → get_or cells i None ≡ Some n → n.0 < slots.capacity
     pub held : (n : SlotNumber) → IsSome (item_at slots n) → (i : ℕ) × (get_or cells i None ≡ Some n)
     -- each slot's number fits into 32 bits
-    pub small : slots.capacity ≤ 4294967295
+    pub small : slots.capacity ≤ 2147483647

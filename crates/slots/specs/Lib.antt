@@ -8,3 +8,4 @@ pub mod Hashers
 pub mod Dues
 pub mod SmallNumbers
 pub mod KeyedHashing
+pub mod Memory

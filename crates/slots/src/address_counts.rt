@@ -1,9 +1,11 @@
 //! How many endpoints of each inside address have a slot.
-ghost use Rattle.std.specs.Prelude.{◌≡◌, ◌+◌, ◌-◌, ◌<◌, ◌≤◌, IsOk, OnOk, if◌then◌else◌};
+ghost use Rattle.std.specs.Prelude.{◌≡◌, ◌+◌, ◌-◌, ◌<◌, ◌≤◌, IsOk, OnErr, OnOk, if◌then◌else◌};
 ghost use Rattle.indexmap.specs.IndexMap.{spare};
+ghost use Rattle.memory.specs.Memory.{WasRefused};
 ghost use Rattle.addresses.specs.declared.internet.Ip.{Ip as Address};
 ghost use Rattle.slots.specs.Counts.{count_at, is_address, one_at, AreHeld};
 
+use crate::maps::reserve;
 use addresses::Ip;
 use indexmap::IndexMap;
 use std::alloc::{AllocError, Global};
@@ -59,8 +61,9 @@ impl<S: BuildHasher + Drop> AddressCounts<S> {
         ensures spare { self.old.spare ≤ self.new.spare }
         ensures same { self.new.entries ≡ self.old.entries }
         ensures succeeds { more ≤ self.old.spare → IsOk result }
+        ensures refused { OnErr result (WasRefused more) }
     {
-        self.counts.reserve(more)
+        reserve(&mut self.counts, more)
     }
 
     pub(crate) fn get(&self, address: Ip) -> u32

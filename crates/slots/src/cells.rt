@@ -1,10 +1,12 @@
 //! Cells by protocol and port, each with the number of a slot or empty.
-ghost use Rattle.std.specs.Prelude.{◌≡◌, ℕ, ◌+◌, ◌*◌, ◌<◌, ◌≤◌, None, Some, false, true, length, replicate, slice_set, IsSome, IfOk, IfSome, IfNone, OnOk};
+ghost use Rattle.std.specs.Prelude.{◌≡◌, ℕ, ◌+◌, ◌*◌, ◌<◌, ◌≤◌, None, Some, length, slice_set, IsSome, IfOk, IfSome, IfNone, OnErr};
 ghost use Rattle.std.proofs.Common.{get_or};
 ghost use Rattle.slots.specs.Cells.{AreMarked, HasBlocks};
+ghost use Rattle.slots.specs.Memory.{LacksCells};
 
 use crate::SlotNumber;
 use crate::small_numbers::SmallNumber;
+use memory::copies_of;
 use std::alloc::{AllocError, Global};
 use std::marker::Model;
 
@@ -27,18 +29,6 @@ impl Model for Cells {
 
     ghost invariant = { λ c. AreMarked c.numbers.items c.marks.items
         × HasBlocks c.numbers.items c.marks.items × (length c.numbers.items ≤ 196608) };
-}
-
-fn empty_cells(alloc: Global, count: usize) -> Result<Vec<SmallNumber>, AllocError>
-    ensures { IfOk result (λ v. v.items ≡ replicate count None) }
-{
-    vec![in alloc; SmallNumber::none(); count]
-}
-
-fn unmarked(alloc: Global, count: usize) -> Result<Vec<bool>, AllocError>
-    ensures { IfOk result (λ v. v.items ≡ replicate count false) }
-{
-    vec![in alloc; false; count]
 }
 
 /// The first cell from one on that has a number.
@@ -89,9 +79,10 @@ impl Cells {
         requires count { count ≤ 196608 }
         ensures length { IfOk result (λ c. length c ≡ count) }
         ensures none { IfOk result (λ c. (k : ℕ) → get_or c k None ≡ None) }
+        ensures refused { OnErr result (LacksCells count blocks) }
     {
-        let numbers = empty_cells(alloc, count)?;
-        let marks = unmarked(alloc, blocks)?;
+        let numbers = copies_of(alloc, SmallNumber::none(), count)?;
+        let marks = copies_of(alloc, false, blocks)?;
         Ok(Cells { numbers, marks })
     }
 

@@ -1,10 +1,12 @@
 //! Due moments by slot.
-ghost use Rattle.std.specs.Prelude.{◌≡◌, ◌<◌, ◌≤◌, ◌++◌, [], ◌∷◌, None, Some, length, map, slice_set, vec_capacity, IfOk, IfNone, IfSome};
+ghost use Rattle.std.specs.Prelude.{◌≡◌, ◌<◌, ◌≤◌, ◌++◌, [], ◌∷◌, None, Some, length, map, slice_set, vec_capacity, IfOk, IfNone, IfSome, OnErr};
 ghost use Rattle.timers.specs.Due.{cleared};
 ghost use Rattle.slots.specs.declared.numbers.SlotNumber.{SlotNumber as Number};
 ghost use Rattle.slots.specs.Dues.{moment_of, AreDue};
+ghost use Rattle.slots.specs.Memory.{LacksDues};
 
 use crate::SlotNumber;
+use memory::with_room;
 use std::alloc::{AllocError, Global};
 use std::marker::Model;
 use timers::Timers;
@@ -49,8 +51,9 @@ impl Dues {
         ensures count { IfOk result (λ d. length d.moments ≡ count) }
         ensures none { IfOk result (λ d. (number : Number) → moment_of d.moments number ≡ None) }
         ensures found { IfOk result (λ d. d.found ≡ []) }
+        ensures refused { OnErr result (LacksDues count) }
     {
-        let found = Vec::with_capacity(alloc, count)?;
+        let found = with_room(alloc, count)?;
         let timers = Timers::with_capacity(alloc, count)?;
         Ok(Dues { timers, found })
     }

@@ -1,12 +1,14 @@
 //! The slots of endpoints.
-ghost use Rattle.std.specs.Prelude.{◌≡◌, ◌+◌, ◌<◌, ◌≤◌, None, Some, IsSome, IfOk, IsOk, OnOk, OnErr};
+ghost use Rattle.std.specs.Prelude.{◌≡◌, ◌+◌, ◌<◌, ◌≤◌, length, None, Some, IsSome, IfOk, IsOk, OnOk, OnErr};
 ghost use Rattle.addresses.specs.declared.internet.Ip.{Ip as Address};
 ghost use Rattle.nat_types.specs.declared.pairs.Endpoint.{Endpoint as InsidePort};
 ghost use Rattle.slots.specs.Counts.{one_at};
 ghost use Rattle.slots.specs.Endpoints.{slot_of, set_at, count_in};
+ghost use Rattle.slots.specs.Memory.{LacksEndpoints};
 
 use crate::SlotNumber;
 use crate::address_counts::AddressCounts;
+use crate::maps::reserve;
 use addresses::Ip;
 use indexmap::IndexMap;
 use nat_types::Endpoint;
@@ -63,11 +65,12 @@ impl<S: BuildHasher + Copy + Drop> EndpointIndex<S> {
         ensures same { self.new.entries ≡ self.old.entries }
         ensures hasher { self.new.hasher ≡ self.old.hasher }
         ensures succeeds { more ≤ self.old.spare → IsOk result }
+        ensures refused { OnErr result (LacksEndpoints more (length self.old.entries)) }
     {
         if more > MOST - self.numbers.len() {
             return Err(AllocError);
         }
-        self.numbers.reserve(more)?;
+        reserve(&mut self.numbers, more)?;
         self.counts.ready(more)
     }
 

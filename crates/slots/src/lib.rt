@@ -8,6 +8,7 @@ mod dues;
 mod endpoints;
 mod hashers;
 mod keyed_hasher;
+mod maps;
 mod numbers;
 mod port_slots;
 mod small_numbers;

@@ -1,10 +1,12 @@
 //! Items in slots, with a cell for each protocol and port.
-ghost use Rattle.std.specs.Prelude.{◌≡◌, ◌+◌, ◌<◌, ◌≤◌, [], None, Some, length, IfOk, IfSome, OnSome, option_copied};
+ghost use Rattle.std.specs.Prelude.{◌≡◌, ◌+◌, ◌<◌, ◌≤◌, [], None, Some, length, IfOk, IfSome, OnErr, OnSome, option_copied};
 ghost use Rattle.std.specs.List.{find};
 ghost use Rattle.std.specs.Borrow.{sem};
 ghost use Rattle.std.specs.Option.{option_map, option_copied_mut};
+ghost use Rattle.memory.specs.Memory.{WasRefused};
 ghost use Rattle.nat_types.specs.declared.pairs.Key.{Key as OutsidePort};
 ghost use Rattle.slots.specs.Cells.{cell_of, cell_behind, first_cell, key_at, protocol_at};
+ghost use Rattle.slots.specs.Memory.{HasPlaces, LacksPlaces};
 ghost use Rattle.slots.specs.Rows.{row_of, item_of, number_of, put_in, without, stands_behind, Rises, HasDistinctNumbers, AreBelow};
 
 use crate::SlotNumber;
@@ -21,8 +23,8 @@ const CELLS: usize = 196_608;
 /// How many blocks of 256 cells these are.
 const BLOCKS: usize = 768;
 
-/// More slots than there are numbers for in 32 bits aren't made.
-const MOST_SLOTS: usize = 4_294_967_295;
+/// More slots than timers tell aren't made. A number of 32 bits has room for each.
+const MOST_SLOTS: usize = 2_147_483_647;
 
 /// Items in slots, by protocol (icmp first) and port.
 #[derive(Drop)]
@@ -103,13 +105,28 @@ fn first_cell_behind(last: Option<Key>) -> usize
     }
 }
 
+/// Empty slots for so many items.
+#[tactic(auto, unfolding(memory::specs::Memory::WasRefused, crate::specs::Memory::HasPlaces))]
+fn empty_slots<T: Drop>(alloc: Global, room: usize) -> Result<Slab<T>, AllocError>
+    ensures empty { IfOk result (λ s. s.slots ≡ []) }
+    ensures capacity { IfOk result (λ s. room ≤ s.capacity) }
+    ensures given { IfOk result (λ s. HasPlaces room s.capacity) }
+    ensures refused { OnErr result (WasRefused room) }
+{
+    Slab::with_capacity(alloc, room)
+}
+
 impl<T: Drop> PortSlots<T> {
     /// No items, and room for so many.
     pub fn new(alloc: Global, room: usize) -> Result<PortSlots<T>, AllocError>
         ensures rows { IfOk result (λ s. s.rows ≡ []) }
         ensures room { IfOk result (λ s. s.room ≡ room) }
+        ensures least { IfOk result (λ s. room ≤ s.limit) }
+        ensures most { IfOk result (λ s. s.limit ≤ 2147483647) }
+        ensures given { IfOk result (λ s. HasPlaces room s.limit) }
+        ensures refused { OnErr result (LacksPlaces room) }
     {
-        let slots = Slab::with_capacity(alloc, room)?;
+        let slots = empty_slots(alloc, room)?;
         if slots.capacity() > MOST_SLOTS {
             return Err(AllocError);
         }

@@ -4,7 +4,9 @@
 ghost use Rattle.std.specs.Prelude.{◌≡◌, ◌+◌, ◌<◌, ◌≤◌, None, Some, length, map, take, drop, replicate, slice_set, vec_len, vec_capacity, IfOk, OnOk, OnErr, IsOk};
 ghost use Rattle.std.proofs.Common.{get_or};
 ghost use Rattle.std.specs.List.Sorted.{IsPermutation};
+ghost use Rattle.memory.specs.Memory.{WasRefused};
 ghost use Rattle.timers.specs.Due.{due_slots, cleared, set_count};
+ghost use Rattle.timers.specs.Memory.{LacksTimers};
 
 mod links;
 mod packed;
@@ -40,7 +42,8 @@ impl Model for Timers {
 impl Timers {
     /// So many slots, none of them set.
     pub fn with_capacity(alloc: Global, count: usize) -> Result<Timers, AllocError>
-        ensures { IfOk result (λ timers. timers ≡ replicate count None) }
+        ensures unset { IfOk result (λ timers. timers ≡ replicate count None) }
+        ensures refused { OnErr result (LacksTimers count) }
     {
         let wheel = Wheel::new(alloc)?;
         let links = PackedSlots::unset(alloc, count)?;
@@ -79,11 +82,12 @@ impl Timers {
             out.old.items) out.new.items)) }
         ensures cleared { OnOk result (self.new ≡ map (cleared now) self.old) }
 
-        // An error changes nothing, and doesn't come where there is room for the set slots.
+        // An error changes nothing, and comes only where room for the set slots was asked for and refused.
         ensures err_slots { OnErr result (self.new ≡ self.old) }
         ensures err_list { OnErr result (out.new.items ≡ out.old.items) }
         ensures room { vec_len out.old + set_count self.old ≤ vec_capacity out.old
             → IsOk result }
+        ensures refused { OnErr result (WasRefused (set_count self.old)) }
         ensures capacity { vec_capacity out.old ≤ vec_capacity out.new }
     {
         self.wheel.due(&mut self.links, now, out)

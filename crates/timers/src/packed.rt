@@ -1,9 +1,11 @@
 //! Links in a third of the bytes that their fields take: two words of 32 bits and a moment.
-ghost use Rattle.std.specs.Prelude.{◌≡◌, ◌<◌, ◌≤◌, ◌%◌, ⊤, IfOk, length, map, replicate};
+ghost use Rattle.std.specs.Prelude.{◌≡◌, ◌<◌, ◌≤◌, ◌%◌, ⊤, IfOk, OnErr, length, map, replicate};
 ghost use Rattle.timers.specs.Chains.{IsBelow, links_of, unset_links};
+ghost use Rattle.timers.specs.Memory.{LacksSlots};
 ghost use Rattle.timers.specs.Packed.{slot_in, unpacked, all_unpacked};
 
 use crate::links::{Links, Slots};
+use memory::copies_of;
 use std::alloc::{AllocError, Global};
 
 /// So many slots have numbers that fit a word.
@@ -94,8 +96,9 @@ pub struct PackedSlots {
 impl PackedSlots {
     /// Slots that aren't set. There is no memory for more than have numbers.
     pub fn unset(alloc: Global, count: usize) -> Result<PackedSlots, AllocError>
-        ensures { IfOk result (λ slots. all_unpacked slots.list.items
+        ensures unset { IfOk result (λ slots. all_unpacked slots.list.items
             ≡ replicate count unset_links) }
+        ensures refused { OnErr result (LacksSlots count) }
     {
         if count > MOST {
             return Err(AllocError);
@@ -105,7 +108,7 @@ impl PackedSlots {
             previous: 0,
             due: 0,
         };
-        let list = vec![in alloc; unset; count]?;
+        let list = copies_of(alloc, unset, count)?;
         Ok(PackedSlots { list })
     }
 

@@ -1,6 +1,7 @@
 //! A wheel of due moments.
-ghost use Rattle.std.specs.Prelude.{◌≡◌, ◌+◌, ◌<◌, ◌≤◌, ◌^◌, ℕ, List, None, Some, length, map, max, ◌/◌, take, drop, replicate, slice_set, vec_len, vec_capacity, All, IfOk, OnOk, OnErr, IsOk};
+ghost use Rattle.std.specs.Prelude.{◌≡◌, ◌+◌, ◌<◌, ◌≤◌, ◌^◌, ℕ, List, None, Some, length, map, max, ◌/◌, take, drop, slice_set, vec_len, vec_capacity, All, IfOk, OnOk, OnErr, IsOk};
 ghost use Rattle.std.specs.List.Sorted.{IsPermutation};
+ghost use Rattle.memory.specs.Memory.{WasRefused};
 ghost use Rattle.timers.specs.Due.{due_slots, cleared, set_count};
 ghost use Rattle.timers.specs.declared.links.Links.{Links};
 ghost use Rattle.timers.specs.Chains.{AreChains, unset_links, links_of, moments};
@@ -9,6 +10,7 @@ ghost use Rattle.timers.specs.Linked.{IsLinked, turns_of};
 ghost use Rattle.timers.specs.Steps.{without, with_head, passed, chain_count, AreTaken, HasNoneDue, AreNoneDue};
 
 use crate::links::{Links, Slots, set_next, set_previous};
+use memory::{copies_of, reserve};
 use std::alloc::{AllocError, Global};
 
 /// Due moments of slots in centiseconds, in 1,024 chains of slots that are due about the same time.
@@ -21,13 +23,6 @@ pub struct Wheel {
     turns: u64,
     // How many slots are set.
     count: usize,
-}
-
-/// The heads of so many chains that have no slot.
-fn no_heads(alloc: Global, count: usize) -> Result<Vec<Option<usize>>, AllocError>
-    ensures { IfOk result (λ heads. heads.items ≡ replicate count None) }
-{
-    vec![in alloc; None; count]
 }
 
 /// The chain of a moment, on a wheel that has turned so many times.
@@ -58,10 +53,11 @@ fn set_head(heads: &mut Vec<Option<usize>>, chain: usize, links: Links)
 impl Wheel {
     /// A wheel at moment 0, with no slot set.
     pub fn new(alloc: Global) -> Result<Wheel, AllocError>
-        ensures { IfOk result (λ wheel. (links : List Links) → length links < 2 ^ 64
+        ensures linked { IfOk result (λ wheel. (links : List Links) → length links < 2 ^ 64
             → All (λ slot. slot ≡ unset_links) links → IsLinked wheel links) }
+        ensures refused { OnErr result (WasRefused 1024) }
     {
-        let heads = no_heads(alloc, 1024)?;
+        let heads = copies_of(alloc, None, 1024)?;
         Ok(Wheel {
             heads,
             turns: 0,
@@ -114,18 +110,19 @@ impl Wheel {
             ≡ map (cleared now) (moments (S.all slots.old))) }
         ensures rest { S.rest slots.new ≡ S.rest slots.old }
 
-        // An error changes nothing, and doesn't come where there is room for the set slots.
+        // An error changes nothing, and comes only where room for the set slots was asked for and refused.
         ensures err_wheel { OnErr result (self.new ≡ self.old) }
         ensures err_slots { OnErr result (S.all slots.new ≡ S.all slots.old) }
         ensures err_list { OnErr result (out.new.items ≡ out.old.items) }
         ensures room { vec_len out.old + set_count (moments (S.all slots.old))
             ≤ vec_capacity out.old → IsOk result }
+        ensures refused { OnErr result (WasRefused (set_count (moments (S.all slots.old)))) }
         ensures capacity { vec_capacity out.old ≤ vec_capacity out.new }
 
         // A later call visits no chain before that of this moment again.
         ensures turns { OnOk result (turns_of self.new ≡ max (turns_of self.old) (now / 1024)) }
     {
-        out.reserve(self.count)?;
+        reserve(out, self.count)?;
         self.pass_chains(slots, now, out);
         self.turns = self.turns.max(now / 1024);
         Ok(())

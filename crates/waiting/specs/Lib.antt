@@ -1,2 +1,3 @@
+pub mod Memory
 pub mod Packets
 pub mod Waits

@@ -1,5 +1,7 @@
 //! Buffers of packets that wait no more, for those to come.
-ghost use Rattle.std.specs.Prelude.{◌≡◌, IfOk};
+ghost use Rattle.std.specs.Prelude.{◌≡◌, length, IfOk, OnErr};
+ghost use Rattle.memory.specs.Memory.{WasRefused};
+ghost use Rattle.waiting.specs.Memory.{LacksCopy};
 
 use std::alloc::{AllocError, Global};
 use std::marker::Model;
@@ -29,21 +31,24 @@ impl Model for SpareBuffers {
 
 impl SpareBuffers {
     /// None yet. The list of them takes its memory here.
-    pub(crate) fn new(alloc: Global) -> Result<SpareBuffers, AllocError> {
-        let buffers = Vec::with_capacity(alloc, SPARE)?;
+    pub(crate) fn new(alloc: Global) -> Result<SpareBuffers, AllocError>
+        ensures refused { OnErr result (WasRefused 64) }
+    {
+        let buffers = memory::with_room(alloc, SPARE)?;
         Ok(SpareBuffers { buffers })
     }
 
     /// A buffer with these bytes: a spare one, or a new one, which takes memory.
     pub(crate) fn copy_of(&mut self, alloc: Global, bytes: &[u8]) -> Result<Vec<u8>, AllocError>
-        ensures { IfOk result (λ v. v.items ≡ bytes.now) }
+        ensures items { IfOk result (λ v. v.items ≡ bytes.now) }
+        ensures refused { OnErr result (LacksCopy (length bytes.now)) }
     {
         let mut buffer = match self.buffers.pop() {
             Some(spare) => spare,
-            None => Vec::with_capacity(alloc, LONGEST_FRAME)?,
+            None => memory::with_room(alloc, LONGEST_FRAME)?,
         };
         buffer.clear();
-        buffer.extend_from_slice(bytes)?;
+        memory::append(&mut buffer, bytes)?;
         Ok(buffer)
     }
 

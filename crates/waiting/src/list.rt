@@ -7,6 +7,8 @@ ghost use Rattle.waiting.specs.declared.waits.Ended.TheVariants.{One, AllPairs};
 ghost use Rattle.waiting.specs.Packets.{is_young, has_place, has_room, pair_count, hop_count, ended_by, left_by, IsKept};
 ghost use Rattle.waiting.specs.Packets.{without_first_hop, with_room, asks_again, with_asked};
 ghost use Rattle.waiting.specs.Packets.{AreApart, listed};
+ghost use Rattle.std.specs.Prelude.{OnErr};
+ghost use Rattle.waiting.specs.Memory.{LacksCopy, LacksPackets};
 
 use crate::buffers::SpareBuffers;
 use crate::{Ended, WaitsFor};
@@ -247,9 +249,10 @@ fn retain_young(packets: &mut Vec<HeldPacket>, now: u64)
 impl WaitingPackets {
     /// None yet. All its places take their memory here.
     pub fn new(alloc: Global) -> Result<WaitingPackets, AllocError>
-        ensures { IfOk result (λ k. k ≡ []) }
+        ensures none { IfOk result (λ k. k ≡ []) }
+        ensures refused { OnErr result LacksPackets }
     {
-        let packets = Vec::with_capacity(alloc, 2 * PLACES)?;
+        let packets = memory::with_room(alloc, 2 * PLACES)?;
         let spare = SpareBuffers::new(alloc)?;
         Ok(WaitingPackets { packets, spare })
     }
@@ -273,6 +276,7 @@ impl WaitingPackets {
               asked = since;
             }) }
         ensures same { self.new ≡ self.old }
+        ensures refused { OnErr result (LacksCopy (length bytes.now)) }
     {
         let bytes = self.spare.copy_of(alloc, bytes)?;
         Ok(HeldPacket {

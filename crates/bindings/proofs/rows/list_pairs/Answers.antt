@@ -13,14 +13,14 @@ loop-entry-preserved c =
     let next = pairs-next (is_listed c.args.translating) 0 c.loop-entry.last es e c.recall.ensures.order (sym c.in-Some.ensures) in
     let rest = pairs_in (is_listed c.args.translating) (behind (Some e.pair.key) es) in
     let out = c.loop-entry.pairs.items in
-    rw (c.key_of.ensures, c.in_ok-push_if.ensures, c.is_listed_state.ensures)
+    rw (c.key_of.ensures, c.in_ok-push_if.ensures.items, c.is_listed_state.ensures)
     (append_assoc out (cond (is_listed c.args.translating e.state) (e.pair ∷ []) []) rest ∙ ap (λ ps. out ++ ps) (sym next) ∙ c.loop-entry.invariant)
 
 pub loop-entry-smaller : goal.loop-entry-smaller
 loop-entry-smaller c =
     rw c.key_of.ensures (behind-less 0 c.loop-entry.last c.args.store.now.entries c.in-Some.entry c.recall.ensures.order (sym c.in-Some.ensures))
 
-pub returns : goal.returns
-returns c =
+pub returns-clause-items : goal.returns-clause-items
+returns-clause-items c =
     let end = pairs-end (is_listed c.args.translating) c.loop-entry.last c.args.store.now.entries (sym c.entry_after.ensures ∙ c.in_default.is) in
     sym (append-nil c.loop-entry.pairs.items) ∙ ap (λ ps. c.loop-entry.pairs.items ++ ps) (sym end) ∙ c.loop-entry.invariant

@@ -35,8 +35,8 @@ loop-port-preserved c =
       | else-owns w ↦ rw w.ports-is (passed r q c.loop-port.ports.items (sym c.owns.ensures ∙ w.if-owns.false) ∙ c.loop-port.invariant)
     ]
 
-pub returns : goal.returns
-returns c =
+pub returns-clause-items : goal.returns-clause-items
+returns-clause-items c =
     let r = c.args.range.now in
     let q = c.loop-port.port in
     let end = c.requires.highest in

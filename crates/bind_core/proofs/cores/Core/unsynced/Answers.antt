@@ -24,11 +24,11 @@ invariant_of-result c =
       room = let a = t.capacity in let b = c.count_keys.ensures in omega (arith, a, b, exact);
     }
 
-pub returns : goal.returns
-returns c =
+pub returns-clause-ledger : goal.returns-clause-ledger
+returns-clause-ledger c =
     let t = c.in_ok-table.ensures in
-    record {
-      ledger = ap (λ (b : Book). let l : Ledger = record { book = b; lives = c.in_ok-table.table.lives; hashers = c.in_ok-table.table.hashers } in l) (empty-is c.args.id c.args.zero c.args.one c.args.limit c.in_ok-table.table c.new-2.result t.zero t.one t.entries t.owned c.new-2.ensures)
-          ∙ ap (λ (u : Table). let l : Ledger = record { book = empty_book c.args.id c.args.zero c.args.one c.args.limit; lives = u.lives; hashers = u.hashers } in l) t.empty;
-      hashers = t.hashers;
-    }
+    ap (λ (b : Book). let l : Ledger = record { book = b; lives = c.in_ok-table.table.lives; hashers = c.in_ok-table.table.hashers } in l) (empty-is c.args.id c.args.zero c.args.one c.args.limit c.in_ok-table.table c.new-2.result t.zero t.one t.entries t.owned c.new-2.ensures)
+    ∙ ap (λ (u : Table). let l : Ledger = record { book = empty_book c.args.id c.args.zero c.args.one c.args.limit; lives = u.lives; hashers = u.hashers } in l) t.empty
+
+pub returns-clause-hashers : goal.returns-clause-hashers
+returns-clause-hashers c = c.in_ok-table.ensures.hashers

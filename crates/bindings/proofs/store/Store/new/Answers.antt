@@ -9,6 +9,6 @@ invariant_of-result c = (
   record {
     timed = rw c.in_ok-slots.ensures.rows (none-timed false c.in-Ok.dues.moments);
     count = c.in-Ok.ensures.count ∙ c.limit.ensures;
-    room = (let a = c.in-Ok-with_capacity.ensures.capacity in let b = c.limit-2.ensures in omega (arith, a, b));
+    room = (let a = c.in-Ok-with_room.ensures.capacity in let b = c.limit-2.ensures in omega (arith, a, b));
   },
 )

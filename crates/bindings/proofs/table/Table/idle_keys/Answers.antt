@@ -1,9 +1,11 @@
-use Rattle.std.proofs.Common.{length, ap, ◌∙◌, arith}
+use Rattle.std.proofs.Common.{length, ap, sym, subst, ◌∙◌, arith}
 use Rattle.std.proofs.lemmas.Bool.{false≢true}
 use Rattle.std.proofs.lemmas.List.Sums.{length-filter}
+use Rattle.memory.specs.Memory.{WasRefused}
 use Rattle.bindings.specs.Dues.{is_idle_key}
 use Rattle.bindings.specs.Stores.{Store}
 use Rattle.bindings.proofs.Slots.{slot-key}
+use Rattle.bindings.proofs.Readied.{lacking}
 use Rattle.bindings.proofs.Resting.{few-idle, listed-is}
 use Rattle.bindings.proofs.table.Table.idle_keys.Goals as goal
 
@@ -35,6 +37,16 @@ returns-in_err-reserve-clause-room c =
     let keys = c.find_due.new.self.found in
     let entries = ap (λ (s : Store). s.entries) c.find_due.ensures.same in
     let lives = ap (λ (s : Store). s.lives) c.find_due.ensures.same in
-    let count = rw (c.found.ensures, entries, lives) at c.count_idle.ensures in
+    let count = rw (c.found.ensures, entries, lives) at c.count_idle-count.ensures in
     let long = ap length c.find_due.ensures.among ∙ length-filter (is_idle_key c.args.lone c.args.now i.store.entries i.store.lives) keys in
     rw (← c.self.view_is) (λ room. absurd (false≢true (c.in_err-reserve.ensures.succeeds (omega (arith, count, long, room)))))
+
+pub returns-in_err-reserve-clause-refused : goal.returns-in_err-reserve-clause-refused
+returns-in_err-reserve-clause-refused c =
+    let i = c.self.inside in
+    let keys = c.find_due.new.self.found in
+    let entries = ap (λ (s : Store). s.entries) c.find_due.ensures.same in
+    let lives = ap (λ (s : Store). s.lives) c.find_due.ensures.same in
+    let count = rw (c.found.ensures, entries, lives) at c.count_idle-count.ensures in
+    let long = ap length c.find_due.ensures.among ∙ length-filter (is_idle_key c.args.lone c.args.now i.store.entries i.store.lives) keys in
+    rw (← c.self.view_is) (lacking c.from_residual.result (subst WasRefused (count ∙ sym long) c.in_err-reserve.ensures.refused))

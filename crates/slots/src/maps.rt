@@ -1,0 +1,23 @@
+//! Memory for more entries of a map.
+ghost use Rattle.std.specs.Prelude.{◌≤◌, IsOk, OnErr, OnOk};
+ghost use Rattle.indexmap.specs.IndexMap.{IsUnchanged, KeepsRoom, spare};
+ghost use Rattle.memory.specs.Memory.{WasRefused};
+
+use indexmap::IndexMap;
+use std::alloc::AllocError;
+use std::hash::{BuildHasher, Hash};
+
+/// Makes room for so many more entries, where it isn't there yet.
+#[tactic(auto, unfolding(memory::specs::Memory::WasRefused))]
+pub(crate) fn reserve<K: Eq + Hash, V, S: BuildHasher>(
+    map: &mut IndexMap<K, V, S>,
+    more: usize,
+) -> Result<(), AllocError>
+    ensures entries { IsUnchanged map.old map.new }
+    ensures ok { OnOk result (more ≤ spare map.new) }
+    ensures room { KeepsRoom map.old map.new }
+    ensures succeeds { more ≤ spare map.old → IsOk result }
+    ensures refused { OnErr result (WasRefused more) }
+{
+    map.reserve(more)
+}
