@@ -1,6 +1,7 @@
 -- For what of an event there was no memory.
-use Rattle.std.specs.Prelude.{◌≡◌, ◌≢◌, ◌⊎◌, ℕ, false, Option, Some, None, List}
+use Rattle.std.specs.Prelude.{◌≡◌, ◌≢◌, ◌⊎◌, ℕ, false, Option, Some, None, List, length}
 use Rattle.std.specs.Borrow.{Bor}
+use Rattle.memory.specs.Memory.{WasRefused}
 use Rattle.nat_types.specs.Same.{other}
 use Rattle.nat_types.specs.declared.gateways.GatewayId.{GatewayId}
 use Rattle.nat_types.specs.declared.notes.Note.{Note}
@@ -8,49 +9,53 @@ use Rattle.nat_types.specs.declared.notes.NoteKind.TheVariants.{Crashed, Booted}
 use Rattle.nat_types.specs.declared.events.WorldEvent.{WorldEvent}
 use Rattle.nat_types.specs.declared.events.WorldEvent.TheVariants.{Frame, Tick, Stop, Deliver, Crash, Boot, PeerOff, Side as Cable}
 use Rattle.settings.specs.declared.whole.Settings.{Settings}
+use Rattle.output.specs.Memory.{LacksPage}
+use Rattle.output.specs.Output.{Output}
 use Rattle.spec_binding.specs.Books.{is_synced}
 use Rattle.spec_step.specs.declared.events.Event.{Event}
 use Rattle.spec_step.specs.declared.events.Event.TheVariants as given
+use Rattle.spec_step.specs.Rests.{most_notes}
 use Rattle.spec_step.specs.Shown.{Shown}
+use Rattle.gateway.specs.Lacks.{LacksGateway, LacksMemory}
 use Rattle.frame_sim.specs.World.{Half, World, gateway_at, half, moment_of}
 use Rattle.frame_sim.specs.Events.{kth, noting}
 
--- There was no room for what a gateway may send and note in a step. No clause can say when that is, so this, and those below it, are no more than
--- names: who asks for it has one of them, and nobody else.
+-- There was no room for what a gateway may send and note in a step: for the longest datagram, for its place among those that it sent, or on the trace.
+-- Who asks for it has this name, and nobody else; as with those below it, which say too what of it was refused.
 unfoldable pub WasUnready : Shown → Type 0
-WasUnready g = Unit {0}
+WasUnready g = Unit {0} × (WasRefused 2214 ⊎ (WasRefused 1 ⊎ WasRefused (most_notes g)))
 
--- it was to take this event, and there was no memory for its step
+-- it was to take this event, and memory was refused that its step needs, behind what was told by then
 unfoldable pub WasUnstepped : Shown → Event → Type 0
-WasUnstepped g event = Unit {0}
+WasUnstepped g event = Unit {0} × ((told : Output) × LacksMemory g told event)
 
 -- one was to begin with these settings, in the life of this number
 unfoldable pub WasUnbegun : Settings → GatewayId → ℕ → Type 0
-WasUnbegun settings i number = Unit {0}
+WasUnbegun settings i number = Unit {0} × LacksGateway settings
 
 -- there was no room for this note on the trace
 unfoldable pub WasUntraced : Note → Type 0
-WasUntraced note = Unit {0}
+WasUntraced note = Unit {0} × WasRefused 1
 
 -- nor where it is told
 unfoldable pub WasUntold : Note → Type 0
-WasUntold note = Unit {0}
+WasUntold note = Unit {0} × LacksPage (record { frames = 0; datagrams = 0; notes = 1 })
 
 -- nor room for the steps of these events
 unfoldable pub WasUnrun : List WorldEvent → Type 0
-WasUnrun events = Unit {0}
+WasUnrun events = Unit {0} × WasRefused (length events)
 
--- a gateway was asked for the ports that it owns, and there was no memory for them
+-- a gateway was asked for the ports that it owns, and there was no memory for one more in their list
 unfoldable pub WasUnowned : Shown → Type 0
-WasUnowned g = Unit {0}
+WasUnowned g = Unit {0} × WasRefused 1
 
 -- or for the pairs that it holds
 unfoldable pub WasUnpaired : Shown → Type 0
-WasUnpaired g = Unit {0}
+WasUnpaired g = Unit {0} × WasRefused 1
 
 -- or for those that translate
 unfoldable pub WasUntranslated : Shown → Type 0
-WasUntranslated g = Unit {0}
+WasUntranslated g = Unit {0} × WasRefused 1
 
 -- ---- of an event
 

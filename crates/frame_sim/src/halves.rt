@@ -21,6 +21,7 @@ use crate::WorldFault;
 use addresses::Port;
 use gateway::{Event, Gateway, Out, Outcome};
 use link::limits_law;
+use memory::{reserve, with_room};
 use nat_types::{NoMemory, Note, Pair};
 use spec_step::{steps_go, steps_note, steps_tell};
 use std::alloc::Global;
@@ -111,9 +112,9 @@ fn room_for_step(
     ensures trace { trace.new.items ≡ trace.old.items }
     ensures unready { OnErr result (WasUnready gateway.now) }
 {
-    let letter = Vec::with_capacity(alloc, LONGEST_DATAGRAM)?;
-    sent.reserve(1)?;
-    trace.reserve(gateway.most_notes())?;
+    let letter = with_room(alloc, LONGEST_DATAGRAM)?;
+    reserve(sent, 1)?;
+    reserve(trace, gateway.most_notes())?;
     Ok(letter)
 }
 

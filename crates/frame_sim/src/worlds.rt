@@ -19,6 +19,7 @@ use crate::{Step, WorldEvent, WorldFault};
 use addresses::Port;
 use gateway::{Event, Gateway, Hashers, Out, Outcome};
 use link::one_spelling;
+use memory::{reserve, with_room};
 use nat_types::{GatewayId, NoMemory, Note, NoteKind, Pair};
 use output::Room;
 use settings::Settings;
@@ -86,7 +87,7 @@ fn room_on_trace(trace: &mut Vec<Note>, note: &Note) -> Result<(), NoMemory>
     ensures unroomed { OnErr result (WasUntraced note.now) }
 {
     let _note = note;
-    Ok(trace.reserve(1)?)
+    Ok(reserve(trace, 1)?)
 }
 
 /// Notes it on the trace, too.
@@ -114,7 +115,7 @@ fn room_for_steps(alloc: Global, events: &[WorldEvent]) -> Result<Vec<Step>, NoM
         (λ steps. vec_len steps + length events.now ≤ vec_capacity steps) }
     ensures unrun { OnErr result (WasUnrun events.now) }
 {
-    Ok(Vec::with_capacity(alloc, events.len())?)
+    Ok(with_room(alloc, events.len())?)
 }
 
 /// A gateway that begins, by the fixed hashers: a script's run is the same each time. It alone has the name for it that there

@@ -1,6 +1,7 @@
 -- What memory was refused for.
 use Rattle.std.specs.Prelude.{ℕ}
+use Rattle.memory.specs.Memory.{WasRefused}
 
--- Room for so many entries was refused. No clause can say when that is, so this is no more than a name: who asks for it has it, and nobody else.
+-- room for so many entries was asked for, and refused
 unfoldable pub WasShort : ℕ → Type 0
-WasShort entries = Unit {0}
+WasShort entries = WasRefused entries

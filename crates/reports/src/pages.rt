@@ -20,6 +20,7 @@ use crate::pairs::state_place;
 use addresses::{Ip, Port, Protocol};
 use arrayvec::ArrayVec;
 use bindings::Entry;
+use memory::with_room;
 use nat_types::{EntryState, Key, Pair};
 use std::alloc::{AllocError, Global};
 use std::marker::Model;
@@ -217,14 +218,14 @@ fn read_whole(entries: Vec<Entry>, bytes: &[u8]) -> Result<Page, ReadFault>
     }
 }
 
-/// An empty list with room for 128 entries. It has the name for memory that was refused for them.
+/// An empty list with room for 128 entries.
 #[tactic(auto, unfolding(crate::specs::Memory::WasShort))]
 fn room(alloc: Global) -> Result<Vec<Entry>, AllocError>
     ensures empty { IfOk result (λ entries. vec_len entries ≡ 0) }
     ensures room { IfOk result (λ entries. MOST_ENTRIES ≤ vec_capacity entries) }
     ensures short { OnErr result (WasShort MOST_ENTRIES) }
 {
-    Vec::with_capacity(alloc, MOST_ENTRIES)
+    with_room(alloc, MOST_ENTRIES)
 }
 
 impl Page {

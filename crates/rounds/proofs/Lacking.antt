@@ -3,7 +3,7 @@ use Rattle.std.proofs.Common.{◌≡◌, ℕ, Bool, true, false, List, Option, S
 use Rattle.nat_types.specs.declared.pairs.Key.{Key}
 use Rattle.spec_binding.specs.Books.{is_synced}
 use Rattle.spec_step.specs.Shown.{Shown}
-use Rattle.rounds.specs.Memory.{MayLack, WasRefused}
+use Rattle.rounds.specs.Memory.{Lacks, MayLack}
 use Rattle.rounds.specs.Rounds.{AnswersOwed, Box, Calls, IsAnswered, WireSays}
 use Rattle.rounds.specs.declared.desk.Identity.{Identity}
 use Rattle.rounds.specs.declared.judging.Question.{Question}
@@ -14,13 +14,13 @@ true_else true not = refl
 true_else false not = absurd (not refl)
 
 -- a report of a gateway whose table isn't loaded there always is
-pub lacks_report : (counts : List ℕ) (g : Shown) → (is_synced g.ledger.book.stage ≡ false → ⊥) → WasRefused counts Status → MayLack counts g Status
+pub lacks_report : (counts : List ℕ) (g : Shown) → (is_synced g.ledger.book.stage ≡ false → ⊥) → Lacks counts Status → MayLack counts g Status
 lacks_report counts g not refused = record { takes = true_else (is_synced g.ledger.book.stage) not; refused = refused }
 
 pub lacks_status : (counts : List ℕ) (g : Shown) (question : Question) → question ≡ Status → MayLack counts g Status → MayLack counts g question
 lacks_status counts g question is lacks = subst (λ (q : Question). MayLack counts g q) (sym is) lacks
 
-pub lacks_page : (counts : List ℕ) (g : Shown) (question : Question) (last : Option Key) → question ≡ Pairs last → WasRefused counts (Pairs last)
+pub lacks_page : (counts : List ℕ) (g : Shown) (question : Question) (last : Option Key) → question ≡ Pairs last → Lacks counts (Pairs last)
     → MayLack counts g question
 lacks_page counts g question last is refused = subst (λ (q : Question). MayLack counts g q) (sym is) (record { takes = refl; refused = refused })
 

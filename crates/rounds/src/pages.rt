@@ -2,11 +2,12 @@
 ghost use Rattle.std.specs.Prelude.{◌≡◌, ◌≤◌, IfOk, OnErr, length, nat_lt, take, vec_len, vec_capacity};
 ghost use Rattle.gateway.specs.Entries.{behind};
 ghost use Rattle.reports.specs.declared.pages.TheConstants.{MOST_ENTRIES};
-ghost use Rattle.rounds.specs.Memory.{WasRefused};
+ghost use Rattle.rounds.specs.Memory.{Lacks};
 ghost use Rattle.rounds.specs.declared.judging.Question.TheVariants.{Pairs};
 
 use bindings::Entry;
 use gateway::Gateway;
+use memory::with_room;
 use nat_types::{Key, NoMemory, Pair};
 use reports::{Counters, MOST_ENTRIES, Page};
 use std::alloc::Global;
@@ -55,7 +56,7 @@ pub fn page_behind(
         ≡ take MOST_ENTRIES (behind last gateway.now.ledger.book.entries)) }
     ensures more { IfOk result (λ p. p.more
         ≡ nat_lt MOST_ENTRIES (length (behind last gateway.now.ledger.book.entries))) }
-    ensures refused { OnErr result (WasRefused counters.now (Pairs last)) }
+    ensures refused { OnErr result (Lacks counters.now (Pairs last)) }
 {
     let entries = room_for(alloc, last, counters)?;
     Ok(fill_page(entries, gateway, last))
@@ -66,9 +67,9 @@ pub fn page_behind(
 fn room_for(alloc: Global, _last: Option<Key>, _counters: &Counters) -> Result<Vec<Entry>, NoMemory>
     ensures empty { IfOk result (λ v. vec_len v ≡ 0) }
     ensures room { IfOk result (λ v. vec_capacity v ≡ MOST_ENTRIES) }
-    ensures refused { OnErr result (WasRefused _counters.now (Pairs _last)) }
+    ensures refused { OnErr result (Lacks _counters.now (Pairs _last)) }
 {
-    Ok(Vec::with_capacity(alloc, MOST_ENTRIES)?)
+    Ok(with_room(alloc, MOST_ENTRIES)?)
 }
 
 /// The page behind a key, in an empty list with room for 128 entries.

@@ -6,7 +6,7 @@ ghost use Rattle.link.specs.Hearing.{peer_serves};
 ghost use Rattle.spec_binding.specs.Books.{is_synced};
 ghost use Rattle.waiting.specs.Packets.{hop_count, pair_count};
 ghost use Rattle.rounds.specs.Gateways.{CountsEntries, ago as ago_in, free_among, owned_by, peer_seen};
-ghost use Rattle.rounds.specs.Memory.{WasRefused};
+ghost use Rattle.rounds.specs.Memory.{Lacks};
 ghost use Rattle.rounds.specs.declared.judging.Question.TheVariants.{Status};
 
 use crate::pages::key_of;
@@ -119,7 +119,7 @@ pub fn gateway_report(gateway: &Gateway, counters: &Counters) -> Result<GatewayR
     ensures waiting_hop { IfOk result (λ r. r.waiting.next_hop ≡ hop_count gateway.now.kept) }
     // Where it owns none, no memory is taken.
     ensures unsynced { is_synced gateway.now.ledger.book.stage ≡ false → IsOk result }
-    ensures refused { OnErr result (WasRefused counters.now Status) }
+    ensures refused { OnErr result (Lacks counters.now Status) }
 {
     let owned = owned_ports(gateway, counters)?;
     Ok(report_with(gateway, owned.as_slice()))
@@ -130,7 +130,7 @@ pub fn gateway_report(gateway: &Gateway, counters: &Counters) -> Result<GatewayR
 fn owned_ports(gateway: &Gateway, _counters: &Counters) -> Result<Vec<Port>, NoMemory>
     ensures ports { IfOk result (λ v. v.items ≡ owned_by gateway.now) }
     ensures unsynced { is_synced gateway.now.ledger.book.stage ≡ false → IsOk result }
-    ensures refused { OnErr result (WasRefused _counters.now Status) }
+    ensures refused { OnErr result (Lacks _counters.now Status) }
 {
     gateway.owned()
 }

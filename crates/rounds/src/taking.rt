@@ -1,6 +1,7 @@
 //! What a gateway is handed: what came at a place, the clock's moment behind a poll, and a Stop once its supervisor was
 //! told that the box ends; and nothing else.
 ghost use Rattle.std.specs.Prelude.{◌≡◌, OnErr, OnOk, is_ok};
+ghost use Rattle.output.specs.Output.{none_told};
 ghost use Rattle.spec_step.specs.Shown.{scene};
 ghost use Rattle.spec_step.specs.Steps.{IsStepOn};
 ghost use Rattle.spec_step.specs.declared.events.Event.TheVariants.{Stop};
@@ -142,6 +143,7 @@ fn stepped(
     out: &mut Out,
     _left: &LeftOut,
 ) -> Result<Outcome, NoMemory>
+    requires untold { out.old ≡ none_told }
     ensures step { OnOk result (IsStepOn (scene gateway.old out.old) event.entry
         (scene gateway.new out.new)) }
     ensures err { OnErr result (gateway.new ≡ gateway.old) }

@@ -1,5 +1,6 @@
 -- For what of a run there was no memory.
 use Rattle.std.specs.Prelude.{◌≡◌, ◌⊎◌, ◌+◌, ◌*◌, ◌++◌, ℕ, List, length}
+use Rattle.memory.specs.Memory.{WasRefused}
 use Rattle.nat_types.specs.declared.events.WorldEvent.{WorldEvent}
 use Rattle.frame_sim.specs.declared.events.Step.{Step}
 use Rattle.frame_sim.specs.Lacks.{WasUnrun}
@@ -7,14 +8,14 @@ use Rattle.frame_sim.specs.Runs.{AreSteps}
 use Rattle.frame_sim.specs.World.{World}
 use Rattle.simulation.specs.Watched.{Hears, IsTold}
 
--- There was no room for the steps of these events. No clause can say when that is, so this, and those below it, are no more than names: who asks
--- for it has one of them, and nobody else.
+-- Room for the steps of these events was asked for, and refused, for just so many. No clause can say when that is, so this, and the next one, are names:
+-- who asks for it has one of them, and nobody else.
 unfoldable pub WasUnroomed : List WorldEvent → Type 0
-WasUnroomed events = Unit {0}
+WasUnroomed events = Unit {0} × WasRefused (length events)
 
--- these steps were to be kept, and those behind them, and there was no memory for it
+-- these steps were to be kept, and those behind them, and room for so many more was asked for, and refused
 unfoldable pub WasUnkept : List Step → List Step → Type 0
-WasUnkept steps more = Unit {0}
+WasUnkept steps more = Unit {0} × WasRefused (length more)
 
 -- a world took these events, whose steps couldn't be kept behind those
 abbrev pub AreUnkept : World → List WorldEvent → List Step → Type 0

@@ -23,6 +23,7 @@ use crate::shown::print_steps;
 use crate::{Progress, Unwatched};
 use faults::{Fault, PrintFault};
 use frame_sim::{Step, Tape, Untaped, World, put_end, read_job};
+use memory::{reserve, with_room};
 use nat_types::{NoMemory, WorldEvent};
 use outlets::Tells;
 use settings::Settings;
@@ -264,7 +265,7 @@ fn room_for(alloc: Global, events: &[WorldEvent]) -> Result<Vec<Step>, NoMemory>
     ensures items { IfOk result (λ steps. steps.items ≡ []) }
     ensures unroomed { OnErr result (WasUnroomed events.now) }
 {
-    Ok(Vec::with_capacity(alloc, events.len())?)
+    Ok(with_room(alloc, events.len())?)
 }
 
 /// Puts the steps of events behind others.
@@ -274,6 +275,7 @@ fn append(steps: &mut Vec<Step>, more: Vec<Step>) -> Result<(), NoMemory>
     ensures unkept { OnErr result (WasUnkept steps.old.items more.items) }
 {
     let mut more = more;
+    reserve(steps, more.len())?;
     steps.append(&mut more)?;
     Ok(())
 }

@@ -12,4 +12,4 @@ returns-clause-begins c =
     IfOk-weaker c.new.result _ _ (λ g is.
     is ∙ ap (λ (h : Hashers). hashing h (if c.args.found then founded settings c.args.boot else begun settings c.args.id c.args.boot)) (fixed-is c.fixed.result c.fixed.ensures)
     ∙ either-fixed settings c.args.id c.args.boot c.args.found)
-    c.new.ensures
+    c.new.ensures.begins
