@@ -3,4 +3,3 @@ mod Coming
 mod Turns
 mod Speaking
 mod Telling
-mod Dialled

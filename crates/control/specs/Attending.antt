@@ -8,6 +8,7 @@ use Rattle.control.specs.Asking.{AreLeft, IsSpeaker}
 use Rattle.control.specs.Calling.{Calls, LetsIn, Reporting, WasCalled, WasReported}
 use Rattle.control.specs.Counting.{AreCounted, AreJoined, one_if}
 use Rattle.control.specs.Reads.{Reads, WasHeard}
+use Rattle.control.specs.Speaking.{WasLetGo}
 use Rattle.control.specs.Words.{word_of}
 use Rattle.control.specs.declared.machine.Waits.{Waits}
 use Rattle.control.specs.declared.words.Word.{Word}
@@ -54,7 +55,7 @@ nobody_yet listener token = record {
 -- waits were to report this listener under this token, once, and it is attended to as it is then; or they refused to; they were asked for nothing else
 abbrev pub WasListenedTo : {W : Type 0} → UnixListener → Token → Result Attending Error → W → W → Type 0
 WasListenedTo listener token (Ok attending) before after = WasReported before listener token (Ok tt) attending.listener after
-WasListenedTo listener token (Err error) before after = (told : UnixListener) × WasReported before listener token (Err error) told after
+WasListenedTo listener token (Err error) before after = (told : UnixListener) × (WasReported before listener token (Err error) told after × WasLetGo told)
 
 -- somebody may have called, or said something; all else stays
 abbrev pub woken : {L S : Type 0} → Attended L S → Attended L S

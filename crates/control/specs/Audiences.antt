@@ -8,6 +8,7 @@ use Rattle.control.specs.Reads.{Reads}
 use Rattle.mio.specs.declared.token.Token.{Token}
 use Rattle.control.specs.declared.audience.Audience.{Audience}
 use Rattle.control.specs.declared.audience.Doorway.{Doorway}
+use Rattle.control.specs.Speaking.{WasLetGo}
 
 -- at most eight are waited for, and there is room for eight
 abbrev pub HasRoom : {L S : Type 0} → Audience L S → Type 0
@@ -17,10 +18,10 @@ HasRoom a = (vec_len a.callers ≤ 8) × (8 ≤ vec_capacity a.callers)
 abbrev pub HasNobody : {L S : Type 0} → Doorway L S → Type 0
 HasNobody d = (vec_len d.callers ≡ 0) × (8 ≤ vec_capacity d.callers)
 
--- waits were to report this listener under this token, once, and an audience has it as it is then; or they refused to, and it is gone
+-- waits were to report this listener under this token, once, and an audience has it as it is then; or they refused to, and it was let go
 abbrev pub IsRegistered : {W L S : Type 0} → Reporting W L → L → Token → Result (Audience L S) Error → W → W → Type 0
 IsRegistered reports listener token (Ok audience) before after = reports before listener token (Ok tt) audience.listener after
-IsRegistered {L = L} reports listener token (Err error) before after = (told : L) × reports before listener token (Err error) told after
+IsRegistered {L = L} reports listener token (Err error) before after = (told : L) × (reports before listener token (Err error) told after × WasLetGo told)
 
 -- what a box shows of them
 abbrev pub attending_of : {L S : Type 0} → Audience L S → Attended L S

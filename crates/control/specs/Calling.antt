@@ -6,6 +6,7 @@ use Rattle.std.specs.declared.io.ErrorKind.TheVariants.{WouldBlock}
 use Rattle.mio.specs.declared.net.uds.stream.UnixStream.{UnixStream}
 use Rattle.mio.specs.declared.token.Token.{Token}
 use Rattle.control.specs.Counting.{with_room}
+use Rattle.control.specs.Speaking.{WasLetGo}
 
 -- who calls next, or why nobody does, and what the listener is then
 abbrev pub Calls : Type 0 → Type 0 → Type 1
@@ -41,7 +42,7 @@ WereAskedFor token word before after = AsksFor {S = UnixStream} WasReported toke
 -- once he is registered he is waited for, behind the others; one who can't be registered is let go
 abbrev pub IsKept : {S : Type 0} → Result (Unit {0}) Error → List S → S → List S → Type 0
 IsKept (Ok done) callers caller callers2 = callers2 ≡ callers ++ caller ∷ []
-IsKept (Err error) callers caller callers2 = callers2 ≡ callers
+IsKept (Err error) callers caller callers2 = (callers2 ≡ callers) × WasLetGo caller
 
 -- Somebody calls, and waits are to report him, once, under this token. Where eight are waited for, the one that was waited for longest makes room for him.
 pub record HasCalled {W L S : Type 0} (calls : Calls L S) (reports : Reporting W S) (token : Token) (waits : W) (before : L) (callers : List S) (waits2 : W) (after : L) (callers2 : List S) : Type 0 where

@@ -20,20 +20,26 @@ Dialling D L = D → List ℕ → Result L Error → D → Type 0
 abbrev pub Limiting : Type 0 → Type 1
 Limiting L = L → Limit → Bool → L → Type 0
 
--- just connected to the socket at this path; then each call that hears waits 2 seconds at most, and then each that says
+-- what a line was that is let go
+abbrev pub Leaving : Type 0 → Type 1
+Leaving L = L → Type 0
+
+-- each call that hears waits 2 seconds at most from then on, and then each that says
+abbrev pub IsLimited : {L : Type 0} → Limiting L → L → L → Type 0
+IsLimited {L} limits line last = (between : L) × (limits line (hears_within patience) true between × limits between (says_within patience) true last)
+
+-- a line doesn't take the one limit, or the other
+abbrev pub IsUnlimited : {L : Type 0} → Limiting L → L → L → Type 0
+IsUnlimited {L} limits line last = limits line (hears_within patience) false last
+    ⊎ ((between : L) × (limits line (hears_within patience) true between × limits between (says_within patience) false last))
+
+-- just connected to the socket at this path, and then limited
 pub record IsDialled {D L : Type 0} (dials : Dialling D L) (limits : Limiting L) (path : Paths) (before after : D) (line : L) : Type 0 where
   pub first : L
-  pub between : L
   pub reached : dials before path.socket (Ok first) after
-  pub hears : limits first (hears_within patience) true between
-  pub says : limits between (says_within patience) true line
+  pub limited : IsLimited limits first line
 
--- a line didn't take the one limit, or the other
-abbrev pub IsUnlimited : {L : Type 0} → Limiting L → L → Type 0
-IsUnlimited {L} limits line = (last : L) × (limits line (hears_within patience) false last
-    ⊎ ((between : L) × (limits line (hears_within patience) true between × limits between (says_within patience) false last)))
-
--- no line to the socket at this path could be made; or just one was, and didn't take a limit
-abbrev pub IsUndialled : {D L : Type 0} → Dialling D L → Limiting L → Paths → D → D → Type 0
-IsUndialled {L = L} dials limits path before after = ((error : Error) × dials before path.socket (Err error) after)
-    ⊎ ((line : L) × (dials before path.socket (Ok line) after × IsUnlimited limits line))
+-- no line to the socket at this path could be made; or just one was, didn't take a limit, and was let go
+abbrev pub IsUndialled : {D L : Type 0} → Dialling D L → Limiting L → Leaving L → Paths → D → D → Type 0
+IsUndialled {L = L} dials limits leaves path before after = ((error : Error) × dials before path.socket (Err error) after)
+    ⊎ ((line : L) × (dials before path.socket (Ok line) after × ((last : L) × (IsUnlimited limits line last × leaves last))))

@@ -1,7 +1,7 @@
 -- What was said to a box by this machine's lines, and what it answered.
 use Rattle.std.specs.Prelude.{ℕ, true, false, ◌⊎◌, List, [], None}
 use Rattle.outlets.specs.Writes.{Asks}
-use Rattle.control.specs.Dialling.{Dialling, IsDialled, IsUndialled, Limiting}
+use Rattle.control.specs.Dialling.{Dialling, IsDialled, IsUndialled, Leaving, Limiting}
 use Rattle.control.specs.Lines.{Does, StreamDoes}
 use Rattle.control.specs.Paths.{Paths}
 use Rattle.control.specs.Reads.{Reads}
@@ -27,7 +27,7 @@ unfoldable pub WasRead : {L : Type 0} → Reads L
 WasRead before room answer after = Unit {0}
 
 -- a line, or who called, was let go, and no more passes there
-unfoldable pub WasLetGo : {L : Type 0} → L → Type 0
+unfoldable pub WasLetGo : {L : Type 0} → Leaving L
 WasLetGo line = Unit {0}
 
 -- so words and answers pass on a line, of which it isn't known what was written to it, nor what is to come
@@ -41,7 +41,7 @@ OnLine path done before after = (line : SystemLine) × ((last : SystemLine) × (
 
 -- there was none
 abbrev pub HasNoLine : {M : Type 0} → Paths → M → M → Type 0
-HasNoLine path before after = IsUndialled {L = SystemLine} WasDialled WasLimited path before after
+HasNoLine path before after = IsUndialled {L = SystemLine} WasDialled WasLimited WasLetGo path before after
 
 -- just this word was said to whoever listens at this path, and he took it
 abbrev pub IsTaken : {M : Type 0} → Paths → List ℕ → M → M → Type 0

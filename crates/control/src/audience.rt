@@ -7,6 +7,7 @@ ghost use Rattle.control.specs.Calling.{AsksFor};
 ghost use Rattle.control.specs.Counting.{AreCounted, speakers, with_more};
 ghost use Rattle.control.specs.Telling.{IsAnsweredIf, IsWritten};
 
+use crate::awaiting::let_go;
 use crate::callers::{answered, speaker_among};
 use crate::listeners::{Listens, Reports, let_in};
 use crate::newcomers::Newcomers;
@@ -51,7 +52,10 @@ impl<L: Drop, S: Drop> Doorway<L, S> {
         } = self;
         match waits.report(&mut listener, token) {
             Ok(()) => Ok(Audience::nobody(listener, callers, token)),
-            Err(error) => Err(error),
+            Err(error) => {
+                let_go(listener);
+                Err(error)
+            }
         }
     }
 }

@@ -3,6 +3,7 @@ ghost use Rattle.std.specs.Prelude.{◌≡◌, ◌+◌, ◌<◌, ◌≤◌, ◌�
 ghost use Rattle.control.specs.Calling.{AsksForOne, IsKept, LetsIn, WasCalled};
 ghost use Rattle.control.specs.Counting.{AreJoined, one_if};
 
+use crate::awaiting::let_go;
 use crate::callers::make_room;
 use crate::newcomers::Newcomers;
 use mio::Token;
@@ -98,6 +99,6 @@ fn keep<S: Drop>(callers: &mut Vec<S>, caller: S, registered: io::Result<()>)
         Ok(()) => {
             let _has_room = callers.push(caller);
         }
-        Err(_) => {}
+        Err(_) => let_go(caller),
     }
 }

@@ -98,14 +98,6 @@ pub(crate) struct SystemLine {
     stream: UnixStream,
 }
 
-impl SystemLine {
-    /// Lets it go: no more passes on it.
-    #[tactic(auto, unfolding(crate::specs::Speaking::WasLetGo))]
-    pub(crate) fn let_go(self)
-        ensures { WasLetGo self }
-    {}
-}
-
 impl Limits for SystemLine {
     ghost limits = { WasLimited };
 

@@ -2,10 +2,11 @@
 ghost use Rattle.std.specs.Duration.{as_nanos};
 ghost use Rattle.std.specs.Prelude.{◌≡◌, ◌<◌, ◌≤◌, ◌⊎◌, [], false, length, take, true, IfOk, OnErr, OnOk};
 ghost use Rattle.control.specs.Answers.{answer_of};
-ghost use Rattle.control.specs.Dialling.{IsDialled, IsUndialled, patience};
+ghost use Rattle.control.specs.Dialling.{IsDialled, IsLimited, IsUndialled, IsUnlimited, patience};
 ghost use Rattle.control.specs.Saying.{Comes, IsAnswered, IsCut, IsLost, Tells, is_heard};
-ghost use Rattle.control.specs.Speaking.{IsAnsweredBy, IsTaken, IsUnanswered, IsUntaken};
+ghost use Rattle.control.specs.Speaking.{IsAnsweredBy, IsTaken, IsUnanswered, IsUntaken, WasLetGo};
 
+use crate::awaiting::let_go;
 use crate::lines::{Dials, Limits, Line};
 use crate::machine::{Machine, SystemLine};
 use crate::{Answer, ControlPath};
@@ -56,7 +57,7 @@ pub fn say<R: Net>(
 {
     let mut line: SystemLine = connected(machine, path)?;
     let answer = say_at(&mut line, word);
-    line.let_go();
+    let_go(line);
     answer
 }
 
@@ -108,7 +109,7 @@ pub fn ask<R: Net>(
 {
     let mut line: SystemLine = connected(machine, path)?;
     let answer = ask_at(&mut line, word, room);
-    line.let_go();
+    let_go(line);
     answer
 }
 
@@ -140,17 +141,31 @@ fn exchange<L: Line>(line: &mut L, word: &[u8], room: &mut [u8]) -> io::Result<u
     whole(line, room)
 }
 
-/// A line to the box whose control socket lies there; at each end 2 seconds are waited at most.
+/// A line to the box whose control socket lies there; at each end 2 seconds are waited at most. One that doesn't take that
+/// is let go.
 fn connected<D: Dials<L>, L: Limits + Drop>(dials: &mut D, path: &ControlPath) -> io::Result<L>
     ensures made { IfOk result
         (λ line. IsDialled D.dials L.limits path.now dials.old dials.new line) }
     ensures unmade { OnErr result
-        (IsUndialled D.dials L.limits path.now dials.old dials.new) }
+        (IsUndialled D.dials L.limits WasLetGo path.now dials.old dials.new) }
 {
     let mut line = dials.dial(path.socket())?;
+    match limited(&mut line) {
+        Ok(()) => Ok(line),
+        Err(refused) => {
+            let_go(line);
+            Err(refused)
+        }
+    }
+}
+
+/// Has each call of a line wait 2 seconds at most.
+fn limited<L: Limits>(line: &mut L) -> io::Result<()>
+    ensures limited { OnOk result (IsLimited L.limits line.old line.new) }
+    ensures unlimited { OnErr result (IsUnlimited L.limits line.old line.new) }
+{
     line.limit_hearing(patience())?;
-    line.limit_saying(patience())?;
-    Ok(line)
+    line.limit_saying(patience())
 }
 
 /// How long a caller waits for an answer, or for more of it, and until its word is taken.

@@ -1,6 +1,7 @@
 -- The faults of the program, and what leads to each.
-use Rattle.std.specs.Prelude.{◌≡◌, ℕ, IsUtf8, List, Option, Some, Result, Ok, Err, string_bytes}
+use Rattle.std.specs.Prelude.{◌≡◌, ◌≢◌, ℕ, IsUtf8, List, Option, Some, Result, Ok, Err, string_bytes}
 use Rattle.std.specs.declared.io.ErrorKind.{ErrorKind}
+use Rattle.std.specs.declared.io.ErrorKind.TheVariants.{OutOfMemory}
 use Rattle.faults.specs.declared.faults.Fault.{Fault}
 use Rattle.faults.specs.declared.faults.Fault.TheVariants.{Words, Setting, BadLine, File, NotWritten, NotText, NoSocket, NoMemory}
 use Rattle.faults.specs.declared.files.FileFault.{FileFault}
@@ -49,9 +50,9 @@ IsUnread path NotText = Unit {0}
 IsUnread path NoMemory = Unit {0}
 IsUnread path other = ⊥
 
--- the same by what was answered, once: this cause, bytes that are no UTF-8, or whatever cause where there is no memory
+-- the same by what was answered, once: this cause, which isn't want of memory; bytes that are no UTF-8; or whatever cause where there is no memory
 abbrev pub TellsUnread : (Result (List ℕ) ErrorKind → Type 0) → List ℕ → Fault → Type 0
-TellsUnread answers path (File fault) = (cause : ErrorKind) × (answers (Err cause) × IsAbout NoFile path (Some cause) fault)
+TellsUnread answers path (File fault) = (cause : ErrorKind) × (answers (Err cause) × ((cause ≢ OutOfMemory) × IsAbout NoFile path (Some cause) fault))
 TellsUnread answers path NotText = (bytes : List ℕ) × (answers (Ok bytes) × (¬ (IsUtf8 bytes)))
 TellsUnread answers path NoMemory = (cause : ErrorKind) × answers (Err cause)
 TellsUnread answers path other = ⊥

@@ -2,6 +2,7 @@
 ghost use Rattle.std.specs.Prelude.{◌≡◌, ◌⊎◌, Err, IfErr, IfOk, IsErr, IsUtf8, Ok, string_bytes};
 ghost use Rattle.std.specs.declared.io.ErrorKind.TheVariants as kinds;
 ghost use Rattle.faults.specs.Faults.{IsUnread, TellsUnread, status_of};
+ghost use Rattle.faults.specs.Files.{WasRead};
 ghost use Rattle.faults.specs.Memory.{WasShort};
 ghost use Rattle.faults.specs.declared.faults.Fault.TheVariants as faults;
 
@@ -26,13 +27,16 @@ pub trait Reads {
             (λ error. answers self.old path.now (Err (error_kind error)) self.new) };
 }
 
-/// The system, of whose answers nothing is known.
+/// The system. Each of its answers has a name, and no more is known of it.
 #[derive(Drop)]
 pub struct SystemReads<'a, R>(pub &'a R);
 
 impl<R: Files + AllocGlobal> Reads for SystemReads<'_, R> {
-    ghost answers = { λ _ _ _ _. Unit {0} };
+    ghost use Rattle.faults.specs.Files.{WasRead};
 
+    ghost answers = { λ _ path answer _. WasRead path answer };
+
+    #[tactic(auto, unfolding(crate::specs::Files::WasRead))]
     fn read(&mut self, path: &str) -> io::Result<Vec<u8>> {
         fs::read(self.0, path)
     }
@@ -44,8 +48,12 @@ impl<R: Files + AllocGlobal> Reads for SystemReads<'_, R> {
 ///
 /// `File` where it can't be read, `NotText` where it isn't UTF-8, `NoMemory`.
 pub fn text_of<R: Files + AllocGlobal>(rt: &R, path: &str) -> Result<String, Fault>
+    ensures text { IfOk result (λ text. WasRead path.now (Ok (string_bytes text))) }
     ensures told { IfErr result (IsUnread path.now) }
+    ensures unread { IfErr result (TellsUnread (WasRead path.now) path.now) }
     ensures status { IfErr result (λ fault. status_of fault ≡ 1) }
+    ensures short { IfErr result (λ fault. fault ≡ faults.NoMemory
+        → WasRead path.now (Err kinds.OutOfMemory) ⊎ WasShort path.now) }
 {
     text_by(rt.alloc(), &mut SystemReads(rt), path)
 }

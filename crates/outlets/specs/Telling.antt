@@ -21,9 +21,10 @@ Telling E = E → List ℕ → Result (Unit {0}) Error → E → Type 0
 abbrev pub HasTold : {E : Type 0} → Telling E → E → List ℕ → E → Type 0
 HasTold tells before line after = (result : Result (Unit {0}) Error) × tells before line result after
 
--- Memory for this line was refused: a text that was to grow refused some of it. No clause can say when one does.
+-- Memory for this line was refused: a text that was empty was to grow by it, and refused some of it. No clause can say when one does: who has a line
+-- written into such a text has this name, and nobody else.
 unfoldable pub WasShort : List ℕ → Type 0
-WasShort line = (formatter : Formatter (String Global)) × HasRefused formatter
+WasShort line = Unit {0} × ((formatter : Formatter (String Global)) × HasRefused formatter)
 
 -- just the line of this text was told; or memory for it was refused, and the one was that says so
 abbrev pub IsTold : {E : Type 0} → Telling E → E → List ℕ → E → Type 0

@@ -1,6 +1,6 @@
 //! Tells of faults, a line each.
 ghost use Rattle.std.specs.Fmt.{WritesOnOk};
-ghost use Rattle.std.specs.Prelude.{◌≡◌, IfOk, OnErr, string_bytes};
+ghost use Rattle.std.specs.Prelude.{◌≡◌, [], IfOk, OnErr, string_bytes};
 ghost use Rattle.outlets.specs.Showing.{HasRefused};
 ghost use Rattle.outlets.specs.Telling.{HasTold, IsTold, WasShort, line_of};
 
@@ -60,12 +60,21 @@ fn told<E: Tells>(errors: &mut E, line: &str)
 }
 
 /// The line that tells of a fault.
-#[tactic(auto, unfolding(crate::specs::Telling::WasShort))]
 fn line_of<T: Shows>(alloc: Global, fault: &T) -> Result<String, fmt::Error>
     ensures made { IfOk result (λ line. string_bytes line ≡ line_of (T.text fault.now)) }
     ensures short { OnErr result (WasShort (line_of (T.text fault.now))) }
 {
-    let mut f = Formatter::new(String::new(alloc));
+    written(String::new(alloc), fault)
+}
+
+/// Has it written into an empty text.
+#[tactic(auto, unfolding(crate::specs::Telling::WasShort))]
+fn written<T: Shows>(text: String, fault: &T) -> Result<String, fmt::Error>
+    requires empty { string_bytes text ≡ [] }
+    ensures made { IfOk result (λ line. string_bytes line ≡ line_of (T.text fault.now)) }
+    ensures short { OnErr result (WasShort (line_of (T.text fault.now))) }
+{
+    let mut f = Formatter::new(text);
     show_line(&mut f, fault)?;
     Ok(f.into_inner())
 }

@@ -23,12 +23,14 @@ use std::time::Duration;
 #[derive(Drop)]
 pub struct Machine<'a, R>(&'a R);
 
-impl<'a, R: Net> Machine<'a, R> {
-    /// The system at hand.
+impl<'a, R> Machine<'a, R> {
+    /// The system at hand. It can't be asked for anything here.
     pub fn new(net: &'a R) -> Machine<'a, R> {
         Machine(net)
     }
+}
 
+impl<R: Net> Machine<'_, R> {
     /// Asks the system for what waits for sockets.
     #[tactic(auto, unfolding(crate::specs::Opening::WasPollMade))]
     pub(crate) fn told_to_make_poll(&mut self) -> io::Result<Waiting>

@@ -16,11 +16,14 @@ pub struct Machine<'a, R> {
     _net: &'a R,
 }
 
-impl<'a, R: Net> Machine<'a, R> {
+impl<'a, R> Machine<'a, R> {
+    /// It can't be asked for anything here.
     pub fn new(net: &'a R) -> Machine<'a, R> {
         Machine { _net: net }
     }
+}
 
+impl<R: Net> Machine<'_, R> {
     /// Has the system make a descriptor one that never waits. What it gives hands on messages then: there is no other way to
     /// one, so who tells a manager has his alone.
     ///

@@ -1,0 +1,8 @@
+-- What the system has of a file.
+use Rattle.std.specs.Prelude.{ℕ, List, Result}
+use Rattle.std.specs.declared.io.ErrorKind.{ErrorKind}
+
+-- The system was asked for what the file at this path has, and answered so. It is no more than a name for the call: who makes it has the name, and
+-- nobody else.
+unfoldable pub WasRead : List ℕ → Result (List ℕ) ErrorKind → Type 0
+WasRead path answer = Unit {0}
