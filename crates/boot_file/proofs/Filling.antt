@@ -6,14 +6,19 @@ use Rattle.std.proofs.lemmas.List.{length-take, take_all, take-append-le}
 use Rattle.std.proofs.lemmas.Slice.{take-put_mid_below}
 use borrow.Rule.Slice.PartMut.{post_of, put_mid}
 
--- k bytes more
-pub filled_more : (n k : ℕ) (room part bytes : List ℕ) → n ≤ length room → k ≤ length part → take n room ≡ take n bytes → take k part ≡ take k (drop n bytes) → take (n + k) (put_mid n (32 - n) room part) ≡ take (n + k) bytes
-filled_more n k room part bytes fits few front back =
+-- k bytes more, behind those that are there
+pub front_more : (n k : ℕ) (room part : List ℕ) → n ≤ length room → k ≤ length part → take (n + k) (put_mid n (32 - n) room part) ≡ take n room ++ take k part
+front_more n k room part fits few =
     let rest = part ++ post_of n (32 - n) room in
     let size : length (take n room) ≡ n = omega (arith, length-take n room) in
     ap (λ (m : ℕ). take (m + k) (take n room ++ rest)) (sym size)
     ∙ take-append-add (take n room) rest k
     ∙ ap (λ (l : List ℕ). take n room ++ l) (take-append-le k part (post_of n (32 - n) room) few)
+
+-- of a file's bytes
+pub filled_more : (n k : ℕ) (room part bytes : List ℕ) → n ≤ length room → k ≤ length part → take n room ≡ take n bytes → take k part ≡ take k (drop n bytes) → take (n + k) (put_mid n (32 - n) room part) ≡ take (n + k) bytes
+filled_more n k room part bytes fits few front back =
+    front_more n k room part fits few
     ∙ ap₂ (λ (l m : List ℕ). l ++ m) front back
     ∙ sym (take-add n k bytes)
 

@@ -1,2 +1,4 @@
 mod Filling
+mod Placing
+mod Reading
 mod Slashes

@@ -1,3 +1,6 @@
+pub mod Calls
+pub mod Deeds
 pub mod Folders
 pub mod Locks
+pub mod Made
 pub mod Opened

@@ -1,6 +1,7 @@
 // A boot file and its folder as the disk of boot_store.
 ghost use Rattle.std.specs.Prelude.{◌≡◌, ◌+◌, ◌≤◌, ◌↔◌, ◌++◌, ◌∷◌, [], None, take, IfErr, IfOk, IfSome, OnErr, OnOk};
 ghost use Rattle.boot_store.specs.Moment.{StillKept, bytes_of, synced};
+ghost use Rattle.boot_file.specs.Calls.{IsBothSynced, IsFilled, ReadsDisk, SyncsDisk, WritesDisk};
 ghost use Rattle.boot_file.specs.Locks.{IsOfOpening, IsUnlocked};
 
 use crate::locks::not_locked;
@@ -70,6 +71,7 @@ impl<F: Blocks + Drop> FileDisk<F> {
     /// A call of the system failed.
     fn failed(&mut self) -> DeviceFault
         ensures file { self.new.file ≡ self.old.file }
+        ensures folder { self.new.folder ≡ self.old.folder }
         ensures failures { self.new.failures ≡ self.old.failures + 1 }
     {
         self.failures.count();
@@ -89,6 +91,12 @@ impl<F: Blocks + Drop> Disk for FileDisk<F> {
     ghost named = { λ d. F.named d.file };
 
     ghost honest = { λ d. F.honest d.file };
+
+    ghost reads = { ReadsDisk F.drops F.reads };
+
+    ghost writes = { WritesDisk F.writes };
+
+    ghost syncs = { SyncsDisk F.syncs F.names };
 
     fn read(&mut self, room: &mut [u8; 32]) -> Result<usize, DeviceFault> {
         let Ok(()) = self.file.drop_cache() else {
@@ -129,6 +137,7 @@ fn sync_both<F: Blocks>(file: &mut F, folder: &F) -> io::Result<()>
     ensures taken { F.honest file.old → OnOk result (F.refusals file.new ≡ F.refusals file.old) }
     ensures refused { F.honest file.old
         → OnErr result (F.refusals file.new ≡ F.refusals file.old + 1) }
+    ensures asked { IsBothSynced F.syncs F.names folder.now file.old result file.new }
 {
     file.sync()?;
     file.sync_name(folder)?;
@@ -148,6 +157,7 @@ fn fill<F: Blocks>(file: &mut F, room: &mut [u8; 32]) -> Option<usize>
         → IfSome result (λ _. F.refusals file.new ≡ F.refusals file.old) }
     ensures refused { F.honest file.old → result ≡ None
         → F.refusals file.new ≡ F.refusals file.old + 1 }
+    ensures asked { IsFilled F.reads file.old result room.new file.new }
 {
     let mut filled = 0;
     while filled < LENGTH {

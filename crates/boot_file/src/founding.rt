@@ -3,6 +3,7 @@ ghost use Rattle.std.specs.Prelude.{◌≡◌, ◌++◌, ◌∷◌, [], ◌↔�
 ghost use Rattle.boot_store.specs.Crash.{LeavesNumber, zero_past};
 ghost use Rattle.boot_store.specs.Moment.{synced, written};
 ghost use Rattle.boot_store.specs.BootFile.{zero_file};
+ghost use Rattle.boot_file.specs.Made.{IsReadBack};
 ghost use Rattle.boot_file.specs.declared.faults.FileFault.TheVariants.{NotWritten};
 
 use crate::FileFault;
@@ -19,6 +20,7 @@ pub(crate) fn written<D: Disk>(disk: &mut D) -> Result<[u8; 32], FileFault>
         ++ synced (written 0 zero_file (D.now disk.old)) ∷ []) }
     ensures honesty { D.honest disk.old ↔ D.honest disk.new }
     ensures ok { OnOk result (D.failures disk.new ≡ D.failures disk.old) }
+    ensures asked { IsReadBack D.reads D.writes D.syncs disk.old result disk.new }
     ensures compared { IfOk result (λ room. room ≡ zero_file) }
     ensures err { IfErr result (λ why. why ≡ NotWritten) }
 {

@@ -7,10 +7,12 @@ mod faults;
 mod file_disk;
 mod founding;
 mod locks;
+mod machine;
 mod places;
 
 pub use blocks::Blocks;
 pub use faults::FileFault;
 pub use file_disk::FileDisk;
 pub use locks::Lockable;
+pub use machine::Machine;
 pub use places::{create, open};

@@ -1,17 +1,15 @@
 // Where a boot file lies.
-ghost use Rattle.std.specs.Prelude.{◌≡◌, ◌↔◌, true, string_bytes, IfErr, IfOk, OnErr, OnOk};
+ghost use Rattle.std.specs.Prelude.{◌≡◌, string_bytes, IfErr, IfOk, OnErr};
 ghost use Rattle.std.specs.IoError.{error_kind};
 ghost use Rattle.boot_store.specs.Crash.{LeavesNumber};
-ghost use Rattle.boot_store.specs.Moment.{synced};
 ghost use Rattle.boot_file.specs.Folders.{IsFolderOf};
 ghost use Rattle.boot_file.specs.Locks.{IsOfMaking, IsOfOpening};
-ghost use Rattle.boot_file.specs.Opened.{IsAnew, IsAsItIs, IsFolder, IsMadeAt, IsNamed, IsOpened, IsToRead};
-ghost use Rattle.boot_file.specs.Opened.{IsUnmade, IsUnopened, IsUnplaced, beside};
-ghost use Rattle.boot_file.specs.Opened.{WasLinked, WasOpened, WasShort, WasThere, WasUnwritten};
-ghost use Rattle.boot_file.specs.Opened.{WasUnlinked, WasUnopened};
+ghost use Rattle.boot_file.specs.Made.{IsAnew, IsFinished, IsMade, IsMadeIn, IsNamed, IsPlaced, IsUnplaced, IsWhole, WasShort, beside};
+ghost use Rattle.boot_file.specs.Opened.{AreOpened, IsAsItIs, IsFolder, IsNoFolder, IsToRead, IsUnopened};
 ghost use Rattle.boot_file.specs.declared.faults.FileFault.TheVariants as faults;
 
 use crate::founding::written;
+use crate::machine::Machine;
 use crate::{Blocks, FileDisk, FileFault, Lockable};
 use boot_store::Disk;
 use std::alloc::Global;
@@ -53,15 +51,6 @@ fn not_placed(error: io::Error) -> FileFault
     }
 }
 
-/// Has the system open what is at a path, by these options.
-#[tactic(auto, unfolding(crate::specs::Opened::WasOpened, crate::specs::Opened::WasUnopened))]
-fn told_to_open<R: Files>(rt: &R, options: &OpenOptions, path: &str) -> io::Result<R::File>
-    ensures opened { IfOk result (λ file. WasOpened options.now path.now file) }
-    ensures unopened { IfErr result (λ error. WasUnopened options.now path.now error) }
-{
-    options.open(rt, path)
-}
-
 /// How a folder is opened.
 fn to_read() -> OpenOptions
     ensures { IsToRead result }
@@ -94,30 +83,8 @@ fn anew() -> OpenOptions
     options
 }
 
-/// Asks the system whether there is anything of a name.
-#[tactic(auto, unfolding(crate::specs::Opened::WasThere))]
-fn told_to_look<R: Files>(rt: &R, path: &str) -> bool
-    ensures { result ≡ true → WasThere path.now }
-{
-    rt.symlink_metadata(path).is_ok()
-}
-
-/// Has the system give the file of a disk, which it has under one name, another one, too.
-#[tactic(auto, unfolding(crate::specs::Opened::WasLinked, crate::specs::Opened::WasUnlinked))]
-fn told_to_link<R: Files>(
-    rt: &R,
-    _disk: &FileDisk<R::File>,
-    other: &str,
-    path: &str,
-) -> io::Result<()>
-    ensures linked { OnOk result (WasLinked _disk.now.file other.now path.now) }
-    ensures unlinked { IfErr result (λ error. WasUnlinked other.now path.now error) }
-{
-    rt.hard_link(other, path)
-}
-
 /// The name under which a file is written before it has its own.
-#[tactic(auto, unfolding(crate::specs::Opened::WasShort))]
+#[tactic(auto, unfolding(crate::specs::Made::WasShort))]
 fn name_beside(alloc: Global, path: &str) -> Result<String, FileFault>
     ensures beside { IfOk result (λ other. string_bytes other ≡ beside path.now) }
     ensures short { OnErr result (WasShort path.now) }
@@ -129,6 +96,19 @@ fn name_beside(alloc: Global, path: &str) -> Result<String, FileFault>
     }
 }
 
+/// The folder that has a path's name.
+fn folder_at<R: Files>(machine: &mut Machine<'_, R>, path: &str) -> Result<R::File, FileFault>
+    ensures opened { IfOk result (λ folder. IsFolder machine.old path.now folder machine.new) }
+    ensures err { IfErr result (λ why. IsNoFolder machine.old path.now why machine.new) }
+    ensures opening { IfErr result IsOfOpening }
+    ensures making { IfErr result IsOfMaking }
+{
+    match machine.told_to_open(&to_read(), folder_of(path)) {
+        Ok(folder) => Ok(folder),
+        Err(error) => Err(not_opened(error)),
+    }
+}
+
 /// Makes a boot file of number 0, on which a gateway can be founded, with mode 0600, whole or not at all: it is written,
 /// synced and read back under another name (its own with `.new` behind it), then given its own, and its folder is
 /// synced. What is there is left as it is. The file and its name outlast a crash from the answer on; where power is cut
@@ -137,7 +117,10 @@ fn name_beside(alloc: Global, path: &str) -> Result<String, FileFault>
 /// # Errors
 /// NoFile where the folder can't be opened or no file can be made there, Exists, NotWritten, also where other bytes are
 /// read back, NoMemory. After each of them nothing of that name was made.
-pub fn create<R: Files + AllocGlobal>(rt: &R, path: &str) -> Result<FileDisk<R::File>, FileFault>
+pub fn create<R: Files + AllocGlobal>(
+    machine: &mut Machine<'_, R>,
+    path: &str,
+) -> Result<FileDisk<R::File>, FileFault>
 where
     R::File: Blocks,
     ensures zero { IfOk result (λ d. ⟦<R::File as Blocks>⟧.honest d.file
@@ -145,85 +128,134 @@ where
     ensures named { IfOk result (λ d. ⟦<R::File as Blocks>⟧.honest d.file
         → ⟦<R::File as Blocks>⟧.named d.file) }
     ensures none_failed { IfOk result (λ d. d.failures ≡ 0) }
-    ensures made { IfOk result (λ d. IsMadeAt path.now d.file) }
-    ensures linked { IfOk result (λ d. IsNamed ⟦<R::File as Blocks>⟧.honest
-        ⟦<R::File as Blocks>⟧.now path.now d.file) }
+    ensures made { IsMade (IsWhole ⟦<R::File as Blocks>⟧.honest ⟦<R::File as Blocks>⟧.now)
+        ⟦<FileDisk<R::File> as Disk>⟧.reads
+        ⟦<FileDisk<R::File> as Disk>⟧.writes
+        ⟦<FileDisk<R::File> as Disk>⟧.syncs
+        machine.old path.now result machine.new }
     ensures err { IfErr result IsOfMaking }
-    ensures cause { IfErr result (IsUnmade path.now) }
 {
-    let folder = told_to_open(rt, &to_read(), folder_of(path)).map_err(not_opened)?;
-    if told_to_look(rt, path) {
+    let folder = folder_at(machine, path)?;
+    made_in(machine, folder, path)
+}
+
+/// Makes it in its folder.
+fn made_in<R: Files + AllocGlobal>(
+    machine: &mut Machine<'_, R>,
+    folder: R::File,
+    path: &str,
+) -> Result<FileDisk<R::File>, FileFault>
+where
+    R::File: Blocks,
+    ensures zero { IfOk result (λ d. ⟦<R::File as Blocks>⟧.honest d.file
+        → LeavesNumber 0 (⟦<R::File as Blocks>⟧.now d.file)) }
+    ensures named { IfOk result (λ d. ⟦<R::File as Blocks>⟧.honest d.file
+        → ⟦<R::File as Blocks>⟧.named d.file) }
+    ensures none_failed { IfOk result (λ d. d.failures ≡ 0) }
+    ensures made { IsMadeIn (IsWhole ⟦<R::File as Blocks>⟧.honest ⟦<R::File as Blocks>⟧.now)
+        ⟦<FileDisk<R::File> as Disk>⟧.reads
+        ⟦<FileDisk<R::File> as Disk>⟧.writes
+        ⟦<FileDisk<R::File> as Disk>⟧.syncs
+        folder machine.old path.now result machine.new }
+    ensures err { IfErr result IsOfMaking }
+{
+    if machine.told_to_look(path) {
         return Err(FileFault::Exists);
     }
-    let other = name_beside(rt.alloc(), path)?;
-    let made = placed(rt, folder, other.as_str(), path);
-    let _is_gone = rt.remove_file(other.as_str());
+    let other = name_beside(machine.alloc(), path)?;
+    let made = placed(machine, folder, other.as_str(), path);
+    machine.told_to_remove(other.as_str());
     made
 }
 
-/// Has a disk write a new boot file, and read it back.
-#[tactic(auto, unfolding(crate::specs::Opened::WasUnwritten))]
-fn told_to_write<D: Disk>(disk: &mut D, _path: &str) -> Result<(), FileFault>
-    ensures zero { D.honest disk.old → OnOk result (LeavesNumber 0 (D.now disk.new)) }
-    ensures honesty { D.honest disk.old ↔ D.honest disk.new }
-    ensures ok { OnOk result (D.failures disk.new ≡ D.failures disk.old) }
-    ensures unwritten { OnErr result (WasUnwritten _path.now) }
-    ensures err { IfErr result (λ why. why ≡ faults.NotWritten) }
-{
-    match written(disk) {
-        Ok(_) => Ok(()),
-        Err(fault) => Err(fault),
-    }
-}
-
-/// Has a disk sync a new boot file that was written.
-#[tactic(auto, unfolding(crate::specs::Opened::WasUnwritten))]
-fn told_to_sync<D: Disk>(disk: &mut D, _path: &str) -> Result<(), FileFault>
-    ensures synced { D.honest disk.old → OnOk result (D.now disk.new ≡ synced (D.now disk.old)) }
-    ensures named { D.honest disk.old → OnOk result (D.named disk.new) }
-    ensures honesty { D.honest disk.old ↔ D.honest disk.new }
-    ensures ok { OnOk result (D.failures disk.new ≡ D.failures disk.old) }
-    ensures unwritten { OnErr result (WasUnwritten _path.now) }
-    ensures err { IfErr result (λ why. why ≡ faults.NotWritten) }
-{
-    match disk.sync() {
-        Ok(()) => Ok(()),
-        Err(_) => Err(FileFault::NotWritten),
-    }
-}
-
-/// Writes a boot file under another name, and gives it its own once it is on the disk.
+/// Writes it under another name, and gives it its own once it is on the disk.
 fn placed<R: Files>(
-    rt: &R,
+    machine: &mut Machine<'_, R>,
     folder: R::File,
     other: &str,
     path: &str,
 ) -> Result<FileDisk<R::File>, FileFault>
 where
     R::File: Blocks,
-    requires own { IsFolder path.now folder }
     requires beside { other.now ≡ beside path.now }
     ensures zero { IfOk result (λ d. ⟦<R::File as Blocks>⟧.honest d.file
         → LeavesNumber 0 (⟦<R::File as Blocks>⟧.now d.file)) }
     ensures named { IfOk result (λ d. ⟦<R::File as Blocks>⟧.honest d.file
         → ⟦<R::File as Blocks>⟧.named d.file) }
     ensures none_failed { IfOk result (λ d. d.failures ≡ 0) }
-    ensures made { IfOk result (λ d. IsMadeAt path.now d.file) }
-    ensures linked { IfOk result (λ d. IsNamed ⟦<R::File as Blocks>⟧.honest
-        ⟦<R::File as Blocks>⟧.now path.now d.file) }
+    ensures made { IsPlaced (IsWhole ⟦<R::File as Blocks>⟧.honest ⟦<R::File as Blocks>⟧.now)
+        ⟦<FileDisk<R::File> as Disk>⟧.reads
+        ⟦<FileDisk<R::File> as Disk>⟧.writes
+        ⟦<FileDisk<R::File> as Disk>⟧.syncs
+        folder machine.old path.now result machine.new }
     ensures err { IfErr result IsOfMaking }
-    ensures cause { IfErr result (IsUnmade path.now) }
 {
-    let _is_gone = rt.remove_file(other);
-    let file = told_to_open(rt, &anew(), other).map_err(not_opened)?;
-    let mut disk = FileDisk::new(file, folder);
-    told_to_write(&mut disk, path)?;
-    told_to_link(rt, &disk, other, path).map_err(not_placed)?;
-    match told_to_sync(&mut disk, path) {
+    machine.told_to_remove(other);
+    match machine.told_to_open(&anew(), other) {
+        Ok(file) => finished(machine, FileDisk::new(file, folder), other, path),
+        Err(error) => Err(not_opened(error)),
+    }
+}
+
+/// Writes the file of a disk, which has another name, and gives it its own then.
+fn finished<R: Files>(
+    machine: &mut Machine<'_, R>,
+    mut disk: FileDisk<R::File>,
+    other: &str,
+    path: &str,
+) -> Result<FileDisk<R::File>, FileFault>
+where
+    R::File: Blocks,
+    requires beside { other.now ≡ beside path.now }
+    requires none_failed { disk.failures ≡ 0 }
+    ensures zero { IfOk result (λ d. ⟦<R::File as Blocks>⟧.honest d.file
+        → LeavesNumber 0 (⟦<R::File as Blocks>⟧.now d.file)) }
+    ensures named { IfOk result (λ d. ⟦<R::File as Blocks>⟧.honest d.file
+        → ⟦<R::File as Blocks>⟧.named d.file) }
+    ensures none_failed { IfOk result (λ d. d.failures ≡ 0) }
+    ensures made { IsFinished (IsWhole ⟦<R::File as Blocks>⟧.honest ⟦<R::File as Blocks>⟧.now)
+        ⟦<FileDisk<R::File> as Disk>⟧.reads
+        ⟦<FileDisk<R::File> as Disk>⟧.writes
+        ⟦<FileDisk<R::File> as Disk>⟧.syncs
+        machine.old path.now disk result machine.new }
+    ensures err { IfErr result IsOfMaking }
+{
+    match written(&mut disk) {
+        Ok(_) => named(machine, disk, other, path),
+        Err(fault) => Err(fault),
+    }
+}
+
+/// Gives the file of a disk, once it is written, its own name, and syncs that.
+fn named<R: Files>(
+    machine: &mut Machine<'_, R>,
+    mut disk: FileDisk<R::File>,
+    other: &str,
+    path: &str,
+) -> Result<FileDisk<R::File>, FileFault>
+where
+    R::File: Blocks,
+    requires beside { other.now ≡ beside path.now }
+    requires none_failed { disk.failures ≡ 0 }
+    requires whole { ⟦<R::File as Blocks>⟧.honest disk.file
+        → LeavesNumber 0 (⟦<R::File as Blocks>⟧.now disk.file) }
+    ensures zero { IfOk result (λ d. ⟦<R::File as Blocks>⟧.honest d.file
+        → LeavesNumber 0 (⟦<R::File as Blocks>⟧.now d.file)) }
+    ensures named { IfOk result (λ d. ⟦<R::File as Blocks>⟧.honest d.file
+        → ⟦<R::File as Blocks>⟧.named d.file) }
+    ensures none_failed { IfOk result (λ d. d.failures ≡ 0) }
+    ensures made { IsNamed (IsWhole ⟦<R::File as Blocks>⟧.honest ⟦<R::File as Blocks>⟧.now)
+        ⟦<FileDisk<R::File> as Disk>⟧.syncs machine.old path.now disk result machine.new }
+    ensures err { IfErr result IsOfMaking }
+{
+    if let Err(error) = machine.told_to_link(&disk, other, path) {
+        return Err(not_placed(error));
+    }
+    match disk.sync() {
         Ok(()) => Ok(disk),
-        Err(fault) => {
-            let _may_stay = rt.remove_file(path);
-            Err(fault)
+        Err(_) => {
+            machine.told_to_remove(path);
+            Err(FileFault::NotWritten)
         }
     }
 }
@@ -234,18 +266,23 @@ where
 /// # Errors
 /// InUse where another process, or another opening in this one, has it locked; NotLocked where the
 /// system refuses the lock. It is closed again then.
-pub fn open<R: Files>(rt: &R, path: &str) -> Result<FileDisk<R::File>, FileFault>
+pub fn open<R: Files>(
+    machine: &mut Machine<'_, R>,
+    path: &str,
+) -> Result<FileDisk<R::File>, FileFault>
 where
     R::File: Blocks + Lockable,
     ensures locked { IfOk result (λ d. ⟦<R::File as Lockable>⟧.locked d.file) }
-    ensures file { IfOk result (λ d. IsOpened path.now d.file) }
-    ensures folder { IfOk result (λ d. IsFolder path.now d.folder) }
+    ensures opened { IfOk result
+        (λ d. AreOpened machine.old path.now d.file d.folder machine.new) }
     ensures none_failed { IfOk result (λ d. d.failures ≡ 0) }
     ensures err { IfErr result IsOfOpening }
-    ensures cause { IfErr result
-        (IsUnopened ⟦<R::File as Lockable>⟧.refused path.now) }
+    ensures cause { IfErr result (λ why. IsUnopened ⟦<R::File as Lockable>⟧.refused
+        machine.old path.now why machine.new) }
 {
-    let folder = told_to_open(rt, &to_read(), folder_of(path)).map_err(not_opened)?;
-    let file = told_to_open(rt, &as_it_is(), path).map_err(not_opened)?;
-    FileDisk::locked(file, folder)
+    let folder = folder_at(machine, path)?;
+    match machine.told_to_open(&as_it_is(), path) {
+        Ok(file) => FileDisk::locked(file, folder),
+        Err(error) => Err(not_opened(error)),
+    }
 }

@@ -1,4 +1,5 @@
 pub mod BootFile
+pub mod Calls
 pub mod Cells
 pub mod Crash
 pub mod Moment

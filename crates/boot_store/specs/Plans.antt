@@ -1,7 +1,16 @@
--- What is to go wrong with a modelled disk.
-use Rattle.std.specs.Prelude.{ℕ, List}
+-- What is to go wrong with a modelled disk, and what its calls do then.
+use Rattle.std.specs.Prelude.{◌≡◌, ◌↔◌, ℕ, List, Result, IsOk, OnOk}
+use Rattle.boot_store.specs.declared.disk.DeviceFault.{DeviceFault}
+use Rattle.boot_store.specs.declared.model.Fate.{Fate}
+use Rattle.boot_store.specs.declared.model.Fate.TheVariants.{Done}
 use Rattle.boot_store.specs.declared.model.ModelDisk.{ModelDisk}
 use Rattle.boot_store.specs.declared.model.Trouble.{Trouble}
+use Rattle.boot_store.specs.Moment.{Moment, bytes_of}
+use Rattle.boot_store.specs.Troubles.{fate_of, good_calls_left, read_as, synced_as, trouble_left, written_as}
+
+-- the file's cells
+abbrev pub cells_of : ModelDisk → Moment
+cells_of disk = disk.cells
 
 -- how many calls are good before it comes
 abbrev pub good_calls_of : ModelDisk → ℕ
@@ -13,3 +22,32 @@ trouble_of disk = disk.trouble
 -- the bytes that it leaves
 abbrev pub any_of : ModelDisk → List ℕ
 any_of disk = disk.any
+
+-- what becomes of its next call
+abbrev pub next_fate_of : ModelDisk → Fate
+next_fate_of disk = fate_of (good_calls_of disk) (trouble_of disk)
+
+-- of a disk that was called once, so much of it is left to go wrong, and the bytes that it leaves stay
+pub record IsCalled (old new : ModelDisk) : Type 0 where
+  pub good_calls : good_calls_of new ≡ good_calls_left (good_calls_of old) (trouble_of old)
+  pub trouble : trouble_of new ≡ trouble_left (good_calls_of old) (trouble_of old)
+  pub any : any_of new ≡ any_of old
+
+-- a read by the disk's fate: Ok where it is done, and what it makes of the cells
+pub record IsRead (old : ModelDisk) (result : Result ℕ DeviceFault) (room : List ℕ) (new : ModelDisk) : Type 0 where
+  pub answer : IsOk result ↔ (next_fate_of old ≡ Done)
+  pub cells : cells_of new ≡ read_as (next_fate_of old) (any_of old) (cells_of old)
+  pub shown : OnOk result (room ≡ bytes_of (cells_of new))
+  pub left : IsCalled old new
+
+-- a write of these bytes there
+pub record IsWrite (old : ModelDisk) (at : ℕ) (bytes : List ℕ) (result : Result (Unit {0}) DeviceFault) (new : ModelDisk) : Type 0 where
+  pub answer : IsOk result ↔ (next_fate_of old ≡ Done)
+  pub cells : cells_of new ≡ written_as (next_fate_of old) at bytes (any_of old) (cells_of old)
+  pub left : IsCalled old new
+
+-- a sync
+pub record IsSync (old : ModelDisk) (result : Result (Unit {0}) DeviceFault) (new : ModelDisk) : Type 0 where
+  pub answer : IsOk result ↔ (next_fate_of old ≡ Done)
+  pub cells : cells_of new ≡ synced_as (next_fate_of old) (cells_of old)
+  pub left : IsCalled old new

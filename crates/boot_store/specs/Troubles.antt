@@ -1,10 +1,11 @@
 -- What goes wrong with a modelled disk.
-use Rattle.std.specs.Prelude.{ℕ, ◌==◌, List, length, take, drop, if◌then◌else◌}
+use Rattle.std.specs.Prelude.{ℕ, ◌-◌, ◌==◌, List, length, take, drop, if◌then◌else◌}
 use Rattle.boot_store.specs.declared.model.Fate.{Fate}
 use Rattle.boot_store.specs.declared.model.Fate.TheVariants.{Done, Torn, Undone}
 use Rattle.boot_store.specs.declared.model.Trouble.{Trouble}
 use Rattle.boot_store.specs.declared.model.Trouble.TheVariants.{None, FailsOnce, StopsBefore, StopsWithin}
-use Rattle.boot_store.specs.Moment.{Moment, written}
+use Rattle.boot_store.specs.Cells.{lost, read_once}
+use Rattle.boot_store.specs.Moment.{Moment, synced, written}
 
 -- what becomes of the call at which trouble comes
 abbrev pub fate_at : Trouble → Fate
@@ -27,6 +28,25 @@ fate_of good_calls trouble = if good_calls == 0 then fate_at trouble else Done
 -- and what is to go wrong then
 abbrev pub trouble_left : ℕ → Trouble → Trouble
 trouble_left good_calls trouble = if good_calls == 0 then trouble_after trouble else trouble
+
+-- and how many calls are good until then: a disk with which nothing is to go wrong counts none
+abbrev pub good_calls_left : ℕ → Trouble → ℕ
+good_calls_left good_calls None = good_calls
+good_calls_left good_calls FailsOnce = good_calls - 1
+good_calls_left good_calls StopsWithin = good_calls - 1
+good_calls_left good_calls StopsBefore = good_calls - 1
+
+-- after a read; what a sync lost reads as the bytes of `any`
+abbrev pub read_as : Fate → List ℕ → Moment → Moment
+read_as Done any moment = read_once any moment
+read_as Torn any moment = moment
+read_as Undone any moment = moment
+
+-- after a sync; one that fails loses what was written since the last one, and one that is undone leaves all as it was
+abbrev pub synced_as : Fate → Moment → Moment
+synced_as Done moment = synced moment
+synced_as Torn moment = lost moment
+synced_as Undone moment = moment
 
 -- after a write there; one that is torn leaves the bytes of `any` at its place
 abbrev pub written_as : Fate → ℕ → List ℕ → List ℕ → Moment → Moment

@@ -1,5 +1,6 @@
 // A boot file's disk: what a read shows, what a crash may leave, and how often it failed.
-ghost use Rattle.std.specs.Prelude.{◌≡◌, ◌+◌, ◌≤◌, ◌↔◌, ℕ, List, [], ◌∷◌, ◌++◌, length, take, OnErr, OnOk, IfOk};
+ghost use Rattle.std.specs.Prelude.{◌≡◌, ◌+◌, ◌≤◌, ◌↔◌, ℕ, List, [], ◌∷◌, ◌++◌, length, take, OnErr, OnOk, IfOk, ⊤};
+ghost use Rattle.boot_store.specs.Calls.{Reads, Syncs, Writes};
 ghost use Rattle.boot_store.specs.Moment.{Moment, bytes_of, written, within_write, FailedWrite, synced, StillKept, AfterRead};
 
 /// How a byte of a file is held.
@@ -50,6 +51,16 @@ pub trait Disk {
     /// Whether it does what the clauses say of an honest disk.
     ghost honest: { Self → Type 0 };
 
+    /// A read, by what the disk was, what it answered, the room that it left, and what it is then.
+    /// Of most disks no more is known.
+    ghost reads: { Reads Self } = { λ _ _ _ _. ⊤ };
+
+    /// A write of bytes at a place.
+    ghost writes: { Writes Self } = { λ _ _ _ _ _. ⊤ };
+
+    /// A sync.
+    ghost syncs: { Syncs Self } = { λ _ _ _. ⊤ };
+
     /// Fills the room with the first 32 bytes, and says how many of them are there. They are the
     /// device's: what a cache holds since a sync failed isn't read.
     fn read(&mut self, room: &mut [u8; 32]) -> Result<usize, DeviceFault>
@@ -59,6 +70,7 @@ pub trait Disk {
         ensures read { honest self.old → OnOk result (AfterRead (now self.old) (now self.new)) }
         ensures unread { honest self.old
             → OnErr result (StillKept (now self.old) (now self.new)) }
+        ensures reads { reads self.old result room.new self.new }
         ensures passes { honest self.old
             → past self.new ≡ past self.old ++ now self.old ∷ [] }
         ensures name { honest self.old → named self.old → named self.new }
@@ -77,6 +89,7 @@ pub trait Disk {
             → OnOk result (now self.new ≡ written at bytes.now (now self.old)) }
         ensures torn { honest self.old
             → OnErr result (FailedWrite at (length bytes.now) (now self.old) (now self.new)) }
+        ensures writes { writes self.old at bytes.now result self.new }
         ensures passes { honest self.old → past self.new ≡ past self.old
             ++ now self.old ∷ within_write at (length bytes.now) (now self.old) ∷ [] }
         ensures name { honest self.old → named self.old → named self.new }
@@ -94,6 +107,7 @@ pub trait Disk {
         ensures named { honest self.old → OnOk result (named self.new) }
         ensures unsynced { honest self.old
             → OnErr result (StillKept (now self.old) (now self.new)) }
+        ensures syncs { syncs self.old result self.new }
         ensures passes { honest self.old
             → past self.new ≡ past self.old ++ now self.old ∷ [] }
         ensures name { honest self.old → named self.old → named self.new }

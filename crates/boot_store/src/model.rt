@@ -1,8 +1,8 @@
 //! A disk in memory, which stops, tears writes and fails as it is told.
-ghost use Rattle.std.specs.Prelude.{◌≡◌, ◌≢◌, ◌<◌, ◌≤◌, ◌+◌, [], length};
+ghost use Rattle.std.specs.Prelude.{◌≡◌, ◌≤◌, ◌+◌, [], length};
 ghost use Rattle.boot_store.specs.Moment.{MayLeave, bytes_of, left_by_crash};
-ghost use Rattle.boot_store.specs.Plans.{any_of, good_calls_of, trouble_of};
-ghost use Rattle.boot_store.specs.Troubles.{fate_of, trouble_left, written_as};
+ghost use Rattle.boot_store.specs.Plans.{IsRead, IsSync, IsWrite, any_of, good_calls_of, trouble_of};
+ghost use Rattle.boot_store.specs.Troubles.{fate_of, good_calls_left, trouble_left, written_as};
 
 use crate::cells::{crash_cells, lose_cells, read_cells, show_cells, sync_cells, write_cells};
 use crate::pasts::Past;
@@ -117,8 +117,8 @@ impl ModelDisk {
     fn fate(&mut self) -> Fate
         ensures fate { result ≡ fate_of self.old.good_calls self.old.trouble }
         ensures left { self.new.trouble ≡ trouble_left self.old.good_calls self.old.trouble }
-        ensures counted { 0 < self.old.good_calls → self.old.trouble ≢ Trouble.None
-            → self.new.good_calls + 1 ≡ self.old.good_calls }
+        ensures counted { self.new.good_calls
+            ≡ good_calls_left self.old.good_calls self.old.trouble }
         ensures cells { self.new.cells ≡ self.old.cells }
         ensures any { self.new.any ≡ self.old.any }
         ensures past { self.new.past ≡ self.old.past }
@@ -134,6 +134,10 @@ impl ModelDisk {
     fn write(&mut self, at: usize, bytes: &[u8]) -> Fate
         requires within { at + length bytes.now ≤ 32 }
         ensures fate { result ≡ fate_of self.old.good_calls self.old.trouble }
+        ensures left { self.new.trouble ≡ trouble_left self.old.good_calls self.old.trouble }
+        ensures counted { self.new.good_calls
+            ≡ good_calls_left self.old.good_calls self.old.trouble }
+        ensures any { self.new.any ≡ self.old.any }
         ensures cells { self.new.cells
             ≡ written_as result at bytes.now self.old.any self.old.cells }
         ensures past { self.new.past ≡ self.old.past }
@@ -154,6 +158,9 @@ impl ModelDisk {
     /// A call failed.
     fn failed(&mut self) -> DeviceFault
         ensures cells { self.new.cells ≡ self.old.cells }
+        ensures good_calls { self.new.good_calls ≡ self.old.good_calls }
+        ensures trouble { self.new.trouble ≡ self.old.trouble }
+        ensures any { self.new.any ≡ self.old.any }
         ensures past { self.new.past ≡ self.old.past }
         ensures failures { self.new.failures ≡ self.old.failures + 1 }
     {
@@ -166,7 +173,7 @@ impl ModelDisk {
 fn next_fate(good_calls: u64, trouble: Trouble) -> (Fate, u64, Trouble)
     ensures fate { result.0 ≡ fate_of good_calls trouble }
     ensures left { result.2 ≡ trouble_left good_calls trouble }
-    ensures counted { 0 < good_calls → trouble ≢ Trouble.None → result.1 + 1 ≡ good_calls }
+    ensures counted { result.1 ≡ good_calls_left good_calls trouble }
 {
     match trouble {
         Trouble::None => (Fate::Done, good_calls, trouble),
@@ -189,6 +196,12 @@ impl Disk for ModelDisk {
     ghost named = { λ _. Unit {0} };
 
     ghost honest = { λ _. Unit {0} };
+
+    ghost reads = { IsRead };
+
+    ghost writes = { IsWrite };
+
+    ghost syncs = { IsSync };
 
     fn read(&mut self, room: &mut [u8; 32]) -> Result<usize, DeviceFault> {
         self.past.keep(&self.cells);

@@ -2,6 +2,7 @@
 ghost use Rattle.std.specs.Prelude.{◌≡◌, ◌≢◌, ◌≤◌, ◌<◌, ◌+◌, ◌↔◌, ◌++◌, [], ◌∷◌, take, drop, OnOk, OnErr, IfOk, IfErr, IsErrOf};
 ghost use Rattle.boot_store.specs.Moment.{MayShow, StillKept, bytes_of, written, within_write, synced};
 ghost use Rattle.boot_store.specs.BootFile.{slot_bytes, zero_file};
+ghost use Rattle.boot_store.specs.Calls.{IsInited};
 ghost use Rattle.boot_store.specs.Crash.{LeavesNumber, LeavesFirst, Since, Keeps, Rises, Decides, Settled, IsReady, WholeFile, zero_past, looked, WritesOnce, AfterWrite, AfterFailure, WriteStopped, LookStopped, StartStopped};
 
 use crate::slots::{next_number, next_place, slot_number, slot_of};
@@ -28,6 +29,7 @@ pub fn init<D: Disk>(disk: &mut D) -> Result<(), BootFault>
     ensures device { OnErr result (D.failures disk.new ≡ D.failures disk.old + 1) }
     ensures stops { D.honest disk.old → OnErr result (Since (D.past disk.old) (D.past disk.new)
         (WriteStopped 0 zero_file (D.now disk.old) (D.now disk.new))) }
+    ensures asked { IsInited D.writes D.syncs disk.old result disk.new }
 {
     disk.write_at(0, &zero_file())?;
     disk.sync()?;

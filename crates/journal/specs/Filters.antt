@@ -40,21 +40,36 @@ abbrev pub IsRefused : List ℕ → FilterFault → Type 0
 IsRefused text (NoFilter part) = invalid_spec text ≡ Some part.now
 IsRefused text NoMemory = WasRefused text
 
--- The environment was asked for the variable of this name, and gave this text, or why there is none. It is no more than a name for the call: who makes it
--- has this, and nobody else.
-unfoldable pub WasAsked : List ℕ → Result (List ℕ) VarError → Type 0
-WasAsked variable answer = Unit {0}
+-- The two names below are of a call: the environment was asked for the variable of this name, and gave this text, or why there is none. It says nothing
+-- of such a call, so they are no more than names: who makes it has both, and nobody else.
+-- by what who asked was before and is then: just that was asked
+unfoldable pub WasAsked : {M : Type 0} → M → List ℕ → Result (List ℕ) VarError → M → Type 0
+WasAsked before variable answer after = Unit {0}
+
+-- for who has the answer, and nothing of who asked
+unfoldable pub WasSaidOf : List ℕ → Result (List ℕ) VarError → Type 0
+WasSaidOf variable answer = Unit {0}
 
 -- the variable holds this text for a filter, or isn't there
 abbrev pub WasSaid : Option (List ℕ) → Type 0
-WasSaid (Some text) = WasAsked VARIABLE.now (Ok text)
-WasSaid None = WasAsked VARIABLE.now (Err NotPresent)
+WasSaid (Some text) = WasSaidOf VARIABLE.now (Ok text)
+WasSaid None = WasSaidOf VARIABLE.now (Err NotPresent)
 
 -- it is there, and what it holds is no text
 abbrev pub IsNoText : Type 0
-IsNoText = WasAsked VARIABLE.now (Err NotUnicode)
+IsNoText = WasSaidOf VARIABLE.now (Err NotUnicode)
 
 -- a fault of the environment's variable names it, and only where that holds no text; or it is of memory that was refused for what it holds
 abbrev pub IsOfVariable : FilterFault → Type 0
 IsOfVariable (NoFilter part) = (part.now ≡ VARIABLE.now) × IsNoText
-IsOfVariable NoMemory = WasAsked VARIABLE.now (Err OutOfMemory)
+IsOfVariable NoMemory = WasSaidOf VARIABLE.now (Err OutOfMemory)
+
+-- The environment was asked for the variable, once, and for no other, and this is what was answered: its text, or none where it isn't there.
+abbrev pub IsHeard : {M : Type 0} → M → Option (List ℕ) → M → Type 0
+IsHeard before (Some text) after = WasAsked before VARIABLE.now (Ok text) after
+IsHeard before None after = WasAsked before VARIABLE.now (Err NotPresent) after
+
+-- so it was asked, and just this fault tells of its answer: it holds no text, or memory for its text was refused
+abbrev pub IsUnheard : {M : Type 0} → M → FilterFault → M → Type 0
+IsUnheard before (NoFilter part) after = WasAsked before VARIABLE.now (Err NotUnicode) after
+IsUnheard before NoMemory after = WasAsked before VARIABLE.now (Err OutOfMemory) after

@@ -1,14 +1,13 @@
 //! Which records pass.
-ghost use Rattle.std.specs.Prelude.{◌≡◌, ◌≢◌, IfOk, IfErr, IsErr, OnErr, OnOk, None, Some, Ok, Err, option_map, string_bytes};
+ghost use Rattle.std.specs.Prelude.{◌≡◌, IfOk, IfErr, OnErr, OnOk, None, Some, option_map, string_bytes};
 ghost use Rattle.log.specs.Filter.{builder_rules, filter_rules, insert_directives, invalid_spec, or_errors};
-ghost use Rattle.journal.specs.Filters.{IsOfVariable, IsRefused, IsUnread, WasAsked, WasRefused, WasSaid, rules_of, text_of, usual_rules};
-ghost use Rattle.journal.specs.declared.filters.FilterFault.TheVariants as faults;
-ghost use Rattle.journal.specs.declared.filters.TheConstants.{VARIABLE};
+ghost use Rattle.journal.specs.Filters.{IsHeard, IsOfVariable, IsRefused, IsUnheard, IsUnread, WasRefused, WasSaid, rules_of, text_of, usual_rules};
 
+use crate::machine::Machine;
 use log::LevelFilter;
 use log::filter::{Builder, Filter, ParseError};
 use std::alloc::{AllocError, Global};
-use std::env::{self, VarError};
+use std::env::VarError;
 use std::rt::Env;
 use thiserror::Error;
 
@@ -81,35 +80,15 @@ fn read_over<'a>(usual: Builder, text: &'a str) -> Result<Builder, ParseError<'a
 ///
 /// `NoFilter` where it isn't text; `NoMemory` where memory is refused.
 pub fn environment<R: Env + Alloc<A = Global>>(
-    rt: &R,
+    machine: &mut Machine<'_, R>,
 ) -> Result<Option<String>, FilterFault<'static>>
     ensures said { IfOk result (λ text. WasSaid (option_map string_bytes text)) }
     ensures named { IfErr result IsOfVariable }
+    ensures heard { IfOk result
+        (λ text. IsHeard machine.old (option_map string_bytes text) machine.new) }
+    ensures unheard { IfErr result (λ fault. IsUnheard machine.old fault machine.new) }
 {
-    of_variable(asked(rt))
-}
-
-/// What the environment has for the variable.
-#[tactic(auto, unfolding(crate::specs::Filters::WasAsked))]
-fn asked<R: Env + Alloc<A = Global>>(rt: &R) -> Result<String, VarError>
-    ensures text { IfOk result (λ text. WasAsked VARIABLE.now (Ok (string_bytes text))) }
-    ensures none { IfErr result (λ why. WasAsked VARIABLE.now (Err why)) }
-{
-    env::var(rt, VARIABLE)
-}
-
-/// What the variable holds, if it is there.
-fn of_variable(found: Result<String, VarError>) -> Result<Option<String>, FilterFault<'static>>
-    requires text { IfOk found (λ text. WasAsked VARIABLE.now (Ok (string_bytes text))) }
-    requires none { IfErr found (λ why. WasAsked VARIABLE.now (Err why)) }
-    ensures said { IfOk result (λ text. WasSaid (option_map string_bytes text)) }
-    ensures text { IfOk found (λ text. result ≡ Ok (Some text)) }
-    ensures none { found ≡ Err VarError.NotPresent → result ≡ Ok None }
-    ensures memory { found ≡ Err VarError.OutOfMemory → result ≡ Err faults.NoMemory }
-    ensures no_text { IfErr found (λ error. error ≢ VarError.NotPresent → IsErr result) }
-    ensures named { IfErr result IsOfVariable }
-{
-    match found {
+    match machine.told_to_say(VARIABLE) {
         Ok(text) => Ok(Some(text)),
         Err(VarError::NotPresent) => Ok(None),
         Err(VarError::OutOfMemory) => Err(FilterFault::NoMemory),

@@ -1,6 +1,5 @@
 mod Each
-mod Parts
+mod Putting
 mod Objects
 mod Drops
 mod Groups
-mod Refusals

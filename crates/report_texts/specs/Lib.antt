@@ -4,7 +4,6 @@ pub mod Sums
 pub mod Lists
 pub mod Units
 pub mod Pieces
-pub mod Refusals
 pub mod Pairs
 pub mod Json
 pub mod People

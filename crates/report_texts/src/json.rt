@@ -1,7 +1,6 @@
 //! A report as JSON. No name and no value in it has a character that would want escaping.
-ghost use Rattle.std.specs.Prelude.{◌≡◌, ◌++◌, OnErr, OnOk, codes, map};
-ghost use Rattle.std.specs.Io.KnownBytes.{Appends};
-ghost use Rattle.report_texts.specs.Refusals.{HasRefused};
+ghost use Rattle.std.specs.Prelude.{◌≡◌, ◌++◌, codes, map};
+ghost use Rattle.outlets.specs.Written.{IsWrittenTo};
 ghost use Rattle.report_texts.specs.Json.{behind, box_members, drop_member, drops_of};
 ghost use Rattle.report_texts.specs.Json.{drops_value, end_members, frames_value, heard_value};
 ghost use Rattle.report_texts.specs.Json.{json_text, member, member_text, object, pairs_value};
@@ -33,9 +32,7 @@ struct Member<'t>(&'t str, Piece<'t>);
 ///
 /// Where output is refused.
 pub fn write_json<O: Write>(output: &mut O, report: &Report) -> io::Result<()>
-    ensures written { OnOk result
-        (Appends (O.contents output.old) (O.contents output.new) (json_text report.now)) }
-    ensures refused { OnErr result (HasRefused output.new) }
+    ensures { IsWrittenTo O.contents output.old (json_text report.now) result output.new }
 {
     let state = &report.gateway;
     put_box(output, report)?;
@@ -58,9 +55,8 @@ fn put_members<'t, O: Write>(
     before: &'t str,
     members: &[Member<'t>],
 ) -> io::Result<()>
-    ensures written { OnOk result (Appends (O.contents output.old) (O.contents output.new)
-        (behind before.now (map member_text members.now))) }
-    ensures refused { OnErr result (HasRefused output.new) }
+    ensures { IsWrittenTo O.contents output.old
+        (behind before.now (map member_text members.now)) result output.new }
 {
     let mut lead = before;
     for member in members {
@@ -85,9 +81,8 @@ fn put_object<'t, O: Write>(
     name: &'t str,
     members: &[Member<'t>],
 ) -> io::Result<()>
-    ensures written { OnOk result (Appends (O.contents output.old) (O.contents output.new)
-        (before.now ++ member name.now (object (map member_text members.now)))) }
-    ensures refused { OnErr result (HasRefused output.new) }
+    ensures { IsWrittenTo O.contents output.old
+        (before.now ++ member name.now (object (map member_text members.now))) result output.new }
 {
     put(
         output,
@@ -99,9 +94,8 @@ fn put_object<'t, O: Write>(
 
 /// Which box it is, and how it stands.
 fn put_box<O: Write>(output: &mut O, report: &Report) -> io::Result<()>
-    ensures written { OnOk result (Appends (O.contents output.old) (O.contents output.new)
-        (behind (codes "{") (box_members report.now))) }
-    ensures refused { OnErr result (HasRefused output.new) }
+    ensures { IsWrittenTo O.contents output.old (behind (codes "{") (box_members report.now)) result
+        output.new }
 {
     put_members(
         output,
@@ -118,9 +112,8 @@ fn put_box<O: Write>(output: &mut O, report: &Report) -> io::Result<()>
 }
 
 fn put_side<O: Write>(output: &mut O, name: &str, side: &SideReport, now: u64) -> io::Result<()>
-    ensures written { OnOk result (Appends (O.contents output.old) (O.contents output.new)
-        (codes "," ++ member name.now (side_value now side.now))) }
-    ensures refused { OnErr result (HasRefused output.new) }
+    ensures { IsWrittenTo O.contents output.old
+        (codes "," ++ member name.now (side_value now side.now)) result output.new }
 {
     let since = now.saturating_sub(side.role_since);
     put_object(
@@ -146,9 +139,8 @@ fn heard_value(heard: Option<u64>) -> Piece<'static>
 }
 
 fn put_peer<O: Write>(output: &mut O, peer: &PeerReport) -> io::Result<()>
-    ensures written { OnOk result (Appends (O.contents output.old) (O.contents output.new)
-        (codes "," ++ member (codes "peer") (peer_value peer.now))) }
-    ensures refused { OnErr result (HasRefused output.new) }
+    ensures { IsWrittenTo O.contents output.old
+        (codes "," ++ member (codes "peer") (peer_value peer.now)) result output.new }
 {
     put_object(
         output,
@@ -163,9 +155,8 @@ fn put_peer<O: Write>(output: &mut O, peer: &PeerReport) -> io::Result<()>
 }
 
 fn put_pairs<O: Write>(output: &mut O, counts: &PairCounts) -> io::Result<()>
-    ensures written { OnOk result (Appends (O.contents output.old) (O.contents output.new)
-        (codes "," ++ member (codes "pairs") (pairs_value counts.now))) }
-    ensures refused { OnErr result (HasRefused output.new) }
+    ensures { IsWrittenTo O.contents output.old
+        (codes "," ++ member (codes "pairs") (pairs_value counts.now)) result output.new }
 {
     put_states(output, ",\"pairs\":{", counts, Protocol::Icmp)?;
     put_states(output, ",", counts, Protocol::Tcp)?;
@@ -180,9 +171,8 @@ fn put_states<O: Write>(
     counts: &PairCounts,
     protocol: Protocol,
 ) -> io::Result<()>
-    ensures written { OnOk result (Appends (O.contents output.old) (O.contents output.new)
-        (before.now ++ states_of counts.now protocol)) }
-    ensures refused { OnErr result (HasRefused output.new) }
+    ensures { IsWrittenTo O.contents output.old (before.now ++ states_of counts.now protocol) result
+        output.new }
 {
     put_object(
         output,
@@ -208,9 +198,8 @@ fn put_states<O: Write>(
 }
 
 fn put_ports<O: Write>(output: &mut O, ports: &PortCounts) -> io::Result<()>
-    ensures written { OnOk result (Appends (O.contents output.old) (O.contents output.new)
-        (codes "," ++ member (codes "ports") (ports_value ports.now))) }
-    ensures refused { OnErr result (HasRefused output.new) }
+    ensures { IsWrittenTo O.contents output.old
+        (codes "," ++ member (codes "ports") (ports_value ports.now)) result output.new }
 {
     put_object(
         output,
@@ -226,9 +215,8 @@ fn put_ports<O: Write>(output: &mut O, ports: &PortCounts) -> io::Result<()>
 }
 
 fn put_waiting<O: Write>(output: &mut O, waiting: &WaitingCounts) -> io::Result<()>
-    ensures written { OnOk result (Appends (O.contents output.old) (O.contents output.new)
-        (codes "," ++ member (codes "waiting") (waiting_value waiting.now))) }
-    ensures refused { OnErr result (HasRefused output.new) }
+    ensures { IsWrittenTo O.contents output.old
+        (codes "," ++ member (codes "waiting") (waiting_value waiting.now)) result output.new }
 {
     put_object(
         output,
@@ -242,9 +230,8 @@ fn put_waiting<O: Write>(output: &mut O, waiting: &WaitingCounts) -> io::Result<
 }
 
 fn put_frames<O: Write>(output: &mut O, counters: &Counters) -> io::Result<()>
-    ensures written { OnOk result (Appends (O.contents output.old) (O.contents output.new)
-        (codes "," ++ member (codes "frames") (frames_value counters.now))) }
-    ensures refused { OnErr result (HasRefused output.new) }
+    ensures { IsWrittenTo O.contents output.old
+        (codes "," ++ member (codes "frames") (frames_value counters.now)) result output.new }
 {
     put_place(output, ",\"frames\":{", "inside", counters, Origin::Inside)?;
     put_place(output, ",", "outside", counters, Origin::Outside)?;
@@ -259,9 +246,8 @@ fn put_place<O: Write>(
     counters: &Counters,
     origin: Origin,
 ) -> io::Result<()>
-    ensures written { OnOk result (Appends (O.contents output.old) (O.contents output.new)
-        (before.now ++ member name.now (place_value counters.now origin))) }
-    ensures refused { OnErr result (HasRefused output.new) }
+    ensures { IsWrittenTo O.contents output.old
+        (before.now ++ member name.now (place_value counters.now origin)) result output.new }
 {
     put_object(
         output,
@@ -283,9 +269,8 @@ fn put_place<O: Write>(
 }
 
 fn put_drops<O: Write>(output: &mut O, counters: &Counters) -> io::Result<()>
-    ensures written { OnOk result (Appends (O.contents output.old) (O.contents output.new)
-        (codes "," ++ member (codes "dropped") (drops_value counters.now))) }
-    ensures refused { OnErr result (HasRefused output.new) }
+    ensures { IsWrittenTo O.contents output.old
+        (codes "," ++ member (codes "dropped") (drops_value counters.now)) result output.new }
 {
     put_dropped(output, ",\"dropped\":{", counters, Origin::Inside)?;
     put_dropped(output, ",", counters, Origin::Outside)?;
@@ -301,9 +286,8 @@ fn put_dropped<O: Write>(
     counters: &Counters,
     origin: Origin,
 ) -> io::Result<()>
-    ensures written { OnOk result (Appends (O.contents output.old) (O.contents output.new)
-        (before.now ++ drops_of counters.now origin)) }
-    ensures refused { OnErr result (HasRefused output.new) }
+    ensures { IsWrittenTo O.contents output.old (before.now ++ drops_of counters.now origin) result
+        output.new }
 {
     put(
         output,
@@ -319,9 +303,8 @@ fn put_dropped<O: Write>(
 
 /// How many were dropped at a place for each reason, and what opens their object.
 fn put_reasons<O: Write>(output: &mut O, counters: &Counters, origin: Origin) -> io::Result<()>
-    ensures written { OnOk result (Appends (O.contents output.old) (O.contents output.new)
-        (behind (codes "{") (map (drop_member counters.now origin) REASONS))) }
-    ensures refused { OnErr result (HasRefused output.new) }
+    ensures { IsWrittenTo O.contents output.old
+        (behind (codes "{") (map (drop_member counters.now origin) REASONS)) result output.new }
 {
     let mut lead = "{";
     for reason in &REASONS {
@@ -341,9 +324,8 @@ fn put_reasons<O: Write>(output: &mut O, counters: &Counters, origin: Origin) ->
 
 /// What was left out, and the end of the object and of its line.
 fn put_end<O: Write>(output: &mut O, report: &Report) -> io::Result<()>
-    ensures written { OnOk result (Appends (O.contents output.old) (O.contents output.new)
-        (behind (codes ",") (end_members report.now) ++ codes "}\n")) }
-    ensures refused { OnErr result (HasRefused output.new) }
+    ensures { IsWrittenTo O.contents output.old
+        (behind (codes ",") (end_members report.now) ++ codes "}\n") result output.new }
 {
     put_members(
         output,

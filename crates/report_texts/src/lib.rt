@@ -1,7 +1,6 @@
 //! A box's report as text: for people, as JSON, and as metrics for Prometheus; and lines of its pairs.
 #![tactic(auto)]
 
-mod asking;
 mod json;
 mod laws;
 mod metrics;

@@ -1,8 +1,7 @@
 //! A report as metrics in Prometheus' text format: of each family what it is, its kind, and its samples. No label has a
 //! character that would want escaping.
-ghost use Rattle.std.specs.Prelude.{◌≡◌, OnErr, OnOk, flat_map};
-ghost use Rattle.std.specs.Io.KnownBytes.{Appends};
-ghost use Rattle.report_texts.specs.Refusals.{HasRefused};
+ghost use Rattle.std.specs.Prelude.{◌≡◌, flat_map};
+ghost use Rattle.outlets.specs.Written.{IsWrittenTo};
 ghost use Rattle.report_texts.specs.Metrics.{box_metrics, came_metrics, drops_at, drops_metrics};
 ghost use Rattle.report_texts.specs.Metrics.{end_metrics, family_text, heard_metric, info_metric};
 ghost use Rattle.report_texts.specs.Metrics.{is_active, metrics_text, pair_metrics, pairs_name};
@@ -36,9 +35,7 @@ const COUNTER: &str = "counter";
 ///
 /// Where output is refused.
 pub fn write_metrics<O: Write>(output: &mut O, report: &Report) -> io::Result<()>
-    ensures written { OnOk result (Appends (O.contents output.old) (O.contents output.new)
-        (metrics_text report.now)) }
-    ensures refused { OnErr result (HasRefused output.new) }
+    ensures { IsWrittenTo O.contents output.old (metrics_text report.now) result output.new }
 {
     put_info(output, report)?;
     put_box(output, report)?;
@@ -59,9 +56,8 @@ fn put_family<'t, O: Write>(
     help: &'t str,
     samples: &[Sample<'t>],
 ) -> io::Result<()>
-    ensures written { OnOk result (Appends (O.contents output.old) (O.contents output.new)
-        (family_text kind.now name.now help.now samples.now)) }
-    ensures refused { OnErr result (HasRefused output.new) }
+    ensures { IsWrittenTo O.contents output.old
+        (family_text kind.now name.now help.now samples.now) result output.new }
 {
     put(
         output,
@@ -86,9 +82,8 @@ fn put_samples<'t, O: Write>(
     name: &'t str,
     samples: &[Sample<'t>],
 ) -> io::Result<()>
-    ensures written { OnOk result (Appends (O.contents output.old) (O.contents output.new)
-        (flat_map (sample_text name.now) samples.now)) }
-    ensures refused { OnErr result (HasRefused output.new) }
+    ensures { IsWrittenTo O.contents output.old (flat_map (sample_text name.now) samples.now) result
+        output.new }
 {
     for sample in samples {
         put(
@@ -117,9 +112,7 @@ fn is_heard(heard: Option<u64>) -> bool
 
 /// Which box it is.
 fn put_info<O: Write>(output: &mut O, report: &Report) -> io::Result<()>
-    ensures written { OnOk result (Appends (O.contents output.old) (O.contents output.new)
-        (info_metric report.now)) }
-    ensures refused { OnErr result (HasRefused output.new) }
+    ensures { IsWrittenTo O.contents output.old (info_metric report.now) result output.new }
 {
     put_family(
         output,
@@ -142,9 +135,7 @@ fn put_info<O: Write>(output: &mut O, report: &Report) -> io::Result<()>
 
 /// How it stands.
 fn put_box<O: Write>(output: &mut O, report: &Report) -> io::Result<()>
-    ensures written { OnOk result (Appends (O.contents output.old) (O.contents output.new)
-        (box_metrics report.now)) }
-    ensures refused { OnErr result (HasRefused output.new) }
+    ensures { IsWrittenTo O.contents output.old (box_metrics report.now) result output.new }
 {
     let state = &report.gateway;
     put_family(
@@ -187,9 +178,7 @@ fn is_active(role: State) -> bool
 }
 
 fn put_sides<O: Write>(output: &mut O, sides: &Sides, now: u64) -> io::Result<()>
-    ensures written { OnOk result (Appends (O.contents output.old) (O.contents output.new)
-        (side_metrics sides.now now)) }
-    ensures refused { OnErr result (HasRefused output.new) }
+    ensures { IsWrittenTo O.contents output.old (side_metrics sides.now now) result output.new }
 {
     let (inside, outside) = (&sides.inside, &sides.outside);
     put_family(
@@ -231,9 +220,7 @@ fn put_sides<O: Write>(output: &mut O, sides: &Sides, now: u64) -> io::Result<()
 }
 
 fn put_peer<O: Write>(output: &mut O, peer: &PeerReport) -> io::Result<()>
-    ensures written { OnOk result (Appends (O.contents output.old) (O.contents output.new)
-        (peer_metrics peer.now)) }
-    ensures refused { OnErr result (HasRefused output.new) }
+    ensures { IsWrittenTo O.contents output.old (peer_metrics peer.now) result output.new }
 {
     put_family(
         output,
@@ -261,9 +248,7 @@ fn put_peer<O: Write>(output: &mut O, peer: &PeerReport) -> io::Result<()>
 
 /// How long ago the other box was heard, if it was.
 fn put_heard<O: Write>(output: &mut O, heard: Option<u64>) -> io::Result<()>
-    ensures written { OnOk result (Appends (O.contents output.old) (O.contents output.new)
-        (heard_metric heard)) }
-    ensures refused { OnErr result (HasRefused output.new) }
+    ensures { IsWrittenTo O.contents output.old (heard_metric heard) result output.new }
 {
     match heard {
         Some(ago) => put_family(
@@ -278,9 +263,7 @@ fn put_heard<O: Write>(output: &mut O, heard: Option<u64>) -> io::Result<()>
 }
 
 fn put_pairs<O: Write>(output: &mut O, counts: &PairCounts) -> io::Result<()>
-    ensures written { OnOk result (Appends (O.contents output.old) (O.contents output.new)
-        (pair_metrics counts.now)) }
-    ensures refused { OnErr result (HasRefused output.new) }
+    ensures { IsWrittenTo O.contents output.old (pair_metrics counts.now) result output.new }
 {
     put_family(output, GAUGE, "natpair_pairs", "Entries of the table.", &[])?;
     put_states(output, counts, Protocol::Icmp)?;
@@ -290,9 +273,8 @@ fn put_pairs<O: Write>(output: &mut O, counts: &PairCounts) -> io::Result<()>
 
 /// How many entries of a protocol have each state.
 fn put_states<O: Write>(output: &mut O, counts: &PairCounts, protocol: Protocol) -> io::Result<()>
-    ensures written { OnOk result (Appends (O.contents output.old) (O.contents output.new)
-        (states_metrics counts.now protocol)) }
-    ensures refused { OnErr result (HasRefused output.new) }
+    ensures { IsWrittenTo O.contents output.old (states_metrics counts.now protocol) result
+        output.new }
 {
     let name = pairs_name(protocol);
     put_samples(
@@ -335,9 +317,7 @@ fn pairs_name(protocol: Protocol) -> &'static str
 }
 
 fn put_ports<O: Write>(output: &mut O, state: &GatewayReport) -> io::Result<()>
-    ensures written { OnOk result (Appends (O.contents output.old) (O.contents output.new)
-        (port_metrics state.now)) }
-    ensures refused { OnErr result (HasRefused output.new) }
+    ensures { IsWrittenTo O.contents output.old (port_metrics state.now) result output.new }
 {
     let (ports, waiting) = (&state.ports, &state.waiting);
     put_family(
@@ -371,9 +351,7 @@ fn put_ports<O: Write>(output: &mut O, state: &GatewayReport) -> io::Result<()>
 }
 
 fn put_traffic<O: Write>(output: &mut O, counters: &Counters) -> io::Result<()>
-    ensures written { OnOk result (Appends (O.contents output.old) (O.contents output.new)
-        (traffic_metrics counters.now)) }
-    ensures refused { OnErr result (HasRefused output.new) }
+    ensures { IsWrittenTo O.contents output.old (traffic_metrics counters.now) result output.new }
 {
     put_came(output, counters)?;
     put_places(
@@ -394,9 +372,7 @@ fn put_traffic<O: Write>(output: &mut O, counters: &Counters) -> io::Result<()>
 
 /// What came and went.
 fn put_came<O: Write>(output: &mut O, counters: &Counters) -> io::Result<()>
-    ensures written { OnOk result (Appends (O.contents output.old) (O.contents output.new)
-        (came_metrics counters.now)) }
-    ensures refused { OnErr result (HasRefused output.new) }
+    ensures { IsWrittenTo O.contents output.old (came_metrics counters.now) result output.new }
 {
     let (inside, outside, link) = (Origin::Inside, Origin::Outside, Origin::Link);
     put_family(
@@ -449,9 +425,8 @@ fn put_places<'t, O: Write>(
     counters: &Counters,
     what: Count,
 ) -> io::Result<()>
-    ensures written { OnOk result (Appends (O.contents output.old) (O.contents output.new)
-        (places_metric name.now help.now counters.now what)) }
-    ensures refused { OnErr result (HasRefused output.new) }
+    ensures { IsWrittenTo O.contents output.old
+        (places_metric name.now help.now counters.now what) result output.new }
 {
     put_family(
         output,
@@ -480,9 +455,7 @@ fn put_places<'t, O: Write>(
 }
 
 fn put_drops<O: Write>(output: &mut O, counters: &Counters) -> io::Result<()>
-    ensures written { OnOk result (Appends (O.contents output.old) (O.contents output.new)
-        (drops_metrics counters.now)) }
-    ensures refused { OnErr result (HasRefused output.new) }
+    ensures { IsWrittenTo O.contents output.old (drops_metrics counters.now) result output.new }
 {
     put_family(
         output,
@@ -499,9 +472,7 @@ fn put_drops<O: Write>(output: &mut O, counters: &Counters) -> io::Result<()>
 
 /// How many were dropped at a place for each reason.
 fn put_reasons<O: Write>(output: &mut O, counters: &Counters, origin: Origin) -> io::Result<()>
-    ensures written { OnOk result (Appends (O.contents output.old) (O.contents output.new)
-        (drops_at counters.now origin)) }
-    ensures refused { OnErr result (HasRefused output.new) }
+    ensures { IsWrittenTo O.contents output.old (drops_at counters.now origin) result output.new }
 {
     for reason in &REASONS {
         put(
@@ -522,9 +493,7 @@ fn put_reasons<O: Write>(output: &mut O, counters: &Counters, origin: Origin) ->
 
 /// What was left out.
 fn put_end<O: Write>(output: &mut O, report: &Report) -> io::Result<()>
-    ensures written { OnOk result (Appends (O.contents output.old) (O.contents output.new)
-        (end_metrics report.now)) }
-    ensures refused { OnErr result (HasRefused output.new) }
+    ensures { IsWrittenTo O.contents output.old (end_metrics report.now) result output.new }
 {
     put_family(
         output,

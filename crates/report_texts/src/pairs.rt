@@ -1,7 +1,6 @@
 //! The lines of pairs.
-ghost use Rattle.std.specs.Prelude.{◌≡◌, OnErr, OnOk, false, flat_map};
-ghost use Rattle.std.specs.Io.KnownBytes.{Appends};
-ghost use Rattle.report_texts.specs.Refusals.{HasRefused};
+ghost use Rattle.std.specs.Prelude.{◌≡◌, false, flat_map};
+ghost use Rattle.outlets.specs.Written.{IsWrittenTo};
 ghost use Rattle.report_texts.specs.Pairs.{entry_line, wanted_line};
 ghost use Rattle.report_texts.specs.Wanted.{passes, wants_address, wants_port, wants_protocol, wants_state};
 
@@ -87,17 +86,15 @@ impl Filter {
 ///
 /// Where output is refused.
 pub fn write_pairs<O: Write>(output: &mut O, page: &Page, filter: &Filter) -> io::Result<()>
-    ensures written { OnOk result (Appends (O.contents output.old) (O.contents output.new)
-        (flat_map (wanted_line filter.now) page.now.entries)) }
-    ensures refused { OnErr result (HasRefused output.new) }
+    ensures { IsWrittenTo O.contents output.old
+        (flat_map (wanted_line filter.now) page.now.entries) result output.new }
 {
     write_entries(output, page.entries(), filter)
 }
 
 fn write_entries<O: Write>(output: &mut O, entries: &[Entry], filter: &Filter) -> io::Result<()>
-    ensures written { OnOk result (Appends (O.contents output.old) (O.contents output.new)
-        (flat_map (wanted_line filter.now) entries.now)) }
-    ensures refused { OnErr result (HasRefused output.new) }
+    ensures { IsWrittenTo O.contents output.old
+        (flat_map (wanted_line filter.now) entries.now) result output.new }
 {
     for entry in entries {
         write_pair(output, entry, filter)?;
@@ -108,9 +105,8 @@ fn write_entries<O: Write>(output: &mut O, entries: &[Entry], filter: &Filter) -
 /// Writes the line of an entry, if it is wanted.
 fn write_pair<O: Write>(output: &mut O, entry: &Entry, filter: &Filter) -> io::Result<()>
     ensures unwanted { passes filter.now entry.now ≡ false → output.new ≡ output.old }
-    ensures written { OnOk result (Appends (O.contents output.old) (O.contents output.new)
-        (wanted_line filter.now entry.now)) }
-    ensures refused { OnErr result (HasRefused output.new) }
+    ensures put { IsWrittenTo O.contents output.old (wanted_line filter.now entry.now) result
+        output.new }
 {
     if filter.passes(entry) {
         write_line(output, entry.pair.key, entry.pair.endpoint, entry.state)
@@ -125,9 +121,7 @@ fn write_line<O: Write>(
     endpoint: Endpoint,
     state: EntryState,
 ) -> io::Result<()>
-    ensures written { OnOk result (Appends (O.contents output.old) (O.contents output.new)
-        (entry_line key endpoint state)) }
-    ensures refused { OnErr result (HasRefused output.new) }
+    ensures { IsWrittenTo O.contents output.old (entry_line key endpoint state) result output.new }
 {
     let address = u64::from(endpoint.address.0);
     put(

@@ -1,7 +1,6 @@
 //! A report for people.
-ghost use Rattle.std.specs.Prelude.{◌≡◌, IfOk, OnErr, OnOk};
-ghost use Rattle.std.specs.Io.KnownBytes.{Appends};
-ghost use Rattle.report_texts.specs.Refusals.{HasRefused};
+ghost use Rattle.std.specs.Prelude.{◌≡◌};
+ghost use Rattle.outlets.specs.Written.{IsWrittenTo};
 ghost use Rattle.report_texts.specs.Names.{away_name, cable_name, serving_name, synced_name};
 ghost use Rattle.report_texts.specs.Names.{traffic_name, wide_name};
 ghost use Rattle.report_texts.specs.People.{before_drop, box_lines, drop_part, drops_line};
@@ -25,9 +24,7 @@ use std::io::{self, Write};
 ///
 /// Where output is refused.
 pub fn write_people<O: Write>(output: &mut O, report: &Report) -> io::Result<()>
-    ensures written { OnOk result
-        (Appends (O.contents output.old) (O.contents output.new) (people_text report.now)) }
-    ensures refused { OnErr result (HasRefused output.new) }
+    ensures { IsWrittenTo O.contents output.old (people_text report.now) result output.new }
 {
     let state = &report.gateway;
     put_box(output, report)?;
@@ -42,9 +39,7 @@ pub fn write_people<O: Write>(output: &mut O, report: &Report) -> io::Result<()>
 
 /// Which box it is, and how it stands.
 fn put_box<O: Write>(output: &mut O, report: &Report) -> io::Result<()>
-    ensures written { OnOk result
-        (Appends (O.contents output.old) (O.contents output.new) (box_lines report.now)) }
-    ensures refused { OnErr result (HasRefused output.new) }
+    ensures { IsWrittenTo O.contents output.old (box_lines report.now) result output.new }
 {
     put(
         output,
@@ -66,9 +61,8 @@ fn put_box<O: Write>(output: &mut O, report: &Report) -> io::Result<()>
 }
 
 fn put_side<O: Write>(output: &mut O, name: &str, side: &SideReport, now: u64) -> io::Result<()>
-    ensures written { OnOk result (Appends (O.contents output.old) (O.contents output.new)
-        (side_line name.now now side.now)) }
-    ensures refused { OnErr result (HasRefused output.new) }
+    ensures { IsWrittenTo O.contents output.old (side_line name.now now side.now) result
+        output.new }
 {
     put(
         output,
@@ -88,9 +82,7 @@ fn put_side<O: Write>(output: &mut O, name: &str, side: &SideReport, now: u64) -
 }
 
 fn put_peer<O: Write>(output: &mut O, peer: &PeerReport) -> io::Result<()>
-    ensures written { OnOk result
-        (Appends (O.contents output.old) (O.contents output.new) (peer_line peer.now)) }
-    ensures refused { OnErr result (HasRefused output.new) }
+    ensures { IsWrittenTo O.contents output.old (peer_line peer.now) result output.new }
 {
     if peer.boot == 0 {
         put(output, &[Piece::Text("peer     not known\n")])
@@ -106,9 +98,8 @@ fn put_known<O: Write>(
     heard: Option<u64>,
     serving: &str,
 ) -> io::Result<()>
-    ensures written { OnOk result (Appends (O.contents output.old) (O.contents output.new)
-        (known_line boot heard serving.now)) }
-    ensures refused { OnErr result (HasRefused output.new) }
+    ensures { IsWrittenTo O.contents output.old (known_line boot heard serving.now) result
+        output.new }
 {
     match heard {
         Some(ago) => put(
@@ -177,9 +168,7 @@ fn wide_name(protocol: Protocol) -> &'static str
 
 /// What the table has, and what waits.
 fn put_table<O: Write>(output: &mut O, state: &GatewayReport) -> io::Result<()>
-    ensures written { OnOk result
-        (Appends (O.contents output.old) (O.contents output.new) (table_lines state.now)) }
-    ensures refused { OnErr result (HasRefused output.new) }
+    ensures { IsWrittenTo O.contents output.old (table_lines state.now) result output.new }
 {
     put_protocol(output, state, Protocol::Icmp)?;
     put_protocol(output, state, Protocol::Tcp)?;
@@ -204,9 +193,8 @@ fn put_protocol<O: Write>(
     state: &GatewayReport,
     protocol: Protocol,
 ) -> io::Result<()>
-    ensures written { OnOk result (Appends (O.contents output.old) (O.contents output.new)
-        (protocol_line state.now protocol)) }
-    ensures refused { OnErr result (HasRefused output.new) }
+    ensures { IsWrittenTo O.contents output.old (protocol_line state.now protocol) result
+        output.new }
 {
     put(
         output,
@@ -230,9 +218,7 @@ fn put_protocol<O: Write>(
 }
 
 fn put_traffic<O: Write>(output: &mut O, counters: &Counters) -> io::Result<()>
-    ensures written { OnOk result
-        (Appends (O.contents output.old) (O.contents output.new) (traffic_lines counters.now)) }
-    ensures refused { OnErr result (HasRefused output.new) }
+    ensures { IsWrittenTo O.contents output.old (traffic_lines counters.now) result output.new }
 {
     put_place(output, counters, Origin::Inside)?;
     put_place(output, counters, Origin::Outside)?;
@@ -242,9 +228,8 @@ fn put_traffic<O: Write>(output: &mut O, counters: &Counters) -> io::Result<()>
 
 /// What was received and sent at a place, and what wasn't sent.
 fn put_place<O: Write>(output: &mut O, counters: &Counters, origin: Origin) -> io::Result<()>
-    ensures written { OnOk result (Appends (O.contents output.old) (O.contents output.new)
-        (traffic_line counters.now origin)) }
-    ensures refused { OnErr result (HasRefused output.new) }
+    ensures { IsWrittenTo O.contents output.old (traffic_line counters.now origin) result
+        output.new }
 {
     put(
         output,
@@ -276,9 +261,7 @@ fn traffic_name(origin: Origin) -> &'static str
 
 /// What was dropped at each place, where something was.
 fn put_drops<O: Write>(output: &mut O, counters: &Counters) -> io::Result<()>
-    ensures written { OnOk result
-        (Appends (O.contents output.old) (O.contents output.new) (drops_lines counters.now)) }
-    ensures refused { OnErr result (HasRefused output.new) }
+    ensures { IsWrittenTo O.contents output.old (drops_lines counters.now) result output.new }
 {
     put_dropped(output, counters, Origin::Inside)?;
     put_dropped(output, counters, Origin::Outside)?;
@@ -288,13 +271,12 @@ fn put_drops<O: Write>(output: &mut O, counters: &Counters) -> io::Result<()>
 
 /// The line of a place, if something was dropped there: each reason for which something was.
 fn put_dropped<O: Write>(output: &mut O, counters: &Counters, origin: Origin) -> io::Result<()>
-    ensures written { OnOk result (Appends (O.contents output.old) (O.contents output.new)
-        (drops_line counters.now origin)) }
-    ensures refused { OnErr result (HasRefused output.new) }
+    ensures { IsWrittenTo O.contents output.old (drops_line counters.now origin) result output.new }
 {
     let mut is_first = true;
     for reason in &REASONS {
-        is_first = put_drop(output, counters, origin, *reason, is_first)?;
+        put_drop(output, counters, origin, *reason, is_first)?;
+        is_first = is_still_first(counters, origin, *reason, is_first);
     }
     if is_first {
         Ok(())
@@ -303,23 +285,20 @@ fn put_dropped<O: Write>(output: &mut O, counters: &Counters, origin: Origin) ->
     }
 }
 
-/// Writes how many were dropped for a reason, if some were, and says whether the next one is the line's first still.
+/// Writes how many were dropped for a reason, if some were.
 fn put_drop<O: Write>(
     output: &mut O,
     counters: &Counters,
     origin: Origin,
     reason: Reason,
     is_first: bool,
-) -> io::Result<bool>
-    ensures text { OnOk result (Appends (O.contents output.old) (O.contents output.new)
-        (drop_part counters.now origin reason is_first)) }
-    ensures first { IfOk result
-        (λ still. still ≡ is_still_first counters.now origin reason is_first) }
-    ensures refused { OnErr result (HasRefused output.new) }
+) -> io::Result<()>
+    ensures { IsWrittenTo O.contents output.old (drop_part counters.now origin reason is_first)
+        result output.new }
 {
     let count = dropped(counters, origin, reason);
     if count == 0 {
-        return Ok(is_first);
+        return Ok(());
     }
     put(
         output,
@@ -331,8 +310,14 @@ fn put_drop<O: Write>(
             Piece::Text(" "),
             Piece::Grouped(count),
         ],
-    )?;
-    Ok(false)
+    )
+}
+
+/// Whether the next reason is the line's first still.
+fn is_still_first(counters: &Counters, origin: Origin, reason: Reason, is_first: bool) -> bool
+    ensures { result ≡ is_still_first counters.now origin reason is_first }
+{
+    is_first && dropped(counters, origin, reason) == 0
 }
 
 /// What stands before a reason: the line's name before the first, a comma before each other one.
@@ -360,9 +345,7 @@ fn place_of_drops(origin: Origin) -> &'static str
 
 /// What was left out.
 fn put_end<O: Write>(output: &mut O, report: &Report) -> io::Result<()>
-    ensures written { OnOk result
-        (Appends (O.contents output.old) (O.contents output.new) (end_line report.now)) }
-    ensures refused { OnErr result (HasRefused output.new) }
+    ensures { IsWrittenTo O.contents output.old (end_line report.now) result output.new }
 {
     put(
         output,

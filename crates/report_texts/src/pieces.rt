@@ -1,14 +1,13 @@
 //! Texts in pieces, and how they are written.
-ghost use Rattle.std.specs.Prelude.{◌≡◌, OnErr, OnOk, flat_map};
-ghost use Rattle.std.specs.Io.KnownBytes.{Appends};
-ghost use Rattle.report_texts.specs.Refusals.{HasRefused};
+ghost use Rattle.std.specs.Prelude.{◌≡◌, flat_map};
+ghost use Rattle.outlets.specs.Written.{IsWrittenTo};
 ghost use Rattle.report_texts.specs.Names.{truth_name};
 ghost use Rattle.report_texts.specs.Pieces.{piece_text, quoted};
 ghost use Rattle.report_texts.specs.Units.{sixteen};
 
-use crate::asking::told_to_put;
 use crate::units::{put_groups, put_number, put_seconds, put_sixteen, put_span};
 use itoa::Buffer;
+use outlets::put as put_bytes;
 use std::io::{self, Write};
 
 /// A piece of a text.
@@ -37,9 +36,7 @@ pub(crate) enum Piece<'t> {
 
 /// Writes pieces, one behind the other.
 pub(crate) fn put<O: Write>(output: &mut O, pieces: &[Piece<'_>]) -> io::Result<()>
-    ensures written { OnOk result (Appends (O.contents output.old) (O.contents output.new)
-        (flat_map piece_text pieces.now)) }
-    ensures refused { OnErr result (HasRefused output.new) }
+    ensures { IsWrittenTo O.contents output.old (flat_map piece_text pieces.now) result output.new }
 {
     for piece in pieces {
         put_piece(output, *piece)?;
@@ -48,14 +45,12 @@ pub(crate) fn put<O: Write>(output: &mut O, pieces: &[Piece<'_>]) -> io::Result<
 }
 
 fn put_piece<O: Write>(output: &mut O, piece: Piece<'_>) -> io::Result<()>
-    ensures written { OnOk result
-        (Appends (O.contents output.old) (O.contents output.new) (piece_text piece.entry)) }
-    ensures refused { OnErr result (HasRefused output.new) }
+    ensures { IsWrittenTo O.contents output.old (piece_text piece.entry) result output.new }
 {
     match piece {
-        Piece::Text(text) => told_to_put(output, text.as_bytes()),
+        Piece::Text(text) => put_bytes(output, text.as_bytes()),
         Piece::Quoted(text) => put_quoted(output, text.as_bytes()),
-        Piece::Truth(is_so) => told_to_put(output, truth_name(is_so).as_bytes()),
+        Piece::Truth(is_so) => put_bytes(output, truth_name(is_so).as_bytes()),
         Piece::Flag(is_so) => put_number(output, u64::from(is_so)),
         Piece::Number(number) => put_number(output, number),
         Piece::Grouped(number) => put_groups(output, Buffer::new().format(number).as_bytes()),
@@ -75,22 +70,18 @@ fn truth_name(is_so: bool) -> &'static str
 
 /// Writes bytes in quotation marks.
 fn put_quoted<O: Write>(output: &mut O, bytes: &[u8]) -> io::Result<()>
-    ensures written { OnOk result
-        (Appends (O.contents output.old) (O.contents output.new) (quoted bytes.now)) }
-    ensures refused { OnErr result (HasRefused output.new) }
+    ensures { IsWrittenTo O.contents output.old (quoted bytes.now) result output.new }
 {
-    told_to_put(output, b"\"")?;
-    told_to_put(output, bytes)?;
-    told_to_put(output, b"\"")
+    put_bytes(output, b"\"")?;
+    put_bytes(output, bytes)?;
+    put_bytes(output, b"\"")
 }
 
 /// Writes a number as sixteen hexadecimal digits in quotation marks.
 fn put_digest<O: Write>(output: &mut O, number: u64) -> io::Result<()>
-    ensures written { OnOk result
-        (Appends (O.contents output.old) (O.contents output.new) (quoted (sixteen number))) }
-    ensures refused { OnErr result (HasRefused output.new) }
+    ensures { IsWrittenTo O.contents output.old (quoted (sixteen number)) result output.new }
 {
-    told_to_put(output, b"\"")?;
+    put_bytes(output, b"\"")?;
     put_sixteen(output, number)?;
-    told_to_put(output, b"\"")
+    put_bytes(output, b"\"")
 }

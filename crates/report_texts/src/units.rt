@@ -1,30 +1,25 @@
 //! Numbers with units.
-ghost use Rattle.std.specs.Prelude.{◌≡◌, ◌++◌, OnErr, OnOk, codes, decimal};
-ghost use Rattle.std.specs.Io.KnownBytes.{Appends};
-ghost use Rattle.report_texts.specs.Refusals.{HasRefused};
+ghost use Rattle.std.specs.Prelude.{◌≡◌, ◌++◌, codes, decimal};
+ghost use Rattle.outlets.specs.Written.{IsWrittenTo};
 ghost use Rattle.report_texts.specs.Units.{comma_before, in_groups, seconds_text, sixteen, span};
 
-use crate::asking::told_to_put;
 use itoa::Buffer;
+use outlets::put as put_bytes;
 use std::io::{self, Write};
 
 /// Writes a number.
 pub(crate) fn put_number<O: Write>(output: &mut O, number: u64) -> io::Result<()>
-    ensures written { OnOk result
-        (Appends (O.contents output.old) (O.contents output.new) (decimal number)) }
-    ensures refused { OnErr result (HasRefused output.new) }
+    ensures { IsWrittenTo O.contents output.old (decimal number) result output.new }
 {
-    told_to_put(output, Buffer::new().format(number).as_bytes())
+    put_bytes(output, Buffer::new().format(number).as_bytes())
 }
 
 /// Writes centiseconds as seconds: `0.06`.
 pub(crate) fn put_seconds<O: Write>(output: &mut O, moment: u64) -> io::Result<()>
-    ensures written { OnOk result
-        (Appends (O.contents output.old) (O.contents output.new) (seconds_text moment)) }
-    ensures refused { OnErr result (HasRefused output.new) }
+    ensures { IsWrittenTo O.contents output.old (seconds_text moment) result output.new }
 {
     put_number(output, moment / 100)?;
-    told_to_put(output, b".")?;
+    put_bytes(output, b".")?;
     put_number(output, moment / 10 % 10)?;
     put_number(output, moment % 10)
 }
@@ -37,31 +32,26 @@ fn put_two<O: Write>(
     second: u64,
     behind: &[u8],
 ) -> io::Result<()>
-    ensures written { OnOk result (Appends (O.contents output.old) (O.contents output.new)
-        (decimal first ++ between.now ++ decimal second ++ behind.now)) }
-    ensures refused { OnErr result (HasRefused output.new) }
+    ensures { IsWrittenTo O.contents output.old
+        (decimal first ++ (between.now ++ (decimal second ++ behind.now))) result output.new }
 {
     put_number(output, first)?;
-    told_to_put(output, between)?;
+    put_bytes(output, between)?;
     put_number(output, second)?;
-    told_to_put(output, behind)
+    put_bytes(output, behind)
 }
 
 /// Writes a number of seconds.
 fn put_rest<O: Write>(output: &mut O, seconds: u64) -> io::Result<()>
-    ensures written { OnOk result (Appends (O.contents output.old) (O.contents output.new)
-        (decimal seconds ++ codes " s")) }
-    ensures refused { OnErr result (HasRefused output.new) }
+    ensures { IsWrittenTo O.contents output.old (decimal seconds ++ codes " s") result output.new }
 {
     put_number(output, seconds)?;
-    told_to_put(output, b" s")
+    put_bytes(output, b" s")
 }
 
 /// Writes seconds in the two greatest units that they have: `3 d 4 h`, `2 h 10 min`, `5 min 0 s`, `12 s`.
 pub(crate) fn put_span<O: Write>(output: &mut O, seconds: u64) -> io::Result<()>
-    ensures written { OnOk result
-        (Appends (O.contents output.old) (O.contents output.new) (span seconds)) }
-    ensures refused { OnErr result (HasRefused output.new) }
+    ensures { IsWrittenTo O.contents output.old (span seconds) result output.new }
 {
     let (minutes, hours, days) = (seconds / 60, seconds / 3600, seconds / 86_400);
     if days > 0 {
@@ -88,14 +78,12 @@ fn comma_before(digits: &[u8]) -> &'static [u8]
 
 /// Writes digits with a comma before each group of three: `1,204`.
 pub(crate) fn put_groups<O: Write>(output: &mut O, digits: &[u8]) -> io::Result<()>
-    ensures written { OnOk result
-        (Appends (O.contents output.old) (O.contents output.new) (in_groups digits.now)) }
-    ensures refused { OnErr result (HasRefused output.new) }
+    ensures { IsWrittenTo O.contents output.old (in_groups digits.now) result output.new }
 {
     let mut rest = digits;
     while let [digit, others @ ..] = rest {
-        told_to_put(output, &[*digit])?;
-        told_to_put(output, comma_before(others))?;
+        put_bytes(output, &[*digit])?;
+        put_bytes(output, comma_before(others))?;
         rest = others;
     }
     Ok(())
@@ -103,13 +91,11 @@ pub(crate) fn put_groups<O: Write>(output: &mut O, digits: &[u8]) -> io::Result<
 
 /// Writes a number as sixteen hexadecimal digits.
 pub(crate) fn put_sixteen<O: Write>(output: &mut O, number: u64) -> io::Result<()>
-    ensures written { OnOk result
-        (Appends (O.contents output.old) (O.contents output.new) (sixteen number)) }
-    ensures refused { OnErr result (HasRefused output.new) }
+    ensures { IsWrittenTo O.contents output.old (sixteen number) result output.new }
 {
     let mut digits = [0; 16];
     match hex::encode_to_slice(&number.to_be_bytes()[..], &mut digits) {
-        Ok(()) => told_to_put(output, &digits),
+        Ok(()) => put_bytes(output, &digits),
         Err(_other_length) => unreachable!(),
     }
 }

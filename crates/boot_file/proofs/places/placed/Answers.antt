@@ -1,10 +1,40 @@
-use Rattle.std.proofs.Common.{subst}
-use Rattle.boot_store.specs.Moment.{Moment, MayLeave}
-use Rattle.boot_store.proofs.Offered.{synced_leaves}
+use Rattle.std.proofs.Common.{List, ℕ, inl, subst, sym}
+use Rattle.boot_file.specs.Calls.{ReadsDisk, SyncsDisk, WritesDisk}
+use Rattle.boot_file.specs.Deeds.{WasOpened, WasRemoved, WasUnopened}
+use Rattle.boot_file.specs.Made.{IsWhole, beside}
+use Rattle.boot_file.proofs.Placing.{placed_by}
 use Rattle.boot_file.proofs.places.placed.Goals as goal
 
-pub returns-in-Ok-clause-zero : goal.returns-in-Ok-clause-zero
-returns-in-Ok-clause-zero g c h =
-    let h1 = c.told_to_sync.ensures.honesty.1 h in
-    let zero = c.in_ok-told_to_write.ensures.zero (c.told_to_write.ensures.honesty.1 h1) in
-    λ file left. zero file (synced_leaves _ file (subst (λ (s : Moment). MayLeave s file) (c.in-Ok.ensures.synced h1) left))
+pub returns-in-Ok-clause-made : goal.returns-in-Ok-clause-made
+returns-in-Ok-clause-made g c =
+    let m = c.args.machine.now in
+    let free = c.told_to_remove.new.self in
+    let opened = c.told_to_open.new.self in
+    let other = c.requires.beside in
+    let removed = subst (λ (p : List ℕ). WasRemoved m p free) other c.told_to_remove.ensures in
+    let as_other = subst (λ (p : List ℕ). WasOpened free c.anew.result p c.in-Ok.file opened) other c.in-Ok.ensures.opened in
+    let asked = subst (λ file. WasOpened free c.anew.result (beside c.args.path.now) file opened) (sym c.new.ensures.file) as_other in
+    placed_by (IsWhole g.R.File.Blocks.honest g.R.File.Blocks.now) (ReadsDisk g.R.File.Blocks.drops g.R.File.Blocks.reads)
+    (WritesDisk g.R.File.Blocks.writes) (SyncsDisk g.R.File.Blocks.syncs g.R.File.Blocks.names)
+    c.args.folder m free c.finished.new.machine c.args.path.now c.finished.result removed
+    (opened, (c.new.result, (record { options = c.anew.result; how = c.anew.ensures; asked = asked }, (c.new.ensures.folder, c.finished.ensures.made))))
+
+pub returns-in-Err-clause-made : goal.returns-in-Err-clause-made
+returns-in-Err-clause-made g c =
+    let m = c.args.machine.now in
+    let free = c.told_to_remove.new.self in
+    let other = c.requires.beside in
+    let removed = subst (λ (p : List ℕ). WasRemoved m p free) other c.told_to_remove.ensures in
+    let asked = subst (λ (p : List ℕ). WasUnopened free c.anew.result p c.in-Err.error c.told_to_open.new.self) other c.in-Err.ensures.unopened in (
+      free,
+      (
+        removed,
+        inl (record {
+          options = c.anew.result;
+          error = c.in-Err.error;
+          how = c.anew.ensures;
+          asked = asked;
+          told = c.not_opened.ensures.cause;
+        }),
+      ),
+    )

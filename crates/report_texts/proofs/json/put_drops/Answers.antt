@@ -2,13 +2,25 @@ use Rattle.std.proofs.Common.{codes}
 use Rattle.journal.specs.declared.origins.Origin.TheVariants.{Inside, Outside, Link, Own}
 use Rattle.report_texts.specs.Json.{drops_of}
 use Rattle.report_texts.proofs.Objects.{four}
-use Rattle.report_texts.proofs.Parts.{ended, same_text}
+use Rattle.report_texts.proofs.Putting.{put_as, put_cut, put_then}
 use Rattle.report_texts.proofs.json.put_drops.Goals as goal
 
-pub returns-clause-written : goal.returns-clause-written
-returns-clause-written g c =
-    let r = c.put.result in
-    let drops = drops_of c.args.counters.now in
-    same_text r _ _ _ _ (four (codes ",\"dropped\":{") (drops Inside) (drops Outside) (drops Link) (drops Own)) (ended r _ _ _ _ _ c.in_ok-put_dropped.ensures.written
-    (ended r _ _ _ _ _ c.in_ok-put_dropped-2.ensures.written (ended r _ _ _ _ _ c.in_ok-put_dropped-3.ensures.written
-    (ended r _ _ _ _ _ c.in_ok-put_dropped-4.ensures.written c.put.ensures.written))))
+pub returns-in_err-put_dropped : goal.returns-in_err-put_dropped
+returns-in_err-put_dropped g c =
+    put_as (four (codes ",\"dropped\":{") (drops_of c.args.counters.now Inside) (drops_of c.args.counters.now Outside) (drops_of c.args.counters.now Link) (drops_of c.args.counters.now Own)) (put_cut _ c.from_residual.result c.from_residual.ensures.1 c.in_err-put_dropped.ensures)
+
+pub returns-in_err-put_dropped-2 : goal.returns-in_err-put_dropped-2
+returns-in_err-put_dropped-2 g c =
+    put_as (four (codes ",\"dropped\":{") (drops_of c.args.counters.now Inside) (drops_of c.args.counters.now Outside) (drops_of c.args.counters.now Link) (drops_of c.args.counters.now Own)) (put_then _ c.in_ok-put_dropped.ensures (put_cut _ c.from_residual-in_err-put_dropped-2.result c.from_residual-in_err-put_dropped-2.ensures.1 c.in_err-put_dropped-2.ensures))
+
+pub returns-in_err-put_dropped-3 : goal.returns-in_err-put_dropped-3
+returns-in_err-put_dropped-3 g c =
+    put_as (four (codes ",\"dropped\":{") (drops_of c.args.counters.now Inside) (drops_of c.args.counters.now Outside) (drops_of c.args.counters.now Link) (drops_of c.args.counters.now Own)) (put_then _ c.in_ok-put_dropped.ensures (put_then _ c.in_ok-put_dropped-2.ensures (put_cut _ c.from_residual-in_err-put_dropped-3.result c.from_residual-in_err-put_dropped-3.ensures.1 c.in_err-put_dropped-3.ensures)))
+
+pub returns-in_err-put_dropped-4 : goal.returns-in_err-put_dropped-4
+returns-in_err-put_dropped-4 g c =
+    put_as (four (codes ",\"dropped\":{") (drops_of c.args.counters.now Inside) (drops_of c.args.counters.now Outside) (drops_of c.args.counters.now Link) (drops_of c.args.counters.now Own)) (put_then _ c.in_ok-put_dropped.ensures (put_then _ c.in_ok-put_dropped-2.ensures (put_then _ c.in_ok-put_dropped-3.ensures (put_cut _ c.from_residual-in_err-put_dropped-4.result c.from_residual-in_err-put_dropped-4.ensures.1 c.in_err-put_dropped-4.ensures))))
+
+pub returns : goal.returns
+returns g c =
+    put_as (four (codes ",\"dropped\":{") (drops_of c.args.counters.now Inside) (drops_of c.args.counters.now Outside) (drops_of c.args.counters.now Link) (drops_of c.args.counters.now Own)) (put_then _ c.in_ok-put_dropped.ensures (put_then _ c.in_ok-put_dropped-2.ensures (put_then _ c.in_ok-put_dropped-3.ensures (put_then _ c.in_ok-put_dropped-4.ensures c.put.ensures))))

@@ -1,5 +1,10 @@
-use Rattle.report_texts.proofs.Parts.{ended}
+use Rattle.report_texts.proofs.Putting.{put_cut, put_then}
 use Rattle.report_texts.proofs.metrics.put_end.Goals as goal
 
-pub returns-clause-written : goal.returns-clause-written
-returns-clause-written g c = let r = c.put_family-2.result in rw (← c.left_out.ensures) (ended r _ _ _ _ _ c.in_ok-put_family.ensures.written c.put_family-2.ensures.written)
+pub returns-in_err-put_family : goal.returns-in_err-put_family
+returns-in_err-put_family g c =
+    rw (← c.left_out.ensures) (put_cut _ c.from_residual.result c.from_residual.ensures.1 c.in_err-put_family.ensures)
+
+pub returns : goal.returns
+returns g c =
+    rw (← c.left_out.ensures) (put_then _ c.in_ok-put_family.ensures c.put_family-2.ensures)

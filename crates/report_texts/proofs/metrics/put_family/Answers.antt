@@ -1,5 +1,10 @@
-use Rattle.report_texts.proofs.Parts.{ended}
+use Rattle.report_texts.proofs.Putting.{put_cut, put_then}
 use Rattle.report_texts.proofs.metrics.put_family.Goals as goal
 
-pub returns-clause-written : goal.returns-clause-written
-returns-clause-written g c = let r = c.put_samples.result in ended r _ _ _ _ _ c.in_ok-put.ensures.written c.put_samples.ensures.written
+pub returns-in_err-put : goal.returns-in_err-put
+returns-in_err-put g c =
+    put_cut _ c.from_residual.result c.from_residual.ensures.1 c.in_err-put.ensures
+
+pub returns : goal.returns
+returns g c =
+    put_then _ c.in_ok-put.ensures c.put_samples.ensures

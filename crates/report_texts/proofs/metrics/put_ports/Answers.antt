@@ -1,5 +1,14 @@
-use Rattle.report_texts.proofs.Parts.{ended}
+use Rattle.report_texts.proofs.Putting.{put_cut, put_then}
 use Rattle.report_texts.proofs.metrics.put_ports.Goals as goal
 
-pub returns-clause-written : goal.returns-clause-written
-returns-clause-written g c = let r = c.put_family-3.result in ended r _ _ _ _ _ c.in_ok-put_family.ensures.written (ended r _ _ _ _ _ c.in_ok-put_family-2.ensures.written c.put_family-3.ensures.written)
+pub returns-in_err-put_family : goal.returns-in_err-put_family
+returns-in_err-put_family g c =
+    put_cut _ c.from_residual.result c.from_residual.ensures.1 c.in_err-put_family.ensures
+
+pub returns-in_err-put_family-2 : goal.returns-in_err-put_family-2
+returns-in_err-put_family-2 g c =
+    put_then _ c.in_ok-put_family.ensures (put_cut _ c.from_residual-in_err-put_family-2.result c.from_residual-in_err-put_family-2.ensures.1 c.in_err-put_family-2.ensures)
+
+pub returns : goal.returns
+returns g c =
+    put_then _ c.in_ok-put_family.ensures (put_then _ c.in_ok-put_family-2.ensures c.put_family-3.ensures)

@@ -1,5 +1,18 @@
-use Rattle.report_texts.proofs.Parts.{ended}
+use Rattle.report_texts.proofs.Putting.{put_cut, put_then}
 use Rattle.report_texts.proofs.people.put_table.Goals as goal
 
-pub returns-clause-written : goal.returns-clause-written
-returns-clause-written g c = let r = c.put.result in ended r _ _ _ _ _ c.in_ok-put_protocol.ensures.written (ended r _ _ _ _ _ c.in_ok-put_protocol-2.ensures.written (ended r _ _ _ _ _ c.in_ok-put_protocol-3.ensures.written c.put.ensures.written))
+pub returns-in_err-put_protocol : goal.returns-in_err-put_protocol
+returns-in_err-put_protocol g c =
+    put_cut _ c.from_residual.result c.from_residual.ensures.1 c.in_err-put_protocol.ensures
+
+pub returns-in_err-put_protocol-2 : goal.returns-in_err-put_protocol-2
+returns-in_err-put_protocol-2 g c =
+    put_then _ c.in_ok-put_protocol.ensures (put_cut _ c.from_residual-in_err-put_protocol-2.result c.from_residual-in_err-put_protocol-2.ensures.1 c.in_err-put_protocol-2.ensures)
+
+pub returns-in_err-put_protocol-3 : goal.returns-in_err-put_protocol-3
+returns-in_err-put_protocol-3 g c =
+    put_then _ c.in_ok-put_protocol.ensures (put_then _ c.in_ok-put_protocol-2.ensures (put_cut _ c.from_residual-in_err-put_protocol-3.result c.from_residual-in_err-put_protocol-3.ensures.1 c.in_err-put_protocol-3.ensures))
+
+pub returns : goal.returns
+returns g c =
+    put_then _ c.in_ok-put_protocol.ensures (put_then _ c.in_ok-put_protocol-2.ensures (put_then _ c.in_ok-put_protocol-3.ensures c.put.ensures))

@@ -1,8 +1,18 @@
-use Rattle.std.proofs.KnownBytes.{Appends-trans}
-use Rattle.report_texts.proofs.Parts.{ended}
+use Rattle.report_texts.proofs.Putting.{put_cut, put_then}
 use Rattle.report_texts.proofs.units.put_seconds.Goals as goal
 
-pub returns-clause-written : goal.returns-clause-written
-returns-clause-written g c =
-    let two = Appends-trans _ _ _ _ _ c.in_ok-put_number.ensures.written c.in_ok-told_to_put.ensures.written in
-    ended c.put_number-3.result _ _ _ _ _ (Appends-trans _ _ _ _ _ two c.in_ok-put_number-2.ensures.written) c.put_number-3.ensures.written
+pub returns-in_err-put_number : goal.returns-in_err-put_number
+returns-in_err-put_number g c =
+    put_cut _ c.from_residual.result c.from_residual.ensures.1 c.in_err-put_number.ensures
+
+pub returns-in_err-put : goal.returns-in_err-put
+returns-in_err-put g c =
+    put_then _ c.in_ok-put_number.ensures (put_cut _ c.from_residual-in_err-put.result c.from_residual-in_err-put.ensures.1 c.in_err-put.ensures)
+
+pub returns-in_err-put_number-2 : goal.returns-in_err-put_number-2
+returns-in_err-put_number-2 g c =
+    put_then _ c.in_ok-put_number.ensures (put_then _ c.in_ok-put.ensures (put_cut _ c.from_residual-in_err-put_number-2.result c.from_residual-in_err-put_number-2.ensures.1 c.in_err-put_number-2.ensures))
+
+pub returns : goal.returns
+returns g c =
+    put_then _ c.in_ok-put_number.ensures (put_then _ c.in_ok-put.ensures (put_then _ c.in_ok-put_number-2.ensures c.put_number-3.ensures))

@@ -1,0 +1,34 @@
+// This process, as who has an environment. What it is asked has a name, and no more is known of it.
+ghost use Rattle.std.specs.Prelude.{Err, IfErr, IfOk, Ok, string_bytes};
+ghost use Rattle.journal.specs.Filters.{WasAsked, WasSaidOf};
+
+use std::alloc::Global;
+use std::env::{self, VarError};
+use std::rt::Env;
+
+/// This process, as who has an environment. Nobody else of this crate asks for its variables.
+#[derive(Drop)]
+pub struct Machine<'a, R> {
+    rt: &'a R,
+}
+
+impl<'a, R> Machine<'a, R> {
+    pub fn new(rt: &'a R) -> Machine<'a, R> {
+        Machine { rt }
+    }
+}
+
+impl<R: Env + Alloc<A = Global>> Machine<'_, R> {
+    /// Asks the environment for a variable.
+    #[tactic(auto, unfolding(crate::specs::Filters::WasAsked, crate::specs::Filters::WasSaidOf))]
+    pub(crate) fn told_to_say(&mut self, variable: &str) -> Result<String, VarError>
+        ensures text { IfOk result
+            (λ text. WasAsked self.old variable.now (Ok (string_bytes text)) self.new) }
+        ensures none { IfErr result
+            (λ why. WasAsked self.old variable.now (Err why) self.new) }
+        ensures said { IfOk result (λ text. WasSaidOf variable.now (Ok (string_bytes text))) }
+        ensures unsaid { IfErr result (λ why. WasSaidOf variable.now (Err why)) }
+    {
+        env::var(self.rt, variable)
+    }
+}
