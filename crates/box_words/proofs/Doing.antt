@@ -174,33 +174,33 @@ last_unsynced (Err e) does path seconds count is_past before between looked afte
 -- ---- its pages
 
 -- so far, where there are so many before the newest
-abbrev pub ArePages : {S : Type 0} → Does S → Paths → ℕ → Option Key → Filter → Option (List ℕ) → Option (List ℕ) → S → S → Type 0
-ArePages does path count next filter old new before after =
-    (had : HasPages does path next filter old new before after) × (length had.earlier ≡ count)
+abbrev pub ArePages : {S O : Type 0} → Does S → (O → Option (List ℕ)) → Paths → ℕ → Option Key → Filter → O → O → S → S → Type 0
+ArePages does prints path count next filter old new before after =
+    (had : HasPages does prints path next filter old new before after) × (length had.earlier ≡ count)
 
 -- others follow
 pub some_left : (next : Option Key) (none : Bool) → is_some next ≡ not none → none ≡ false → IsSome next
 some_left next none is isnt = is ∙ ap not isnt
 
 -- the first one
-pub first_page : {S : Type 0} (does : Does S) (path : Paths) (next : Option Key) (filter : Filter) (old new : Option (List ℕ)) (before after : S)
-    → HasPage does path None next filter old new before after → ArePages does path 0 next filter old new before after
-first_page does path next filter old new before after page = (
+pub first_page : {S O : Type 0} (does : Does S) (prints : O → Option (List ℕ)) (path : Paths) (next : Option Key) (filter : Filter) (old new : O) (before after : S)
+    → HasPage does prints path None next filter old new before after → ArePages does prints path 0 next filter old new before after
+first_page does prints path next filter old new before after page = (
   record {
     newest = page.page;
     earlier = [];
     listed = (before, (refl, (tt, page.lists)));
     goes_on = page.goes_on;
-    written = page.written;
+    printed = ((old, (refl, page.put)), page.written);
   },
   refl,
 )
 
 -- one more
-pub one_page_more : {S : Type 0} (does : Does S) (path : Paths) (count more : ℕ) (next then : Option Key) (filter : Filter) (old mid new : Option (List ℕ)) (before middle after : S)
-    → ArePages does path count next filter old mid before middle → HasPage does path next then filter mid new middle after → more ≡ suc count → IsSome next
-    → ArePages does path more then filter old new before after
-one_page_more does path count more next then filter old mid new before middle after h page one some = (
+pub one_page_more : {S O : Type 0} (does : Does S) (prints : O → Option (List ℕ)) (path : Paths) (count more : ℕ) (next then : Option Key) (filter : Filter) (old mid new : O) (before middle after : S)
+    → ArePages does prints path count next filter old mid before middle → HasPage does prints path next then filter mid new middle after → more ≡ suc count → IsSome next
+    → ArePages does prints path more then filter old new before after
+one_page_more does prints path count more next then filter old mid new before middle after h page one some = (
   record {
     newest = page.page;
     earlier = h.0.newest ∷ h.0.earlier;
@@ -215,26 +215,26 @@ one_page_more does path count more next then filter old mid new before middle af
       ),
     );
     goes_on = page.goes_on;
-    written = Appends-trans old mid new (lines_of filter (h.0.newest ∷ h.0.earlier)) (page_lines filter page.page) h.0.written page.written;
+    printed = (
+      (mid, (h.0.printed.0, page.put)),
+      Appends-trans (prints old) (prints mid) (prints new) (lines_of filter (h.0.newest ∷ h.0.earlier)) (page_lines filter page.page) h.0.printed.1 page.written,
+    );
   },
   ap suc h.1 ∙ sym one,
 )
 
 -- those of a box that was reached, whose lines stay where the writer is flushed
-pub reached_listed : {S : Type 0} (does : Does S) (settings : List ℕ) (id : GatewayId) (filter : Filter) (boot_file : List ℕ) (path : Paths) (old mid new : Option (List ℕ)) (before between after : S)
-    → IsBoxOf does settings id boot_file before between → IsBeside boot_file path → HasPages does path None filter old mid between after → Keeps mid new
-    → HasListed does settings id filter old new before after
-reached_listed does settings id filter boot_file path old mid new before between after box beside pages kept = record {
+pub reached_listed : {S O : Type 0} (does : Does S) (prints : O → Option (List ℕ)) (settings : List ℕ) (id : GatewayId) (filter : Filter) (boot_file : List ℕ) (path : Paths) (old mid new : O) (before between after : S)
+    → IsBoxOf does settings id boot_file before between → IsBeside boot_file path → HasPages does prints path None filter old mid between after
+    → Keeps (prints mid) (prints new) → WasFlushed mid (Ok tt) new → HasListed does prints settings id filter old new before after
+reached_listed does prints settings id filter boot_file path old mid new before between after box beside pages kept flushed = record {
   path = path;
   between = between;
   reached = record { boot_file = boot_file; box = box; beside = beside };
-  pages = record {
-    newest = pages.newest;
-    earlier = pages.earlier;
-    listed = pages.listed;
-    goes_on = pages.goes_on;
-    written = Appends-kept old mid new (lines_of filter (pages.newest ∷ pages.earlier)) pages.written kept;
-  };
+  middle = mid;
+  pages = pages;
+  flushed = flushed;
+  written = Appends-kept (prints old) (prints mid) (prints new) (lines_of filter (pages.newest ∷ pages.earlier)) pages.printed.1 kept;
 }
 
 -- the first one couldn't be had, or was cut short
@@ -245,14 +245,14 @@ first_broken does prints filter old new path why before after last =
 
 -- the next one couldn't, or was
 pub next_broken : {S O : Type 0} (does : Does S) (prints : O → Option (List ℕ)) (filter : Filter) (old mid new : O) (path : Paths) (next : Option Key) (why : BoxFault) (before middle after : S)
-    → HasPages does path next filter (prints old) (prints mid) before middle → IsSome next → IsUnpaged does prints filter next mid new path why middle after
+    → HasPages does prints path next filter old mid before middle → IsSome next → IsUnpaged does prints filter next mid new path why middle after
     → IsBroken does prints filter old new path why before after
 next_broken does prints filter old mid new path next why before middle after had some last = record {
   pages = had.newest ∷ had.earlier;
   between = middle;
   middle = mid;
   listed = had.listed;
-  printed = had.written;
+  printed = had.printed;
   last = inl (
     subst (λ (k : Option Key). IsSome k) (sym had.goes_on) some,
     subst (λ (k : Option Key). IsUnpaged does prints filter k mid new path why middle after) (sym had.goes_on) last,
@@ -261,27 +261,27 @@ next_broken does prints filter old mid new path next why before middle after had
 
 -- all of them came, and couldn't be flushed
 pub last_broken : {S O : Type 0} (does : Does S) (prints : O → Option (List ℕ)) (filter : Filter) (old mid new : O) (path : Paths) (before after : S)
-    → HasPages does path None filter (prints old) (prints mid) before after → Keeps (prints mid) (prints new) → IsUnflushed mid new
+    → HasPages does prints path None filter old mid before after → Keeps (prints mid) (prints new) → IsUnflushed mid new
     → IsBroken does prints filter old new path (fault.Run NotWritten) before after
 last_broken does prints filter old mid new path before after had kept refused = record {
   pages = had.newest ∷ had.earlier;
   between = after;
   middle = mid;
   listed = had.listed;
-  printed = had.written;
+  printed = had.printed;
   last = inr (inr (had.goes_on, (kept, (refl, (refl, refused)))));
 }
 
 -- there are too many
 pub too_many : {S O : Type 0} (does : Does S) (prints : O → Option (List ℕ)) (filter : Filter) (old new : O) (path : Paths) (count : ℕ) (next : Option Key) (why : BoxFault) (before after : S)
-    → ArePages does path count next filter (prints old) (prints new) before after → 2 ^ 64 - 1 ≤ count → TellsSocket path.socket why
+    → ArePages does prints path count next filter old new before after → 2 ^ 64 - 1 ≤ count → TellsSocket path.socket why
     → IsBroken does prints filter old new path why before after
 too_many does prints filter old new path count next why before after h many told = record {
   pages = h.0.newest ∷ h.0.earlier;
   between = after;
   middle = new;
   listed = h.0.listed;
-  printed = h.0.written;
+  printed = h.0.printed;
   last = inr (inl (many_pages count (length h.0.earlier) h.1 many, (refl, (refl, told))));
 }
   where

@@ -29,7 +29,7 @@ use Rattle.report_texts.specs.People.{people_text}
 use Rattle.report_texts.specs.declared.pairs.Filter.{Filter}
 use Rattle.box_words.specs.Faults.{TellsBootFile, TellsNoSettings, TellsPathless, TellsSocket, TellsUnlisted, TellsUnreported, TellsUntaken}
 use Rattle.box_words.specs.Memory.{LacksText, WasShort}
-use Rattle.outlets.specs.Outputs.{IsRefused, IsUnflushed, WasPut}
+use Rattle.outlets.specs.Outputs.{IsRefused, IsUnflushed, WasFlushed, WasPut}
 use Rattle.box_words.specs.Said.{said_status}
 use Rattle.box_words.specs.declared.refusals.BoxFault.{BoxFault}
 use Rattle.box_words.specs.declared.refusals.BoxFault.TheVariants as fault
@@ -302,10 +302,16 @@ abbrev pub lines_of : Filter → List Page → List ℕ
 lines_of filter [] = []
 lines_of filter (page ∷ earlier) = lines_of filter earlier ++ page_lines filter page
 
--- the lines of these pages were printed; of none nothing
+-- an output was asked for just this: to take the lines of these pages, the newest of which comes first, page by page in their order; and it took them
+abbrev pub ArePut : {O : Type 0} → Filter → List Page → O → O → Type 0
+ArePut filter [] old new = new ≡ old
+ArePut {O = O} filter (page ∷ earlier) old new = (middle : O) × (ArePut filter earlier old middle × WasPut middle (page_lines filter page) (Ok tt) new)
+
+-- so the lines of these pages were printed; of none nothing
 abbrev pub ArePrinted : {O : Type 0} → (O → Option (List ℕ)) → Filter → List Page → O → O → Type 0
 ArePrinted prints filter [] old new = new ≡ old
-ArePrinted prints filter (page ∷ earlier) old new = Appends (prints old) (prints new) (lines_of filter (page ∷ earlier))
+ArePrinted prints filter (page ∷ earlier) old new =
+    ArePut filter (page ∷ earlier) old new × Appends (prints old) (prints new) (lines_of filter (page ∷ earlier))
 
 -- behind so many pages none is asked for, and nothing more is printed: as if nobody heard there
 abbrev pub AreTooMany : {S O : Type 0} → Paths → List Page → BoxFault → O → O → S → S → Type 0
@@ -338,24 +344,29 @@ abbrev pub HasUnlisted : {S O : Type 0} → Does S → (O → Option (List ℕ))
 HasUnlisted does prints settings id filter why old new before after = (IsUnreached does settings id why before after × (new ≡ old))
     ⊎ IsDoneAt does settings id (λ path. IsBroken does prints filter old new path why) before after
 
--- a box was asked for a page behind a key, or the first one, behind which the next one begins at this key; its lines were written
-pub record HasPage {S : Type 0} (does : Does S) (path : Paths) (behind next : Option Key) (filter : Filter) (old new : Option (List ℕ)) (before after : S) : Type 0 where
+-- a box was asked for a page behind a key, or the first one, behind which the next one begins at this key; its lines were put, and nothing else
+pub record HasPage {S O : Type 0} (does : Does S) (prints : O → Option (List ℕ)) (path : Paths) (behind next : Option Key) (filter : Filter) (old new : O) (before after : S) : Type 0 where
   pub page : Page
   pub lists : Lists does path behind page before after
   pub goes_on : next_of page ≡ next
-  pub written : Appends old new (page_lines filter page)
+  pub put : WasPut old (page_lines filter page) (Ok tt) new
+  pub written : Appends (prints old) (prints new) (page_lines filter page)
 
--- so far: some pages, behind which the next one begins at this key; their lines were written
-pub record HasPages {S : Type 0} (does : Does S) (path : Paths) (next : Option Key) (filter : Filter) (old new : Option (List ℕ)) (before after : S) : Type 0 where
+-- so far: some pages, behind which the next one begins at this key; their lines were printed, and nothing else
+pub record HasPages {S O : Type 0} (does : Does S) (prints : O → Option (List ℕ)) (path : Paths) (next : Option Key) (filter : Filter) (old new : O) (before after : S) : Type 0 where
   pub newest : Page
   pub earlier : List Page
   pub listed : AreListed does path (newest ∷ earlier) before after
   pub goes_on : next_of newest ≡ next
-  pub written : Appends old new (lines_of filter (newest ∷ earlier))
+  pub printed : ArePrinted prints filter (newest ∷ earlier) old new
 
--- just that box was asked for its pages until none followed; and nothing else was done. The lines of the pairs that pass were written
-pub record HasListed {S : Type 0} (does : Does S) (settings : List ℕ) (id : GatewayId) (filter : Filter) (old new : Option (List ℕ)) (before after : S) : Type 0 where
+-- Just that box was asked for its pages until none followed; and nothing else was done. The lines of the pairs that pass were put, page by page, and then the
+-- output was flushed, once; and nothing else was asked of it. So it has them, where it says what it has
+pub record HasListed {S O : Type 0} (does : Does S) (prints : O → Option (List ℕ)) (settings : List ℕ) (id : GatewayId) (filter : Filter) (old new : O) (before after : S) : Type 0 where
   pub path : Paths
   pub between : S
   pub reached : IsReached does settings id path before between
-  pub pages : HasPages does path None filter old new between after
+  pub middle : O
+  pub pages : HasPages does prints path None filter old middle between after
+  pub flushed : WasFlushed middle (Ok tt) new
+  pub written : Appends (prints old) (prints new) (lines_of filter (pages.newest ∷ pages.earlier))

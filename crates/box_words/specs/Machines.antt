@@ -1,21 +1,27 @@
 -- What an operator's command does at this machine.
-use Rattle.std.specs.Prelude.{◌≡◌, ◌≤◌, ◌⊎◌, ◌*◌, ℕ, Bool, true, List, Option, Some, None, nat_le}
+use Rattle.std.specs.Prelude.{◌≡◌, ◌≤◌, ◌⊎◌, ◌*◌, ℕ, Bool, true, List, Option, Some, None, Ok, Err, nat_le}
 use Rattle.std.specs.Duration.{as_nanos}
 use Rattle.std.specs.declared.time.Duration.{Duration}
 use Rattle.std.specs.declared.time.Instant.{Instant}
+use Rattle.std.specs.declared.io.ErrorKind.TheVariants as kinds
+use Rattle.faults.specs.Faults.{TellsUnread}
+use Rattle.faults.specs.Files.{WasRead}
+use Rattle.faults.specs.declared.faults.Fault.{Fault}
+use Rattle.faults.specs.declared.faults.Fault.TheVariants.{NoMemory}
 use Rattle.control.specs.Answers.{Content, answer_of}
 use Rattle.control.specs.Speaking.{IsAnsweredBy, IsTaken, IsUnanswered, IsUntaken}
 use Rattle.control.specs.Words.{word_of}
 use Rattle.control.specs.declared.words.Word.{Word}
 use Rattle.box_words.specs.Deeds.{Deed, asked, awaits, made, past, read, rested, said, unmade, unread, unsaid}
+use Rattle.box_words.specs.Memory.{WasShort}
 
 -- It was asked for nothing yet. It is no more than a name for what it is made as, and so is the one below it for a call.
 unfoldable pub IsUntouched : {M : Type 0} → M → Type 0
 IsUntouched machine = Unit {0}
 
--- Just this was done at a machine, by what it was before and is then: the system was asked for it, and answered so. Who makes the call has
--- it, and nobody else; whoever makes another beside it has a machine that is another.
-unfoldable pub WasDone : {M : Type 0} → M → Deed → M → Type 0
+-- Just this was done by the system that a machine has, by what it was before and is then: it was asked for it, and answered so. Who makes the call has it,
+-- and nobody else; whoever makes another beside it has a system that is another.
+unfoldable pub WasDone : {S : Type 0} → S → Deed → S → Type 0
 WasDone before deed after = Unit {0}
 
 -- some bytes spell this word, and of them this holds
@@ -43,14 +49,18 @@ ComesOf lines (asked path word answer) lines2 =
 ComesOf lines (unsaid path word) lines2 =
     IsSpelled word (λ bytes. IsUntaken path bytes lines lines2 ⊎ ((room : ℕ) × ((4096 ≤ room) × IsUnanswered path bytes room lines lines2)))
 
+-- this fault tells of what the system answered of the file at a path: want of memory only where it answered that, or memory to tell it was refused
+abbrev pub IsOfReading : List ℕ → Fault → Type 0
+IsOfReading path why = TellsUnread (WasRead path) path why × (why ≡ NoMemory → WasRead path (Err kinds.OutOfMemory) ⊎ WasShort path)
+
 -- ---- its clock
 
 -- The two names below are each of a call, as the one above: the system's clock was asked for the moment, or for how much time has passed since one,
 -- and gave this, or nothing.
-unfoldable pub WasNow : {M : Type 0} → M → Option Instant → M → Type 0
+unfoldable pub WasNow : {S : Type 0} → S → Option Instant → S → Type 0
 WasNow before now after = Unit {0}
 
-unfoldable pub WasSince : {M : Type 0} → M → Instant → Option Duration → M → Type 0
+unfoldable pub WasSince : {S : Type 0} → S → Instant → Option Duration → S → Type 0
 WasSince before since passed after = Unit {0}
 
 -- since when it is waited, as far as the clock could be read, and for how many nanoseconds
@@ -62,7 +72,7 @@ abbrev pub waiting : Option Instant → Duration → Waiting
 waiting since limit = record { since = since; limit = as_nanos limit }
 
 -- so much time has passed since then, by what the clock gives now; it isn't known where it couldn't be read
-abbrev pub HasBeen : {M : Type 0} → M → Option Instant → Option Duration → M → Type 0
+abbrev pub HasBeen : {S : Type 0} → S → Option Instant → Option Duration → S → Type 0
 HasBeen before (Some since) passed after = WasSince before since passed after
 HasBeen before None passed after = (passed ≡ None) × (after ≡ before)
 
@@ -71,24 +81,23 @@ abbrev pub is_past : Option Duration → ℕ → Bool
 is_past (Some passed) limit = nat_le limit (as_nanos passed)
 is_past None limit = true
 
--- What comes of a deed for the machine's wait. One of so many seconds begins at the moment that its clock gives. Whether it is over is by what the clock
--- gives then. Nothing else changes it.
-abbrev pub TimesOf : {M : Type 0} → M → Waiting → Deed → M → Waiting → Type 0
-TimesOf {M = M} before wait (awaits seconds) after wait2 =
-    ((middle : M) × WasNow before wait2.since middle) × (wait2.limit ≡ seconds * 1_000_000_000)
-TimesOf before wait (past answer) after wait2 =
-    ((passed : Option Duration) × (HasBeen before wait.since passed after × (answer ≡ is_past passed wait.limit))) × (wait2 ≡ wait)
-TimesOf before wait (read path text) after wait2 = wait2 ≡ wait
-TimesOf before wait (unread path why) after wait2 = wait2 ≡ wait
-TimesOf before wait (made path) after wait2 = wait2 ≡ wait
-TimesOf before wait (unmade path why) after wait2 = wait2 ≡ wait
-TimesOf before wait (rested milliseconds) after wait2 = wait2 ≡ wait
-TimesOf before wait (said path word) after wait2 = wait2 ≡ wait
-TimesOf before wait (asked path word answer) after wait2 = wait2 ≡ wait
-TimesOf before wait (unsaid path word) after wait2 = wait2 ≡ wait
+-- What is asked of the system for a deed, and what comes of it for the machine's wait. The text of a file is what the system answered of it, and so is why there
+-- is none. A wait of so many seconds begins at the moment that its clock gives, and whether it is over is by what the clock gives then. Nothing else changes the
+-- wait. Where a word is said the system is asked for nothing.
+abbrev pub AsksOf : {S : Type 0} → S → Waiting → Deed → S → Waiting → Type 0
+AsksOf system wait (awaits seconds) system2 wait2 = WasNow system wait2.since system2 × (wait2.limit ≡ seconds * 1_000_000_000)
+AsksOf system wait (past answer) system2 wait2 =
+    ((passed : Option Duration) × (HasBeen system wait.since passed system2 × (answer ≡ is_past passed wait.limit))) × (wait2 ≡ wait)
+AsksOf system wait (read path text) system2 wait2 = (WasDone system (read path text) system2 × WasRead path (Ok text)) × (wait2 ≡ wait)
+AsksOf system wait (unread path why) system2 wait2 = (WasDone system (unread path why) system2 × IsOfReading path why) × (wait2 ≡ wait)
+AsksOf system wait (made path) system2 wait2 = WasDone system (made path) system2 × (wait2 ≡ wait)
+AsksOf system wait (unmade path why) system2 wait2 = WasDone system (unmade path why) system2 × (wait2 ≡ wait)
+AsksOf system wait (rested milliseconds) system2 wait2 = WasDone system (rested milliseconds) system2 × (wait2 ≡ wait)
+AsksOf system wait (said path word) system2 wait2 = (system2 ≡ system) × (wait2 ≡ wait)
+AsksOf system wait (asked path word answer) system2 wait2 = (system2 ≡ system) × (wait2 ≡ wait)
+AsksOf system wait (unsaid path word) system2 wait2 = (system2 ≡ system) × (wait2 ≡ wait)
 
--- what a deed is to this machine, by what makes its lines, and by its wait, too
-pub record MachineDoes {M L : Type 0} (before : M) (lines : L) (wait : Waiting) (deed : Deed) (after : M) (lines2 : L) (wait2 : Waiting) : Type 0 where
-  pub was : WasDone before deed after
+-- what a deed is to this machine, by all that it has: its system, what makes its lines, and its wait
+pub record MachineDoes {S L : Type 0} (system : S) (lines : L) (wait : Waiting) (deed : Deed) (system2 : S) (lines2 : L) (wait2 : Waiting) : Type 0 where
+  pub asks : AsksOf system wait deed system2 wait2
   pub comes : ComesOf lines deed lines2
-  pub times : TimesOf before wait deed after wait2

@@ -11,9 +11,9 @@ ghost use Rattle.box_words.specs.Deeds.{IsCutShort, IsNotSynced, IsSyncedAt, IsU
 ghost use Rattle.box_words.specs.Deeds.{Lists, Reports, asked as deed_asked, next_of, page_lines, text_of};
 ghost use Rattle.box_words.specs.Faults.{fault_text};
 ghost use Rattle.box_words.specs.Memory.{LacksText};
-ghost use Rattle.outlets.specs.Outputs.{IsFlushed};
+ghost use Rattle.outlets.specs.Outputs.{IsFlushed, WasPut};
+ghost use Rattle.outlets.specs.Written.{IsWrittenTo};
 ghost use Rattle.box_words.specs.Said.{said_status};
-ghost use Rattle.report_texts.specs.Refusals.{HasRefused};
 
 use crate::refusals::BoxFault;
 use crate::saying::{Line, line_to};
@@ -117,9 +117,7 @@ fn report_text(alloc: Global, form: Form, report: &Report) -> Result<Vec<u8>, No
 
 /// Writes a report in a form.
 fn write_report<O: Write>(output: &mut O, form: Form, report: &Report) -> io::Result<()>
-    ensures written { OnOk result (Appends (O.contents output.old) (O.contents output.new)
-        (text_of form report.now)) }
-    ensures refused { OnErr result (HasRefused output.new) }
+    ensures { IsWrittenTo O.contents output.old (text_of form report.now) result output.new }
 {
     match form {
         Form::Plain => write_people(output, report),
@@ -256,8 +254,8 @@ pub fn pairs<S: Site, O: Write, E: Tells>(
     errors: &mut E,
 ) -> u8
     ensures status { (result ≡ 0) ⊎ (result ≡ 1) }
-    ensures listed { result ≡ 0 → HasListed S.does settings.now id filter.now
-        (O.contents output.old) (O.contents output.new) site.old site.new }
+    ensures listed { result ≡ 0 → HasListed S.does O.contents settings.now id filter.now
+        output.old output.new site.old site.new }
     ensures flushed { result ≡ 0 → IsFlushed output.new }
     ensures quiet { result ≡ 0 → errors.new ≡ errors.old }
     ensures failed { result ≡ 1 → IsToldOf E.tells fault_text (λ fault. HasUnlisted S.does
@@ -278,8 +276,8 @@ fn listed<S: Site, O: Write>(
     filter: &Filter,
     output: &mut O,
 ) -> Result<(), BoxFault>
-    ensures listed { OnOk result (HasListed S.does settings.now id filter.now
-        (O.contents output.old) (O.contents output.new) site.old site.new) }
+    ensures listed { OnOk result (HasListed S.does O.contents settings.now id filter.now
+        output.old output.new site.old site.new) }
     ensures flushed { OnOk result (IsFlushed output.new) }
     ensures failed { IfErr result (λ fault. HasUnlisted S.does O.contents settings.now id
         filter.now fault output.old output.new site.old site.new) }
@@ -299,8 +297,8 @@ fn listed_at<S: Site, O: Write>(
     output: &mut O,
 ) -> Result<(), BoxFault>
     requires beside { IsBeside (string_bytes line.now.boot_file) line.now.path }
-    ensures listed { OnOk result (HasPages S.does line.now.path None filter.now
-        (O.contents output.old) (O.contents output.new) site.old site.new) }
+    ensures listed { OnOk result (HasPages S.does O.contents line.now.path None filter.now
+        output.old output.new site.old site.new) }
     ensures broken { IfErr result (λ fault. IsBroken S.does O.contents filter.now output.old
         output.new line.now.path fault site.old site.new) }
 {
@@ -324,8 +322,8 @@ fn written_page<S: Site, O: Write>(
     output: &mut O,
 ) -> Result<Option<Key>, BoxFault>
     requires beside { IsBeside (string_bytes line.now.boot_file) line.now.path }
-    ensures page { IfOk result (λ next. HasPage S.does line.now.path behind next filter.now
-        (O.contents output.old) (O.contents output.new) site.old site.new) }
+    ensures page { IfOk result (λ next. HasPage S.does O.contents line.now.path behind next
+        filter.now output.old output.new site.old site.new) }
     ensures failed { IfErr result (λ fault. IsUnpaged S.does O.contents filter.now behind
         output.old output.new line.now.path fault site.old site.new) }
 {
@@ -341,6 +339,8 @@ fn print_page<O: Write>(
     filter: &Filter,
     output: &mut O,
 ) -> Result<(), BoxFault>
+    ensures put { OnOk result
+        (WasPut output.old (page_lines filter.now page.now) (Ok tt) output.new) }
     ensures written { OnOk result (Appends (O.contents output.old) (O.contents output.new)
         (page_lines filter.now page.now)) }
     ensures cut { IfErr result (λ fault. IsCutShort O.contents (page_lines filter.now page.now)

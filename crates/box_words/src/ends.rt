@@ -4,7 +4,7 @@ ghost use Rattle.std.specs.Prelude.{◌≡◌, ◌∷◌, [], OnErr, Some};
 ghost use Rattle.box_words.specs.Ends.{AsksSystem, IsAsked, IsAt, IsFirstRefused, own_end, own_ends, refused_text};
 ghost use Rattle.outlets.specs.Showing.{HasRefused};
 
-use crate::machine::Machine;
+use crate::machine::System;
 use sockets::{End, Ends, Ports, Way, Ways};
 use std::fmt::{self, Formatter};
 use std::net::{Ipv4Addr, Net, SocketAddr, SocketAddrV4};
@@ -22,8 +22,8 @@ pub trait Binder {
         ensures { answers self.old end result self.new };
 }
 
-/// This machine's system, of whose answers nothing is known but that they came of the call.
-impl<R: Net> Binder for Machine<'_, R> {
+/// The system, of whose answers nothing is known but that they came of the call.
+impl<R: Net> Binder for System<'_, R> {
     ghost answers = { AsksSystem };
 
     fn is_refused(&mut self, end: End) -> bool {

@@ -10,7 +10,7 @@ mod sites;
 
 pub use asking::{Form, await_synced, pairs, status};
 pub use ends::{Binder, Refused, refused_end};
-pub use machine::Machine;
+pub use machine::System;
 pub use refusals::{BoxFault, Explained};
 pub use saying::{peer_off, side, stop};
-pub use sites::Site;
+pub use sites::{Machine, Site};

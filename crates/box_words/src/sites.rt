@@ -1,18 +1,23 @@
 //! Where an operator's commands work.
-ghost use Rattle.std.specs.Prelude.{◌≡◌, ◌≤◌, IfErr, IfOk, OnErr, OnOk, length, string_bytes, take};
+ghost use Rattle.std.specs.Duration.{as_nanos};
+ghost use Rattle.std.specs.Prelude.{◌≡◌, ◌≤◌, ◌*◌, IfErr, IfOk, OnErr, OnOk, length, string_bytes, take};
 ghost use Rattle.control.specs.Answers.{answer_of};
 ghost use Rattle.control.specs.Words.{word_of};
 ghost use Rattle.faults.specs.Faults.{IsUnread, status_of};
 ghost use Rattle.box_words.specs.Deeds.{Deed, asked, awaits, made, past, read, rested, said, unmade, unread, unsaid};
-ghost use Rattle.box_words.specs.Machines.{MachineDoes, waiting};
+ghost use Rattle.box_words.specs.Machines.{HasBeen, IsUntouched, MachineDoes, is_past, waiting};
 
-use crate::machine::{Machine, PAUSE};
+use crate::machine::System;
 use boot_file::{Blocks, FileFault};
 use control::{ControlPath, NoSocket};
 use faults::Fault;
 use std::fs::Files;
 use std::net::Net;
 use std::rt::Clock;
+use std::time::{Duration, Instant};
+
+/// How long it is rested until a box is asked again, in milliseconds.
+const PAUSE: u64 = 100;
 
 /// Where an operator's commands work: files are read and made there, boxes are spoken to, and it is waited.
 pub trait Site {
@@ -62,40 +67,97 @@ pub trait Site {
         ensures { does self.old (rested 100) self.new };
 }
 
-/// This machine: each deed is one call of it.
+/// This machine: its system is asked for files, and to wait; boxes are spoken to at their control sockets. Who has it can ask
+/// it for the deeds below alone: the system itself is at hand in `machine`, and nowhere else.
+#[derive(Drop)]
+pub struct Machine<'a, R> {
+    system: System<'a, R>,
+    lines: control::Machine<'a, R>,
+    /// Since when it is waited, as far as the clock could be read, and for how long.
+    since: Option<Instant>,
+    limit: Duration,
+}
+
+impl<'a, R> Machine<'a, R> {
+    /// It was asked for nothing yet.
+    #[tactic(auto, unfolding(crate::specs::Machines::IsUntouched))]
+    pub fn new(rt: &'a R) -> Machine<'a, R>
+        ensures { IsUntouched result }
+    {
+        Machine {
+            system: System::new(rt),
+            lines: control::Machine::new(rt),
+            since: None,
+            limit: Duration::ZERO,
+        }
+    }
+}
+
+/// Each deed is one call of its system's, or one line to a box.
 impl<R: Files + Net + Clock + AllocGlobal> Site for Machine<'_, R>
 where
     R::File: Blocks,
 {
     ghost does = { λ before deed after.
-        MachineDoes before before.lines (waiting before.since before.limit) deed
-        after after.lines (waiting after.since after.limit) };
+        MachineDoes before.system before.lines (waiting before.since before.limit) deed
+        after.system after.lines (waiting after.since after.limit) };
 
     fn text(&mut self, path: &str) -> Result<String, Fault> {
-        self.told_to_read(path)
+        self.system.told_to_read(path)
     }
 
     fn make(&mut self, path: &str) -> Result<(), FileFault> {
-        self.told_to_make(path)
+        self.system.told_to_make(path)
     }
 
     fn say(&mut self, path: &ControlPath, word: &[u8]) -> Result<(), NoSocket> {
-        self.told_to_say(path, word)
+        control::say(&mut self.lines, path, word)
     }
 
     fn ask(&mut self, path: &ControlPath, word: &[u8], room: &mut [u8]) -> Result<usize, NoSocket> {
-        self.told_to_ask(path, word, room)
+        control::ask(&mut self.lines, path, word, room)
     }
 
     fn begin_wait(&mut self, seconds: u32) {
-        self.told_to_await(seconds);
+        self.since = self.system.asked_now();
+        self.limit = limit_of(seconds);
     }
 
     fn has_passed(&mut self) -> bool {
-        self.asked_whether_past()
+        let passed = passed_since(&mut self.system, self.since);
+        is_past(passed, self.limit)
     }
 
     fn rest(&mut self) {
-        self.told_to_rest(PAUSE);
+        self.system.told_to_rest(PAUSE);
+    }
+}
+
+/// How long a box is waited for.
+fn limit_of(seconds: u32) -> Duration
+    ensures { as_nanos result ≡ seconds * 1_000_000_000 }
+{
+    Duration::from_secs(u64::from(seconds))
+}
+
+/// How much time has passed since a moment, as far as the system's clock can be read. Where it couldn't be then, it isn't
+/// asked.
+fn passed_since<R: Clock>(system: &mut System<'_, R>, since: Option<Instant>) -> Option<Duration>
+    ensures { HasBeen system.old since result system.new }
+{
+    match since {
+        Some(since) => system.asked_since(since),
+        None => None,
+    }
+}
+
+/// Whether so much time has passed, where that is known; else it counts as passed: nobody waits for a clock that can't be
+/// read.
+fn is_past(passed: Option<Duration>, limit: Duration) -> bool
+    ensures { result ≡ is_past passed (as_nanos limit) }
+{
+    match passed {
+        Some(passed) => limit.as_nanos() <= passed.as_nanos(),
+        None => true,
     }
 }

@@ -1,5 +1,5 @@
 -- What is read of a boot file, and of an interface.
-use Rattle.std.proofs.Common.{◌≡◌, ◌∙◌, ℕ, List, length, take, Option, Some, None, Result, IfSome, inl, inr, sym, ap}
+use Rattle.std.proofs.Common.{◌≡◌, ◌≢◌, ◌∙◌, ℕ, List, length, take, Option, Some, None, Result, IfSome, inl, inr, refl, sym, ap}
 use Rattle.std.specs.Io.KnownBytes.{Consumes}
 use Rattle.std.specs.declared.io.ErrorKind.{ErrorKind}
 use Rattle.std.proofs.lemmas.List.{take_at}
@@ -14,13 +14,14 @@ first_read None new room h long = tt
 first_read (Some xs) None room h long = absurd h
 first_read (Some xs) (Some ys) room h long = sym (ap (take 32) h ∙ take_at room ys 32 long)
 
--- no MTU, where none was read
-pub mtu_untold : (answers : Result (List ℕ) ErrorKind → Type 0) (path : List ℕ) (fault : Fault) → TellsUnread answers path fault → IsMtuRead answers None
-mtu_untold answers path (faults.File fault) told = inr (told.0, told.1.0)
-mtu_untold answers path faults.NotText told = inl (told.0, (told.1.0, inr told.1.1))
-mtu_untold answers path faults.NoMemory told = inr told
-mtu_untold answers path faults.Words told = absurd told
-mtu_untold answers path (faults.Setting fault) told = absurd told
-mtu_untold answers path (faults.BadLine number) told = absurd told
-mtu_untold answers path faults.NotWritten told = absurd told
-mtu_untold answers path (faults.NoSocket port) told = absurd told
+-- no MTU, where none was read, and memory wasn't refused
+pub mtu_untold : (answers : Result (List ℕ) ErrorKind → Type 0) (path : List ℕ) (fault : Fault) → fault ≢ faults.NoMemory → TellsUnread answers path fault
+    → IsMtuRead answers None
+mtu_untold answers path (faults.File fault) had told = inr (told.0, (told.1.0, told.1.1.0))
+mtu_untold answers path faults.NotText had told = inl (told.0, (told.1.0, inr told.1.1))
+mtu_untold answers path faults.NoMemory had told = absurd (had refl)
+mtu_untold answers path faults.Words had told = absurd told
+mtu_untold answers path (faults.Setting fault) had told = absurd told
+mtu_untold answers path (faults.BadLine number) had told = absurd told
+mtu_untold answers path faults.NotWritten had told = absurd told
+mtu_untold answers path (faults.NoSocket port) had told = absurd told

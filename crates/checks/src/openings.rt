@@ -2,7 +2,7 @@
 ghost use Rattle.std.specs.Prelude.{◌≡◌, ◌≤◌, length};
 ghost use Rattle.boot_store.specs.BootFile.{slot_number, greater, number_of};
 ghost use Rattle.checks.specs.BootFiles.{found_in};
-ghost use Rattle.checks.specs.Openings.{IsSeenIn, is_used};
+ghost use Rattle.checks.specs.Openings.{IsSeenIn, WasLetGo, is_used};
 
 use crate::Seen;
 use boot_file::Lockable;
@@ -78,7 +78,7 @@ impl<F: Read + OpenFile + Lockable> Opening for F {
 
 /// Looks into a boot file.
 pub(crate) fn seen_in<F: Opening>(file: &mut F) -> Seen
-    ensures { IsSeenIn F.begins F.lets F.locks file.old result }
+    ensures { IsSeenIn F.begins F.lets F.locks file.old result file.new }
 {
     let number = found_in(file.first());
     let mode = file.mode();
@@ -89,6 +89,12 @@ pub(crate) fn seen_in<F: Opening>(file: &mut F) -> Seen
         is_used,
     }
 }
+
+/// Lets a boot file go, and its lock. Of what it is nothing is known here, so nothing else can be done with it.
+#[tactic(auto, unfolding(crate::specs::Openings::WasLetGo))]
+pub(crate) fn let_go<F: Drop>(_file: F)
+    ensures { WasLetGo _file }
+{}
 
 /// The number in the first 32 bytes of a boot file; none where they couldn't be read.
 fn found_in(first: io::Result<[u8; 32]>) -> Option<u64>

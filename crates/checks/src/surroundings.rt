@@ -5,7 +5,7 @@ ghost use Rattle.checks.specs.Openings.{IsMtuRead, IsUnmeasured, IsMtuText, IsSe
 
 use crate::machine::ThisMachine;
 use crate::memory::{file_text, mtu_path};
-use crate::openings::{Opening, seen_in};
+use crate::openings::{Opening, let_go, seen_in};
 use boot_file::Lockable;
 use faults::{Fault, Reads};
 use std::alloc::{AllocError, Global};
@@ -94,7 +94,11 @@ fn found_by<F: Opening + Drop>(opened: io::Result<Option<F>>) -> Found
     match opened {
         Err(_) => Found::Nothing,
         Ok(None) => Found::NoFile,
-        Ok(Some(mut file)) => Found::File(seen_in(&mut file)),
+        Ok(Some(mut file)) => {
+            let seen = seen_in(&mut file);
+            let_go(file);
+            Found::File(seen)
+        }
     }
 }
 

@@ -64,24 +64,33 @@ if_err (Ok x) a f = tt
 if_err (Err e) a f = f e a
 
 -- of a job that was had, who hears of its events heard of the script's
-pub overheard_of : {C E O : Type 0} (is_watched : Bool) (reads : Reads C) (tells : Telling E) (text script : List ℕ) (job : Job) (clock : C) (output : O) (times : ℕ)
-    (before after : E) → IsJobOf text script job → OverhearsSome is_watched reads tells output (founding job.settings) job.events.items clock times before after
-    → Overhears is_watched reads tells clock text script output times before after
-overheard_of is_watched reads tells text script job clock output times before after held h = (
-  λ watched. record { last = (h.0 watched).last; told = inr (job, (held, (h.0 watched).told)); is_last = (h.0 watched).is_last },
+pub overheard_of : {C E O : Type 0} (is_watched : Bool) (reads : Reads C) (tells : Telling E) (text script : List ℕ) (job : Job) (clock clock2 : C) (output : O)
+    (times : ℕ) (before after : E) → IsJobOf text script job
+    → OverhearsSome is_watched reads tells output (founding job.settings) job.events.items clock clock2 times before after
+    → Overhears is_watched reads tells clock clock2 text script output times before after
+overheard_of is_watched reads tells text script job clock clock2 output times before after held h = (
+  λ watched. record {
+    last = (h.0 watched).last;
+    told = inr (job, (held, (h.0 watched).told));
+    is_last = (h.0 watched).is_last;
+    is_clock = (h.0 watched).is_clock;
+  },
   h.1,
 )
 
 -- nothing was heard yet
 pub unheard : {C E O : Type 0} (is_watched : Bool) (reads : Reads C) (tells : Telling E) (clock : C) (text script : List ℕ) (output : O) (before : E)
-    → Overhears is_watched reads tells clock text script output 0 before before
-unheard is_watched reads tells clock text script output before =
-    (λ watched. record { last = telling clock 200 false before; told = inl (refl, refl); is_last = refl }, λ unwatched. refl)
+    → Overhears is_watched reads tells clock clock text script output 0 before before
+unheard is_watched reads tells clock text script output before = (
+  λ watched. record { last = telling clock 200 false before; told = inl (refl, refl); is_last = refl; is_clock = refl },
+  λ unwatched. (refl, refl),
+)
 
-watched_of : {C E O : Type 0} (is_watched : Bool) (reads : Reads C) (tells : Telling E) (text script : List ℕ) (job : Job) (clock : C) (output : O) (before after : E)
-    → IsJobOf text script job → OverhearsAll is_watched reads tells output (founding job.settings) job.events.items clock before after
-    → Watches is_watched reads tells clock text script output before after
-watched_of is_watched reads tells text script job clock output before after held h = (
+watched_of : {C E O : Type 0} (is_watched : Bool) (reads : Reads C) (tells : Telling E) (text script : List ℕ) (job : Job) (clock clock2 : C) (output : O)
+    (before after : E) → IsJobOf text script job
+    → OverhearsAll is_watched reads tells output (founding job.settings) job.events.items clock clock2 before after
+    → Watches is_watched reads tells clock clock2 text script output before after
+watched_of is_watched reads tells text script job clock clock2 output before after held h = (
   λ watched. record {
     job = job;
     is = held;
@@ -89,17 +98,18 @@ watched_of is_watched reads tells text script job clock output before after held
       last = (h.1.1.0 watched).last;
       told = record { times = h.0; told = (h.1.1.0 watched).told; whole = h.1.0 };
       is_last = (h.1.1.0 watched).is_last;
+      is_clock = (h.1.1.0 watched).is_clock;
     };
   },
   h.1.1.1,
 )
 
 -- who watches a run that ended well heard of all of it, and was told no more
-pub heard_of : {C E O X : Type 0} (r : Result ℕ X) (is_watched : Bool) (reads : Reads C) (tells : Telling E) (text script : List ℕ) (job : Job) (clock : C)
+pub heard_of : {C E O X : Type 0} (r : Result ℕ X) (is_watched : Bool) (reads : Reads C) (tells : Telling E) (text script : List ℕ) (job : Job) (clock clock2 : C)
     (output : O) (before after last : E) (status : ℕ) → IsJobOf text script job
-    → OnOk r (OverhearsAll is_watched reads tells output (founding job.settings) job.events.items clock before after)
-    → r ≡ Ok status → last ≡ after → Watches is_watched reads tells clock text script output before last
-heard_of {E = E} {X = X} r is_watched reads tells text script job clock output before after last status held heard is same =
-    subst (λ (e : E). Watches is_watched reads tells clock text script output before e) (sym same)
-    (watched_of is_watched reads tells text script job clock output before after held
-    (subst (λ (x : Result ℕ X). OnOk x (OverhearsAll is_watched reads tells output (founding job.settings) job.events.items clock before after)) is heard))
+    → OnOk r (OverhearsAll is_watched reads tells output (founding job.settings) job.events.items clock clock2 before after)
+    → r ≡ Ok status → last ≡ after → Watches is_watched reads tells clock clock2 text script output before last
+heard_of {E = E} {X = X} r is_watched reads tells text script job clock clock2 output before after last status held heard is same =
+    subst (λ (e : E). Watches is_watched reads tells clock clock2 text script output before e) (sym same)
+    (watched_of is_watched reads tells text script job clock clock2 output before after held
+    (subst (λ (x : Result ℕ X). OnOk x (OverhearsAll is_watched reads tells output (founding job.settings) job.events.items clock clock2 before after)) is heard))

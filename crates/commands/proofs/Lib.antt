@@ -5,6 +5,7 @@ mod Telling
 mod Passing
 mod Taping
 mod Recording
+mod Ending
 mod Looking
 mod Hearing
 mod Listing

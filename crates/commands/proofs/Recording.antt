@@ -36,17 +36,17 @@ closed_of begins closes (Err error) host last ended unended = unended
 
 -- how a run of the job of two texts ended, how much was heard of it by then, and what took it down
 pub tapes_sim : {T O C E : Type 0} (r : Result ℕ Fault) (takes refuses : TakesOn T) (contents : O → Option (List ℕ)) (is_watched : Bool) (reads : Reads C)
-    (tells : Telling E) (clock : C) (text script : List ℕ) (job : Job) (first last : T) (output printed : O) (before after : E) → IsJobOf text script job
+    (tells : Telling E) (clock clock2 : C) (text script : List ℕ) (job : Job) (first last : T) (output printed : O) (before after : E) → IsJobOf text script job
     → first_bad_line script ≡ None → IfOk r (IsTapedRun takes contents job.settings job.events.items first last output printed)
-    → OnOk r (OverhearsAll is_watched reads tells output (founding job.settings) job.events.items clock before after) → IfErr r IsOfEvents
-    → IfErr r (EndsBehind (OverhearsSome is_watched reads tells output (founding job.settings) job.events.items clock)
+    → OnOk r (OverhearsAll is_watched reads tells output (founding job.settings) job.events.items clock clock2 before after) → IfErr r IsOfEvents
+    → IfErr r (EndsBehind (OverhearsSome is_watched reads tells output (founding job.settings) job.events.items clock clock2)
     (StopsTaped takes refuses contents job.settings job.events.items first last output printed) before after)
-    → (times : ℕ) × (Overhears is_watched reads tells clock text script output times before after
+    → (times : ℕ) × (Overhears is_watched reads tells clock clock2 text script output times before after
     × TapesSim takes refuses contents times text script r first last output printed)
-tapes_sim (Ok status) takes refuses contents is_watched reads tells clock text script job first last output printed before after held good taped heard events stopped = (
+tapes_sim (Ok status) takes refuses contents is_watched reads tells clock clock2 text script job first last output printed before after held good taped heard events stopped = (
   heard.0,
   (
-    overheard_of is_watched reads tells text script job clock output heard.0 before after held heard.1.1,
+    overheard_of is_watched reads tells text script job clock clock2 output heard.0 before after held heard.1.1,
     (
       record {
         run = record { job = job; is = held; good = good; run = taped.run; printed = taped.text };
@@ -57,10 +57,10 @@ tapes_sim (Ok status) takes refuses contents is_watched reads tells clock text s
     ),
   ),
 )
-tapes_sim (Err why) takes refuses contents is_watched reads tells clock text script job first last output printed before after held good taped heard events stopped = (
+tapes_sim (Err why) takes refuses contents is_watched reads tells clock clock2 text script job first last output printed before after held good taped heard events stopped = (
   stopped.0,
   (
-    overheard_of is_watched reads tells text script job clock output stopped.0 before after held stopped.1.0,
+    overheard_of is_watched reads tells text script job clock clock2 output stopped.0 before after held stopped.1.0,
     (events, record { job = job; is = held; good = good; stopped = stopped.1.1 }),
   ),
 )

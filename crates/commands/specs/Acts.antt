@@ -220,10 +220,10 @@ module _ {S H T O E : Type 0} (does : Does S) (takes refuses : TakesOn T) (begin
   IsUnbegunRun files why before after = AreNotHad does (string_bytes files.settings) (string_bytes files.script) why before.site after.site
       × IsUnprinted before after × IsUncaptured before after
 
-  -- just why one of the files wasn't had was told; or they were, and a fault ended their run
-  abbrev pub EndsSim : Telling E → Overhearing O E → RunWords → Scene S H O E → Scene S H O E → Type 0
-  EndsSim tells overhears files before after =
-      IsToldOf tells fault_text (λ why. IsUnbegunRun files why before after) before.errors after.errors
+  -- just why one of the files wasn't had was told, and the clock was asked for nothing; or they were, and a fault ended their run
+  abbrev pub EndsSim : Telling E → Type 0 → Overhearing O E → RunWords → Scene S H O E → Scene S H O E → Type 0
+  EndsSim tells idle overhears files before after =
+      (idle × IsToldOf tells fault_text (λ why. IsUnbegunRun files why before after) before.errors after.errors)
       ⊎ IsEndedSim tells overhears files before after
 
   -- the same through a passage, which is asked for nothing where one of the files wasn't had
@@ -245,6 +245,11 @@ abbrev pub IsSpared : {P : Type 0} → Task → P → P → Type 0
 IsSpared (task.Loop files) first last = Unit {0}
 IsSpared others first last = last ≡ first
 
+-- only `sim` asks a clock for the moment
+abbrev pub IsIdle : {C : Type 0} → Task → C → C → Type 0
+IsIdle (task.Sim files) clock clock2 = Unit {0}
+IsIdle others clock clock2 = clock2 ≡ clock
+
 -- What is done for a task that ends with this status. A status of 0 says of `init` that just the boot file that is named was made; of
 -- `stop`, `peer-off`, `side`, `status` and `pairs` that the settings that are named were read, and then just the box that is named was
 -- said just what the words say, and heard it, or took it, or was asked, and answered, and its answer was written. A status of 0 or 3 says
@@ -257,7 +262,8 @@ IsSpared others first last = last ≡ first
 -- `status --until synced` print nothing. What `status`, `pairs`, `sim`, `loop` and the version print at 0 is flushed last of all; the version ends with 1 only where
 -- its output refused it, or to be flushed.
 module _ {S H T P O E : Type 0} (does : Does S) (works : Works Work H) (takes refuses : TakesOn T) (begins : Begins H T) (closes : Closes H T)
-    (opens : Opens P) (denies : Refuses P) (passes : Passes P) (prints : O → Option (List ℕ)) (tells : Telling E) (hears : Hearing O E) (overhears : Overhearing O E) where
+    (opens : Opens P) (denies : Refuses P) (passes : Passes P) (prints : O → Option (List ℕ)) (tells : Telling E) (hears : Hearing O E) (overhears : Overhearing O E)
+    (idle : Type 0) where
   abbrev pub Acts : P → P → Task → ℕ → Scene S H O E → Scene S H O E → Type 0
   Acts first last (task.Init file) status before after = IsUnprinted before after
       × EndsSo tells (λ b a. does b (made (string_bytes file)) a) (HasUnmade does (string_bytes file)) status before after
@@ -270,7 +276,7 @@ module _ {S H T P O E : Type 0} (does : Does S) (works : Works Work H) (takes re
       × (words.until_synced ≡ false → status ≡ 0 → IsFlushed after.output)
       × EndsSo tells (IsAsked does words (prints before.output) (prints after.output)) (λ why. IsAskedInVain does prints words why before.output after.output) status before after
   Acts first last (task.Pairs words) status before after = (status ≡ 0 → IsFlushed after.output) × EndsSo tells
-      (HasListed does (string_bytes words.settings) words.id (filter_of words) (prints before.output) (prints after.output))
+      (HasListed does prints (string_bytes words.settings) words.id (filter_of words) before.output after.output)
       (λ why. HasUnlisted does prints (string_bytes words.settings) words.id (filter_of words) why before.output after.output) status before after
   Acts first last (task.Stop settings id) status before after = IsUnprinted before after
       × EndsSo tells (HasSaid does (string_bytes settings) id (Some said_stop)) (HasUnsaid does (string_bytes settings) id (Some said_stop))
@@ -283,7 +289,7 @@ module _ {S H T P O E : Type 0} (does : Does S) (works : Works Work H) (takes re
       (HasUnsaid does (string_bytes settings) id (Some (said_side side up))) status before after
   Acts first last (task.Sim files) status before after =
       ((status ≡ 0) ⊎ (status ≡ 3) → HasRunOf does takes begins closes prints hears files status before after)
-      × (status ≡ 1 → EndsSim does takes refuses begins closes prints tells overhears files before after)
+      × (status ≡ 1 → EndsSim does takes refuses begins closes prints tells idle overhears files before after)
   Acts first last (task.Loop files) status before after =
       Repeats does takes refuses begins closes prints tells opens denies passes first last files status before after
   Acts first last task.Version status before after = (after.site ≡ before.site) × IsUncaptured before after

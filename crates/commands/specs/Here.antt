@@ -1,5 +1,7 @@
 -- What comes of works on this machine.
 use Rattle.std.specs.Prelude.{◌≡◌, ◌⊎◌, ℕ, Bool, false, List, [], ◌∷◌, ◌++◌, Result, Ok, Err}
+use Rattle.std.specs.IoError.{error_kind}
+use Rattle.std.specs.declared.io.Error.{Error}
 use Rattle.std.specs.declared.io.ErrorKind.{ErrorKind}
 use Rattle.outlets.specs.Telling.{IsToldOf, Telling}
 use Rattle.checks.specs.Comparing.{HasCompared}
@@ -14,7 +16,9 @@ use Rattle.gate.specs.Orders.{IsBehind}
 use Rattle.gate.specs.Served.{HasServed}
 use Rattle.gate.specs.Sparing.{IsRefusal}
 use Rattle.gate.specs.declared.running.Start.{Start}
+use Rattle.simulation.specs.Captures.{IsHandedOn}
 use Rattle.simulation.specs.Clocks.{Moments, founding_moments}
+use Rattle.simulation.specs.declared.tapes.Capture.{Capture}
 use Rattle.commands.specs.Hosts.{Work, Works, Written, compared, looked, plan_in, scope_in, served, text_in}
 
 -- a list of lines, which is told one more
@@ -61,9 +65,20 @@ WasBegun before path capture after = Unit {0}
 unfoldable pub WasUnbegun : {C : Type 0} → C → List ℕ → ErrorKind → C → Type 0
 WasUnbegun before path cause after = Unit {0}
 
--- it was to be ended, and this was answered
-unfoldable pub WasEnded : {T : Type 0} → T → Result (Unit {0}) ErrorKind → Type 0
-WasEnded capture answer = Unit {0}
+-- one was let go: nothing more is written there
+unfoldable pub WasLetGo : {T : Type 0} → T → Type 0
+WasLetGo capture = Unit {0}
+
+-- it was ended with this answer, as `simulation` says it: its output was to hand on what it keeps, once; and then it was let go, as that left it
+pub record IsEndedBy {W : Type 0} (capture : Capture W) (answer : Result (Unit {0}) Error) : Type 0 where
+  pub last : Capture W
+  pub asked : IsHandedOn capture.output capture.is_refused answer last.output
+  pub is_let_go : WasLetGo last
+
+-- the same by what is known of the answer
+abbrev pub HasEnded : {W : Type 0} → Capture W → Result (Unit {0}) ErrorKind → Type 0
+HasEnded capture (Ok done) = IsEndedBy capture (Ok tt)
+HasEnded capture (Err cause) = (error : Error) × ((error_kind error ≡ cause) × IsEndedBy capture (Err error))
 
 -- how a capture is begun in the file at a path
 abbrev pub IsBegunAt : {C T : Type 0} → C → List ℕ → Result T ErrorKind → C → Type 0

@@ -61,61 +61,66 @@ pub record Hears {C E O : Type 0} (reads : Reads C) (tells : Tells E) (output : 
   pub read : reads before.clock moment after.clock
   pub says : IsSilent moment before after ⊎ Says tells moment taken all before after
 
--- who is told of a run of these events from a world heard so of all of them, while the output was this, by a clock that was this one when it began
-pub record HasHeard {C E O : Type 0} (reads : Reads C) (tells : Tells E) (output : O) (w : World) (events : List WorldEvent) (clock : C) (before after : E) : Type 0 where
+-- who is told of a run of these events from a world heard so of all of them, while the output was this, by a clock that was this one when it began, and
+-- was asked for nothing behind that
+pub record HasHeard {C E O : Type 0} (reads : Reads C) (tells : Tells E) (output : O) (w : World) (events : List WorldEvent) (clock clock2 : C) (before after : E) : Type 0 where
   pub last : Telling C E
   pub told : IsToldAll (Hears reads tells output) w events (telling clock 200 false before) last
   pub is_last : after ≡ last.errors
+  pub is_clock : clock2 ≡ last.clock
 
 -- the same of a script's events
-pub record HasHeardScript {C E O : Type 0} (reads : Reads C) (tells : Tells E) (text script : List ℕ) (clock : C) (output : O) (before after : E) : Type 0 where
+pub record HasHeardScript {C E O : Type 0} (reads : Reads C) (tells : Tells E) (text script : List ℕ) (clock clock2 : C) (output : O) (before after : E) : Type 0 where
   pub job : Job
   pub is : IsJobOf text script job
-  pub heard : HasHeard reads tells output (founding job.settings) job.events.items clock before after
+  pub heard : HasHeard reads tells output (founding job.settings) job.events.items clock clock2 before after
 
 -- what is told of the run of a script, by the texts of its settings and of the script, before anything was printed to an output
 abbrev pub Hearing : Type 0 → Type 0 → Type 1
 Hearing O E = List ℕ → List ℕ → O → E → E → Type 0
 
--- where a run is watched so much is heard of it; where it isn't, nothing is told
-abbrev pub IfWatched : {E : Type 0} → Bool → Type 0 → E → E → Type 0
-IfWatched is_watched Heard before after = (is_watched ≡ true → Heard) × (is_watched ≡ false → after ≡ before)
+-- where a run is watched so much is heard of it; where it isn't, nothing is told, and the clock is asked for nothing
+abbrev pub IfWatched : {C E : Type 0} → Bool → Type 0 → C → C → E → E → Type 0
+IfWatched is_watched Heard clock clock2 before after =
+    (is_watched ≡ true → Heard) × (is_watched ≡ false → (after ≡ before) × (clock2 ≡ clock))
 
-abbrev pub Watches : {C O E : Type 0} → Bool → Reads C → Tells E → C → Hearing O E
-Watches is_watched reads tells clock text script output before after =
-    IfWatched is_watched (HasHeardScript reads tells text script clock output before after) before after
+abbrev pub Watches : {C O E : Type 0} → Bool → Reads C → Tells E → C → C → Hearing O E
+Watches is_watched reads tells clock clock2 text script output before after =
+    IfWatched is_watched (HasHeardScript reads tells text script clock clock2 output before after) clock clock2 before after
 
 -- ---- of a run that a fault ends, by how often who watches was told by then
 
 -- who is told of a run of these events heard of it so often, while the output was this, by a clock that was this one when it began
-pub record HasOverheard {C E O : Type 0} (reads : Reads C) (tells : Tells E) (output : O) (w : World) (events : List WorldEvent) (clock : C) (times : ℕ) (before after : E) : Type 0 where
+pub record HasOverheard {C E O : Type 0} (reads : Reads C) (tells : Tells E) (output : O) (w : World) (events : List WorldEvent) (clock clock2 : C) (times : ℕ) (before after : E) : Type 0 where
   pub last : Telling C E
   pub told : IsTold (Hears reads tells output) w events times (telling clock 200 false before) last
   pub is_last : after ≡ last.errors
+  pub is_clock : clock2 ≡ last.clock
 
 -- the same of a script's events; or nothing was heard
-pub record HasOverheardScript {C E O : Type 0} (reads : Reads C) (tells : Tells E) (text script : List ℕ) (clock : C) (output : O) (times : ℕ) (before after : E) : Type 0 where
+pub record HasOverheardScript {C E O : Type 0} (reads : Reads C) (tells : Tells E) (text script : List ℕ) (clock clock2 : C) (output : O) (times : ℕ) (before after : E) : Type 0 where
   pub last : Telling C E
   pub told : IsToldScript (Hears reads tells output) text script times (telling clock 200 false before) last
   pub is_last : after ≡ last.errors
+  pub is_clock : clock2 ≡ last.clock
 
-abbrev pub OverhearsSome : {C E O : Type 0} → Bool → Reads C → Tells E → O → World → List WorldEvent → C → ℕ → E → E → Type 0
-OverhearsSome is_watched reads tells output w events clock times before after =
-    IfWatched is_watched (HasOverheard reads tells output w events clock times before after) before after
+abbrev pub OverhearsSome : {C E O : Type 0} → Bool → Reads C → Tells E → O → World → List WorldEvent → C → C → ℕ → E → E → Type 0
+OverhearsSome is_watched reads tells output w events clock clock2 times before after =
+    IfWatched is_watched (HasOverheard reads tells output w events clock clock2 times before after) clock clock2 before after
 
 -- of these events so much is heard to their end
-abbrev pub OverhearsAll : {C E O : Type 0} → Bool → Reads C → Tells E → O → World → List WorldEvent → C → E → E → Type 0
-OverhearsAll is_watched reads tells output w events clock before after =
-    (times : ℕ) × (IsWhole (length events) times × OverhearsSome is_watched reads tells output w events clock times before after)
+abbrev pub OverhearsAll : {C E O : Type 0} → Bool → Reads C → Tells E → O → World → List WorldEvent → C → C → E → E → Type 0
+OverhearsAll is_watched reads tells output w events clock clock2 before after =
+    (times : ℕ) × (IsWhole (length events) times × OverhearsSome is_watched reads tells output w events clock clock2 times before after)
 
 -- what is told of the run of a script that a fault ends, by the texts of its settings and of the script, before anything was printed to an output,
 -- and by how often who watches was told
 abbrev pub Overhearing : Type 0 → Type 0 → Type 1
 Overhearing O E = List ℕ → List ℕ → O → ℕ → E → E → Type 0
 
-abbrev pub Overhears : {C O E : Type 0} → Bool → Reads C → Tells E → C → Overhearing O E
-Overhears is_watched reads tells clock text script output times before after =
-    IfWatched is_watched (HasOverheardScript reads tells text script clock output times before after) before after
+abbrev pub Overhears : {C O E : Type 0} → Bool → Reads C → Tells E → C → C → Overhearing O E
+Overhears is_watched reads tells clock clock2 text script output times before after =
+    IfWatched is_watched (HasOverheardScript reads tells text script clock clock2 output times before after) clock clock2 before after
 
 -- so much was heard of a run, and by then a fault ended it so
 abbrev pub EndsBehind : {E : Type 0} → (ℕ → E → E → Type 0) → Ends → E → E → Fault → Type 0

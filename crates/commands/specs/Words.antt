@@ -5,7 +5,7 @@ use Rattle.command_line.specs.Tasks.{IsAnswer, Refuses}
 use Rattle.command_line.specs.declared.faults.LineFault.{LineFault}
 use Rattle.command_line.specs.declared.tasks.Task.{Task}
 use Rattle.outlets.specs.Telling.{Telling}
-use Rattle.commands.specs.Acts.{IsSpared, IsUncaptured, IsUnprinted}
+use Rattle.commands.specs.Acts.{IsIdle, IsSpared, IsUncaptured, IsUnprinted}
 use Rattle.commands.specs.Hosts.{Scene, scene}
 
 -- the words are refused, and not for want of memory
@@ -32,14 +32,14 @@ pub record IsRefusal {S H O E : Type 0} (tells : Telling E) (words : List (List 
 abbrev pub ActsBy : Type 0 → Type 0 → Type 0 → Type 0 → Type 0 → Type 1
 ActsBy S H P O E = P → P → Task → ℕ → Scene S H O E → Scene S H O E → Type 0
 
--- they ask for a task, which was done so, and only `loop` asked the passage for anything; or they are refused, and nothing did
-abbrev pub HasActed : {S H P O E : Type 0} → Telling E → ActsBy S H P O E → P → P → List (List ℕ) → ℕ → Scene S H O E → Scene S H O E → Type 0
-HasActed tells acts first last words status before after =
-    ((asked : Task) × (IsAnswer words asked × (IsSpared asked first last × acts first last asked status before after)))
-    ⊎ ((last ≡ first) × IsRefusal tells words status before after)
+-- they ask for a task, which was done so, and only `loop` asked the passage for anything, and only `sim` the clock; or they are refused, and nothing did
+abbrev pub HasActed : {S H P C O E : Type 0} → Telling E → ActsBy S H P O E → P → P → C → C → List (List ℕ) → ℕ → Scene S H O E → Scene S H O E → Type 0
+HasActed tells acts first last clock clock2 words status before after =
+    ((asked : Task) × (IsAnswer words asked × (IsSpared asked first last × (IsIdle asked clock clock2 × acts first last asked status before after))))
+    ⊎ ((last ≡ first) × ((clock2 ≡ clock) × IsRefusal tells words status before after))
 
 -- the same at some site, by some host and through some passage, each of them new, where who watches hears by some clock
-pub record HasActedSomewhere {S H P C O E : Type 0} (tells : Telling E) (is_new_site : S → Type 0) (is_new_host : H → Type 0) (is_new : P → Type 0) (acts : C → ActsBy S H P O E) (words : List (List ℕ)) (status : ℕ)
+pub record HasActedSomewhere {S H P C O E : Type 0} (tells : Telling E) (is_new_site : S → Type 0) (is_new_host : H → Type 0) (is_new : P → Type 0) (acts : C → C → ActsBy S H P O E) (words : List (List ℕ)) (status : ℕ)
     (output printed : O) (before after : E) : Type 0 where
   pub site : S
   pub left : S
@@ -51,4 +51,5 @@ pub record HasActedSomewhere {S H P C O E : Type 0} (tells : Telling E) (is_new_
   pub host_is : is_new_host host
   pub first_is : is_new first
   pub clock : C
-  pub acted : HasActed tells (acts clock) first last words status (scene site host output before) (scene left behind printed after)
+  pub clock2 : C
+  pub acted : HasActed tells (acts clock clock2) first last clock clock2 words status (scene site host output before) (scene left behind printed after)

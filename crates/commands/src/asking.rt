@@ -198,8 +198,8 @@ pub(crate) fn pairs_of<S: Site, O: Write, E: Tells>(
 ) -> u8
     ensures status { (result ≡ 0) ⊎ (result ≡ 1) }
     ensures listed { result ≡ 0
-        → HasListed S.does (string_bytes words.now.settings) words.now.id (filter_of words.now)
-        (O.contents output.old) (O.contents output.new) site.old site.new }
+        → HasListed S.does O.contents (string_bytes words.now.settings) words.now.id
+        (filter_of words.now) output.old output.new site.old site.new }
     ensures flushed { result ≡ 0 → IsFlushed output.new }
     ensures quiet { result ≡ 0 → errors.new ≡ errors.old }
     ensures failed { result ≡ 1 → IsToldOf E.tells fault_text (λ why. HasUnlisted S.does

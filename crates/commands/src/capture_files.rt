@@ -5,7 +5,7 @@ ghost use Rattle.faults.specs.Faults.{status_of};
 ghost use Rattle.faults.specs.Texts.{fault_text};
 ghost use Rattle.outlets.specs.Telling.{IsToldOf};
 ghost use Rattle.commands.specs.Captures.{IsOfCapture, IsOfEnd};
-ghost use Rattle.commands.specs.Here.{WasEnded};
+ghost use Rattle.commands.specs.Here.{HasEnded, WasLetGo};
 
 use faults::Fault;
 use outlets::Tells;
@@ -18,14 +18,21 @@ use std::io::{self, Write};
 /// # Errors
 ///
 /// Where that is refused, or something was refused before.
-#[tactic(auto, unfolding(crate::specs::Here::WasEnded))]
 pub(crate) fn end_of<W: Write + Drop>(mut capture: Capture<W>) -> io::Result<()>
     ensures refused { capture.is_refused ≡ true → IsErr result }
-    ensures ended { OnOk result (WasEnded capture (Ok tt)) }
-    ensures unended { IfErr result (λ error. WasEnded capture (Err (error_kind error))) }
+    ensures ended { OnOk result (HasEnded capture (Ok tt)) }
+    ensures unended { IfErr result (λ error. HasEnded capture (Err (error_kind error))) }
 {
-    capture.end()
+    let answer = capture.end();
+    let_go(capture);
+    answer
 }
+
+/// Lets a capture go: nothing more is written there. Of what it is nothing is known here, so nothing else can be done with it.
+#[tactic(auto, unfolding(crate::specs::Here::WasLetGo))]
+fn let_go<T: Drop>(_capture: T)
+    ensures { WasLetGo _capture }
+{}
 
 /// Tells why a capture couldn't be begun or written, and gives the exit status.
 pub(crate) fn unmade<E: Tells>(alloc: Global, error: &io::Error, path: &str, errors: &mut E) -> u8

@@ -4,7 +4,7 @@ ghost use Rattle.command_line.specs.Line.{AskVersion, MayAskVersion};
 ghost use Rattle.command_line.specs.Tasks.{FoundsAtZero};
 ghost use Rattle.commands.specs.Words.{AreRefused, HasActed, IsRefusalTold};
 ghost use Rattle.commands.specs.Asked.{format_of};
-ghost use Rattle.commands.specs.Acts.{Acts, IsSpared};
+ghost use Rattle.commands.specs.Acts.{Acts, IsIdle, IsSpared};
 ghost use Rattle.commands.specs.Ends.{AreDone, Ends};
 ghost use Rattle.commands.specs.Hosts.{scene, written};
 ghost use Rattle.commands.specs.Meters.{Overhears, Watches};
@@ -25,12 +25,12 @@ use std::io::Write;
 
 /// All that is done for the words at a site, by a host and through a passage, where who watches a script hears by a clock how
 /// far it is: the task of the words is done; or just why they ask for none is told.
-pub(crate) fn act_at<S: Site, H: Host, P: Channel, C: Clockwork + Drop, O: Write, E: Tells>(
+pub(crate) fn act_at<S: Site, H: Host, P: Channel, C: Clockwork, O: Write, E: Tells>(
     alloc: Global,
     site: &mut S,
     host: &mut H,
     passage: &mut P,
-    clock: C,
+    clock: &mut C,
     words: &[String],
     is_watched: bool,
     output: &mut O,
@@ -50,9 +50,10 @@ pub(crate) fn act_at<S: Site, H: Host, P: Channel, C: Clockwork + Drop, O: Write
     ensures most { result ≤ 3 }
     ensures acts { HasActed E.tells (Acts S.does H.works H.Record.takes H.Record.refuses
         H.begins H.ends P.opens P.refuses P.passes O.contents E.tells
-        (Watches is_watched C.reads E.tells clock)
-        (Overhears is_watched C.reads E.tells clock)) passage.old passage.new
-        (map string_bytes words.now) result (scene site.old host.old output.old errors.old)
+        (Watches is_watched C.reads E.tells clock.old clock.new)
+        (Overhears is_watched C.reads E.tells clock.old clock.new) (clock.new ≡ clock.old))
+        passage.old passage.new clock.old clock.new (map string_bytes words.now) result
+        (scene site.old host.old output.old errors.old)
         (scene site.new host.new output.new errors.new) }
 {
     match command(alloc, words) {
@@ -66,12 +67,12 @@ pub(crate) fn act_at<S: Site, H: Host, P: Channel, C: Clockwork + Drop, O: Write
 /// Does a task: files are read, boxes are spoken to, and boot files made, at a site; a host looks at settings and runs
 /// gateways; what a script of `loop` hands in goes through a passage; and who watches a script of `sim` hears by a clock how
 /// far it is.
-fn done<S: Site, H: Host, P: Channel, C: Clockwork + Drop, O: Write, E: Tells>(
+fn done<S: Site, H: Host, P: Channel, C: Clockwork, O: Write, E: Tells>(
     alloc: Global,
     site: &mut S,
     host: &mut H,
     passage: &mut P,
-    clock: C,
+    clock: &mut C,
     task: &Task,
     is_watched: bool,
     output: &mut O,
@@ -84,10 +85,12 @@ fn done<S: Site, H: Host, P: Channel, C: Clockwork + Drop, O: Write, E: Tells>(
         task.now result }
     ensures quiet { is_watched ≡ false → (result ≡ 0) ⊎ (result ≡ 3) → errors.new ≡ errors.old }
     ensures spared { IsSpared task.now passage.old passage.new }
+    ensures idle { IsIdle task.now clock.old clock.new }
     ensures acts { Acts S.does H.works H.Record.takes H.Record.refuses H.begins H.ends
         P.opens P.refuses P.passes O.contents E.tells
-        (Watches is_watched C.reads E.tells clock)
-        (Overhears is_watched C.reads E.tells clock) passage.old passage.new task.now result
+        (Watches is_watched C.reads E.tells clock.old clock.new)
+        (Overhears is_watched C.reads E.tells clock.old clock.new) (clock.new ≡ clock.old)
+        passage.old passage.new task.now result
         (scene site.old host.old output.old errors.old)
         (scene site.new host.new output.new errors.new) }
 {

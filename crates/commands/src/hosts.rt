@@ -5,7 +5,7 @@ ghost use Rattle.nat_types.specs.declared.gateways.GatewayId.TheVariants.{Zero};
 ghost use Rattle.box_words.specs.Machines.{IsUntouched};
 ghost use Rattle.checks.specs.Counts.{AreAlike, IsCleanText, IsGoodText};
 ghost use Rattle.gate.specs.Served.{HasServed};
-ghost use Rattle.commands.specs.Here.{IsBegunAt, IsFresh, WasEnded, WorksHere};
+ghost use Rattle.commands.specs.Here.{HasEnded, IsBegunAt, IsFresh, WorksHere};
 ghost use Rattle.commands.specs.Hosts.{HasWorked, compared, looked, plan_in, scope_in, served, text_in, written};
 
 use crate::capture_files::end_of;
@@ -97,9 +97,9 @@ pub(crate) trait Host {
 
 /// This machine as a host: who begins captures here, what is looked at around it, who runs gateways, and where memory is asked
 /// for. The first three are asked by what they were before and are then: which capture was begun, or couldn't be, what was
-/// looked at and found (as `checks` has it), and which start was run have names (`WasBegun`, `WasUnbegun`, `WasServed`), and so
-/// has that a capture was ended (`WasEnded`). All else that it has stays as it is. Beyond that nothing is known of what the
-/// system answers, nor of what a file holds.
+/// looked at and found (as `checks` has it), and which start was run have names (`WasBegun`, `WasUnbegun`, `WasServed`). How a
+/// capture was ended is said of the capture itself (`HasEnded`). All else that it has stays as it is. Beyond that nothing is
+/// known of what the system answers, nor of what a file holds.
 #[derive(Drop)]
 pub(crate) struct ThisHost<'a, R, G> {
     captures: SystemCaptures<'a, R>,
@@ -140,7 +140,7 @@ where
         × IsBegunAt host.captures path answer host2.captures
         × IfOk answer (λ tape. IsFresh tape.clocks tape.is_refused) };
 
-    ghost ends = { λ _ tape answer. WasEnded tape answer
+    ghost ends = { λ _ tape answer. HasEnded tape answer
         × (tape.is_refused ≡ true → IsErr answer) };
 
     fn begin(&mut self, path: &str, _job: &Job) -> io::Result<Capture<BufWriter<R::File>>> {

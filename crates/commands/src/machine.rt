@@ -63,7 +63,7 @@ where
     ensures quiet { is_watched ≡ false → (result ≡ 0) ⊎ (result ≡ 3) → errors.new ≡ errors.old }
     ensures most { result ≤ 3 }
     ensures acts { HasActedSomewhere E.tells IsUntouched IsUntouched IsUnasked
-        (λ clock. Acts ⟦<Machine<'static, R> as Site>⟧.does
+        (λ clock clock2. Acts ⟦<Machine<'static, R> as Site>⟧.does
         ⟦<ThisHost<'static, R, SystemServes<'static, R>> as Host>⟧.works
         ⟦<Capture<BufWriter<R::File>> as Tape>⟧.takes
         ⟦<Capture<BufWriter<R::File>> as Tape>⟧.refuses
@@ -71,20 +71,21 @@ where
         ⟦<ThisHost<'static, R, SystemServes<'static, R>> as Host>⟧.ends
         ⟦<Loopback<'r, R> as Channel>⟧.opens ⟦<Loopback<'r, R> as Channel>⟧.refuses
         ⟦<Loopback<'r, R> as Channel>⟧.passes O.contents E.tells
-        (Watches is_watched ⟦<Stopwatch<'static, R> as Clockwork>⟧.reads E.tells clock)
-        (Overhears is_watched ⟦<Stopwatch<'static, R> as Clockwork>⟧.reads E.tells clock))
+        (Watches is_watched ⟦<Stopwatch<'static, R> as Clockwork>⟧.reads E.tells clock clock2)
+        (Overhears is_watched ⟦<Stopwatch<'static, R> as Clockwork>⟧.reads E.tells clock
+        clock2) (clock2 ≡ clock))
         (map string_bytes words.now) result output.old output.new errors.old errors.new }
 {
     let mut site = Machine::new(rt);
     let mut host = ThisHost::new(rt);
     let mut passage = Loopback::new(rt);
-    let clock = Stopwatch::start(rt);
+    let mut clock = Stopwatch::start(rt);
     act_at(
         rt.alloc(),
         &mut site,
         &mut host,
         &mut passage,
-        clock,
+        &mut clock,
         words,
         is_watched,
         output,

@@ -16,7 +16,7 @@ const PATIENCE: u64 = 200;
 pub(crate) struct Meter<'a, C, E> {
     pub(crate) errors: &'a mut E,
     pub(crate) alloc: Global,
-    pub(crate) clock: C,
+    pub(crate) clock: &'a mut C,
     pub(crate) next: u64,
     pub(crate) is_refused: bool,
 }
@@ -25,10 +25,11 @@ impl<'a, C, E> Meter<'a, C, E> {
     ghost use Rattle.std.specs.Prelude.{◌≡◌, false};
 
     /// A run begins.
-    pub(crate) fn start(alloc: Global, clock: C, errors: &'a mut E) -> Meter<'a, C, E>
+    pub(crate) fn start(alloc: Global, clock: &'a mut C, errors: &'a mut E) -> Meter<'a, C, E>
         ensures same_reference { result.errors.ghost_name ≡ errors.entry.ghost_name }
+        ensures same_clock { result.clock.ghost_name ≡ clock.entry.ghost_name }
         ensures errors { result.errors.now ≡ errors.old }
-        ensures clock { result.clock ≡ clock }
+        ensures clock { result.clock.now ≡ clock.old }
         ensures next { result.next ≡ 200 }
         ensures is_refused { result.is_refused ≡ false }
     {
@@ -42,12 +43,13 @@ impl<'a, C, E> Meter<'a, C, E> {
     }
 }
 
-/// The run has ended: nothing more is said.
-impl<C: Drop, E> Drop for Meter<'_, C, E> {
+/// The run has ended: nothing more is said, and the clock is asked for nothing more.
+impl<C, E> Drop for Meter<'_, C, E> {
     ghost use Rattle.std.specs.Prelude.{◌≡◌};
 
     fn drop(self)
-        ensures { self.exit.0.now ≡ self.entry.errors.now }
+        ensures errors { self.exit.0.now ≡ self.entry.errors.now }
+        ensures clock { self.exit.1.1.0.now ≡ self.entry.clock.now }
     {
         let Meter {
             errors: _errors,
@@ -94,9 +96,10 @@ impl<C: Clockwork, E: Tells, O> Progress<O> for Meter<'_, C, E> {
     ghost use Rattle.commands.specs.Meters.{Hears, telling};
 
     ghost hears = { λ output old reached taken all new.
-        (new.errors.ghost_name ≡ old.errors.ghost_name) × Hears C.reads E.tells output
-        (telling old.clock old.next old.is_refused old.errors.now) reached taken all
-        (telling new.clock new.next new.is_refused new.errors.now) };
+        (new.errors.ghost_name ≡ old.errors.ghost_name)
+        × ((new.clock.ghost_name ≡ old.clock.ghost_name) × Hears C.reads E.tells output
+        (telling old.clock.now old.next old.is_refused old.errors.now) reached taken all
+        (telling new.clock.now new.next new.is_refused new.errors.now)) };
 
     #[tactic(auto, unfolding(crate::specs::Meters::WasReached))]
     fn reached(&mut self, _world: &World<'_>, _output: &O, taken: usize, all: usize) {

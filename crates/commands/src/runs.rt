@@ -36,11 +36,11 @@ use std::alloc::Global;
 use std::io::Write;
 
 /// Runs the script of one file with the settings of another, and says how far it is by a clock where somebody watches.
-pub(crate) fn sim<S: Site, H: Host, C: Clockwork + Drop, O: Write, E: Tells>(
+pub(crate) fn sim<S: Site, H: Host, C: Clockwork, O: Write, E: Tells>(
     alloc: Global,
     site: &mut S,
     host: &mut H,
-    clock: C,
+    clock: &mut C,
     files: &RunWords,
     is_watched: bool,
     output: &mut O,
@@ -48,11 +48,12 @@ pub(crate) fn sim<S: Site, H: Host, C: Clockwork + Drop, O: Write, E: Tells>(
 ) -> u8
     ensures status { (result ≡ 0) ⊎ ((result ≡ 1) ⊎ (result ≡ 3)) }
     ensures named { (result ≡ 0) ⊎ (result ≡ 3) → HasRunOf S.does H.Record.takes H.begins H.ends
-        O.contents (Watches is_watched C.reads E.tells clock) files.now result
+        O.contents (Watches is_watched C.reads E.tells clock.old clock.new) files.now result
         (scene site.old host.old output.old errors.old)
         (scene site.new host.new output.new errors.new) }
     ensures failed { result ≡ 1 → EndsSim S.does H.Record.takes H.Record.refuses
-        H.begins H.ends O.contents E.tells (Overhears is_watched C.reads E.tells clock) files.now
+        H.begins H.ends O.contents E.tells (clock.new ≡ clock.old)
+        (Overhears is_watched C.reads E.tells clock.old clock.new) files.now
         (scene site.old host.old output.old errors.old)
         (scene site.new host.new output.new errors.new) }
 {
@@ -74,9 +75,9 @@ pub(crate) fn sim<S: Site, H: Host, C: Clockwork + Drop, O: Write, E: Tells>(
 }
 
 /// Runs a script, and says how far it is by a clock where somebody watches.
-fn simulated<C: Clockwork + Drop, O: Write, E: Tells>(
+fn simulated<C: Clockwork, O: Write, E: Tells>(
     alloc: Global,
-    clock: C,
+    clock: &mut C,
     settings: &str,
     script: &str,
     is_watched: bool,
@@ -86,10 +87,11 @@ fn simulated<C: Clockwork + Drop, O: Write, E: Tells>(
     ensures status { (result ≡ 0) ⊎ ((result ≡ 1) ⊎ (result ≡ 3)) }
     ensures run { (result ≡ 0) ⊎ (result ≡ 3)
         → PutsScript O.contents settings.now script.now output.old output.new result }
-    ensures heard { (result ≡ 0) ⊎ (result ≡ 3) → Watches is_watched C.reads E.tells clock
-        settings.now script.now output.old errors.old errors.new }
+    ensures heard { (result ≡ 0) ⊎ (result ≡ 3) → Watches is_watched C.reads E.tells clock.old
+        clock.new settings.now script.now output.old errors.old errors.new }
     ensures failed { result ≡ 1 → IsToldBehind E.tells
-        (Overhears is_watched C.reads E.tells clock settings.now script.now output.old)
+        (Overhears is_watched C.reads E.tells clock.old clock.new settings.now script.now
+        output.old)
         (λ times. FailsSim O.contents times settings.now script.now output.old output.new)
         errors.old errors.new }
 {
@@ -103,9 +105,9 @@ fn simulated<C: Clockwork + Drop, O: Write, E: Tells>(
 }
 
 /// Runs a script, and says how far it is by a clock.
-fn watched<C: Clockwork + Drop, O: Write, E: Tells>(
+fn watched<C: Clockwork, O: Write, E: Tells>(
     alloc: Global,
-    clock: C,
+    clock: &mut C,
     settings: &str,
     script: &str,
     output: &mut O,
@@ -117,9 +119,10 @@ fn watched<C: Clockwork + Drop, O: Write, E: Tells>(
     ensures known { IfErr result (λ fault. status_of fault ≡ 1) }
     ensures told { IfErr result (TellsRun settings.now script.now) }
     ensures heard { OnOk result (HasHeardScript C.reads E.tells settings.now script.now
-        clock output.old errors.old errors.new) }
+        clock.old clock.new output.old errors.old errors.new) }
     ensures leaves { IfErr result
-        (EndsBehind (HasOverheardScript C.reads E.tells settings.now script.now clock output.old)
+        (EndsBehind (HasOverheardScript C.reads E.tells settings.now script.now clock.old
+        clock.new output.old)
         (Leaves O.contents settings.now script.now output.old output.new)
         errors.old errors.new) }
 {
@@ -141,24 +144,25 @@ fn metered<C: Clockwork, O: Write, E: Tells>(
     ensures known { IfErr result (λ fault. status_of fault ≡ 1) }
     ensures told { IfErr result (TellsRun settings.now script.now) }
     ensures same_reference { meter.new.errors.ghost_name ≡ meter.old.errors.ghost_name }
+    ensures same_clock { meter.new.clock.ghost_name ≡ meter.old.clock.ghost_name }
     ensures heard { OnOk result
         (WatchesScript (Hears C.reads E.tells output.old) settings.now script.now
-        (telling meter.old.clock meter.old.next meter.old.is_refused meter.old.errors.now)
-        (telling meter.new.clock meter.new.next meter.new.is_refused meter.new.errors.now)) }
+        (telling meter.old.clock.now meter.old.next meter.old.is_refused meter.old.errors.now)
+        (telling meter.new.clock.now meter.new.next meter.new.is_refused meter.new.errors.now)) }
     ensures leaves { IfErr result
         (OverhearsScript (Hears C.reads E.tells output.old) settings.now script.now
-        (telling meter.old.clock meter.old.next meter.old.is_refused meter.old.errors.now)
-        (telling meter.new.clock meter.new.next meter.new.is_refused meter.new.errors.now)
+        (telling meter.old.clock.now meter.old.next meter.old.is_refused meter.old.errors.now)
+        (telling meter.new.clock.now meter.new.next meter.new.is_refused meter.new.errors.now)
         (Leaves O.contents settings.now script.now output.old output.new)) }
 {
     simulate_watched(alloc, settings, script, meter, output)
 }
 
 /// Runs a script, with its capture in a file, which is begun once both texts are read.
-fn sim_captured<H: Host, C: Clockwork + Drop, O: Write, E: Tells>(
+fn sim_captured<H: Host, C: Clockwork, O: Write, E: Tells>(
     alloc: Global,
     host: &mut H,
-    clock: C,
+    clock: &mut C,
     settings: &str,
     script: &str,
     path: &str,
@@ -170,10 +174,11 @@ fn sim_captured<H: Host, C: Clockwork + Drop, O: Write, E: Tells>(
     ensures captured { (result ≡ 0) ⊎ (result ≡ 3) → IsCaptured H.Record.takes H.begins H.ends
         O.contents path.now settings.now script.now output.old output.new result
         host.old host.new }
-    ensures heard { (result ≡ 0) ⊎ (result ≡ 3) → Watches is_watched C.reads E.tells clock
-        settings.now script.now output.old errors.old errors.new }
+    ensures heard { (result ≡ 0) ⊎ (result ≡ 3) → Watches is_watched C.reads E.tells clock.old
+        clock.new settings.now script.now output.old errors.old errors.new }
     ensures failed { result ≡ 1 → IsToldBehind E.tells
-        (Overhears is_watched C.reads E.tells clock settings.now script.now output.old)
+        (Overhears is_watched C.reads E.tells clock.old clock.new settings.now script.now
+        output.old)
         (λ times why. LeavesCapture H.begins H.ends path.now
         (HoldNoJobYet times settings.now script.now) (HasJobYet times settings.now script.now)
         (λ run first last. TapesSim H.Record.takes H.Record.refuses O.contents times settings.now
@@ -194,9 +199,9 @@ fn sim_captured<H: Host, C: Clockwork + Drop, O: Write, E: Tells>(
 }
 
 /// Runs a job, has a tape take it down, and says how far it is by a clock where somebody watches.
-fn taped<C: Clockwork + Drop, T: Tape, O: Write, E: Tells>(
+fn taped<C: Clockwork, T: Tape, O: Write, E: Tells>(
     alloc: Global,
-    clock: C,
+    clock: &mut C,
     job: &Job,
     is_watched: bool,
     tape: &mut T,
@@ -209,10 +214,11 @@ fn taped<C: Clockwork + Drop, T: Tape, O: Write, E: Tells>(
     ensures known { IfErr result (λ fault. status_of fault ≡ 1) }
     ensures told { IfErr result IsOfEvents }
     ensures heard { OnOk result (OverhearsAll is_watched C.reads E.tells output.old
-        (founding job.now.settings) job.now.events.items clock errors.old errors.new) }
+        (founding job.now.settings) job.now.events.items clock.old clock.new
+        errors.old errors.new) }
     ensures stopped { IfErr result
         (EndsBehind (OverhearsSome is_watched C.reads E.tells output.old
-        (founding job.now.settings) job.now.events.items clock)
+        (founding job.now.settings) job.now.events.items clock.old clock.new)
         (StopsTaped T.takes T.refuses O.contents job.now.settings job.now.events.items
         tape.old tape.new output.old output.new) errors.old errors.new) }
 {
@@ -239,16 +245,17 @@ fn taped_metered<C: Clockwork, T: Tape, O: Write, E: Tells>(
     ensures known { IfErr result (λ fault. status_of fault ≡ 1) }
     ensures told { IfErr result IsOfEvents }
     ensures same_reference { meter.new.errors.ghost_name ≡ meter.old.errors.ghost_name }
+    ensures same_clock { meter.new.clock.ghost_name ≡ meter.old.clock.ghost_name }
     ensures heard { OnOk result
         (IsToldAll (Hears C.reads E.tells output.old) (founding job.now.settings)
         job.now.events.items
-        (telling meter.old.clock meter.old.next meter.old.is_refused meter.old.errors.now)
-        (telling meter.new.clock meter.new.next meter.new.is_refused meter.new.errors.now)) }
+        (telling meter.old.clock.now meter.old.next meter.old.is_refused meter.old.errors.now)
+        (telling meter.new.clock.now meter.new.next meter.new.is_refused meter.new.errors.now)) }
     ensures stopped { IfErr result
         (OverhearsBy (Hears C.reads E.tells output.old) (founding job.now.settings)
         job.now.events.items
-        (telling meter.old.clock meter.old.next meter.old.is_refused meter.old.errors.now)
-        (telling meter.new.clock meter.new.next meter.new.is_refused meter.new.errors.now)
+        (telling meter.old.clock.now meter.old.next meter.old.is_refused meter.old.errors.now)
+        (telling meter.new.clock.now meter.new.next meter.new.is_refused meter.new.errors.now)
         (StopsTaped T.takes T.refuses O.contents job.now.settings job.now.events.items
         tape.old tape.new output.old output.new)) }
 {

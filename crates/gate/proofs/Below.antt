@@ -255,6 +255,7 @@ runs_below f up does above says who rounds track until_eof g g2 t t2 r Holds hel
     watched = r.watched;
     unasked = r.unasked;
     until2 = r.until2;
+    put_down = r.put_down;
     told = r.told;
     untold = r.untold;
     last = below f r.last;

@@ -2,6 +2,7 @@ mod Asking
 mod Beginning
 mod Below
 mod Heard
+mod ReadText
 mod Recorded
 mod Refusing
 mod Serving

@@ -1,13 +1,16 @@
 -- What a log was handed of a start that is refused.
-use Rattle.std.proofs.Common.{◌≡◌, ◌⊎◌, inl, inr, refl, subst, sym, ◌∙◌, ℕ, List, Option, Some, None, IfSome, is_some, false, true≢false, Result, Ok, Err, OnOk}
+use Rattle.std.proofs.Common.{◌≡◌, ◌⊎◌, inl, inr, refl, subst, sym, ◌∙◌, ℕ, List, Option, Some, None, IfSome, is_some, false, true≢false, Result, Ok, Err, IfErr, OnOk}
 use Rattle.std.specs.Borrow.{Bor}
 use Rattle.log.specs.Filter.{Rule}
 use Rattle.journal.specs.declared.lines.Format.{Format}
+use Rattle.box_words.specs.declared.refusals.BoxFault.{BoxFault}
 use Rattle.rounds.specs.Tellings.{IsNewTeller, ToldLog}
 use Rattle.rounds.specs.declared.teller.Telling.{Telling}
 use Rattle.gate.specs.Asked.{IsChosenBy, path_in}
-use Rattle.gate.specs.Logs.{IsLikeLog, IsOwnLog, IsRecorded, IsToldAtMost, IsToldLeftOut, WasToldRun}
+use Rattle.gate.specs.Logs.{IsLikeLog, IsOwnLog, IsRecorded, IsToldAtMost, IsToldBehind, IsToldLeftOut, WasToldRun}
 use Rattle.gate.specs.Named.{WasRecorded}
+use Rattle.gate.specs.Orders.{IsUnrecorded}
+use Rattle.gate.specs.Printing.{Holds}
 use Rattle.gate.specs.declared.running.Start.{Start}
 
 -- so it was told at most of a start that has begun
@@ -29,6 +32,14 @@ pub recorded_alone : {T E L : Type 0} (r : Result T E) (capture : Option (Bor (L
     → OnOk r (IsRecorded (path_in capture) log log2)
 recorded_alone r (Some path) log log2 none told = absurd (true≢false none)
 recorded_alone r None log log2 none told = told
+
+-- where a start is refused it was told nothing, or at most that behind the line of a boot
+pub told_at_refusal : {T O L : Type 0} (r : Result T BoxFault) (contents : Holds O) (capture : Option (List ℕ)) (output output2 : O) (log log2 : L)
+    → IsToldAtMost capture log log2 → IfErr r (IsUnrecorded contents capture output output2 log log2)
+    → IfErr r (IsToldBehind contents capture output2 log log2)
+told_at_refusal (Ok x) contents capture output output2 log log2 told is = tt
+told_at_refusal (Err why) contents capture output output2 log log2 told (inl same) = inl same
+told_at_refusal (Err why) contents capture output output2 log log2 told (inr behind) = inr (output, (behind.0, (behind.1, told)))
 
 -- who tells of a log is new to its own
 pub new_again : {L : Type 0} (log : L) (moment : ℕ) (teller : ToldLog L) → IsNewTeller log moment teller → IsNewTeller teller.log moment teller

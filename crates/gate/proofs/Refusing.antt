@@ -8,8 +8,8 @@ use Rattle.sockets.specs.declared.places.Ports.{Ports}
 use Rattle.box_words.specs.Ends.{AsksSystem, IsAsked, IsFirstRefused, by_system}
 use Rattle.box_words.specs.declared.refusals.BoxFault.{BoxFault}
 use Rattle.gate.specs.Asked.{path_in}
-use Rattle.gate.specs.Failing.{IsUnbegun, LacksEnd, LacksMemory, LacksNumber}
-use Rattle.gate.specs.Named.{IsOpened, WasGiven, WasSpared, boot_number, new_gateway, seed}
+use Rattle.gate.specs.Failing.{IsUnbegun, LacksEnd, LacksGateway, LacksNumber}
+use Rattle.gate.specs.Named.{IsOpened, WasGiven, WasSpared, boot_number, seed}
 use Rattle.gate.specs.Orders.{IsBehind, IsBehindLine, IsInOrder, IsInSomeOrder, IsSilentOrTaken, IsSparing, IsUnrecorded, IsUnrun, IsUnstarted, IsUntaken}
 use Rattle.gate.specs.Printing.{HasPrinted, Holds}
 use Rattle.gate.specs.Sparing.{FailsLogged}
@@ -73,7 +73,7 @@ recorded_behind (Err why) contents capture boot output output2 log log2 is = inr
 
 -- no boot number, or no memory behind it, is of one that has its seed
 pub unbooted : {O : Type 0} (contents : Holds O) (capture : Option (List ℕ)) (Untouched : Type 0) (output output2 : O) (why : BoxFault) → WasGiven seed
-    → LacksNumber why ⊎ (WasGiven boot_number × LacksMemory new_gateway why) → IsUnstarted contents capture Untouched output output2 why
+    → LacksNumber why ⊎ (WasGiven boot_number × LacksGateway why) → IsUnstarted contents capture Untouched output output2 why
 unbooted contents capture Untouched output output2 why seeded (inl lacks) = inr (seeded, inl lacks)
 unbooted contents capture Untouched output output2 why seeded (inr lacks) = inr (seeded, inr (lacks.0, inl lacks.1))
 

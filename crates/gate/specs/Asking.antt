@@ -4,11 +4,15 @@ use Rattle.std.specs.Borrow.{Bor}
 use Rattle.settings.specs.declared.whole.Settings.{Settings}
 use Rattle.control.specs.Paths.{socket_of}
 use Rattle.sockets.specs.declared.ways.Ways.{Ways}
-use Rattle.supervision.specs.Descriptors.{IsSetOnce}
+use Rattle.supervision.specs.Descriptors.{IsSet, IsUnset}
 use Rattle.supervision.specs.Managers.{IsManagerText, IsNoManagerText}
+use Rattle.supervision.specs.declared.managers.Manager.{Manager}
+use Rattle.box_words.specs.declared.refusals.BoxFault.{BoxFault}
+use Rattle.box_words.specs.declared.refusals.BoxFault.TheVariants as fault
 use Rattle.gate.specs.Asked.{boot_file_of, box_ports, path_in}
 use Rattle.gate.specs.Named.{IsFresh, Need, WasGiven, capture_file, control_socket, descriptors, locked_file, own_sockets, path_beside, service_manager, settings_text}
 use Rattle.gate.specs.Starts.{AreHeld, AreWays}
+use Rattle.gate.specs.declared.machine.Machine.{Machine}
 use Rattle.gate.specs.declared.running.Start.{Start}
 
 -- The system, which was this, was asked for this, once, and is this since. It says nothing of such a call, so this is no more than a name for it:
@@ -20,10 +24,19 @@ WasAsked before _ after = Unit {0}
 unfoldable pub WasAskedFor : Start → Type 0
 WasAskedFor start = Unit {0}
 
--- of who takes descriptors over: it was asked for that of a text, once, where the text writes one
-abbrev pub SetsManager : {M : Type 0} → List ℕ → M → M → Type 0
-SetsManager text before after = (IsNoManagerText text × (after ≡ before))
-    ⊎ ((number : ℕ) × (IsManagerText text number × IsSetOnce before number after))
+-- its descriptors, its listeners, its places and who tells of ends are as they were: they were asked for nothing
+abbrev pub LeavesNet : {R : Type 0} → Machine R → Machine R → Type 0
+LeavesNet m m2 = (m2.descriptors ≡ m.descriptors) × ((m2.listeners ≡ m.listeners) × ((m2.places ≡ m.places) × (m2.ends ≡ m.ends)))
+
+-- of who takes descriptors over: it was asked for that of a text alone, once, and it is this manager's
+abbrev pub SetsManager : {M : Type 0} → List ℕ → M → M → Manager → Type 0
+SetsManager text before after manager = IsManagerText text manager.descriptor × IsSet before manager.descriptor after
+
+-- the text writes none, and it was asked for nothing; or it was asked for that alone, once, and refuses it
+abbrev pub SetsNone : {M : Type 0} → List ℕ → M → M → BoxFault → Type 0
+SetsNone text before after fault.NoManager = IsNoManagerText text × (after ≡ before)
+SetsNone text before after (fault.NotOpen why) = (number : ℕ) × (IsManagerText text number × ((why.0 ≡ number) × IsUnset before number after))
+SetsNone text before after other = ⊥
 
 -- it was asked for these, each once, in this order, up to one of them or to the last, and for nothing else; and for each only behind those that it gave
 abbrev pub AsksUpTo : {M : Type 0} → M → List Need → M → Type 0

@@ -1,5 +1,5 @@
 -- Why each part of a start fails, by what it has at hand.
-use Rattle.std.specs.Prelude.{◌≡◌, ◌≢◌, ◌⊎◌, ℕ, List, Option, Some, None, IsSomeAnd, codes}
+use Rattle.std.specs.Prelude.{◌≡◌, ◌≢◌, ◌<◌, ◌⊎◌, ℕ, List, length, Option, Some, None, Err, IsSomeAnd, codes}
 use Rattle.std.specs.Borrow.{Bor}
 use Rattle.std.specs.IoError.{error_kind}
 use Rattle.std.specs.declared.io.Error.{Error}
@@ -9,12 +9,15 @@ use Rattle.nat_types.specs.declared.gateways.GatewayId.{GatewayId}
 use Rattle.settings.specs.declared.whole.Settings.{Settings}
 use Rattle.settings_file.specs.Clashes.{clash_of_one}
 use Rattle.settings_file.specs.declared.keys.Key.{Key}
+use Rattle.polls.specs.declared.askers.Asker.{Asker}
+use Rattle.slots.specs.Draws.{LacksKeys}
 use Rattle.boot_store.specs.declared.faults.BootFault.{BootFault}
 use Rattle.boot_file.specs.Locks.{IsOfOpening}
 use Rattle.boot_file.specs.declared.faults.FileFault.{FileFault}
 use Rattle.boot_file.specs.declared.faults.FileFault.TheVariants as file
-use Rattle.control.specs.Paths.{socket_of}
+use Rattle.control.specs.Paths.{LacksSocketPath, socket_of}
 use Rattle.sockets.specs.Inheriting.{AreUnblocked}
+use Rattle.sockets.specs.declared.places.Ports.{Ports}
 use Rattle.sockets.specs.declared.sockets.SocketFault.{SocketFault as Reason}
 use Rattle.sockets.specs.declared.sockets.SocketFault.TheVariants.{NoMemory, NoSocket}
 use Rattle.sockets.specs.declared.ways.Ways.{Ways}
@@ -24,26 +27,33 @@ use Rattle.journal.specs.Filters.{IsOfVariable, IsRefused as IsUnfit}
 use Rattle.journal.specs.declared.filters.FilterFault.{FilterFault}
 use Rattle.outlets.specs.Outputs.{IsUnput}
 use Rattle.outlets.specs.Printed.{IsBegun}
-use Rattle.faults.specs.Faults.{IsOfFile, IsUnread, Tells}
+use Rattle.faults.specs.Faults.{IsOfFile, Tells, TellsUnread}
 use Rattle.faults.specs.declared.faults.Fault.{Fault}
 use Rattle.faults.specs.declared.faults.Fault.TheVariants as run
 use Rattle.faults.specs.declared.files.Refusal.TheVariants.{Exists, NotWritten}
-use Rattle.box_words.specs.Ends.{IsFirstOf}
-use Rattle.box_words.specs.Faults.{TellsBootFile, TellsFilter, TellsNoPath, TellsSettings, TellsSocket, of_boot, of_clash}
+use Rattle.box_words.specs.Ends.{AsksSystem, IsFirstOf, IsFirstRefused, own_ends}
+use Rattle.box_words.specs.Faults.{TellsBootFile, TellsFilter, TellsNoSettings, TellsSocket, of_boot, of_clash}
 use Rattle.box_words.specs.Memory.{WasShort}
 use Rattle.box_words.specs.declared.refusals.BoxFault.{BoxFault}
 use Rattle.box_words.specs.declared.refusals.BoxFault.TheVariants as fault
 use Rattle.spec_step.specs.Shown.{Shown}
+use Rattle.gateway.specs.Lacks.{LacksGateway as LacksParts}
 use Rattle.rounds.specs.Ends.{WasEnded}
 use Rattle.gate.specs.Asked.{IsSaid, box_ports, on_loopback}
-use Rattle.gate.specs.Named.{Need, WasAnswered, WasDenied, WasRead, begun_capture, boot_number, capture_file, control_socket, locked_file}
-use Rattle.gate.specs.Named.{own_sockets, path_beside, settings_in, settings_text}
+use Rattle.gate.specs.Named.{Need, WasAnswered, WasDenied, WasDrawn, WasGot, WasRead, WasUndrawn, begun_capture, boot_number, capture_file}
+use Rattle.gate.specs.Named.{control_socket, locked_file, new_gateway, own_sockets}
 use Rattle.gate.specs.Printing.{Holds, IsLineRefused, boot_line}
 
--- no settings are had at this path: the file gives no text; or it gave this one, which holds none, or there was no memory for them
+-- The file at this path gives no text: who asked for it, once, was answered so that just this is told; and want of memory only where that was what was
+-- answered, or memory for the path was refused.
+abbrev pub AreUnread : Asker → List ℕ → Fault → Asker → Type 0
+AreUnread before path why after = TellsUnread (λ answer. WasGot before path answer after) path why
+    × (why ≡ run.NoMemory → WasGot before path (Err OutOfMemory) after ⊎ WasShort path)
+
+-- no settings are had at this path: the file gives no text; or it gave this one, which holds none, or memory for them was refused
 abbrev pub LacksSettings : List ℕ → BoxFault → Type 0
-LacksSettings path (fault.Run why) = (WasDenied (settings_text path) (fault.Run why) × IsUnread path why)
-    ⊎ ((text : List ℕ) × (WasRead path text × (WasDenied (settings_in text) (fault.Run why) × TellsSettings text (fault.Run why))))
+LacksSettings path (fault.Run why) = ((before : Asker) × ((after : Asker) × AreUnread before path why after))
+    ⊎ ((text : List ℕ) × (WasRead path text × TellsNoSettings text (fault.Run why)))
 LacksSettings path other = ⊥
 
 -- a descriptor of a way isn't open: the first that the system refuses
@@ -62,9 +72,11 @@ LacksManager notify other = ⊥
 abbrev pub Clashes : Settings → GatewayId → Ways → BoxFault → Type 0
 Clashes settings id ways why = (key : Key) × (clash_of_one settings id (on_loopback ways) ≡ Some key) × (why ≡ of_clash key)
 
--- the control socket beside this boot file has no path: it is too long, or there was no memory for it
+-- the control socket beside this boot file has no path: it would have more than 107 bytes, or memory for it was refused
 abbrev pub LacksPath : List ℕ → BoxFault → Type 0
-LacksPath boot_file why = WasDenied (path_beside boot_file) why × TellsNoPath boot_file why
+LacksPath boot_file fault.LongPath = 107 < length (socket_of boot_file)
+LacksPath boot_file (fault.Run why) = (why ≡ run.NoMemory) × LacksSocketPath boot_file
+LacksPath boot_file other = ⊥
 
 -- the boot file at this path isn't opened and locked
 abbrev pub LacksBootFile : List ℕ → BoxFault → Type 0
@@ -88,6 +100,12 @@ abbrev pub TellsPlaces : Reason → BoxFault → Type 0
 TellsPlaces NoMemory why = why ≡ fault.Run run.NoMemory
 TellsPlaces NoSocket (fault.NoSocket end) = Unit {0}
 TellsPlaces NoSocket other = ⊥
+
+-- who tells of the ends of a box was asked for none of them, where memory was refused; else for each in its order, up to the first that is refused
+abbrev pub AsksEnds : {B : Type 0} → Ways → Ports → B → B → BoxFault → Type 0
+AsksEnds ways ports before after (fault.NoSocket end) = IsFirstRefused AsksSystem (own_ends ways ports) before end.0 after
+AsksEnds ways ports before after (fault.Run why) = after ≡ before
+AsksEnds ways ports before after other = ⊥
 
 -- No filter of the records is had, for this reason: the first part of the option's text is no directive, or memory was refused while that was read;
 -- or there is no option, and it is so of the environment's text, or of its variable, which holds no text, or for which memory was refused.
@@ -137,9 +155,18 @@ abbrev pub LacksEnd : {O : Type 0} → Holds O → O → O → BoxFault → Type
 LacksEnd contents before after why = (IsUnput before (codes "end\n") after × ((g : Shown) × WasEnded g before after))
     × LacksOutput contents (codes "end\n") before after why
 
--- memory is refused for this, or a seed
+-- no seed is had: the system refused who draws the keys a number, the first, or the second behind a first that was drawn; it is told as want of memory
+abbrev pub LacksSeed : BoxFault → Type 0
+LacksSeed why = (why ≡ fault.Run run.NoMemory)
+    × ((before : Asker) × ((error : Error) × ((after : Asker) × LacksKeys WasDrawn WasUndrawn before error after)))
+
+-- memory is refused for this
 abbrev pub LacksMemory : Need → BoxFault → Type 0
 LacksMemory need why = (why ≡ fault.Run run.NoMemory) × WasDenied need (fault.Run run.NoMemory)
+
+-- for a gateway: for what one of some settings needs
+abbrev pub LacksGateway : BoxFault → Type 0
+LacksGateway why = LacksMemory new_gateway why × ((settings : Settings) × LacksParts settings)
 
 -- no boot number is had
 abbrev pub LacksNumber : BoxFault → Type 0

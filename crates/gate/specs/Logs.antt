@@ -1,5 +1,5 @@
 -- What the log of a box is told.
-use Rattle.std.specs.Prelude.{◌≡◌, ◌⊎◌, ℕ, List, [], Option, Some, None, IfSome}
+use Rattle.std.specs.Prelude.{◌≡◌, ◌⊎◌, ℕ, List, [], Option, Some, None, IfSome, Result, IfErr, OnOk}
 use Rattle.log.specs.Filter.{Rule}
 use Rattle.journal.specs.Handed.{Enables, IsTold, IsToldLeftOut as TellsLeftOut, IsUnhanded, WasPutDown, log_of}
 use Rattle.journal.specs.declared.entries.Entry.TheVariants.{Boot}
@@ -7,8 +7,11 @@ use Rattle.journal.specs.declared.lines.Format.{Format}
 use Rattle.journal.specs.declared.pens.Pen.{Pen}
 use Rattle.rounds.specs.Tellings.{ToldLog}
 use Rattle.rounds.specs.declared.teller.Telling.{Telling}
+use Rattle.box_words.specs.declared.refusals.BoxFault.{BoxFault}
 use Rattle.gate.specs.Asked.{IsChosenBy}
 use Rattle.gate.specs.Named.{IsTellerOf, IsUntold, WasLeftOut, WasRecorded}
+use Rattle.gate.specs.Orders.{IsBehindLine}
+use Rattle.gate.specs.Printing.{Holds}
 use Rattle.gate.specs.declared.running.Start.{Start}
 
 -- its records pass by the rules that a start's filter has, where it says by which, and are written in the start's format
@@ -69,6 +72,13 @@ pub record IsOwnAndNew {L : Type 0} (passes : L → Option (List Rule)) (writes 
 abbrev pub IsToldAtMost : {L : Type 0} → Option (List ℕ) → L → L → Type 0
 IsToldAtMost capture log log2 = (log2 ≡ log) ⊎ (((boot : ℕ) × WasRecorded log boot log2) ⊎ IsRecorded capture log log2)
 
--- one that was told nothing when it was made was told so
-abbrev pub IsToldSo : {L : Type 0} → Option (List ℕ) → L → Type 0
-IsToldSo {L = L} capture log2 = (log : L) × (IsUntold log × IsToldAtMost capture log log2)
+-- Of a start that is refused for this it was told nothing; or the line of a boot was printed before, this comes behind it, and it was told at most that.
+abbrev pub IsToldBehind : {O L : Type 0} → Holds O → Option (List ℕ) → O → L → L → BoxFault → Type 0
+IsToldBehind {O = O} contents capture output2 log log2 why = (log2 ≡ log)
+    ⊎ ((output : O) × ((boot : ℕ) × (IsBehindLine contents capture boot why output output2 × IsToldAtMost capture log log2)))
+
+-- One that was told nothing when it was made was told so of a start that ended so, and has printed so: all that it is to be told where the start was
+-- served.
+abbrev pub IsToldSo : {O L T : Type 0} → Holds O → Option (List ℕ) → Result T BoxFault → O → L → Type 0
+IsToldSo {L = L} contents capture ended output2 log2 = (log : L) × (IsUntold log
+    × (OnOk ended (IsRecorded capture log log2) × IfErr ended (IsToldBehind contents capture output2 log log2)))

@@ -1,19 +1,19 @@
 -- What the system gave a start, or refused it, by name.
-use Rattle.std.specs.Prelude.{◌≡◌, ◌⊎◌, ℕ, List, Option, Some, None, Result}
+use Rattle.std.specs.Prelude.{◌≡◌, ◌⊎◌, ℕ, List, Option, Some, None, Result, Ok}
 use Rattle.std.specs.declared.io.Error.{Error}
+use Rattle.std.specs.declared.io.ErrorKind.{ErrorKind}
+use Rattle.polls.specs.declared.askers.Asker.{Asker}
 use Rattle.nat_types.specs.declared.gateways.GatewayId.{GatewayId}
 use Rattle.boot_store.specs.declared.faults.BootFault.{BootFault}
 use Rattle.sockets.specs.declared.places.Ports.{Ports}
 use Rattle.sockets.specs.declared.ways.Ways.{Ways}
 use Rattle.box_words.specs.declared.refusals.BoxFault.{BoxFault}
 
--- what a start asks the system for: the text of a file of settings, memory for the settings in a text, the descriptors of ways, the service manager whose descriptor a text
--- writes, memory for the path beside a boot file, a locked boot file, a control socket, the sockets of the places, all that it needs,
+-- what a start asks the system for: the text of a file of settings, the descriptors of ways, the service manager whose descriptor a text writes, memory for the path beside a boot file, a locked boot file, a control socket, the sockets of the places, all that it needs,
 -- the file of a capture, that a capture begins in it, a wire whose packets go there, at the interfaces of a gateway, a seed, a boot number, that
 -- of the boot file at a path, memory for a gateway
 pub data Need : Type 0 where
   settings_text : List ℕ → Need
-  settings_in : List ℕ → Need
   descriptors : Ways → Need
   service_manager : List ℕ → Need
   path_beside : List ℕ → Need
@@ -46,9 +46,17 @@ WasDenied _ why = Unit {0}
 unfoldable pub WasAnswered : {A : Type 0} → Need → A → Type 0
 WasAnswered _ reason = Unit {0}
 
+-- who asks for files was this, asked for the bytes of the file at this path, once, was answered so, and is this since
+unfoldable pub WasGot : Asker → List ℕ → Result (List ℕ) ErrorKind → Asker → Type 0
+WasGot before path answer after = Unit {0}
+
+-- he had the file at this path opened for a capture, once, was answered so, and is this since
+unfoldable pub WasTried : {V : Type 0} → Asker → List ℕ → Result V Error → Asker → Type 0
+WasTried before path answer after = Unit {0}
+
 -- it gave this text of the file at this path
-unfoldable pub WasRead : List ℕ → List ℕ → Type 0
-WasRead path text = Unit {0}
+abbrev pub WasRead : List ℕ → List ℕ → Type 0
+WasRead path text = (before : Asker) × ((after : Asker) × WasGot before path (Ok text) after)
 
 -- a log that was this was handed the record of this boot, once, and is this since
 unfoldable pub WasRecorded : {L : Type 0} → L → ℕ → L → Type 0
@@ -66,7 +74,8 @@ IsUntold log = Unit {0}
 unfoldable pub IsTellerOf : {L T : Type 0} → L → T → Type 0
 IsTellerOf log teller = Unit {0}
 
--- A log was let go that was told of a start no more than it is to be told, with a capture at this path or without (`IsToldAtMost` of Logs).
+-- A log was let go that was told of a start what it is to be told by how that ended, and no more, with a capture at this path or without (`IsToldSo` of
+-- Logs).
 unfoldable pub WasClosed : Option (List ℕ) → Type 0
 WasClosed capture = Unit {0}
 

@@ -3,8 +3,8 @@ use Rattle.std.specs.Prelude.{◌≡◌, ◌⊎◌, ℕ, Bool, List, Option, Som
 use Rattle.boot_store.specs.Crash.{Decides}
 use Rattle.boot_store.specs.Moment.{Moment}
 use Rattle.box_words.specs.declared.refusals.BoxFault.{BoxFault}
-use Rattle.gate.specs.Failing.{IsUnbegun, LacksEnd, LacksLine, LacksMemory, LacksNumber}
-use Rattle.gate.specs.Named.{WasGiven, WasSpared, boot_number, new_gateway, seed}
+use Rattle.gate.specs.Failing.{IsUnbegun, LacksEnd, LacksGateway, LacksLine, LacksNumber, LacksSeed}
+use Rattle.gate.specs.Named.{WasGiven, WasSpared, boot_number, seed}
 use Rattle.gate.specs.Printing.{HasPrinted, Holds}
 
 -- one number was taken of a boot file, the one behind the greatest
@@ -39,7 +39,7 @@ IsSparing contents None why output output2 = Unit {0}
 -- behind the number.
 abbrev pub IsUnrun : {O : Type 0} → Holds O → Option (List ℕ) → O → O → BoxFault → Type 0
 IsUnrun contents capture output output2 why = LacksNumber why
-    ⊎ (WasGiven boot_number × (LacksMemory new_gateway why ⊎ ((boot : ℕ) × IsBehind contents capture boot why output output2)))
+    ⊎ (WasGiven boot_number × (LacksGateway why ⊎ ((boot : ℕ) × IsBehind contents capture boot why output output2)))
 
 -- where a start is refused, a disk is as it was; or that comes behind the seed, where a number may have been taken
 abbrev pub IsUntaken : {O D T : Type 0} → Holds O → Option (List ℕ) → Result T BoxFault → D → D → O → Type 0
@@ -48,7 +48,7 @@ IsUntaken {O = O} contents capture result disk disk2 output2 =
 
 -- or it has no seed, and then nothing was taken or told
 abbrev pub IsUnstarted : {O : Type 0} → Holds O → Option (List ℕ) → Type 0 → O → O → BoxFault → Type 0
-IsUnstarted contents capture Untouched output output2 why = (LacksMemory seed why × Untouched)
+IsUnstarted contents capture Untouched output output2 why = (LacksSeed why × Untouched)
     ⊎ (WasGiven seed × IsUnrun contents capture output output2 why)
 
 -- What a log is handed before a refusal: no record; or the line of a boot was printed before, and this comes behind it.

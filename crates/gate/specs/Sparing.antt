@@ -9,8 +9,8 @@ use Rattle.sockets.specs.declared.ways.Ways.{Ways}
 use Rattle.supervision.specs.declared.managers.Manager.{Manager}
 use Rattle.box_words.specs.declared.refusals.BoxFault.{BoxFault}
 use Rattle.gate.specs.Asked.{IsFilter, IsNotified, boot_file_of, box_ports, on_loopback, path_in}
-use Rattle.gate.specs.Failing.{Clashes, LacksBootFile, LacksCapture, LacksControl, LacksDescriptor, LacksFilter, LacksManager, LacksMemory, LacksPath}
-use Rattle.gate.specs.Failing.{LacksPlace, LacksSettings}
+use Rattle.gate.specs.Failing.{Clashes, LacksBootFile, LacksCapture, LacksControl, LacksDescriptor, LacksFilter, LacksManager, LacksPath}
+use Rattle.gate.specs.Failing.{LacksPlace, LacksSeed, LacksSettings}
 use Rattle.gate.specs.Named.{IsOpened, WasClosed, WasGiven, WasHad, WasLetGo, WasUnlocked, control_socket, locked_file}
 use Rattle.gate.specs.Named.{own_sockets, seed}
 use Rattle.gate.specs.Orders.{IsSparing, IsUnrun}
@@ -28,7 +28,7 @@ use Rattle.gate.specs.declared.running.Start.{Start}
 -- the seed, and behind it the boot number, the capture, and output
 abbrev pub FailsOpened : {O : Type 0} → Holds O → Start → O → O → BoxFault → Type 0
 FailsOpened contents start before after why =
-    LacksMemory seed why ⊎ (WasGiven seed × IsUnrun contents (path_in start.capture) before after why)
+    LacksSeed why ⊎ (WasGiven seed × IsUnrun contents (path_in start.capture) before after why)
 
 -- The file of the capture, where there is to be one. It is let go as it was, but for what comes behind the line of a boot.
 abbrev pub FailsLogged : {O : Type 0} → Holds O → Start → O → O → BoxFault → Type 0

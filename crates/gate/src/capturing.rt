@@ -1,6 +1,6 @@
 //! The file of a capture.
-ghost use Rattle.std.specs.Prelude.{◌≡◌, IfErr, IfOk, IfSome, OnErr, OnOk, Some, is_some, option_map};
-ghost use Rattle.tap.specs.Files.{IsUnbegunIn};
+ghost use Rattle.std.specs.Prelude.{◌≡◌, IfErr, IfOk, IfSome, None, OnErr, OnOk, Some, is_some, option_map};
+ghost use Rattle.tap.specs.Files.{IsBegunIn, IsUnbegunIn};
 ghost use Rattle.gate.specs.Asked.{IsFilter, path_in};
 ghost use Rattle.gate.specs.Asking.{AsksUpTo, captures};
 ghost use Rattle.gate.specs.Failing.{IsUnbegun, LacksCapture};
@@ -76,9 +76,13 @@ impl<F: Read + Write + Seek + OpenFile + AsRawFd + Drop> CaptureAt<'_, F> {
     ) -> Result<Tapped<W, SinceFirst<'m, C>, CaptureFile<F>>, BoxFault>
         requires had { WasHad (capture_file self.path.now) self.file }
         requires numbered { WasGiven boot_number }
+        requires unasked { moments.start ≡ None }
         ensures begun { OnOk result (WasGiven (begun_capture self.entry.path.now)) }
         ensures had { IfOk result (WasHad (tapped_wire self.entry.path.now id)) }
         ensures tapped { IfOk result (λ tapped. (tapped.wire ≡ wire) × (tapped.id ≡ id)) }
+        ensures unasked { IfOk result (λ tapped. tapped.moments ≡ moments.entry) }
+        ensures reel { IfOk result
+            (λ tapped. IsBegunIn F.contents F.raw_fd self.entry.file tapped.reel) }
         ensures err { IfErr result (IsUnbegun (Some self.entry.path.now)) }
         ensures let_go { OnErr result (WasLetGo wire) }
     {
@@ -103,6 +107,7 @@ fn begun<F: Read + Write + Seek + OpenFile + AsRawFd + Drop>(
     requires had { WasHad (capture_file _path.now) file }
     requires numbered { WasGiven boot_number }
     ensures given { OnOk result (WasGiven (begun_capture _path.now)) }
+    ensures begun { IfOk result (λ reel. IsBegunIn F.contents F.raw_fd file reel) }
     ensures answered { IfErr result (WasAnswered (begun_capture _path.now)) }
     ensures refused { IfErr result (IsUnbegunIn F.raw_fd file) }
 {

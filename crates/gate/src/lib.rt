@@ -2,6 +2,7 @@
 #![tactic(auto)]
 
 mod capturing;
+mod files;
 mod machine;
 mod making;
 mod reading;

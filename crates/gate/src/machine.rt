@@ -1,25 +1,26 @@
-//! The system, as who opens what a start needs. What it is asked has names, and no more is known of it.
-ghost use Rattle.std.specs.Prelude.{◌≡◌, ◌≤◌, ℕ, IfErr, IfOk, None, OnErr, OnOk, Option, Some, length, string_bytes};
+//! The system, as who opens what a start needs. What it is asked has names, and no more is known of it. Each of its parts is asked by
+//! the functions of what it is for alone, and nobody can make a second one here.
+ghost use Rattle.std.specs.Prelude.{◌≡◌, ◌≤◌, ℕ, IfErr, IfOk, None, Ok, OnErr, OnOk, Option, Some, length, string_bytes};
 ghost use Rattle.boot_file.specs.Locks.{IsOfOpening};
+ghost use Rattle.boot_file.specs.Opened.{AreOpened, IsUnopened};
 ghost use Rattle.control.specs.Opening.{WasNotOpened, WasOpened};
 ghost use Rattle.control.specs.Paths.{IsBeside, socket_of};
-ghost use Rattle.faults.specs.Faults.{IsUnread};
 ghost use Rattle.sockets.specs.Boards.{IsRefused, Opens};
 ghost use Rattle.sockets.specs.Inheriting.{AreUnblocked, AreUnblockedBy};
 ghost use Rattle.sockets.specs.declared.sockets.SocketFault.{SocketFault as Reason};
-ghost use Rattle.box_words.specs.Ends.{IsFirstOf};
-ghost use Rattle.box_words.specs.declared.refusals.BoxFault.TheVariants as faults;
+ghost use Rattle.box_words.specs.Ends.{AsksSystem, IsFirstOf, IsFirstRefused, own_ends};
 ghost use Rattle.gate.specs.Asked.{IsFilter, IsNotified, boot_file_of, box_ports};
-ghost use Rattle.gate.specs.Asking.{IsAskedSo, SetsManager, WasAsked, WasAskedFor};
-ghost use Rattle.gate.specs.Failing.{LacksBootFile, LacksCapture, LacksControl, LacksDescriptor, LacksManager, LacksPath, LacksPlace, TellsPlaces};
-ghost use Rattle.gate.specs.Named.{IsFresh, WasAnswered, WasDenied, WasGiven, WasHad, WasRead, all_sockets, capture_file, control_socket, descriptors, locked_file, own_sockets, path_beside, service_manager, settings_text};
+ghost use Rattle.gate.specs.Asking.{IsAskedSo, LeavesNet, SetsManager, SetsNone, WasAsked, WasAskedFor};
+ghost use Rattle.gate.specs.Failing.{AreUnread, AsksEnds, LacksBootFile, LacksCapture, LacksControl, LacksDescriptor, LacksManager, LacksPath, LacksPlace, TellsPlaces};
+ghost use Rattle.gate.specs.Named.{IsFresh, WasAnswered, WasGiven, WasGot, WasHad, WasRead, WasTried, all_sockets, capture_file, control_socket, descriptors, locked_file, own_sockets, path_beside, service_manager, settings_text};
 ghost use Rattle.gate.specs.Starts.{CanOpen};
 
+use crate::files::FileSystem;
 use crate::running::Start;
-use boot_file::{Blocks, FileDisk, FileFault, Lockable};
-use box_words::{BoxFault, Machine as Ends, Refused, refused_end};
+use boot_file::{Blocks, FileDisk, FileFault, Lockable, Machine as BootFiles};
+use box_words::{BoxFault, Refused, System as Ends, refused_end};
 use control::{Bound, ControlPath, Machine as Listeners};
-use faults::{Fault, text_of};
+use faults::{Fault, text_by};
 use nat_types::{GatewayId, NoMemory};
 use settings::Settings;
 use sockets::{Machine as Places, Ports, SocketFault, Sockets, Ways, ports_of};
@@ -32,22 +33,26 @@ use tap::Vacant;
 /// The system, whose files and network nobody else of a start has at hand.
 #[derive(Drop)]
 pub(crate) struct Machine<'a, R> {
-    rt: &'a R,
+    files: FileSystem<'a, R>,
+    boot_files: BootFiles<'a, R>,
     descriptors: Descriptors<'a, R>,
     listeners: Listeners<'a, R>,
     places: Places<'a, R>,
+    ends: Ends<'a, R>,
 }
 
-/// This system. It was asked for nothing yet.
+/// This system. It was asked for nothing yet, and can't be here.
 #[tactic(auto, unfolding(crate::specs::Named::IsFresh))]
-pub(crate) fn machine_of<R: Files + Net>(rt: &R) -> Machine<'_, R>
+pub(crate) fn machine_of<R>(rt: &R) -> Machine<'_, R>
     ensures { IsFresh result }
 {
     Machine {
-        rt,
+        files: FileSystem::new(rt),
+        boot_files: BootFiles::new(rt),
         descriptors: Descriptors::new(rt),
         listeners: Listeners::new(rt),
         places: Places::new(rt),
+        ends: Ends::new(rt),
     }
 }
 
@@ -64,14 +69,18 @@ impl<R> Machine<'_, R> {
 
 impl<R: Files + AllocGlobal> Machine<'_, R> {
     /// Has it read the text of the file at a path.
-    #[tactic(auto, unfolding(crate::specs::Asking::WasAsked, crate::specs::Named::WasRead, crate::specs::Named::WasDenied))]
+    #[tactic(auto, unfolding(crate::specs::Asking::WasAsked))]
     pub(crate) fn told_to_read(&mut self, path: &str) -> Result<String, Fault>
         ensures asked { WasAsked self.old (settings_text path.now) self.new }
+        ensures net { LeavesNet self.old self.new }
+        ensures boot_files { self.new.boot_files ≡ self.old.boot_files }
+        ensures got { IfOk result (λ text. WasGot self.old.files path.now
+            (Ok (string_bytes text)) self.new.files) }
         ensures read { IfOk result (λ text. WasRead path.now (string_bytes text)) }
-        ensures err { IfErr result (λ why. WasDenied (settings_text path.now) (faults.Run why)
-            × IsUnread path.now why) }
+        ensures err { IfErr result
+            (λ why. AreUnread self.old.files path.now why self.new.files) }
     {
-        text_of(self.rt, path)
+        text_by(self.files.alloc(), &mut self.files, path)
     }
 
     /// Has it open and lock the boot file of a start's box, once all that the start says was looked at, and its descriptors were
@@ -97,7 +106,7 @@ impl<R: Files + AllocGlobal> Machine<'_, R> {
         let path = settings.gateway(start.id).boot_file.as_str();
         match self.asked_to_lock(start, settings, ways, path) {
             Ok(disk) => Ok(disk),
-            Err(fault) => Err(BoxFault::of_boot_file(self.rt.alloc(), path, fault)),
+            Err(fault) => Err(BoxFault::of_boot_file(self.files.alloc(), path, fault)),
         }
     }
 
@@ -115,13 +124,19 @@ impl<R: Files + AllocGlobal> Machine<'_, R> {
         requires can { CanOpen _start.now _settings.now _ways.now }
         requires own { path.now ≡ boot_file_of _settings.now _start.now.id }
         ensures asked { WasAsked self.old (locked_file path.now) self.new }
+        ensures net { LeavesNet self.old self.new }
+        ensures files { self.new.files ≡ self.old.files }
+        ensures opened { IfOk result (λ disk. AreOpened self.old.boot_files path.now disk.file
+            disk.folder self.new.boot_files) }
+        ensures unopened { IfErr result (λ why. IsUnopened ⟦<R::File as Lockable>⟧.refused
+            self.old.boot_files path.now why self.new.boot_files) }
         ensures given { OnOk result (WasGiven (locked_file path.now)) }
         ensures had { IfOk result (WasHad (locked_file path.now)) }
         ensures locked { IfOk result (λ disk. ⟦<R::File as Lockable>⟧.locked disk.file) }
         ensures answered { IfErr result (WasAnswered (locked_file path.now)) }
         ensures kind { IfErr result IsOfOpening }
     {
-        boot_file::open(self.rt, path)
+        boot_file::open(&mut self.boot_files, path)
     }
 
     /// Has it open the file at a path for a capture, once the sockets were had, and the start's filter is one: a start that is
@@ -140,7 +155,7 @@ impl<R: Files + AllocGlobal> Machine<'_, R> {
     {
         match self.asked_to_make(start, path) {
             Ok(file) => Ok(file),
-            Err(error) => Err(BoxFault::no_capture(self.rt.alloc(), path, &error)),
+            Err(error) => Err(BoxFault::no_capture(self.files.alloc(), path, &error)),
         }
     }
 
@@ -150,11 +165,14 @@ impl<R: Files + AllocGlobal> Machine<'_, R> {
         requires wired { WasGiven all_sockets }
         requires valid { IsFilter _start.now.log }
         ensures asked { WasAsked self.old (capture_file path.now) self.new }
+        ensures net { LeavesNet self.old self.new }
+        ensures boot_files { self.new.boot_files ≡ self.old.boot_files }
+        ensures tried { WasTried self.old.files path.now result self.new.files }
         ensures given { OnOk result (WasGiven (capture_file path.now)) }
         ensures had { IfOk result (WasHad (capture_file path.now)) }
         ensures answered { IfErr result (WasAnswered (capture_file path.now)) }
     {
-        tap::open(self.rt, path)
+        self.files.told_to_open(path)
     }
 }
 
@@ -179,13 +197,17 @@ impl<R: Files + Net + AllocGlobal> Machine<'_, R> {
             (λ bound. WasOpened path.now self.old.listeners bound self.new.listeners) }
         ensures unopened { OnErr result
             (WasNotOpened path.now self.old.listeners self.new.listeners) }
+        ensures rest { (self.new.descriptors ≡ self.old.descriptors)
+            × ((self.new.places ≡ self.old.places) × (self.new.ends ≡ self.old.ends)) }
+        ensures files { (self.new.files ≡ self.old.files)
+            × (self.new.boot_files ≡ self.old.boot_files) }
         ensures err { IfErr result (LacksControl (boot_file_of settings.now id)) }
     {
-        match Bound::open(&mut self.listeners, path, self.rt.alloc()) {
+        match Bound::open(&mut self.listeners, path, self.files.alloc()) {
             Ok(control) => Ok(control),
             Err(_) => {
                 let boot_file = settings.gateway(id).boot_file.as_str();
-                Err(BoxFault::no_control(self.rt.alloc(), boot_file))
+                Err(BoxFault::no_control(self.files.alloc(), boot_file))
             }
         }
     }
@@ -198,6 +220,8 @@ impl<R: Net + AllocGlobal> Machine<'_, R> {
         ensures asked { WasAsked self.old (descriptors ways.now) self.new }
         ensures alone { (named : Option ℕ)
             × AreUnblockedBy ways.now named self.old.places self.new.places }
+        ensures rest { (self.new.descriptors ≡ self.old.descriptors)
+            × ((self.new.listeners ≡ self.old.listeners) × (self.new.ends ≡ self.old.ends)) }
         ensures ok { OnOk result (AreUnblocked ways.now None) }
         ensures err { IfErr result (LacksDescriptor ways.now) }
     {
@@ -209,7 +233,12 @@ impl<R: Net + AllocGlobal> Machine<'_, R> {
     #[tactic(auto, unfolding(crate::specs::Asking::WasAsked))]
     pub(crate) fn told_to_take_over(&mut self, text: &str) -> Result<Manager, BoxFault>
         ensures asked { WasAsked self.old (service_manager text.now) self.new }
-        ensures set { SetsManager text.now self.old.descriptors self.new.descriptors }
+        ensures set { IfOk result
+            (SetsManager text.now self.old.descriptors self.new.descriptors) }
+        ensures unset { IfErr result
+            (SetsNone text.now self.old.descriptors self.new.descriptors) }
+        ensures rest { (self.new.listeners ≡ self.old.listeners)
+            × ((self.new.places ≡ self.old.places) × (self.new.ends ≡ self.old.ends)) }
         ensures ok { IfOk result (λ manager. IsNotified (Some text.entry) (Some manager)) }
         ensures err { IfErr result (LacksManager (Some text.entry)) }
     {
@@ -243,10 +272,15 @@ impl<R: Net + AllocGlobal> Machine<'_, R> {
         ensures unopened { IfErr result (λ fault. (why : Reason) × (IsRefused self.old.places
             ways.now (box_ports settings.now id) control why self.new.places
             × TellsPlaces why fault)) }
+        ensures rest { (self.new.descriptors ≡ self.old.descriptors)
+            × (self.new.listeners ≡ self.old.listeners) }
+        ensures ends { OnOk result (self.new.ends ≡ self.old.ends) }
+        ensures ends_told { IfErr result (AsksEnds ways.now (box_ports settings.now id)
+            self.old.ends self.new.ends) }
         ensures err { IfErr result (LacksPlace settings.now id ways.now) }
     {
         let ports = ports_of(settings, id);
-        match Sockets::open(&mut self.places, self.rt.alloc(), ways, ports, control) {
+        match Sockets::open(&mut self.places, self.files.alloc(), ways, ports, control) {
             Ok(sockets) => Ok(sockets),
             Err(SocketFault::NoMemory) => Err(BoxFault::from(NoMemory)),
             Err(SocketFault::NoSocket) => {
@@ -257,29 +291,35 @@ impl<R: Net + AllocGlobal> Machine<'_, R> {
     }
 
     /// The first of a box's own ends that it refuses, if it refuses one by itself.
-    fn first_refused(&self, ways: &Ways, ports: Ports) -> Refused
-        ensures { IsFirstOf ways.now ports result.0 }
+    fn first_refused(&mut self, ways: &Ways, ports: Ports) -> Refused
+        ensures first { IsFirstOf ways.now ports result.0 }
+        ensures asked { IsFirstRefused AsksSystem (own_ends ways.now ports) self.old.ends result.0
+            self.new.ends }
+        ensures rest { (self.new.descriptors ≡ self.old.descriptors)
+            × ((self.new.listeners ≡ self.old.listeners)
+            × (self.new.places ≡ self.old.places)) }
     {
-        refused_end(&mut Ends::new(self.rt), ways, ports)
+        refused_end(&mut self.ends, ways, ports)
     }
 }
 
 impl<R: AllocGlobal> Machine<'_, R> {
     /// The path of a box's control socket, beside its boot file, where it gives memory for it.
-    #[tactic(auto, unfolding(crate::specs::Asking::WasAsked, crate::specs::Named::WasGiven, crate::specs::Named::WasDenied))]
+    #[tactic(auto, unfolding(crate::specs::Asking::WasAsked, crate::specs::Named::WasGiven))]
     pub(crate) fn told_to_give_path(
         &mut self,
         settings: &Settings,
         id: GatewayId,
     ) -> Result<ControlPath, BoxFault>
         ensures asked { WasAsked self.old (path_beside (boot_file_of settings.now id)) self.new }
+        ensures net { LeavesNet self.old self.new }
         ensures given { OnOk result (WasGiven (path_beside (boot_file_of settings.now id))) }
         ensures beside { IfOk result (IsBeside (boot_file_of settings.now id)) }
         ensures short { OnOk result (length (socket_of (boot_file_of settings.now id)) ≤ 107) }
         ensures err { IfErr result (LacksPath (boot_file_of settings.now id)) }
     {
         let boot_file = settings.gateway(id).boot_file.as_str();
-        let path = ControlPath::beside(self.rt.alloc(), boot_file)?;
+        let path = ControlPath::beside(self.files.alloc(), boot_file)?;
         Ok(path)
     }
 }

@@ -3,12 +3,12 @@ ghost use Rattle.std.specs.Prelude.{◌≡◌, IfErr, IfOk, None, OnOk};
 ghost use Rattle.toml.specs.Parse.{parse_document};
 ghost use Rattle.settings_file.specs.Clashes.{clash_of_one};
 ghost use Rattle.settings_file.specs.Settings.{IsReadFrom};
-ghost use Rattle.box_words.specs.Faults.{TellsSettings};
+ghost use Rattle.box_words.specs.Faults.{TellsNoSettings};
 ghost use Rattle.box_words.specs.declared.refusals.BoxFault.TheVariants as faults;
 ghost use Rattle.gate.specs.Asked.{IsNotified, is_loopback, on_loopback};
 ghost use Rattle.gate.specs.Failing.{Clashes, LacksManager, LacksSettings};
 ghost use Rattle.gate.specs.Asking.{AsksManager, WasAsked};
-ghost use Rattle.gate.specs.Named.{WasDenied, settings_in, settings_text};
+ghost use Rattle.gate.specs.Named.{settings_text};
 ghost use Rattle.gate.specs.Starts.{AreHeld};
 
 use crate::machine::Machine;
@@ -39,11 +39,9 @@ pub(crate) fn settings_at<R: Files + Net + AllocGlobal>(
 }
 
 /// The settings in a text.
-#[tactic(auto, unfolding(crate::specs::Named::WasDenied))]
 fn settings_in(alloc: Global, text: &str) -> Result<Settings, Fault>
     ensures held { IfOk result (IsReadFrom (parse_document text.now)) }
-    ensures denied { IfErr result (λ why. WasDenied (settings_in text.now) (faults.Run why)) }
-    ensures err { IfErr result (λ why. TellsSettings text.now (faults.Run why)) }
+    ensures err { IfErr result (λ why. TellsNoSettings text.now (faults.Run why)) }
 {
     let settings = settings_file::read(alloc, text)?;
     Ok(settings)

@@ -12,9 +12,11 @@ ghost use Rattle.gate.specs.Wires.{IsTapped};
 ghost use Rattle.gate.specs.declared.recording.Records.{Records};
 
 use crate::running::Start;
+use box_words::BoxFault;
 use journal::{Entry, Journal, Pen};
 use rounds::Teller;
 use sockets::Wire;
+use std::io::Write;
 use tap::{Moments, Outlet, Tapped};
 
 /// A log, which nobody else of a start has at hand.
@@ -31,10 +33,16 @@ pub(crate) fn records_in<L>(log: L) -> Records<L>
 }
 
 impl<L: Drop> Records<L> {
-    /// Lets it go, once it was told of a start no more than it is to be told.
+    /// Lets it go, once it was told of a start no more than it is to be told, by how that ended and what it has printed.
     #[tactic(auto, unfolding(crate::specs::Named::WasClosed))]
-    pub(crate) fn close(self, _start: &Start<'_>)
-        requires told { IsToldSo (path_in _start.now.capture) self }
+    pub(crate) fn close<O: Write>(
+        self,
+        _start: &Start<'_>,
+        _output: &O,
+        _ended: &Result<(), BoxFault>,
+    )
+        requires told { IsToldSo O.contents (path_in _start.now.capture) _ended.now _output.now
+            self }
         ensures { WasClosed (path_in _start.now.capture) }
     {
         drop(self);

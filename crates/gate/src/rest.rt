@@ -7,7 +7,7 @@ ghost use Rattle.inputs.specs.Inputs.{IsUnasked};
 ghost use Rattle.rounds.specs.Clocks.{WasStarted};
 ghost use Rattle.gate.specs.Asked.{IsChosenBy, IsFilter};
 ghost use Rattle.gate.specs.Boots.{AreSystemKeys};
-ghost use Rattle.gate.specs.Failing.{LacksFilter, LacksMemory};
+ghost use Rattle.gate.specs.Failing.{LacksFilter, LacksSeed};
 ghost use Rattle.gate.specs.Named.{IsUntold, WasDrawn, WasGiven, WasUndrawn, all_sockets, seed};
 
 use crate::recording::{Records, records_in};
@@ -56,9 +56,10 @@ impl<R: AllocGlobal> Rest<'_, R> {
     }
 }
 
-impl<'a, R: Eprint + Env + AllocGlobal> Rest<'a, R> {
+impl<'a, R: Env + AllocGlobal> Rest<'a, R> {
     /// The box's records, on the standard error, by the option's filter, or else by the environment's, which were told nothing
-    /// yet; and what a run needs beside them. They are had once its sockets are, and only once: the rest is used up.
+    /// yet, and can't be here; and what a run needs beside them. They are had once its sockets are, and only once: the rest is
+    /// used up.
     #[tactic(auto, unfolding(crate::specs::Named::IsUntold))]
     pub(crate) fn records(
         self,
@@ -90,11 +91,11 @@ impl<R: AllocGlobal> Means<'_, R> {
 impl<R: RandomSource> Means<'_, R> {
     /// The hashers of a seed that is drawn now. Where the system refuses a seed, that is told as memory
     /// that it refuses.
-    #[tactic(auto, unfolding(crate::specs::Named::WasGiven, crate::specs::Named::WasDenied))]
+    #[tactic(auto, unfolding(crate::specs::Named::WasGiven))]
     pub(crate) fn drawn(&self) -> Result<Hashers, BoxFault>
         ensures drawn { IfOk result AreSystemKeys }
         ensures given { OnOk result (WasGiven seed) }
-        ensures err { IfErr result (LacksMemory seed) }
+        ensures err { IfErr result LacksSeed }
     {
         let mut seeds = Seeds::new(self.rt);
         match Hashers::drawn(&mut seeds) {
@@ -153,8 +154,10 @@ impl<R: RandomSource> Seeds<'_, R> {
 }
 
 impl<'a, R: Clock> Means<'a, R> {
-    /// What says when the packets of a capture came.
-    pub(crate) fn moments(&self) -> SinceFirst<'a, R> {
+    /// What says when the packets of a capture came. It wasn't asked yet.
+    pub(crate) fn moments(&self) -> SinceFirst<'a, R>
+        ensures start { result.start ≡ None }
+    {
         SinceFirst::new(self.rt)
     }
 
@@ -182,12 +185,8 @@ impl<'a, R> Means<'a, R> {
     }
 }
 
-/// A log on the standard error, by a filter.
-fn log_by<R: Eprint>(
-    rt: &R,
-    filter: Filter,
-    format: Format,
-) -> FilteredLog<Unhindered<StandardError<&R>>>
+/// A log on the standard error, by a filter. It can't be told anything here.
+fn log_by<R>(rt: &R, filter: Filter, format: Format) -> FilteredLog<Unhindered<StandardError<&R>>>
     ensures rules { filtered_rules result ≡ filter_rules filter }
     ensures format { format_of (filtered_inner result) ≡ format }
 {
@@ -248,7 +247,7 @@ fn said_by_environment<R: Env + AllocGlobal>(rt: &R) -> Result<Option<String>, B
     ensures said { IfOk result (λ text. WasSaid (option_map string_bytes text)) }
     ensures err { IfErr result (LacksFilter None) }
 {
-    match environment(rt) {
+    match environment(&mut journal::Machine::new(rt)) {
         Ok(said) => Ok(said),
         Err(fault) => Err(BoxFault::of_filter(rt.alloc(), fault)),
     }

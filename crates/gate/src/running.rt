@@ -434,7 +434,7 @@ where
                 output,
                 &mut records,
             );
-            records.close(start);
+            records.close(start, output, &ended);
             ended
         }
         Err(fault) => {
@@ -771,6 +771,7 @@ fn rounds_of<C: Clock + Input + AllocGlobal, W: Wire, O: Write, L: Journal>(
         output,
         &mut teller,
     );
+    let_go(until);
     put_away(teller, start, identity.boot);
     served?;
     Ok(())

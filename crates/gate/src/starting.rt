@@ -5,9 +5,9 @@ ghost use Rattle.outlets.specs.Printed.{Prints};
 ghost use Rattle.boot_store.specs.declared.faults.BootFault.{BootFault as Reason};
 ghost use Rattle.boot_store.specs.Crash.{Decides, Keeps as KeepsFile, Rises, Since};
 ghost use Rattle.gate.specs.Boots.{HasBoot, HasStarted, IsIdentity, IsStart, TellsNumber};
-ghost use Rattle.gate.specs.Failing.{LacksLine, LacksMemory, LacksNumber};
+ghost use Rattle.gate.specs.Failing.{LacksGateway, LacksLine, LacksNumber};
 ghost use Rattle.gate.specs.Logs.{IsLikeLog, IsToldOfBoot};
-ghost use Rattle.gate.specs.Named.{IsLeft, IsNumberOf, WasGiven, WasNumbered, WasRecorded, boot_number, new_gateway, seed};
+ghost use Rattle.gate.specs.Named.{IsLeft, IsNumberOf, WasGiven, WasNumbered, WasRecorded, boot_number, seed};
 ghost use Rattle.gate.specs.Orders.{IsInOrder, IsUnstarted};
 ghost use Rattle.gate.specs.Printing.{HasLine, HasNumber, HasPrinted, IsLinePrinted, IsLineRefused, boot_line, boot_text};
 
@@ -136,7 +136,7 @@ fn booted<D: Disk>(
     ensures given { OnOk result (WasGiven boot_number) }
     ensures own_number { OnOk result (IsNumberOf disk.old) }
     ensures err { IfErr result (λ why. LacksNumber why
-        ⊎ (WasGiven boot_number × LacksMemory new_gateway why)) }
+        ⊎ (WasGiven boot_number × LacksGateway why)) }
     ensures left { (answer : Result ℕ Reason) × WasNumbered disk.old answer disk.new }
     ensures rises { D.honest disk.old
         → IfOk result (λ start. Rises (D.now disk.old) (D.now disk.new) (Ok start.0)) }
@@ -188,7 +188,7 @@ fn begun(
     requires boot { 0 < boot }
     requires found { IsTrue found → id ≡ Zero }
     ensures start { IfOk result (IsStart settings.now id found hashers boot) }
-    ensures err { IfErr result (LacksMemory new_gateway) }
+    ensures err { IfErr result LacksGateway }
 {
     let gateway = Gateway::new(alloc, settings, id, boot, found, hashers)?;
     Ok(gateway)

@@ -35,11 +35,16 @@ BindsAll binds [] b (port ∷ ports) b2 = ⊥
 BindsAll binds (n ∷ ns) b [] b2 = ⊥
 BindsAll {B = B} binds (n ∷ ns) b (port ∷ ports) b2 = (next : B) × (BindsPort binds n b (Ok port) next × BindsAll binds ns next ports b2)
 
--- one of them isn't had, for this; those before it were, and none behind it was asked for
+-- A port that was had, or those of a gateway, were given up, as they were. It is no more than a name: of who gives them up nothing is known where he has
+-- it, but that they are gone.
+unfoldable pub WasGivenUp : {X : Type 0} → X → Type 0
+WasGivenUp had = Unit {0}
+
+-- one of them isn't had, for this; those before it were, and were given up; none behind it was asked for
 abbrev pub RefusesOne : {B S : Type 0} → Binds B S → List ℕ → B → PortFault → B → Type 0
 RefusesOne binds [] b why b2 = ⊥
 RefusesOne {B = B} {S = S} binds (n ∷ ns) b why b2 = BindsPort binds n b (Err why) b2
-    ⊎ ((port : Port S) × ((next : B) × (BindsPort binds n b (Ok port) next × RefusesOne binds ns next why b2)))
+    ⊎ ((port : Port S) × ((next : B) × (BindsPort binds n b (Ok port) next × (RefusesOne binds ns next why b2 × WasGivenUp port))))
 
 -- a gateway's, in the order in which they are asked for
 abbrev pub numbers_of : GatewaySettings → List ℕ
@@ -53,12 +58,13 @@ abbrev pub BindsPorts : {B S : Type 0} → Binds B S → GatewaySettings → B �
 BindsPorts binds own b (Ok ports) b2 = BindsAll binds (numbers_of own) b (ports_of ports) b2
 BindsPorts binds own b (Err why) b2 = RefusesOne binds (numbers_of own) b why b2
 
--- those of both are, gateway 0's first
+-- those of both are, gateway 0's first, which are given up where a later one isn't had
 abbrev pub BindsBoth : {B S : Type 0} → Binds B S → Settings → B → Result (Both S) PortFault → B → Type 0
 BindsBoth {B = B} binds settings b (Ok both) b2 =
     (next : B) × (BindsPorts binds settings.zero b (Ok both.zero) next × BindsPorts binds settings.one next (Ok both.one) b2)
 BindsBoth {B = B} {S = S} binds settings b (Err why) b2 = BindsPorts binds settings.zero b (Err why) b2
-    ⊎ ((ports : Ports S) × ((next : B) × (BindsPorts binds settings.zero b (Ok ports) next × BindsPorts binds settings.one next (Err why) b2)))
+    ⊎ ((ports : Ports S) × ((next : B) × (BindsPorts binds settings.zero b (Ok ports) next
+    × (BindsPorts binds settings.one next (Err why) b2 × WasGivenUp ports))))
 
 -- ---- by the system
 

@@ -1,7 +1,7 @@
 //! A passage through UDP sockets on the loopback address.
 ghost use Rattle.std.specs.Prelude.{◌≡◌, IfOk};
 ghost use Rattle.loopback_run.specs.Held.{AreOf, AreOfBoth, AsksOne, AsksOneOf, AsksPort};
-ghost use Rattle.loopback_run.specs.Binding.{BindsBoth, BindsPort, BindsPorts};
+ghost use Rattle.loopback_run.specs.Binding.{BindsBoth, BindsPort, BindsPorts, WasGivenUp};
 
 use crate::carriers::{Binds, Carries, Unbound};
 use crate::machine::{SystemBinds, SystemPort};
@@ -10,6 +10,12 @@ use nat_types::{GatewayId, Side};
 use settings::{GatewaySettings, Settings};
 use sockets::Place;
 use std::snapshot::Snapshot;
+
+/// Gives up what was had. Of what it is nothing is known here, so nothing else can be done with it.
+#[tactic(auto, unfolding(crate::specs::Binding::WasGivenUp))]
+fn give_up<X: Drop>(_had: X)
+    ensures { WasGivenUp _had }
+{}
 
 /// A port that sends to itself: its number, and what carries its bytes.
 #[derive(Drop)]
@@ -56,8 +62,21 @@ impl<S: Drop> Ports<S> {
         ensures bound { BindsPorts B.binds own.now system.old result system.new }
     {
         let link = Port::bind(system, own.link)?;
-        let inside = Port::bind(system, own.inside_port)?;
-        let outside = Port::bind(system, own.outside_port)?;
+        let inside = match Port::bind(system, own.inside_port) {
+            Ok(inside) => inside,
+            Err(fault) => {
+                give_up(link);
+                return Err(fault);
+            }
+        };
+        let outside = match Port::bind(system, own.outside_port) {
+            Ok(outside) => outside,
+            Err(fault) => {
+                give_up(link);
+                give_up(inside);
+                return Err(fault);
+            }
+        };
         Ok(Ports {
             link,
             inside,
@@ -94,8 +113,13 @@ impl<S: Drop> Both<S> {
         ensures bound { BindsBoth B.binds settings.now system.old result system.new }
     {
         let zero = Ports::bind(system, settings.gateway(GatewayId::Zero))?;
-        let one = Ports::bind(system, settings.gateway(GatewayId::One))?;
-        Ok(Both { zero, one })
+        match Ports::bind(system, settings.gateway(GatewayId::One)) {
+            Ok(one) => Ok(Both { zero, one }),
+            Err(fault) => {
+                give_up(zero);
+                Err(fault)
+            }
+        }
     }
 }
 

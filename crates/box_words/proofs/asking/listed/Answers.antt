@@ -3,7 +3,8 @@ use Rattle.box_words.proofs.asking.listed.Goals as goal
 
 pub returns-clause-listed : goal.returns-clause-listed
 returns-clause-listed g c =
-    reached_listed _ _ _ _ _ _ _ _ _ _ _ _ c.in_ok-line.ensures.reached c.in_ok-line.ensures.beside c.in_ok-listed_at.ensures.listed c.in_ok-told_to_flush.ensures.bytes
+    reached_listed _ g.O.Write.contents _ _ _ _ _ _ _ _ _ _ _ c.in_ok-line.ensures.reached c.in_ok-line.ensures.beside c.in_ok-listed_at.ensures.listed
+    c.in_ok-told_to_flush.ensures.bytes c.in_ok-told_to_flush.ensures.flushed
 
 pub returns-in_err-listed_at-clause-failed : goal.returns-in_err-listed_at-clause-failed
 returns-in_err-listed_at-clause-failed g c =

@@ -3,11 +3,11 @@ use Rattle.box_words.proofs.Doing.{first_broken, first_page, handed_on, next_bro
 use Rattle.box_words.proofs.asking.listed_at.Goals as goal
 
 pub loop-init : goal.loop-init
-loop-init g c = first_page _ _ _ _ _ _ _ _ c.in_ok-next.ensures.page
+loop-init g c = first_page _ g.O.Write.contents _ _ _ _ _ _ _ c.in_ok-next.ensures.page
 
 pub loop-preserved : goal.loop-preserved
 loop-preserved g c =
-    one_page_more _ _ _ _ _ _ _ _ _ _ _ _ _ c.loop.invariant c.in_ok-next-2.ensures.page (omega arith) (some_left _ _ c.is_none.ensures c.if-is_none.false)
+    one_page_more _ g.O.Write.contents _ _ _ _ _ _ _ _ _ _ _ _ c.loop.invariant c.in_ok-next-2.ensures.page (omega arith) (some_left _ _ c.is_none.ensures c.if-is_none.false)
 
 pub returns-in_err-next-clause-broken : goal.returns-in_err-next-clause-broken
 returns-in_err-next-clause-broken g c = handed_on c.from_residual.result _ _ c.from_residual.ensures.1

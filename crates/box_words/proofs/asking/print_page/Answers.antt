@@ -1,9 +1,14 @@
-use Rattle.std.proofs.Common.{◌∙◌, List, ℕ, inl, refl, subst}
+use Rattle.std.proofs.Common.{◌∙◌, List, Ok, ℕ, inl, refl, subst}
 use Rattle.faults.specs.declared.faults.Fault.TheVariants.{NoMemory, NotWritten}
 use Rattle.std.specs.Io.KnownBytes.{Appends}
+use Rattle.outlets.specs.Outputs.{WasPut}
 use Rattle.box_words.specs.declared.refusals.BoxFault.TheVariants.{Run}
 use Rattle.box_words.proofs.Doing.{handed_on, refused_in}
 use Rattle.box_words.proofs.asking.print_page.Goals as goal
+
+pub returns-clause-put : goal.returns-clause-put
+returns-clause-put g c = subst (λ (bs : List ℕ). WasPut c.args.output.now bs (Ok tt) c.told_to_put.new.output)
+    (c.as_slice.ensures.value ∙ c.in_ok-lines.ensures.text) c.in_ok-told_to_put.ensures.put
 
 pub returns-clause-written : goal.returns-clause-written
 returns-clause-written g c =

@@ -14,7 +14,7 @@ pub returns-in-Ok-clause-done : goal.returns-in-Ok-clause-done
 returns-in-Ok-clause-done g c h = record { asked = _; answer = c.in-Ok.ensures.task; ends = c.done.ensures.done h }
 
 pub returns-in-Ok-clause-acts : goal.returns-in-Ok-clause-acts
-returns-in-Ok-clause-acts g c = inl (_, (c.in-Ok.ensures.task, (c.done.ensures.spared, c.done.ensures.acts)))
+returns-in-Ok-clause-acts g c = inl (_, (c.in-Ok.ensures.task, (c.done.ensures.spared, (c.done.ensures.idle, c.done.ensures.acts))))
 
 pub returns-in-Err-clause-refused : goal.returns-in-Err-clause-refused
 returns-in-Err-clause-refused g c h others = of_fault _ _ c.tell.ensures.status
@@ -31,15 +31,18 @@ returns-in-Err-clause-told g c two = (c.in-Err.fault, (c.in-Err.ensures.refused,
 pub returns-in-Err-clause-acts : goal.returns-in-Err-clause-acts
 returns-in-Err-clause-acts g c = inr (
   refl,
-  record {
-    fault = c.in-Err.fault;
-    why = c.in-Err.ensures.refused;
-    is_status = c.tell.ensures.status;
-    undone = refl;
-    uncaptured = refl;
-    unprinted = refl;
-    told = c.tell.ensures.told;
-  },
+  (
+    refl,
+    record {
+      fault = c.in-Err.fault;
+      why = c.in-Err.ensures.refused;
+      is_status = c.tell.ensures.status;
+      undone = refl;
+      uncaptured = refl;
+      unprinted = refl;
+      told = c.tell.ensures.told;
+    },
+  ),
 )
 
 pub returns-in-Err-clause-quiet : goal.returns-in-Err-clause-quiet

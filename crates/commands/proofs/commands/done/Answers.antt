@@ -172,7 +172,7 @@ pub returns-in-Version-clause-quiet : goal.returns-in-Version-clause-quiet
 returns-in-Version-clause-quiet g c unwatched h = c.tell_version.ensures.quiet (is_0 _ c.tell_version.ensures.status h)
 
 pub returns-in-Sim-clause-quiet : goal.returns-in-Sim-clause-quiet
-returns-in-Sim-clause-quiet g c unwatched h = (c.sim.ensures.named h).told.1 unwatched
+returns-in-Sim-clause-quiet g c unwatched h = ((c.sim.ensures.named h).told.1 unwatched).0
 
 pub returns-in-Loop-clause-quiet : goal.returns-in-Loop-clause-quiet
 returns-in-Loop-clause-quiet g c unwatched h = (c.repeat.ensures.repeats.0 h).quiet
@@ -209,3 +209,36 @@ returns-in-Version-clause-spared g c = rw c.in-Version.is refl
 
 pub returns-in-Loop-clause-spared : goal.returns-in-Loop-clause-spared
 returns-in-Loop-clause-spared g c = rw c.in-Loop.is tt
+
+pub returns-in-Init-clause-idle : goal.returns-in-Init-clause-idle
+returns-in-Init-clause-idle g c = rw c.in-Init.is refl
+
+pub returns-in-Check-clause-idle : goal.returns-in-Check-clause-idle
+returns-in-Check-clause-idle g c = rw c.in-Check.is refl
+
+pub returns-in-Gate-clause-idle : goal.returns-in-Gate-clause-idle
+returns-in-Gate-clause-idle g c = rw c.in-Gate.is refl
+
+pub returns-in-Status-clause-idle : goal.returns-in-Status-clause-idle
+returns-in-Status-clause-idle g c = rw c.in-Status.is refl
+
+pub returns-in-Pairs-clause-idle : goal.returns-in-Pairs-clause-idle
+returns-in-Pairs-clause-idle g c = rw c.in-Pairs.is refl
+
+pub returns-in-Stop-clause-idle : goal.returns-in-Stop-clause-idle
+returns-in-Stop-clause-idle g c = rw c.in-Stop.is refl
+
+pub returns-in-PeerOff-clause-idle : goal.returns-in-PeerOff-clause-idle
+returns-in-PeerOff-clause-idle g c = rw c.in-PeerOff.is refl
+
+pub returns-in-Side-clause-idle : goal.returns-in-Side-clause-idle
+returns-in-Side-clause-idle g c = rw c.in-Side.is refl
+
+pub returns-in-Loop-clause-idle : goal.returns-in-Loop-clause-idle
+returns-in-Loop-clause-idle g c = rw c.in-Loop.is refl
+
+pub returns-in-Version-clause-idle : goal.returns-in-Version-clause-idle
+returns-in-Version-clause-idle g c = rw c.in-Version.is refl
+
+pub returns-in-Sim-clause-idle : goal.returns-in-Sim-clause-idle
+returns-in-Sim-clause-idle g c = rw c.in-Sim.is tt

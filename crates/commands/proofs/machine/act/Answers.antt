@@ -12,6 +12,7 @@ returns-clause-acts g c = record {
   host_is = c.new-host.ensures;
   first_is = c.new-passage.ensures;
   clock = _;
+  clock2 = _;
   acted = c.act_at.ensures.acts;
 }
 

@@ -37,9 +37,9 @@ returns-in-Ok-clause-failed g c one =
       text = _;
       script = _;
       are_read = c.in-Ok.ensures.read;
-      told = rw c.in-None.is (told_behind_as g.E.Tells.tells (Overhears c.args.is_watched g.C.Clockwork.reads g.E.Tells.tells c.args.clock _ _ c.args.output.now) _ _ c.args.errors.now c.simulated.new.errors failed (λ times why fails. (refl, fails)));
+      told = rw c.in-None.is (told_behind_as g.E.Tells.tells (Overhears c.args.is_watched g.C.Clockwork.reads g.E.Tells.tells c.args.clock.now c.simulated.new.clock _ _ c.args.output.now) _ _ c.args.errors.now c.simulated.new.errors failed (λ times why fails. (refl, fails)));
     })
 
 pub returns-clause-failed : goal.returns-clause-failed
 returns-clause-failed g c one =
-    inl (c.in-Err.fault, ((c.in-Err.ensures.unread, refl, refl), c.tell.ensures.told))
+    inl (refl, (c.in-Err.fault, ((c.in-Err.ensures.unread, refl, refl), c.tell.ensures.told)))

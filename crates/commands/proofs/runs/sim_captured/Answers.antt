@@ -16,7 +16,7 @@ returns-in-Err-clause-captured g c done = isnt_1 _ (c.tell.ensures.status ∙ c.
 
 pub returns-in-Ok-begin-clause-heard : goal.returns-in-Ok-begin-clause-heard
 returns-in-Ok-begin-clause-heard g c h =
-    heard_of _ _ _ _ _ _ _ _ _ _ _ _ _ c.in-Ok.ensures.job c.taped-run.ensures.heard (c.ended.ensures.run h) (c.ended.ensures.quiet h)
+    heard_of _ _ _ _ _ _ _ _ _ _ _ _ _ _ c.in-Ok.ensures.job c.taped-run.ensures.heard (c.ended.ensures.run h) (c.ended.ensures.quiet h)
 
 pub returns-in-Err-clause-heard : goal.returns-in-Err-clause-heard
 returns-in-Err-clause-heard g c done = isnt_1 _ (c.tell.ensures.status ∙ c.in-Err.ensures.known) done
@@ -24,7 +24,7 @@ returns-in-Err-clause-heard g c done = isnt_1 _ (c.tell.ensures.status ∙ c.in-
 pub returns-in-Ok-begin-clause-failed : goal.returns-in-Ok-begin-clause-failed
 returns-in-Ok-begin-clause-failed g c one =
     let ran = tapes_sim c.taped-run.result g.H.Record.Tape.takes g.H.Record.Tape.refuses g.O.Write.contents c.args.is_watched g.C.Clockwork.reads
-    g.E.Tells.tells c.args.clock c.args.settings.now c.args.script.now c.in-Ok.job c.in-Ok-begin.tape c.taped-run.new.tape c.args.output.now
+    g.E.Tells.tells c.args.clock.now c.taped-run.new.clock c.args.settings.now c.args.script.now c.in-Ok.job c.in-Ok-begin.tape c.taped-run.new.tape c.args.output.now
     c.taped-run.new.output c.args.errors.now c.taped-run.new.errors c.in-Ok.ensures.job c.in-Ok.ensures.good c.taped-run.ensures.run
     c.taped-run.ensures.heard c.taped-run.ensures.told c.taped-run.ensures.stopped in (
       ran.0,

@@ -14,9 +14,10 @@ returns-then-is_watched-clause-heard g c =
         heard.whole,
         (
           λ watched. record {
-            last = telling last.clock last.next last.is_refused last.errors.now;
+            last = telling last.clock.now last.next last.is_refused last.errors.now;
             told = rw (← new.clock, ← new.next, ← new.is_refused, ← new.errors) heard.told;
-            is_last = grind (arith, c.taped_metered.ensures.same_reference, new.same_reference, c.drop-meter.ensures);
+            is_last = grind (arith, c.taped_metered.ensures.same_reference, new.same_reference, c.drop-meter.ensures.errors);
+            is_clock = grind (arith, c.taped_metered.ensures.same_clock, new.same_clock, c.drop-meter.ensures.clock);
           },
           λ unwatched. absurd (cc),
         ),
@@ -32,9 +33,10 @@ returns-then-is_watched-clause-stopped g c =
       (
         (
           λ watched. record {
-            last = telling last.clock last.next last.is_refused last.errors.now;
+            last = telling last.clock.now last.next last.is_refused last.errors.now;
             told = rw (← new.clock, ← new.next, ← new.is_refused, ← new.errors) heard.told;
-            is_last = grind (arith, c.taped_metered.ensures.same_reference, new.same_reference, c.drop-meter.ensures);
+            is_last = grind (arith, c.taped_metered.ensures.same_reference, new.same_reference, c.drop-meter.ensures.errors);
+            is_clock = grind (arith, c.taped_metered.ensures.same_clock, new.same_clock, c.drop-meter.ensures.clock);
           },
           λ unwatched. absurd (cc),
         ),
@@ -52,12 +54,12 @@ pub returns-else-is_watched-clause-heard : goal.returns-else-is_watched-clause-h
 returns-else-is_watched-clause-heard g c =
     on_ok c.play.result c.play.ensures.watched (λ heard. (
       heard.times,
-      (rw c.as_slice-events.ensures.value at heard.whole, (λ watched. absurd (cc), λ unwatched. refl)),
+      (rw c.as_slice-events.ensures.value at heard.whole, (λ watched. absurd (cc), λ unwatched. (refl, refl))),
     ))
 
 pub returns-else-is_watched-clause-stopped : goal.returns-else-is_watched-clause-stopped
 returns-else-is_watched-clause-stopped g c =
     if_err c.play.result c.play.ensures.stopped (λ why heard. (
       heard.times,
-      ((λ watched. absurd (cc), λ unwatched. refl), rw c.as_slice-events.ensures.value at heard.ended),
+      ((λ watched. absurd (cc), λ unwatched. (refl, refl)), rw c.as_slice-events.ensures.value at heard.ended),
     ))

@@ -11,9 +11,10 @@ returns-clause-heard g c =
       job = heard.job;
       is = heard.is;
       heard = record {
-        last = telling last.clock last.next last.is_refused last.errors.now;
+        last = telling last.clock.now last.next last.is_refused last.errors.now;
         told = rw (← new.clock, ← new.next, ← new.is_refused, ← new.errors) heard.told;
-        is_last = grind (arith, c.metered.ensures.same_reference, new.same_reference, c.drop-meter.ensures);
+        is_last = grind (arith, c.metered.ensures.same_reference, new.same_reference, c.drop-meter.ensures.errors);
+        is_clock = grind (arith, c.metered.ensures.same_clock, new.same_clock, c.drop-meter.ensures.clock);
       };
     })
 
@@ -25,9 +26,10 @@ returns-clause-leaves g c =
       heard.times,
       (
         record {
-          last = telling last.clock last.next last.is_refused last.errors.now;
+          last = telling last.clock.now last.next last.is_refused last.errors.now;
           told = rw (← new.clock, ← new.next, ← new.is_refused, ← new.errors) heard.told;
-          is_last = grind (arith, c.metered.ensures.same_reference, new.same_reference, c.drop-meter.ensures);
+          is_last = grind (arith, c.metered.ensures.same_reference, new.same_reference, c.drop-meter.ensures.errors);
+          is_clock = grind (arith, c.metered.ensures.same_clock, new.same_clock, c.drop-meter.ensures.clock);
         },
         heard.ended,
       ),

@@ -4,6 +4,7 @@ use Rattle.gate.specs.Failing.{LacksFilter}
 use Rattle.gate.specs.Sparing.{FailsLogged}
 use Rattle.gate.proofs.Asking.{none_asked}
 use Rattle.gate.specs.Named.{WasClosed}
+use Rattle.gate.proofs.Recorded.{told_at_refusal}
 use Rattle.gate.proofs.Refusing.{behind_it}
 use Rattle.gate.proofs.Serving.{always}
 use Rattle.gate.proofs.running.logged.Goals as goal
@@ -35,7 +36,18 @@ pub returns-in-Err-clause-asks : goal.returns-in-Err-clause-asks
 returns-in-Err-clause-asks g c = none_asked _ _
 
 pub close-requires : goal.close-requires
-close-requires g c = record { told = (_, (c.in-Ok.ensures.untold, c.captured-ended.ensures.told)) }
+close-requires g c = record {
+  told = (
+    _,
+    (
+      c.in-Ok.ensures.untold,
+      (
+        c.captured-ended.ensures.recorded,
+        told_at_refusal c.captured-ended.result g.O.Write.contents _ _ _ _ _ c.captured-ended.ensures.told c.captured-ended.ensures.unrecorded,
+      ),
+    ),
+  );
+}
 
 pub returns-in-Ok-clause-closed : goal.returns-in-Ok-clause-closed
 returns-in-Ok-clause-closed g c = always c.captured-ended.result _ c.close.ensures

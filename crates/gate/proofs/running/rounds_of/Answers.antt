@@ -13,7 +13,7 @@ pub returns-clause-runs : goal.returns-clause-runs
 returns-clause-runs g c =
     runs_on (calls g.W.Wire.does g.W.Wire.answers) (wire_says g.W.Wire.waits g.W.Wire.failing g.W.Wire.lost) _ _ _ _ _ _ _ _ _ _ _ _ _ _ _
     c.requires.fresh.untold c.stopwatch-clock.ensures.start c.stopwatch-clock.ensures.read c.new-until.ensures c.input.ensures.watched c.input.ensures.unasked
-    c.serve-served.ensures.rounds.run c.serve-served.ensures.rounds.shown c.serve-served.ensures.rounds.wire_is _ (_, (c.ready.ensures, c.serve-served.ensures.rounds.told)) (WasToldRun c.args.start.now c.args.identity.boot)
+    c.serve-served.ensures.rounds.run c.serve-served.ensures.rounds.shown c.serve-served.ensures.rounds.wire_is c.let_go.ensures _ (_, (c.ready.ensures, c.serve-served.ensures.rounds.told)) (WasToldRun c.args.start.now c.args.identity.boot)
     (told_run c.args.start.now c.args.identity.boot _ _ c.serve-served.ensures.rounds.told_is
     (c.put_away.ensures c.args.teller (record { own = c.requires.teller; log = c.requires.log; untold = c.requires.fresh.untold }) c.serve-served.ensures.handed))
 
@@ -21,7 +21,7 @@ pub returns-in_err-served-clause-runs : goal.returns-in_err-served-clause-runs
 returns-in_err-served-clause-runs g c =
     runs_on (calls g.W.Wire.does g.W.Wire.answers) (wire_says g.W.Wire.waits g.W.Wire.failing g.W.Wire.lost) _ _ _ _ _ _ _ _ _ _ _ _ _ _ _
     c.requires.fresh.untold c.stopwatch-clock.ensures.start c.stopwatch-clock.ensures.read c.new-until.ensures c.input.ensures.watched c.input.ensures.unasked
-    c.serve-served.ensures.rounds.run c.serve-served.ensures.rounds.shown c.serve-served.ensures.rounds.wire_is _ (_, (c.ready.ensures, c.serve-served.ensures.rounds.told)) (WasToldRun c.args.start.now c.args.identity.boot)
+    c.serve-served.ensures.rounds.run c.serve-served.ensures.rounds.shown c.serve-served.ensures.rounds.wire_is c.let_go.ensures _ (_, (c.ready.ensures, c.serve-served.ensures.rounds.told)) (WasToldRun c.args.start.now c.args.identity.boot)
     (told_run c.args.start.now c.args.identity.boot _ _ c.serve-served.ensures.rounds.told_is
     (c.put_away.ensures c.args.teller (record { own = c.requires.teller; log = c.requires.log; untold = c.requires.fresh.untold }) c.serve-served.ensures.handed))
 

@@ -1,7 +1,7 @@
-use Rattle.std.proofs.Common.{rules}
+use Rattle.std.proofs.Common.{rules, subst, sym}
 use Rattle.sockets.specs.Boards.{IsRefused, Opens}
 use Rattle.sockets.specs.declared.places.Ports.{Ports}
-use Rattle.box_words.specs.Ends.{IsFirstOf}
+use Rattle.box_words.specs.Ends.{AsksSystem, IsFirstOf, IsFirstRefused, own_ends}
 use Rattle.gate.specs.Asked.{box_ports}
 use Rattle.gate.specs.Named.{WasDenied}
 use Rattle.gate.proofs.Refusing.{of_ports}
@@ -14,7 +14,7 @@ returns-in-Err-NoSocket-clause-err g c =
     let own = box_ports c.args.settings.now c.args.id in (
       tt,
       of_ports (λ (p : Ports). IsFirstOf c.args.ways.now p c.first_refused-end.result.0) ports.result own.link own.inside own.outside ports.ensures.link
-          ports.ensures.inside ports.ensures.outside c.first_refused-end.ensures,
+          ports.ensures.inside ports.ensures.outside c.first_refused-end.ensures.first,
     )
 
 pub returns-in-Ok-clause-opened : goal.returns-in-Ok-clause-opened
@@ -42,8 +42,21 @@ returns-in-Err-NoSocket-clause-unopened g c =
     let own = box_ports c.args.settings.now c.args.id in (
       c.in-Err-NoSocket.field-0,
       (
-        of_ports (λ (p : Ports). IsRefused c.args.self.now.places c.args.ways.now p c.args.control c.in-Err-NoSocket.field-0 c.open.new.machine) ports.result own.link
-            own.inside own.outside ports.ensures.link ports.ensures.inside ports.ensures.outside c.in-Err-NoSocket.ensures.refused,
+        of_ports (λ (p : Ports). IsRefused c.args.self.now.places c.args.ways.now p c.args.control c.in-Err-NoSocket.field-0 c.first_refused-end.new.self.places)
+            ports.result own.link own.inside own.outside ports.ensures.link ports.ensures.inside ports.ensures.outside (
+            subst (λ places. IsRefused c.args.self.now.places c.args.ways.now ports.result c.args.control c.in-Err-NoSocket.field-0 places)
+            (sym c.first_refused-end.ensures.rest.1.1) c.in-Err-NoSocket.ensures.refused
+            ),
         rw c.in-Err-NoSocket.field-0-is tt,
       ),
     )
+
+pub returns-in-Err-NoSocket-clause-ends_told : goal.returns-in-Err-NoSocket-clause-ends_told
+returns-in-Err-NoSocket-clause-ends_told g c =
+    let ports = c.ports_of-ports in
+    let own = box_ports c.args.settings.now c.args.id in
+    of_ports (λ (p : Ports). IsFirstRefused AsksSystem (own_ends c.args.ways.now p) c.args.self.now.ends c.first_refused-end.result.0 c.first_refused-end.new.self.ends)
+    ports.result own.link own.inside own.outside ports.ensures.link ports.ensures.inside ports.ensures.outside c.first_refused-end.ensures.asked
+
+pub returns-in-Err-NoSocket-clause-rest : goal.returns-in-Err-NoSocket-clause-rest
+returns-in-Err-NoSocket-clause-rest g c = (c.first_refused-end.ensures.rest.0, c.first_refused-end.ensures.rest.1.0)

@@ -11,9 +11,8 @@ returns-in_err-zero-clause-bound g c =
     c.gateway.ensures c.in_err-zero.ensures.bound in
     rw (p.1, p.2) (inl refused)
 
-pub returns-in_err-one-clause-bound : goal.returns-in_err-one-clause-bound
-returns-in_err-one-clause-bound g c =
-    let p = err_from_is_err_and c.from_residual-in_err-one.result c.from_residual-in_err-one.ensures.1 in
-    let refused = subst (λ (own : GatewaySettings). BindsPorts g.B.Binds.binds own c.bind.new.system (Err c.in_err-one.field-0.0) c.bind-2.new.system)
-    c.gateway-2.ensures c.in_err-one.ensures.bound in
-    rw (p.1, p.2) (inr (c.in_ok-zero.zero, (c.bind.new.system, (rw (← c.gateway.ensures) c.in_ok-zero.ensures.bound, refused))))
+pub returns-in-Err-clause-bound : goal.returns-in-Err-clause-bound
+returns-in-Err-clause-bound g c =
+    let refused = subst (λ (own : GatewaySettings). BindsPorts g.B.Binds.binds own c.bind.new.system (Err c.in-Err.fault) c.bind-2.new.system)
+    c.gateway-2.ensures c.in-Err.ensures.bound in
+    inr (c.in_ok-zero.zero, (c.bind.new.system, (rw (← c.gateway.ensures) c.in_ok-zero.ensures.bound, (refused, c.give_up.ensures))))
