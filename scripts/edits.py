@@ -27,6 +27,8 @@ import sys
 import tempfile
 
 TOP = pathlib.Path(__file__).resolve().parent.parent
+# What a program of cases may take with one wrong body, which may stand still: the slowest takes a minute and a half.
+LONGEST_RUN = "300"
 PROOF_TEXT = ("Answers.antt", "Invariants.antt", "Proof.antt")
 
 
@@ -173,7 +175,8 @@ def printed(folder):
     words = [word for it in data for word in ("--data", f"{it.name}=data/{it.name}")]
     arguments = (folder / "args").read_text(encoding="utf-8").split("\n") if (folder / "args").exists() else []
     given = [it for it in arguments if it]
-    ran = subprocess.run(["rt", "try", *words, *(["--", *given] if given else [])], cwd=folder, capture_output=True, check=False)
+    call = ["rt", "try", "--seconds", LONGEST_RUN, *words, *(["--", *given] if given else [])]
+    ran = subprocess.run(call, cwd=folder, capture_output=True, check=False)
     return ran.stdout
 
 

@@ -28,6 +28,9 @@ NO_CODE = {
     ".antt": re.compile(r"(?<!\S)--[^\n]*|\{-.*?-\}|" + QUOTED, re.S),
 }
 
+# The name of a call, which may say more of it: behind `Unit {0} ×`.
+CALL = re.compile(r"(?m)^unfoldable pub (\w+) :[^\n]*\n\1(?: [^\n]*)? = Unit \{0\}(?: ×|$)")
+
 
 def crates_of(top):
     """The crates of crates.txt, each with what it stands on."""
@@ -88,7 +91,7 @@ def past_the_door(top, crates):
 def names_of_calls(top, crates):
     for name in crates:
         for path in sorted((top / "crates" / name / "specs").rglob("*.antt")):
-            yield from re.findall(r"(?m)^unfoldable pub (\w+) :[^\n]*\n\1 [^\n]*= Unit \{0\}$", code_of(path))
+            yield from CALL.findall(code_of(path))
 
 
 def has_name(folder, proof, call):
@@ -107,6 +110,97 @@ def looked_into(top, crates):
             for call in sorted(calls & {word for look in looks for word in re.findall(r"\w+", look)}):
                 if not has_name(folder, path, call):
                     yield f"{path.relative_to(top)}: looks into {call}, the name of a call"
+
+
+BROUGHT = re.compile(r"\buse (Rattle\.[\w.-]+?)\.\{([^}]*)\}")
+MODULE = re.compile(r"\buse (Rattle\.[\w.-]+) as (\w+)")
+QUALIFIED = re.compile(r"\b((?:Rattle\.)?[\w.]*\w)\.([A-Za-z_][\w'-]*)")
+WORD = re.compile(r"[A-Za-z_][\w'-]*")
+DEFINED = re.compile(r"(?:(?:abbrev|unfoldable|pub|record|data) )*([A-Za-z_][\w'-]*)")
+KEPT = re.compile(r"ghost (?:invariant|Value) = \{(.*?)\};", re.S)
+STRUCT = re.compile(r"(?ms)^(?:pub(?:\([a-z]+\))? )?struct .*?^\}")
+FIELD = re.compile(r"(?ms)^    ghost \w+: \{(.*?)\},$")
+
+
+def brought_in(code):
+    """What a file brings in, by the word that it has for it: the module of definitions, and the word there. A module that
+    it brings in under a name of its own has one behind a dot."""
+    found = {}
+    for module, words in BROUGHT.findall(code):
+        for one in filter(None, words.split(",")):
+            word, _, here = one.strip().partition(" as ")
+            found[here.strip() or word] = module, word
+    modules = dict((here, module) for module, here in MODULE.findall(code))
+    for owner, word in QUALIFIED.findall(code):
+        if owner in modules or owner.startswith("Rattle."):
+            found[f"{owner}.{word}"] = modules.get(owner, owner), word
+    return found
+
+
+def words_in(text):
+    return set(WORD.findall(text)) | {f"{owner}.{word}" for owner, word in QUALIFIED.findall(text)}
+
+
+def definitions(top, crates):
+    """Each definition of specs/ and proofs/, by its module and word: those that it cites, and which are names of calls."""
+    cited, calls = {}, set()
+    for crate in crates:
+        folder = top / "crates" / crate
+        for path in sorted(it for it in sources_of(folder) if it.suffix == ".antt"):
+            code = code_of(path)
+            module = ".".join(("Rattle", crate, *path.relative_to(folder).with_suffix("").parts))
+            calls |= {(module, word) for word in CALL.findall(code)}
+            blocks = [it for it in re.split(r"\n(?=\S)", code) if DEFINED.match(it) and not re.match(r"(?:pub )?(?:use|mod)\b", it)]
+            known = brought_in(code) | {DEFINED.match(it)[1]: (module, DEFINED.match(it)[1]) for it in blocks}
+            for block in blocks:
+                cited.setdefault((module, DEFINED.match(block)[1]), set()).update(known[it] for it in words_in(block) if it in known)
+            for line in re.findall(r"(?m)^pub use [^\n]*", code):
+                for word, owner in brought_in(line).items():
+                    cited.setdefault((module, word), set()).add(owner)
+    return cited, calls
+
+
+def kept(top, crates):
+    cited, calls = definitions(top, crates)
+    speaking, more = set(), calls
+    while more:
+        speaking |= more
+        more = {word for word, others in cited.items() if others & more} - speaking
+    for crate in crates:
+        for path in sorted((top / "crates" / crate / "src").rglob("*.rt")):
+            code = code_of(path)
+            known = brought_in(code)
+            texts = KEPT.findall(code) + [it for struct in STRUCT.findall(code) for it in FIELD.findall(struct)]
+            words = {word for text in texts for word in words_in(text) if known.get(word) in speaking}
+            for word in sorted(words):
+                yield f"{path.relative_to(top)}: a type keeps {word}, which speaks of a name of a call"
+
+
+OPENED = re.compile(r"#\[tactic\([^\]]*unfolding\(([^\]]*)\)\)\]\s*(?:pub(?:\([a-z]+\))? )?fn (\w+)")
+
+
+def untold_names(top, crates):
+    """Who has the name of a call by his attribute, and stands in no row of his crate in docs/THEOREM.md."""
+    calls = set(names_of_calls(top, crates))
+    rows = [it for it in (top / "docs" / "THEOREM.md").read_text(encoding="utf-8").splitlines() if it.startswith("| `")]
+    for crate in crates:
+        told = {word for row in rows if f"`{crate}`" in row.split("|")[1] for word in re.findall(r"`(\w+)`", row)}
+        for path in sorted((top / "crates" / crate / "src").rglob("*.rt")):
+            for opened, function in OPENED.findall(code_of(path)):
+                words = {it.strip().split("::")[-1] for it in opened.split(",")} & calls
+                if words and function not in told:
+                    yield f"{path.relative_to(top)}: {function} has {min(words)}, the name of a call, and no row of docs/THEOREM.md"
+
+
+NEVER_LET_GO = re.compile(r"\bmem::forget\b|\bmem::\{[^}]*\bforget\b|\bManuallyDrop\b|(?:::|\.)leak\b|\binto_raw\b")
+
+
+def never_let_go(top, crates):
+    """What is forgotten isn't let go, whatever its contract says."""
+    for crate in crates:
+        for path in sorted((top / "crates" / crate / "src").rglob("*.rt")):
+            for found in NEVER_LET_GO.findall(code_of(path)):
+                yield f"{path.relative_to(top)}: {found}: what is forgotten isn't let go"
 
 
 def without_a_sign(top, crates):
@@ -140,7 +234,7 @@ def other_versions(top):
 
 def faults(top):
     crates = crates_of(top)
-    looks = (unused, past_the_door, looked_into, without_a_sign)
+    looks = (unused, past_the_door, looked_into, kept, untold_names, never_let_go, without_a_sign)
     return [line for look in looks for line in look(top, crates)] + list(other_versions(top))
 
 
@@ -170,6 +264,18 @@ def plant(top, fault):
         path = top / "crates" / "control" / "proofs" / "Planted.antt"
         path.write_text("planted = unfolding WasDone in tt\n")
         return "crates/control/proofs/Planted.antt: looks into WasDone"
+    if fault == "invariant":
+        path = top / "crates" / "bindings" / "src" / "planted.rt"
+        path.write_text("ghost use Rattle.slots.specs.Memory as lacks;\nghost invariant = { λ t. lacks.LacksDues t.room };\n")
+        return "crates/bindings/src/planted.rt: a type keeps lacks.LacksDues"
+    if fault == "holder":
+        path = top / "crates" / "bindings" / "src" / "planted.rt"
+        path.write_text("#[tactic(auto, unfolding(memory::specs::Memory::WasRefused))]\nfn planted()\n{}\n")
+        return "crates/bindings/src/planted.rt: planted has WasRefused"
+    if fault == "forgotten":
+        path = top / "crates" / "sums" / "src" / "planted.rt"
+        path.write_text("use std::mem::{forget, swap};\n")
+        return "crates/sums/src/planted.rt: mem::{forget"
     if fault == "version":
         path = top / "crates" / "commands" / "src" / "versions.rt"
         path.write_text(path.read_text().replace("(rattle-kit-", "(another-kit-"))
@@ -180,7 +286,7 @@ def plant(top, fault):
 
 def self_test(top):
     """Each planted fault gives its own line and no other, also where the repository isn't in order yet."""
-    for fault in ("dependency", "lemma", "door", "name", "version", "folder"):
+    for fault in ("dependency", "lemma", "door", "name", "invariant", "holder", "forgotten", "version", "folder"):
         with tempfile.TemporaryDirectory(prefix="house-") as room:
             copy = copy_of(top, pathlib.Path(room))
             before = set(faults(copy))
