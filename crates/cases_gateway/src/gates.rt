@@ -1,6 +1,6 @@
 //! A gateway, as far as a case has to do with it.
 
-use crate::memory::{Memory, Steps};
+use crate::memories::{Memory, Steps};
 use crate::pages::Patience;
 use crate::shown::{Shown, observe_once};
 use crate::stations::Orders;

@@ -12,7 +12,7 @@ mod desks;
 mod failures;
 mod gates;
 mod letters;
-mod memory;
+mod memories;
 mod pages;
 mod refusals;
 mod shown;

@@ -1,7 +1,7 @@
 //! A box whose wire lies in memory.
 
 use crate::gates::Gate;
-use crate::memory::{Letter, Limit, Memory, Outage, Steps};
+use crate::memories::{Letter, Limit, Memory, Outage, Steps};
 use crate::pages::Page;
 use crate::supervisors::Alive;
 use cases_words::Case;

@@ -1,7 +1,7 @@
 //! Boot files in the working folder, one call a line.
 
 use crate::disks::started;
-use boot_file::{create, open};
+use boot_file::{Machine, create, open};
 use cases_words::{Actor, Case};
 use std::fs;
 use std::os::unix::fs::PermissionsExt;
@@ -35,7 +35,7 @@ fn answer(rt: &HostRuntime, case: &mut Case) {
 
 fn make(rt: &HostRuntime, case: &mut Case) {
     let path = case.name();
-    match create(rt, path.as_str()) {
+    match create(&mut Machine::new(rt), path.as_str()) {
         Ok(_) => show(rt, path.as_str(), "made", case),
         Err(fault) => case.refused(fault),
     }
@@ -61,7 +61,7 @@ fn show(rt: &HostRuntime, path: &str, answer: &str, case: &mut Case) {
 
 fn start(rt: &HostRuntime, found: bool, case: &mut Case) {
     let path = case.name();
-    match open(rt, path.as_str()) {
+    match open(&mut Machine::new(rt), path.as_str()) {
         Ok(mut disk) => {
             started(&mut disk, found, case);
             show(rt, path.as_str(), "", case);

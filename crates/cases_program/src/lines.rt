@@ -1,7 +1,7 @@
 //! A line of the list: which script is run, and through what.
 
 use crate::files::text_at;
-use crate::memory::Memory;
+use crate::memories::Memory;
 use crate::rows::status_of;
 use anyhow::Result;
 use cases_words::{Actor, Case};

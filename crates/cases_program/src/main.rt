@@ -16,7 +16,7 @@ mod full;
 mod lines;
 mod listening;
 mod lists;
-mod memory;
+mod memories;
 mod memory_blocks;
 mod narrow;
 mod reading;

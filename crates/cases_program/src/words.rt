@@ -84,7 +84,7 @@ fn heard(rt: &HostRuntime, case: &mut Case) {
 
 /// The same, while a box runs on a boot file.
 fn held(rt: &HostRuntime, case: &mut Case) {
-    match boot_file::open(rt, case.word()) {
+    match boot_file::open(&mut boot_file::Machine::new(rt), case.word()) {
         Ok(disk) => {
             acted(rt, case);
             drop(disk);

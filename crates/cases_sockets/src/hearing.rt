@@ -1,6 +1,6 @@
 //! A place over a conduit in memory.
 
-use crate::memory::{Letter, Memory};
+use crate::memories::{Letter, Memory};
 use crate::telling::tell_losses;
 use cases_words::{Actor, Case};
 use sockets::{Attachment, End, FarEnd, LONGEST, Network, Sender};

@@ -11,7 +11,7 @@ mod files;
 mod hearing;
 mod journals;
 mod managers;
-mod memory;
+mod memories;
 mod pages;
 mod sheets;
 mod speaking;

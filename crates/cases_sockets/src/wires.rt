@@ -2,7 +2,7 @@
 ghost use Rattle.std.specs.Prelude.{◌≡◌, ◌≤◌, IfOk, IfSome};
 ghost use Rattle.sockets.specs.Letters.{AnyCall};
 
-use crate::memory::copied;
+use crate::memories::copied;
 use crate::words::{name_of, shown};
 use sockets::{LONGEST, Losses, Place, Wire, WireFault};
 use std::cell::RefCell;
