@@ -11,15 +11,15 @@ returns-in-Ok-begin-clause-captured g c h =
     captured_of _ _ _ g.O.Write.contents _ _ _ _ _ _ _ _ _ _ _ _ c.in-Ok.ensures.job c.in-Ok.ensures.good c.in-Ok-begin.ensures.begun
     c.taped-run.ensures.run (c.ended.ensures.run h) (ended_of _ _ c.end-written.ensures.ended c.ended.ensures.written h)
 
-pub returns-in-Err-clause-captured : goal.returns-in-Err-clause-captured
-returns-in-Err-clause-captured g c done = isnt_1 _ (c.tell.ensures.status ∙ c.in-Err.ensures.known) done
+pub returns-clause-captured : goal.returns-clause-captured
+returns-clause-captured g c done = isnt_1 _ (c.tell.ensures.status ∙ c.in-Err.ensures.known) done
 
 pub returns-in-Ok-begin-clause-heard : goal.returns-in-Ok-begin-clause-heard
 returns-in-Ok-begin-clause-heard g c h =
     heard_of _ _ _ _ _ _ _ _ _ _ _ _ _ _ c.in-Ok.ensures.job c.taped-run.ensures.heard (c.ended.ensures.run h) (c.ended.ensures.quiet h)
 
-pub returns-in-Err-clause-heard : goal.returns-in-Err-clause-heard
-returns-in-Err-clause-heard g c done = isnt_1 _ (c.tell.ensures.status ∙ c.in-Err.ensures.known) done
+pub returns-clause-heard : goal.returns-clause-heard
+returns-clause-heard g c done = isnt_1 _ (c.tell.ensures.status ∙ c.in-Err.ensures.known) done
 
 pub returns-in-Ok-begin-clause-failed : goal.returns-in-Ok-begin-clause-failed
 returns-in-Ok-begin-clause-failed g c one =
@@ -46,8 +46,8 @@ returns-in-Ok-begin-clause-failed g c one =
       ),
     )
 
-pub returns-in-Err-begin-clause-failed : goal.returns-in-Err-begin-clause-failed
-returns-in-Err-begin-clause-failed g c one = (
+pub returns-in-Ok-clause-failed : goal.returns-in-Ok-clause-failed
+returns-in-Ok-clause-failed g c one = (
   0,
   (
     c.args.errors.now,
@@ -68,8 +68,8 @@ returns-in-Err-begin-clause-failed g c one = (
   ),
 )
 
-pub returns-in-Err-clause-failed : goal.returns-in-Err-clause-failed
-returns-in-Err-clause-failed g c one = (
+pub returns-clause-failed : goal.returns-clause-failed
+returns-clause-failed g c one = (
   0,
   (
     c.args.errors.now,
