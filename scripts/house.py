@@ -141,22 +141,28 @@ def words_in(text):
     return set(WORD.findall(text)) | {f"{owner}.{word}" for owner, word in QUALIFIED.findall(text)}
 
 
+@functools.cache
+def defined_in(module, code):
+    """Each definition of a file with those that it cites, and which of them are names of calls."""
+    calls = [(module, word) for word in CALL.findall(code)]
+    blocks = [it for it in re.split(r"\n(?=\S)", code) if DEFINED.match(it) and not re.match(r"(?:pub )?(?:use|mod)\b", it)]
+    known = brought_in(code) | {DEFINED.match(it)[1]: (module, DEFINED.match(it)[1]) for it in blocks}
+    cited = [((module, DEFINED.match(block)[1]), known[it]) for block in blocks for it in words_in(block) if it in known]
+    shown = [((module, word), owner) for line in re.findall(r"(?m)^pub use [^\n]*", code) for word, owner in brought_in(line).items()]
+    return cited + shown, calls
+
+
 def definitions(top, crates):
     """Each definition of specs/ and proofs/, by its module and word: those that it cites, and which are names of calls."""
     cited, calls = {}, set()
     for crate in crates:
         folder = top / "crates" / crate
         for path in sorted(it for it in sources_of(folder) if it.suffix == ".antt"):
-            code = code_of(path)
             module = ".".join(("Rattle", crate, *path.relative_to(folder).with_suffix("").parts))
-            calls |= {(module, word) for word in CALL.findall(code)}
-            blocks = [it for it in re.split(r"\n(?=\S)", code) if DEFINED.match(it) and not re.match(r"(?:pub )?(?:use|mod)\b", it)]
-            known = brought_in(code) | {DEFINED.match(it)[1]: (module, DEFINED.match(it)[1]) for it in blocks}
-            for block in blocks:
-                cited.setdefault((module, DEFINED.match(block)[1]), set()).update(known[it] for it in words_in(block) if it in known)
-            for line in re.findall(r"(?m)^pub use [^\n]*", code):
-                for word, owner in brought_in(line).items():
-                    cited.setdefault((module, word), set()).add(owner)
+            here, named = defined_in(module, code_of(path))
+            calls.update(named)
+            for word, other in here:
+                cited.setdefault(word, set()).add(other)
     return cited, calls
 
 
@@ -244,38 +250,36 @@ def copy_of(top, room):
     return copy
 
 
+# A fault that is one file more: where in crates/ it is planted, its text, and the beginning of what is said of it.
+PLANTED = {
+    "lemma": ("rewrite/proofs/Planted.antt",
+              "use Rattle.sums.proofs.Planted.{a}\nuse Rattle.sums.proofs.Offered.{b}\n", "cites sums's Planted"),
+    "name": ("control/proofs/Planted.antt", "planted = unfolding WasDone in tt\n", "looks into WasDone"),
+    "invariant": ("bindings/src/planted.rt",
+                  "ghost use Rattle.slots.specs.Memory as lacks;\nghost invariant = { λ t. lacks.LacksDues t.room };\n",
+                  "a type keeps lacks.LacksDues"),
+    "holder": ("bindings/src/planted.rt",
+               "#[tactic(auto, unfolding(memory::specs::Memory::WasRefused))]\nfn planted()\n{}\n", "planted has WasRefused"),
+    "forgotten": ("sums/src/planted.rt", "use std::mem::{forget, swap};\n", "mem::{forget"),
+}
+
+
 def plant(top, fault):
     """Makes a copy wrong in one way; gives the beginning of the one line that has to be said of it."""
+    if fault in PLANTED:
+        place, text, said = PLANTED[fault]
+        (top / "crates" / place).write_text(text)
+        return f"crates/{place}: {said}"
     if fault == "dependency":
         path = top / "crates.txt"
         path.write_text(re.sub(r"(?m)^(sums:.*)$", r"\1 slab", path.read_text()))
         path = top / "crates" / "sums" / "src" / "planted.rt"
         path.write_text('//! slab::Slab, in a comment\nconst TEXT: &str = "slab::Slab";\n')
         return "crates.txt: sums names slab nowhere"
-    if fault == "lemma":
-        path = top / "crates" / "rewrite" / "proofs" / "Planted.antt"
-        path.write_text("use Rattle.sums.proofs.Planted.{a}\nuse Rattle.sums.proofs.Offered.{b}\n")
-        return "crates/rewrite/proofs/Planted.antt: cites sums's Planted"
     if fault == "door":
         path = top / "crates" / "sums" / "proofs" / "Lib.antt"
         path.write_text(path.read_text() + "\npub mod Planted\n")
         return "crates/sums/proofs/Lib.antt: shows Planted"
-    if fault == "name":
-        path = top / "crates" / "control" / "proofs" / "Planted.antt"
-        path.write_text("planted = unfolding WasDone in tt\n")
-        return "crates/control/proofs/Planted.antt: looks into WasDone"
-    if fault == "invariant":
-        path = top / "crates" / "bindings" / "src" / "planted.rt"
-        path.write_text("ghost use Rattle.slots.specs.Memory as lacks;\nghost invariant = { λ t. lacks.LacksDues t.room };\n")
-        return "crates/bindings/src/planted.rt: a type keeps lacks.LacksDues"
-    if fault == "holder":
-        path = top / "crates" / "bindings" / "src" / "planted.rt"
-        path.write_text("#[tactic(auto, unfolding(memory::specs::Memory::WasRefused))]\nfn planted()\n{}\n")
-        return "crates/bindings/src/planted.rt: planted has WasRefused"
-    if fault == "forgotten":
-        path = top / "crates" / "sums" / "src" / "planted.rt"
-        path.write_text("use std::mem::{forget, swap};\n")
-        return "crates/sums/src/planted.rt: mem::{forget"
     if fault == "version":
         path = top / "crates" / "commands" / "src" / "versions.rt"
         path.write_text(path.read_text().replace("(rattle-kit-", "(another-kit-"))
@@ -285,16 +289,18 @@ def plant(top, fault):
 
 
 def self_test(top):
-    """Each planted fault gives its own line and no other, also where the repository isn't in order yet."""
-    for fault in ("dependency", "lemma", "door", "name", "invariant", "holder", "forgotten", "version", "folder"):
-        with tempfile.TemporaryDirectory(prefix="house-") as room:
-            copy = copy_of(top, pathlib.Path(room))
-            before = set(faults(copy))
+    """Each planted fault, behind those before it, gives its own line more and no other, also where the repository isn't in order yet."""
+    with tempfile.TemporaryDirectory(prefix="house-") as room:
+        copy = copy_of(top, pathlib.Path(room))
+        before = set(faults(copy))
+        for fault in (*PLANTED, "dependency", "door", "version", "folder"):
             wanted = plant(copy, fault)
-            found = [line for line in faults(copy) if line not in before]
+            now = faults(copy)
+            found = [line for line in now if line not in before]
             if len(found) != 1 or not found[0].startswith(wanted):
                 sys.exit(f"house: the planted {fault} isn't found")
             print(f"house: found {found[0]}")
+            before = set(now)
 
 
 def main():
