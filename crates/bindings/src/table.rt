@@ -1,5 +1,5 @@
 //! The table of a gateway.
-ghost use Rattle.std.specs.Prelude.{◌≡◌, ◌+◌, ◌-◌, ◌<◌, ◌≤◌, ℕ, [], None, Some, true, false, ◌==◌, ◌++◌, ◌&&◌, length, map, vec_len, vec_capacity, IsOk, if◌then◌else◌, IfOk, IfErr, IfSome, IfNone, OnOk, OnErr};
+ghost use Rattle.std.specs.Prelude.{◌≡◌, ◌+◌, ◌-◌, ◌<◌, ◌≤◌, ℕ, [], None, Some, true, false, ◌==◌, ◌++◌, ◌&&◌, length, map, max, vec_len, vec_capacity, IsOk, if◌then◌else◌, IfOk, IfErr, IfSome, IfNone, OnOk, OnErr};
 ghost use Rattle.memory.specs.Memory.{WasRefused};
 ghost use Rattle.slots.specs.Memory.{LacksEndpoints};
 ghost use Rattle.bindings.specs.Memory.{LacksTable};
@@ -31,7 +31,7 @@ use crate::store::Store;
 use crate::{Entry, PortBounds, TableFault};
 use activity::{Activity, Packet, Remote, Way};
 use addresses::{Ip, Parity, Port, Protocol, TcpFlags};
-use memory::reserve;
+use memory::reserve_exact;
 use nat_types::{Endpoint, EntryState, Key, Pair};
 use slots::Hashers;
 use std::alloc::{AllocError, Global};
@@ -470,11 +470,13 @@ impl Table {
         ensures room { vec_len keys.old + length (idle_keys_of self.old lone now)
             ≤ vec_capacity keys.old → IsOk result }
         ensures capacity { vec_capacity keys.old ≤ vec_capacity keys.new }
+        ensures exact { OnOk result (vec_capacity keys.new ≡ max (vec_capacity keys.old)
+            (vec_len keys.old + length (idle_keys_of self.old lone now))) }
         ensures refused { OnErr result (WasRefused (length (idle_keys_of self.old lone now))) }
     {
         self.store.find_due(lone, now);
         let count = count_idle(&self.store, self.store.found(), lone, now);
-        reserve(keys, count)?;
+        reserve_exact(keys, count)?;
         list_idle(&self.store, self.store.found(), lone, now, keys);
         Ok(())
     }

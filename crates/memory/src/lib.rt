@@ -1,14 +1,15 @@
 //! Lists that grow by calls that can be refused, and a name for what was refused.
 #![tactic(auto)]
 
-ghost use Rattle.std.specs.Prelude.{◌≡◌, ◌+◌, ◌++◌, ◌≤◌, ◌<◌, [], ◌∷◌, length, replicate, vec_len, vec_capacity, is_ok, if◌then◌else◌, IfOk, OnOk, OnErr, IsOk};
-ghost use Rattle.memory.specs.Memory.{WasRefused};
+ghost use Rattle.std.specs.Prelude.{◌≡◌, ◌+◌, ◌++◌, ◌≤◌, ◌<◌, [], ◌∷◌, length, replicate, max, vec_len, vec_capacity, is_ok, if◌then◌else◌, IfOk, OnOk, OnErr, IsOk};
+ghost use Rattle.memory.specs.Memory.{IsSmall, WasRefused};
 
 use std::alloc::{AllocError, Global};
 
 /// An empty list with room for so many items, and for no more.
 #[tactic(auto, unfolding(crate::specs::Memory::WasRefused))]
 pub fn with_room<T: Drop>(alloc: Global, count: usize) -> Result<Vec<T>, AllocError>
+    requires small { IsSmall T.row }
     ensures items { IfOk result (λ v. v.items ≡ []) }
     ensures len { IfOk result (λ v. vec_len v ≡ 0) }
     ensures capacity { IfOk result (λ v. vec_capacity v ≡ count) }
@@ -21,6 +22,7 @@ pub fn with_room<T: Drop>(alloc: Global, count: usize) -> Result<Vec<T>, AllocEr
 /// A list of so many copies.
 #[tactic(auto, unfolding(crate::specs::Memory::WasRefused))]
 pub fn copies_of<T: Copy + Drop>(alloc: Global, item: T, count: usize) -> Result<Vec<T>, AllocError>
+    requires small { IsSmall T.row }
     ensures items { IfOk result (λ v. v.items ≡ replicate count item) }
     ensures len { IfOk result (λ v. vec_len v ≡ count) }
     ensures succeeds { count ≡ 0 → IsOk result }
@@ -31,9 +33,29 @@ pub fn copies_of<T: Copy + Drop>(alloc: Global, item: T, count: usize) -> Result
     Ok(list)
 }
 
-/// Makes room for so many more items, where it isn't there yet.
+/// Makes room for so many more items, and for no more, where it isn't there yet.
+#[tactic(auto, unfolding(crate::specs::Memory::WasRefused))]
+pub fn reserve_exact<T: Drop>(list: &mut Vec<T>, more: usize) -> Result<(), AllocError>
+    requires small { IsSmall T.row }
+    ensures items { list.new.items ≡ list.old.items }
+    ensures len { vec_len list.new ≡ vec_len list.old }
+    ensures exact { OnOk result (vec_capacity list.new
+        ≡ max (vec_capacity list.old) (vec_len list.old + more)) }
+    ensures ok { OnOk result (vec_len list.new + more ≤ vec_capacity list.new) }
+    ensures capacity { vec_capacity list.old ≤ vec_capacity list.new }
+    ensures succeeds { vec_len list.old + more ≤ vec_capacity list.old → IsOk result }
+    ensures full { OnErr result (vec_capacity list.old < vec_len list.old + more) }
+    ensures err { OnErr result (vec_capacity list.new ≡ vec_capacity list.old) }
+    ensures refused { OnErr result (WasRefused more) }
+{
+    list.reserve_exact(more)
+}
+
+/// Makes room for so many more items, where it isn't there yet, and for some beside them, so that a
+/// list that grows again and again is seldom copied.
 #[tactic(auto, unfolding(crate::specs::Memory::WasRefused))]
 pub fn reserve<T: Drop>(list: &mut Vec<T>, more: usize) -> Result<(), AllocError>
+    requires small { IsSmall T.row }
     ensures items { list.new.items ≡ list.old.items }
     ensures len { vec_len list.new ≡ vec_len list.old }
     ensures ok { OnOk result (vec_len list.new + more ≤ vec_capacity list.new) }
@@ -49,6 +71,7 @@ pub fn reserve<T: Drop>(list: &mut Vec<T>, more: usize) -> Result<(), AllocError
 /// Appends an item.
 #[tactic(auto, unfolding(crate::specs::Memory::WasRefused))]
 pub fn push<T: Drop>(list: &mut Vec<T>, item: T) -> Result<(), AllocError>
+    requires small { IsSmall T.row }
     ensures items { list.new.items
         ≡ (if is_ok result then list.old.items ++ item ∷ [] else list.old.items) }
     ensures len { vec_len list.new
@@ -64,6 +87,7 @@ pub fn push<T: Drop>(list: &mut Vec<T>, item: T) -> Result<(), AllocError>
 /// Appends copies of these items.
 #[tactic(auto, unfolding(crate::specs::Memory::WasRefused))]
 pub fn append<T: Copy + Drop>(list: &mut Vec<T>, items: &[T]) -> Result<(), AllocError>
+    requires small { IsSmall T.row }
     ensures items { list.new.items
         ≡ (if is_ok result then list.old.items ++ items.now else list.old.items) }
     ensures capacity { vec_capacity list.old ≤ vec_capacity list.new }

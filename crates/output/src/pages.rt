@@ -102,11 +102,11 @@ impl OutputBuffer {
         ensures enough { IsWithin room self.old.room → IsOk result }
         ensures refused { OnErr result (LacksPage room) }
     {
-        memory::reserve(&mut self.sides, room.frames)?;
+        memory::reserve_exact(&mut self.sides, room.frames)?;
         self.frames.ready(room.frames, LONGEST_FRAME * room.frames)?;
         self.datagrams
             .ready(room.datagrams, LONGEST_DATAGRAM * room.datagrams)?;
-        memory::reserve(&mut self.notes, room.notes)?;
+        memory::reserve_exact(&mut self.notes, room.notes)?;
         self.room = room;
         Ok(())
     }

@@ -49,8 +49,8 @@ impl Pile {
         ensures enough { places ≤ self.old.places → octets ≤ self.old.octets → IsOk result }
         ensures refused { OnErr result (LacksPile places octets) }
     {
-        memory::reserve(&mut self.sizes, places)?;
-        memory::reserve(&mut self.bytes, octets)?;
+        memory::reserve_exact(&mut self.sizes, places)?;
+        memory::reserve_exact(&mut self.bytes, octets)?;
         Ok(())
     }
 

@@ -3,7 +3,7 @@ ghost use Rattle.std.specs.Prelude.{◌≡◌, ◌+◌, ◌<◌, ◌≤◌, [], 
 ghost use Rattle.std.specs.List.{find};
 ghost use Rattle.std.specs.Borrow.{sem};
 ghost use Rattle.std.specs.Option.{option_map, option_copied_mut};
-ghost use Rattle.memory.specs.Memory.{WasRefused};
+ghost use Rattle.memory.specs.Memory.{IsSmall, WasRefused};
 ghost use Rattle.nat_types.specs.declared.pairs.Key.{Key as OutsidePort};
 ghost use Rattle.slots.specs.Cells.{cell_of, cell_behind, first_cell, key_at, protocol_at};
 ghost use Rattle.slots.specs.Memory.{HasPlaces, LacksPlaces};
@@ -108,6 +108,7 @@ fn first_cell_behind(last: Option<Key>) -> usize
 /// Empty slots for so many items.
 #[tactic(auto, unfolding(memory::specs::Memory::WasRefused, crate::specs::Memory::HasPlaces))]
 fn empty_slots<T: Drop>(alloc: Global, room: usize) -> Result<Slab<T>, AllocError>
+    requires small { IsSmall T.row }
     ensures empty { IfOk result (λ s. s.slots ≡ []) }
     ensures capacity { IfOk result (λ s. room ≤ s.capacity) }
     ensures given { IfOk result (λ s. HasPlaces room s.capacity) }
@@ -119,6 +120,7 @@ fn empty_slots<T: Drop>(alloc: Global, room: usize) -> Result<Slab<T>, AllocErro
 impl<T: Drop> PortSlots<T> {
     /// No items, and room for so many.
     pub fn new(alloc: Global, room: usize) -> Result<PortSlots<T>, AllocError>
+        requires small { IsSmall T.row }
         ensures rows { IfOk result (λ s. s.rows ≡ []) }
         ensures room { IfOk result (λ s. s.room ≡ room) }
         ensures least { IfOk result (λ s. room ≤ s.limit) }

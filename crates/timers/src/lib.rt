@@ -1,7 +1,7 @@
 //! Due moments of numbered slots.
 #![tactic(auto)]
 
-ghost use Rattle.std.specs.Prelude.{◌≡◌, ◌+◌, ◌<◌, ◌≤◌, None, Some, length, map, take, drop, replicate, slice_set, vec_len, vec_capacity, IfOk, OnOk, OnErr, IsOk};
+ghost use Rattle.std.specs.Prelude.{◌≡◌, ◌+◌, ◌<◌, ◌≤◌, None, Some, length, map, max, take, drop, replicate, slice_set, vec_len, vec_capacity, IfOk, OnOk, OnErr, IsOk};
 ghost use Rattle.std.proofs.Common.{get_or};
 ghost use Rattle.std.specs.List.Sorted.{IsPermutation};
 ghost use Rattle.memory.specs.Memory.{WasRefused};
@@ -89,6 +89,8 @@ impl Timers {
             → IsOk result }
         ensures refused { OnErr result (WasRefused (set_count self.old)) }
         ensures capacity { vec_capacity out.old ≤ vec_capacity out.new }
+        ensures exact { OnOk result (vec_capacity out.new
+            ≡ max (vec_capacity out.old) (vec_len out.old + set_count self.old)) }
     {
         self.wheel.due(&mut self.links, now, out)
     }

@@ -10,7 +10,7 @@ ghost use Rattle.timers.specs.Linked.{IsLinked, turns_of};
 ghost use Rattle.timers.specs.Steps.{without, with_head, passed, chain_count, AreTaken, HasNoneDue, AreNoneDue};
 
 use crate::links::{Links, Slots, set_next, set_previous};
-use memory::{copies_of, reserve};
+use memory::{copies_of, reserve_exact};
 use std::alloc::{AllocError, Global};
 
 /// Due moments of slots in centiseconds, in 1,024 chains of slots that are due about the same time.
@@ -118,11 +118,13 @@ impl Wheel {
             ≤ vec_capacity out.old → IsOk result }
         ensures refused { OnErr result (WasRefused (set_count (moments (S.all slots.old)))) }
         ensures capacity { vec_capacity out.old ≤ vec_capacity out.new }
+        ensures exact { OnOk result (vec_capacity out.new ≡ max (vec_capacity out.old)
+            (vec_len out.old + set_count (moments (S.all slots.old)))) }
 
         // A later call visits no chain before that of this moment again.
         ensures turns { OnOk result (turns_of self.new ≡ max (turns_of self.old) (now / 1024)) }
     {
-        reserve(out, self.count)?;
+        reserve_exact(out, self.count)?;
         self.pass_chains(slots, now, out);
         self.turns = self.turns.max(now / 1024);
         Ok(())
