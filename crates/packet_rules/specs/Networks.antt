@@ -1,7 +1,7 @@
 -- The two networks: who is addressed, where an address lies, which way a packet goes, and to whom.
 use Rattle.std.specs.Prelude.{◌≡◌, ◌≢◌, ◌<◌, ℕ, ◌+◌, ◌-◌, ◌/◌, ◌%◌, ◌^◌, Bool, true, false, not, ◌==◌, ◌&&◌, ◌||◌, Result, Ok, Err, List, [], ◌∷◌, length, if◌then◌else◌}
 use Rattle.std.specs.Str.{bytes_eq}
-use Rattle.addresses.specs.Address.{IsIn, virtual_mac}
+use Rattle.addresses.specs.Address.{virtual_mac}
 use Rattle.addresses.specs.Transport.{same_protocol}
 use Rattle.addresses.specs.declared.transport.Protocol.{Protocol}
 use Rattle.addresses.specs.declared.transport.Protocol.TheVariants.{Icmp}

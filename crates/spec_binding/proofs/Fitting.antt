@@ -19,7 +19,7 @@ use Rattle.bindings.proofs.Offered.{none_from_is_none, entry-serves, found-slot}
 use Rattle.link.specs.Grammar.{IsWellFormedPair, IsWellFormedRecord}
 use Rattle.spec_binding.specs.declared.setups.Stage.{Stage}
 use Rattle.spec_binding.specs.declared.setups.Stage.TheVariants.{Unsynced, Paired, Lone}
-use Rattle.spec_binding.specs.declared.changes.Change.TheVariants.{Keep, Add, Turn, Renew, Drop, Yield, Gain}
+use Rattle.spec_binding.specs.declared.changes.Change.TheVariants.{Add, Yield, Gain}
 use Rattle.spec_binding.specs.declared.changes.Change.TheVariants as change_of
 use Rattle.spec_binding.specs.declared.changes.Transition.{Transition}
 use Rattle.spec_binding.specs.declared.changes.PortRequest.{PortRequest}

@@ -25,7 +25,7 @@ use Rattle.bindings.specs.Lists.{place_in, put_in, with_state, without}
 use Rattle.bindings.specs.Lives.{is_unused_at, lives_with, rests_at}
 use Rattle.bindings.proofs.Offered.{slot-with_state, none_from_is_none, found-slot, slot-key}
 use Rattle.spec_trace.specs.Past.{Idle}
-use Rattle.spec_binding.specs.declared.changes.Change.TheVariants.{Keep, Add, Turn, Renew, Drop, Yield, Give, Gain}
+use Rattle.spec_binding.specs.declared.changes.Change.TheVariants.{Add, Drop, Yield, Gain}
 use Rattle.spec_binding.specs.declared.changes.Change.TheVariants as change_of
 use Rattle.spec_binding.specs.declared.changes.Transition.{Transition}
 use Rattle.spec_binding.specs.declared.changes.PortRequest.{PortRequest}

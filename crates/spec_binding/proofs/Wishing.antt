@@ -24,7 +24,7 @@ use Rattle.spec_pair.specs.Box.{Letter}
 use Rattle.spec_pair.specs.Mapped.{slot_in, machine_record}
 use Rattle.spec_pair.specs.Step.{IsStep}
 use Rattle.spec_pair.specs.Talk as machine
-use Rattle.spec_binding.specs.declared.changes.Change.TheVariants.{Keep, Add, Turn, Drop}
+use Rattle.spec_binding.specs.declared.changes.Change.TheVariants.{Keep, Add, Drop}
 use Rattle.spec_binding.specs.declared.changes.Change.TheVariants as change_of
 use Rattle.spec_binding.specs.declared.changes.Transition.{Transition}
 use Rattle.spec_binding.specs.declared.changes.PortRequest.{PortRequest}

@@ -25,7 +25,7 @@ use Rattle.bindings.specs.Ports.{in_either}
 use Rattle.resync.specs.Loading.{Load, is_new, loaded, loaded_state, none_yet, names_run, where_, with_pair, with_run}
 use Rattle.spec_pair.specs.Box.{In}
 use Rattle.spec_binding.specs.declared.changes.Change.TheVariants as change_of
-use Rattle.spec_binding.specs.declared.changes.Change.TheVariants.{Add, Drop, Gain, Renew, Turn, Yield}
+use Rattle.spec_binding.specs.declared.changes.Change.TheVariants.{Add, Drop, Gain, Yield}
 use Rattle.spec_binding.specs.declared.changes.Transition.{Transition}
 use Rattle.spec_binding.specs.declared.changes.PortRequest.{PortRequest}
 use Rattle.spec_binding.specs.declared.changes.Want.TheVariants as want

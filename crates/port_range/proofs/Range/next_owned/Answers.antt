@@ -1,4 +1,3 @@
-use Rattle.std.proofs.Common.{ℕ}
 use Rattle.port_range.specs.Ports.{is_owned}
 use Rattle.port_range.specs.Marks.{ranged}
 use Rattle.port_range.specs.Words.{has_bit}

@@ -1,4 +1,4 @@
-use Rattle.std.proofs.Common.{ℕ, not, ap}
+use Rattle.std.proofs.Common.{not, ap}
 use Rattle.port_range.specs.Ports.{is_owned}
 use Rattle.port_range.specs.Marks.{ranged}
 use Rattle.port_range.specs.Words.{has_bit}

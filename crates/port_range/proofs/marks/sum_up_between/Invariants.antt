@@ -1,4 +1,4 @@
-use Rattle.std.proofs.Common.{◌≡◌, ℕ, length, nat_lt}
+use Rattle.std.proofs.Common.{◌≡◌, length, nat_lt}
 use Rattle.port_range.specs.Words.{has_bit}
 use Rattle.port_range.specs.Marks.{open_word}
 use Rattle.port_range.proofs.Writing.{AreWritten}

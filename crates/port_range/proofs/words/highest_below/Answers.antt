@@ -1,4 +1,4 @@
-use Rattle.std.proofs.Common.{ℕ, ◌≡◌, ◌<◌, ◌&&◌, bit_and, ap, ◌∙◌, arith, rules}
+use Rattle.std.proofs.Common.{◌<◌, ◌&&◌, bit_and, ap, ◌∙◌, arith, rules}
 use Rattle.port_range.specs.Words.{is_set}
 use Rattle.port_range.proofs.Bits.{is_set-and}
 use Rattle.port_range.proofs.Searching.{IsBelow, last-bit, no-bit-below}

@@ -1,4 +1,4 @@
-use Rattle.std.proofs.Common.{ℕ, ◌≡◌, ◌<◌, ◌-◌, ◌^◌, ◌&&◌, bit_and, not, ap, ◌∙◌, arith, rules}
+use Rattle.std.proofs.Common.{◌<◌, ◌-◌, ◌&&◌, bit_and, not, ap, ◌∙◌, arith, rules}
 use Rattle.port_range.specs.Words.{is_set}
 use Rattle.port_range.proofs.Bits.{is_set-without}
 use Rattle.port_range.proofs.Searching.{IsFrom, first-bit, no-bit-from}

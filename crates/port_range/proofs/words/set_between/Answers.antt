@@ -1,6 +1,5 @@
-use Rattle.std.proofs.Common.{ℕ, ◌≡◌, ◌+◌, ◌*◌, ◌/◌, ◌||◌, bit_or, set, get_or, refl, sym, ap, ◌∙◌, arith}
+use Rattle.std.proofs.Common.{ℕ, ◌/◌, ◌||◌, bit_or, set, get_or, refl, ap, ◌∙◌, arith}
 use Rattle.std.proofs.lemmas.List.{length-set, get_or-set_same, get_or-set_other}
-use Rattle.port_range.specs.Ports.{is_within}
 use Rattle.port_range.specs.Words.{is_set}
 use Rattle.port_range.proofs.Bits.{is_set-or_word}
 use Rattle.port_range.proofs.Writing.{IsSetIn, word_in, written-none, written-more, set-bits, set-others}
