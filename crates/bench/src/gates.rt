@@ -33,7 +33,7 @@ impl Gate for Gateway {
 
     fn step(&mut self, event: Event<'_>, out: &mut Out, case: &mut Case) -> Outcome {
         out.clear();
-        let stepped = Gateway::step(self, event, out).ok();
+        let stepped = Gateway::step(self, event, &mut out.page).ok();
         case.or(stepped, Outcome::Done)
     }
 

@@ -104,12 +104,12 @@ impl Gate for Gateway {
 
     fn step(&mut self, event: Event<'_>, out: &mut Out, case: &mut Case) -> Outcome {
         out.clear();
-        let stepped = Gateway::step(self, event, out).ok();
+        let stepped = Gateway::step(self, event, &mut out.page).ok();
         case.or(stepped, Outcome::Done)
     }
 
     fn once(&mut self, event: Event<'_>, out: &mut Out) -> Result<Outcome, NoMemory> {
-        Gateway::step(self, event, out)
+        Gateway::step(self, event, &mut out.page)
     }
 
     fn shown(&self, alloc: Global, out: &Out) -> Result<Shown> {

@@ -10,7 +10,7 @@ use Rattle.nat_types.specs.declared.events.WorldEvent.{WorldEvent}
 use Rattle.nat_types.specs.declared.events.WorldEvent.TheVariants.{Frame, Tick, Stop, Deliver, Crash, Boot, PeerOff, Side as Cable}
 use Rattle.settings.specs.declared.whole.Settings.{Settings}
 use Rattle.output.specs.Memory.{LacksPage}
-use Rattle.output.specs.Output.{Output}
+use Rattle.output.specs.Output.{Paged}
 use Rattle.spec_binding.specs.Books.{is_synced}
 use Rattle.spec_step.specs.declared.events.Event.{Event}
 use Rattle.spec_step.specs.declared.events.Event.TheVariants as given
@@ -25,9 +25,9 @@ use Rattle.frame_sim.specs.Events.{kth, noting}
 unfoldable pub WasUnready : Shown → Type 0
 WasUnready g = Unit {0} × (WasRefused 2214 ⊎ (WasRefused 1 ⊎ WasRefused (most_notes g)))
 
--- it was to take this event, and memory was refused that its step needs, behind what was told by then
+-- it was to take this event, and memory was refused that its step needs, and for which the page had no room that it was to write on
 unfoldable pub WasUnstepped : Shown → Event → Type 0
-WasUnstepped g event = Unit {0} × ((told : Output) × LacksMemory g told event)
+WasUnstepped g event = Unit {0} × ((page : Paged) × LacksMemory g page event)
 
 -- one was to begin with these settings, in the life of this number
 unfoldable pub WasUnbegun : Settings → GatewayId → ℕ → Type 0

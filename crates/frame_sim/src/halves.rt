@@ -129,7 +129,7 @@ fn told_to_step(gateway: &mut Gateway, event: Event<'_>, out: &mut Out) -> Resul
     ensures untold { OnErr result (out.new ≡ out.old) }
     ensures unstepped { OnErr result (WasUnstepped gateway.old event.entry) }
 {
-    gateway.step(event, out)
+    gateway.step(event, &mut out.page)
 }
 
 /// The step of a gateway that is up. Its notes come behind the trace, its datagram behind those that

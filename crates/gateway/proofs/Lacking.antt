@@ -11,10 +11,10 @@ use Rattle.forwarder.specs.declared.forwarders.Forwarder.{Forwarder}
 use Rattle.forwarder.specs.Forwarder.{shown_of}
 use Rattle.gateway.specs.Lacks.{Lacks, LacksGateway, LacksMemory, LacksParts}
 
--- memory that these lack is memory that a gateway lacks that shows itself so
-pub lacks-memory : {T E : Type 0} → (r : Result T E) (event : Event) (f : Forwarder) (page : Paged) → Lacks event f page → OnErr r (LacksMemory (shown_of f) page.told event)
+-- memory that these lack is memory that a gateway lacks that shows itself so, with this page
+pub lacks-memory : {T E : Type 0} → (r : Result T E) (event : Event) (f : Forwarder) (page : Paged) → Lacks event f page → OnErr r (LacksMemory (shown_of f) page event)
 lacks-memory (Ok x) event f page lacks = tt
-lacks-memory (Err e) event f page lacks = (f, page, refl, lacks)
+lacks-memory (Err e) event f page lacks = (f, refl, lacks)
 
 -- its parts are lacking
 pub lacks-parts : {T E : Type 0} → (r : Result T E) (settings : Settings) → LacksParts settings → OnErr r (LacksGateway settings)

@@ -11,7 +11,7 @@ use Rattle.link.specs.Link.{may_restart}
 use Rattle.link.specs.Reading.{header_at}
 use Rattle.output.specs.declared.pages.Room.{Room}
 use Rattle.output.specs.Memory.{LacksPage}
-use Rattle.output.specs.Output.{IsWithin, Output, Paged}
+use Rattle.output.specs.Output.{IsWithin, Paged}
 use Rattle.waiting.specs.Memory.{LacksCopy, LacksPackets}
 use Rattle.packet_rules.specs.declared.readings.Reading.{Reading}
 use Rattle.packet_rules.specs.declared.reasons.Reason.{Reason}
@@ -20,10 +20,10 @@ use Rattle.spec_step.specs.declared.events.Event.{Event}
 use Rattle.spec_step.specs.declared.events.Event.TheVariants.{Frame, Datagram, Tick, Stop, PeerOff, Side as Cable}
 use Rattle.spec_step.specs.declared.events.Outcome.TheVariants.{Waiting}
 use Rattle.spec_step.specs.Founding.{bounds_of, link_places}
-use Rattle.spec_step.specs.Shown.{Shown, scene}
+use Rattle.spec_step.specs.Shown.{Shown}
 use Rattle.spec_step.specs.Verdict.{outcome_read, reading_on}
 use Rattle.forwarder.specs.declared.forwarders.Forwarder.{Forwarder}
-use Rattle.forwarder.specs.Forwarder.{scene_on, shown_of}
+use Rattle.forwarder.specs.Forwarder.{shown_of}
 use Rattle.forwarder.specs.Room.{Needs, an_arp_packet, frames_alone}
 use Rattle.gateway.specs.Rooms.{both_routers, records_need, restart_needs, room_for, tick_needs, waiting_needs}
 
@@ -94,6 +94,6 @@ Lacks Stop f page = LacksRoom both_routers f page
 Lacks (PeerOff boot) f page = WasUnlisted f ⊎ LacksRoom (waiting_needs f) f page
 Lacks (Cable side up) f page = ⊥
 
--- a gateway that shows itself so, with what it told on a page
-abbrev pub LacksMemory : Shown → Output → Event → Type 0
-LacksMemory g told event = (f : Forwarder) × (page : Paged) × (scene_on f page ≡ scene g told) × Lacks event f page
+-- a gateway that shows itself so, with this page
+abbrev pub LacksMemory : Shown → Paged → Event → Type 0
+LacksMemory g page event = (f : Forwarder) × (shown_of f ≡ g) × Lacks event f page

@@ -26,7 +26,7 @@ ghost use Rattle.gateway.specs.Rooms.{is_of_side};
 use crate::begins::begin;
 use crate::entries::{self, hop_count, pair_count};
 use crate::rooms::{PACKET_NOTES, entry_count};
-use crate::{NoMemory, Out, steps};
+use crate::{NoMemory, OutputBuffer, steps};
 use addresses::{Ip, Port};
 use bindings::{Entry, Hashers};
 use forwarder::Forwarder;
@@ -266,21 +266,22 @@ impl Gateway {
         Ok(ports)
     }
 
-    /// One step: takes an event, and appends to `out` what is sent and noted with it. An `Err`
-    /// stands for a refused growth; nothing has changed then. The word of a side is never refused.
-    pub fn step(&mut self, event: Event<'_>, out: &mut Out) -> Result<Outcome, NoMemory>
+    /// One step: takes an event, and appends to the page of an `Out` what is sent and noted with it.
+    /// An `Err` stands for a refused growth; nothing has changed then. The word of a side is never
+    /// refused.
+    pub fn step(&mut self, event: Event<'_>, page: &mut OutputBuffer) -> Result<Outcome, NoMemory>
         ensures outcome { IfOk result (λ o. o ≡ outcome_on self.old event.entry) }
-        ensures step { OnOk result (IsStepOn (scene self.old out.old) event.entry
-            (scene self.new out.new)) }
+        ensures step { OnOk result (IsStepOn (scene self.old page.old.told) event.entry
+            (scene self.new page.new.told)) }
         // The bytes that came in are bytes.
         ensures bytes { HasBytes event.entry }
         ensures err { OnErr result (self.new ≡ self.old) }
-        ensures untold { OnErr result (out.new ≡ out.old) }
-        // A growth was refused that this event needs.
-        ensures lacks { OnErr result (LacksMemory self.old out.old event.entry) }
+        ensures untold { OnErr result (page.new.told ≡ page.old.told) }
+        // A growth was refused that this event needs, and for which this page had no room.
+        ensures lacks { OnErr result (LacksMemory self.old page.old event.entry) }
         // The word of a side takes no memory.
         ensures plugged { is_of_side event.entry ≡ true → IsOk result }
     {
-        steps::step(self.alloc, &mut self.forwarder, &mut out.page, event)
+        steps::step(self.alloc, &mut self.forwarder, page, event)
     }
 }

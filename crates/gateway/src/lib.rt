@@ -19,6 +19,6 @@ mod words;
 pub use bindings::Hashers;
 pub use gateways::Gateway;
 pub use nat_types::NoMemory;
-pub use output::Out;
+pub use output::{Out, OutputBuffer};
 pub use packet_rules::Reason;
 pub use spec_step::{Event, Outcome};

@@ -301,7 +301,7 @@ pub(crate) fn step(
     ensures err { OnErr result (scene_on forwarder.new page.new
         ≡ scene_on forwarder.old page.old) }
     ensures lacks { OnErr result
-        (LacksMemory (shown_of forwarder.old) page.old.told event.entry) }
+        (LacksMemory (shown_of forwarder.old) page.old event.entry) }
     ensures plugged { is_of_side event.entry ≡ true → IsOk result }
 {
     steps_go();

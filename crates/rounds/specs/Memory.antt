@@ -2,7 +2,7 @@
 use Rattle.std.specs.Prelude.{◌≡◌, ℕ, Bool, List, true}
 use Rattle.memory.specs.Memory.{WasRefused as WasRefusedRoom}
 use Rattle.reports.specs.declared.pages.TheConstants.{MOST_ENTRIES}
-use Rattle.output.specs.Output.{none_told}
+use Rattle.output.specs.Output.{Paged, none_told}
 use Rattle.gateway.specs.Lacks.{LacksMemory}
 use Rattle.spec_binding.specs.Books.{is_synced}
 use Rattle.spec_step.specs.Shown.{Shown}
@@ -10,10 +10,10 @@ use Rattle.spec_step.specs.declared.events.Event.{Event}
 use Rattle.rounds.specs.declared.judging.Question.{Question}
 use Rattle.rounds.specs.declared.judging.Question.TheVariants.{Status, Pairs}
 
--- Behind so many events that were left out a gateway that showed this was handed this event, where nothing was told yet, and memory was refused that its
--- step needs. Who hands it in has this name, and nobody else, as with the next one.
+-- Behind so many events that were left out a gateway that showed this was handed this event, with a page on which nothing was told yet, and memory was
+-- refused that its step needs, and for which that page had no room. Who hands it in has this name, and nobody else, as with the next one.
 unfoldable pub WasLeftOut : ℕ → Shown → Event → Type 0
-WasLeftOut left_out g event = Unit {0} × LacksMemory g none_told event
+WasLeftOut left_out g event = Unit {0} × ((page : Paged) × (page.told ≡ none_told) × LacksMemory g page event)
 
 -- memory was refused for the answer to this question, where this was counted before
 unfoldable pub WasRefused : List ℕ → Question → Type 0

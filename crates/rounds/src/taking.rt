@@ -151,7 +151,7 @@ fn stepped(
     ensures refused { OnErr result (WasLeftOut _left.now gateway.old event.entry) }
     ensures cause { cause_in result ≡ cause_on gateway.old event.entry (is_ok result) }
 {
-    gateway.step(event, out)
+    gateway.step(event, &mut out.page)
 }
 
 /// Sends what was told: the frames by the wires of their sides, the datagrams by the link.
