@@ -1,5 +1,5 @@
 -- The commands of the line, one after the other, and what help says of each.
-use Rattle.std.specs.Prelude.{List, [], ◌∷◌, ◌++◌, codes, Some}
+use Rattle.std.specs.Prelude.{ℕ, List, [], ◌∷◌, ◌++◌, codes, take, Some, None}
 use Rattle.clap.specs.Words.{App, Text, new_app, with_subcommand}
 use Rattle.command_line.specs.Arguments.{with_all}
 use Rattle.command_line.specs.Helps.{Help, Page, new_help, with_arguments, with_command, with_texts}
@@ -138,6 +138,26 @@ bare_app = with_commands (new_app (codes "natpair"))
 abbrev pub bare_help : Help
 bare_help = with_pages (new_help (codes "natpair"))
     (entry.Init ∷ entry.Check ∷ entry.Gate ∷ entry.Status ∷ entry.Pairs ∷ entry.Stop ∷ entry.PeerOff ∷ entry.Side ∷ entry.Sim ∷ entry.Loop ∷ [])
+
+-- ---- the line in the making
+
+-- the command of an entry with its first n arguments
+abbrev pub begun_app : Entry → ℕ → App
+begun_app e n = record (app_for e) { top = record (app_for e).top { rules = take n (app_for e).top.rules } }
+
+-- of which help says no more than its name and these
+abbrev pub begun_help : Entry → ℕ → Help
+begun_help e n = record { own = record (page_for e) { about = None; below = None; arguments = take n (page_for e).arguments }; commands = [] }
+
+-- the program with its first n commands
+abbrev pub begun_program : ℕ → App
+begun_program n = record bare_app { subs = take n bare_app.subs }
+
+-- of which help says no more than these
+abbrev pub begun_pages : ℕ → Help
+begun_pages n = record bare_help { commands = take n bare_help.commands }
+
+-- ---- the whole
 
 -- what help says of the program
 abbrev pub line_help : Help

@@ -7,7 +7,7 @@ use Rattle.clap.specs.Words.{Row, Text, first_of, kind_of, one_of}
 use Rattle.clap.specs.declared.error.kind.ErrorKind.TheVariants.{DisplayVersion}
 use Rattle.command_line.specs.Filters.{IsAddressIf, IsPortIf, LacksFilter, LacksStatus, entry_state_in, form_in, protocol_in, wait_in}
 use Rattle.command_line.specs.Line.{AskVersion, MayAskVersion, Takes, entered_by, faults_of}
-use Rattle.command_line.specs.Memory.{IsRead, LacksEntered, LacksReading, LacksWord, Outlines, Reads, TakesSo, WasRead, WasUntold}
+use Rattle.command_line.specs.Memory.{IsRead, Lacks, LacksEntered, LacksReading, LacksWord, Outlines, Reads, TakesSo, WasRead, WasUntold}
 use Rattle.command_line.specs.Values.{HasId, HasIdIf, HasNumberIf, IsId, IsIdIf, IsReadIf, flag_of, side_in, state_in, word_of}
 use Rattle.command_line.specs.declared.faults.LineFault.{LineFault}
 use Rattle.command_line.specs.declared.faults.LineFault.TheVariants.{Refused, Values, NoMemory}
@@ -213,13 +213,13 @@ IsAnswer words asked = AskFor words asked ⊎ ((asked ≡ task.Version) × MayAs
 
 -- there was no memory for the task of words: in the making of the line that reads them, or where it read them; or clap takes them, the values of
 -- their command go together, and there was none for one of its words
-abbrev pub LacksTask : {B : Type 0} → Outlines B → Reads B → (B → Type 0) → List Text → Type 0
+abbrev pub LacksTask : {B : Type 0} → Outlines B → Reads B → Lacks B → List Text → Type 0
 LacksTask tells reads lacks words = LacksReading tells reads lacks words
     ⊎ (Takes words × (((why : ValueFault) → ¬ (IsEnteredFaulty (entered_by words) why)) × LacksEntered (entered_by words)))
 
 -- Why words are no task, by whoever is told of commands: `clap` refuses them, by an error of a kind that it finds in them, and not by telling the
 -- version, and which just such a line made of them; or it takes them, and the values of their command don't go together; or for want of memory
-abbrev pub RefusesBy : {B : Type 0} → Outlines B → Reads B → (B → Type 0) → List Text → LineFault → Type 0
+abbrev pub RefusesBy : {B : Type 0} → Outlines B → Reads B → Lacks B → List Text → LineFault → Type 0
 RefusesBy tells reads lacks words (Refused error) = ¬ (Takes words) × ¬ (AskVersion words)
     × IsAmong (kind_of error) (faults_of words) × (kind_of error ≢ DisplayVersion) × IsRead tells reads words (Err error)
 RefusesBy tells reads lacks words (Values why) = Takes words × IsEnteredFaulty (entered_by words) why

@@ -25,8 +25,9 @@ pub(crate) trait Builder<'a>: Sized + Drop {
     /// What it may make of words.
     ghost reads: { Self → List Text → Result ArgMatches Error → Type 0 };
 
-    /// Memory may be refused where it is told more.
-    ghost lacks: { Self → Type 0 };
+    /// Memory may be refused to it where it is told one thing more, with which it would take words so, and its help would
+    /// say this.
+    ghost lacks: { Self → App → Help → Type 0 };
 
     /// A command of this name, of which no more is told.
     fn named(alloc: Global, name: &'static str) -> Self
@@ -36,13 +37,15 @@ pub(crate) trait Builder<'a>: Sized + Drop {
     fn takes(self, alloc: Global, argument: &Argument<'static>) -> Result<Self, AllocError>
         ensures told { IfOk result (λ c. (a : App) → (h : Help) → tells self a h
             → tells c (with_rule a (rule_for argument.now)) (with_argument h argument.now)) }
-        ensures refused { OnErr result (lacks self) };
+        ensures refused { OnErr result ((a : App) → (h : Help) → tells self a h
+            → lacks self (with_rule a (rule_for argument.now)) (with_argument h argument.now)) };
 
     /// It has a command below it more.
     fn has(self, command: Self) -> Result<Self, AllocError>
         ensures told { IfOk result (λ c. (a b : App) → (h k : Help) → tells self a h
             → tells command b k → tells c (with_subcommand a b.top) (with_command h k)) }
-        ensures refused { OnErr result (lacks self) };
+        ensures refused { OnErr result ((a b : App) → (h k : Help) → tells self a h
+            → tells command b k → lacks self (with_subcommand a b.top) (with_command h k)) };
 
     /// One of the commands below it has to be named, none of which is `help`; and it has a version.
     fn wants_command(self, version: &'static str) -> Self

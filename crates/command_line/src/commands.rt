@@ -2,7 +2,7 @@
 ghost use Rattle.std.specs.Prelude.{◌≡◌, IfOk, OnErr};
 ghost use Rattle.command_line.specs.Entries.{app_for, app_in, bare_app, bare_help, help_for, help_in, line_help};
 ghost use Rattle.command_line.specs.Line.{line_app};
-ghost use Rattle.command_line.specs.Memory.{IsShort};
+ghost use Rattle.command_line.specs.Memory.{IsShort, IsShortOf};
 
 use crate::VERSION;
 use crate::builders::Builder;
@@ -346,7 +346,7 @@ fn outline_of(entry: Entry) -> &'static Outline<'static>
 /// The command of an entry.
 fn command<'a, B: Builder<'a>>(alloc: Global, entry: Entry) -> Result<B, AllocError>
     ensures told { IfOk result (λ c. B.tells c (app_for entry) (help_for entry)) }
-    ensures refused { OnErr result (IsShort B.lacks) }
+    ensures refused { OnErr result (IsShortOf B.lacks entry) }
 {
     let outline = outline_of(entry);
     let mut command = B::named(alloc, outline.name);

@@ -9,7 +9,7 @@ use Rattle.command_line.specs.Entries.{line_help}
 use Rattle.command_line.specs.Line.{faults_of, line_app}
 use Rattle.command_line.specs.Tasks.{Enters, Numbered, RefusesWords}
 use Rattle.command_line.specs.Faults.{IsOfClap}
-use Rattle.command_line.specs.Memory.{IsRead, Outlines, Reads}
+use Rattle.command_line.specs.Memory.{IsRead, Lacks, Outlines, Reads}
 use Rattle.command_line.specs.Reading.{IsOfReading}
 use Rattle.command_line.specs.declared.faults.LineFault.{LineFault}
 use Rattle.command_line.specs.declared.faults.LineFault.TheVariants.{Refused, Values, NoMemory}
@@ -75,7 +75,7 @@ returns-in-Err-clause-err g c =
     (c.in-Err.ensures.kinds line_app line_help c.in_ok-line.ensures.told is_free)
 
 -- the fault of an error that such a command made of the words
-of_reading : {B : Type 0} (tells : Outlines B) (reads : Reads B) (lacks : B → Type 0) (words : List Text) (e : Error) (f : LineFault) → IsOfClap e f
+of_reading : {B : Type 0} (tells : Outlines B) (reads : Reads B) (lacks : Lacks B) (words : List Text) (e : Error) (f : LineFault) → IsOfClap e f
     → IsRead tells reads words (Err e) → IsOfReading tells reads lacks words f
 of_reading tells reads lacks words e (Refused told) h read = subst (λ (x : Error). IsRead tells reads words (Err x)) (sym h.0) read
 of_reading tells reads lacks words e (Values why) h read = absurd h
