@@ -1,4 +1,5 @@
 mod Filling
+mod Locking
 mod Placing
 mod Reading
 mod Slashes

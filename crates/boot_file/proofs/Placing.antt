@@ -1,11 +1,11 @@
 -- How a boot file is opened and made, put together of its steps.
 use Rattle.std.proofs.Common.{◌≡◌, ℕ, List, Result, Ok, Err, false, IfErr, IfOk, inr, sym, subst}
-use Rattle.std.specs.declared.fs.locks.TryLockError.{TryLockError}
 use Rattle.boot_store.specs.BootFile.{zero_file}
 use Rattle.boot_store.specs.Calls.{Reads, Syncs, Writes}
+use Rattle.boot_file.specs.Calls.{TriesLock}
 use Rattle.boot_file.specs.Deeds.{WasLookedFor, WasRemoved}
-use Rattle.boot_file.specs.Locks.{IsUnlocked}
-use Rattle.boot_file.specs.Made.{IsFinished, IsMade, IsMadeIn, IsNamed, IsNew, IsNewFinished, IsPlaced, IsReadBack, beside}
+use Rattle.boot_file.specs.Locks.{IsUnlocked, WasLetGo}
+use Rattle.boot_file.specs.Made.{IsFinished, IsMade, IsMadeIn, IsNamed, IsNewFinished, IsPlaced, IsReadBack, beside}
 use Rattle.boot_file.specs.Opened.{AreOpened, IsFolder, IsOpened, IsUnopened}
 use Rattle.boot_file.specs.declared.faults.FileFault.{FileFault}
 use Rattle.boot_file.specs.declared.file_disk.FileDisk.{FileDisk}
@@ -40,21 +40,18 @@ made_there whole reads writes syncs folder m there m2 path (Ok done) own made = 
 made_there whole reads writes syncs folder m there m2 path (Err why) own made = inr (folder, (there, (own, made)))
 
 -- both were opened, and the file is locked
-pub opened_by : {M F : Type 0} (m there m2 : M) (path : List ℕ) (file folder : F) (r : Result (FileDisk F) FileFault) → IfOk r (λ d. d.file ≡ file)
-    → IfOk r (λ d. d.folder ≡ folder) → IsFolder m path folder there → IsOpened there path file m2
-    → IfOk r (λ d. AreOpened m path d.file d.folder m2)
-opened_by m there m2 path file folder (Ok d) is has own opened = (
+pub opened_by : {M F : Type 0} (locks : TriesLock F) (m there m2 : M) (path : List ℕ) (file folder : F) (r : Result (FileDisk F) FileFault)
+    → IfOk r (λ d. locks file (Ok tt) d.file) → IfOk r (λ d. d.folder ≡ folder) → IsFolder m path folder there → IsOpened there path file m2
+    → IfOk r (λ d. AreOpened locks m path d.file d.folder m2)
+opened_by locks m there m2 path file folder (Ok d) locked has own opened = (
   there,
-  (
-    subst (λ f. IsFolder m path f there) (sym has) own,
-    subst (λ f. IsOpened there path f m2) (sym is) opened,
-  ),
+  (file, (subst (λ f. IsFolder m path f there) (sym has) own, (opened, locked))),
 )
-opened_by m there m2 path file folder (Err why) is has own opened = tt
+opened_by locks m there m2 path file folder (Err why) locked has own opened = tt
 
 -- or isn't
-pub unlocked_by : {M F : Type 0} (refused : F → TryLockError → Type 0) (m there m2 : M) (path : List ℕ) (file folder : F)
-    (r : Result (FileDisk F) FileFault) → IfErr r (IsUnlocked refused file) → IsFolder m path folder there → IsOpened there path file m2
-    → IfErr r (λ why. IsUnopened refused m path why m2)
-unlocked_by refused m there m2 path file folder (Ok d) why own opened = tt
-unlocked_by refused m there m2 path file folder (Err fault) why own opened = inr (folder, (there, (own, inr (file, (opened, why)))))
+pub unlocked_by : {M F : Type 0} (locks : TriesLock F) (m there m2 : M) (path : List ℕ) (file folder : F)
+    (r : Result (FileDisk F) FileFault) → IfErr r (IsUnlocked locks file) → IfErr r (λ why. WasLetGo folder) → IsFolder m path folder there
+    → IsOpened there path file m2 → IfErr r (λ why. IsUnopened locks m path why m2)
+unlocked_by locks m there m2 path file folder (Ok d) why gone own opened = tt
+unlocked_by locks m there m2 path file folder (Err fault) why gone own opened = inr (folder, (there, (own, (gone, inr (file, (opened, why))))))

@@ -1,5 +1,5 @@
 -- A room that is filled by reads, one behind the other.
-use Rattle.std.proofs.Common.{◌≡◌, ◌+◌, ◌-◌, ◌≤◌, ℕ, suc, List, Ok, Err, length, take, arith, inl, inr, refl, sym, subst}
+use Rattle.std.proofs.Common.{◌≡◌, ◌+◌, ◌-◌, ◌≤◌, ◌≢◌, ℕ, suc, List, Ok, Err, length, take, arith, inl, inr, refl, sym, subst}
 use Rattle.std.specs.Prelude.{None, Some}
 use Rattle.std.specs.declared.io.Error.{Error}
 use Rattle.std.proofs.lemmas.List.{length-take}
@@ -21,10 +21,10 @@ read_none reads file room = (0, (refl, refl))
 
 -- one read more
 pub read_more : {F : Type 0} (reads : ReadsAt F) (first middle last : F) (n k : ℕ) (room part : List ℕ) → n ≤ length room → k ≤ length part
-    → IsRead reads first n room middle → reads middle n (Ok k) part last → IsRead reads first (n + k) (put_mid n (32 - n) room part) last
-read_more reads first middle last n k room part fits few so_far read =
+    → k ≢ 0 → IsRead reads first n room middle → reads middle n (Ok k) part last → IsRead reads first (n + k) (put_mid n (32 - n) room part) last
+read_more reads first middle last n k room part fits few some so_far read =
     let there = subst (λ (m : ℕ). reads middle m (Ok k) part last) (sym (at_end n room fits)) read in
-    (suc so_far.0, (middle, (take n room, part, (k, (so_far.1, (there, front_more n k room part fits few))))))
+    (suc so_far.0, (middle, (take n room, part, (k, (so_far.1, (there, (some, front_more n k room part fits few)))))))
 
 -- one of which nothing came
 pub read_end : {F : Type 0} (reads : ReadsAt F) (first middle last : F) (n k : ℕ) (room part : List ℕ) → n ≤ length room → k ≡ 0

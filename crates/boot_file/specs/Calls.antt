@@ -1,5 +1,6 @@
 -- What an open file was asked for, call by call.
 use Rattle.std.specs.Prelude.{ℕ, zero, suc, ◌≡◌, ◌≢◌, ◌⊎◌, ◌++◌, List, [], length, take, Option, Some, None, Result, Ok, Err}
+use Rattle.std.specs.declared.fs.locks.TryLockError.{TryLockError}
 use Rattle.std.specs.declared.io.Error.{Error}
 use Rattle.boot_store.specs.Calls.{Reads, Syncs, Writes}
 use Rattle.boot_store.specs.declared.disk.DeviceFault.{DeviceFault}
@@ -21,10 +22,14 @@ Tries F = F → Result (Unit {0}) Error → F → Type 0
 abbrev pub SyncsName : Type 0 → Type 1
 SyncsName F = F → F → Result (Unit {0}) Error → F → Type 0
 
+-- that it is locked
+abbrev pub TriesLock : Type 0 → Type 1
+TriesLock F = F → Result (Unit {0}) TryLockError → F → Type 0
+
 -- ---- a file of the system's
 
--- The names below are each of a call. The system says nothing of it, so they are no more than names: the methods of `Blocks` for a file of the
--- system's give them, a line each, and nobody else.
+-- The names below are each of a call. The system says nothing of it, so they are no more than names: the methods of `Blocks` and
+-- `Lockable` for a file of the system's give them, a line each, and nobody else.
 unfoldable pub WasRead : {F : Type 0} → ReadsAt F
 WasRead before at answer room after = Unit {0}
 
@@ -40,13 +45,17 @@ WasNameSynced before folder answer after = Unit {0}
 unfoldable pub WasDropped : {F : Type 0} → Tries F
 WasDropped before answer after = Unit {0}
 
+unfoldable pub WasLocked : {F : Type 0} → TriesLock F
+WasLocked before answer after = Unit {0}
+
 -- ---- a file that is a disk
 
--- reads, one behind the other, each from where those before it ended: these bytes came of them
+-- reads, one behind the other, each from where those before it ended, and of each some bytes: these came of them
 abbrev pub AreRead : {F : Type 0} → ReadsAt F → ℕ → F → List ℕ → F → Type 0
 AreRead reads zero before bytes after = (bytes ≡ []) × (after ≡ before)
 AreRead {F = F} reads (suc turns) before bytes after = (middle : F) × ((front part : List ℕ) × ((count : ℕ)
-    × (AreRead reads turns before front middle × (reads middle (length front) (Ok count) part after × (bytes ≡ front ++ take count part)))))
+    × (AreRead reads turns before front middle × (reads middle (length front) (Ok count) part after
+    × ((count ≢ 0) × (bytes ≡ front ++ take count part))))))
 
 -- so a room was filled, up to 32 bytes or to a read of which none came; or one was refused
 abbrev pub IsFilled : {F : Type 0} → ReadsAt F → F → Option ℕ → List ℕ → F → Type 0

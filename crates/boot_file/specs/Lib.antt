@@ -4,3 +4,4 @@ pub mod Folders
 pub mod Locks
 pub mod Made
 pub mod Opened
+pub mod Openings

@@ -1,18 +1,27 @@
 -- Why a boot file isn't locked.
-use Rattle.std.specs.Prelude.{◌≡◌}
+use Rattle.std.specs.Prelude.{◌≡◌, Ok, Err}
 use Rattle.std.specs.declared.fs.locks.TryLockError.{TryLockError}
 use Rattle.std.specs.declared.fs.locks.TryLockError.TheVariants.{Error, WouldBlock}
+use Rattle.boot_file.specs.Calls.{TriesLock, WasLocked}
 use Rattle.boot_file.specs.declared.faults.FileFault.{FileFault}
 use Rattle.boot_file.specs.declared.faults.FileFault.TheVariants.{Exists, InUse, NoFile, NoMemory, NotLocked, NotWritten}
+
+-- of the system's files: it is what one is behind its lock, which was had
+abbrev pub IsLocked : {F : Type 0} → F → Type 0
+IsLocked {F = F} file = (before : F) × WasLocked before (Ok tt) file
 
 -- another opening has it, or the lock is refused
 abbrev pub fault_of : TryLockError → FileFault
 fault_of WouldBlock = InUse
 fault_of (Error error) = NotLocked
 
--- just that which the lock of this file was refused for
-abbrev pub IsUnlocked : {F : Type 0} → (F → TryLockError → Type 0) → F → FileFault → Type 0
-IsUnlocked refused file why = (error : TryLockError) × (refused file error × (why ≡ fault_of error))
+-- This file, or folder, was let go as it is here: nothing was asked of it behind this. It is a name, of who lets go what he knows nothing of.
+unfoldable pub WasLetGo : {F : Type 0} → F → Type 0
+WasLetGo file = Unit {0}
+
+-- this file was asked for its lock, once, just that which it answered is told, and it was let go behind that
+abbrev pub IsUnlocked : {F : Type 0} → TriesLock F → F → FileFault → Type 0
+IsUnlocked {F = F} locks file why = (error : TryLockError) × ((last : F) × (locks file (Err error) last × (WasLetGo last × (why ≡ fault_of error))))
 
 -- one of the two, or the file or its folder can't be opened
 abbrev pub IsOfOpening : FileFault → Type 0

@@ -1,13 +1,13 @@
 -- How a boot file that is there is opened.
-use Rattle.std.specs.Prelude.{◌≡◌, ◌⊎◌, ℕ, List, true, false}
+use Rattle.std.specs.Prelude.{◌≡◌, ◌⊎◌, ℕ, List, Ok, true, false}
 use Rattle.std.specs.Fs.{asks_append, asks_create, asks_create_new, asks_read, asks_truncate, asks_write}
 use Rattle.std.specs.IoError.{error_kind}
 use Rattle.std.specs.declared.fs.options.OpenOptions.{OpenOptions}
-use Rattle.std.specs.declared.fs.locks.TryLockError.{TryLockError}
 use Rattle.std.specs.declared.io.Error.{Error}
+use Rattle.boot_file.specs.Calls.{TriesLock}
 use Rattle.boot_file.specs.Deeds.{WasOpened, WasUnopened}
 use Rattle.boot_file.specs.Folders.{IsFolderOf}
-use Rattle.boot_file.specs.Locks.{IsUnlocked}
+use Rattle.boot_file.specs.Locks.{IsUnlocked, WasLetGo}
 use Rattle.boot_file.specs.declared.faults.FileFault.{FileFault}
 use Rattle.boot_file.specs.declared.faults.FileFault.TheVariants.{NoFile}
 
@@ -61,13 +61,15 @@ pub record IsMissing {M : Type 0} (before : M) (path : List ℕ) (why : FileFaul
   pub asked : WasUnopened before options path error after
   pub told : why ≡ NoFile (error_kind error)
 
--- the folder was opened, and then the file, and nothing else was asked of this machine
-abbrev pub AreOpened : {M F : Type 0} → M → List ℕ → F → F → M → Type 0
-AreOpened {M = M} before path file folder after =
-    (between : M) × (IsFolder before path folder between × IsOpened between path file after)
+-- The folder was opened, and then a file, and nothing else was asked of this machine. The one that is answered is what that file is behind its
+-- lock, which was asked for once.
+abbrev pub AreOpened : {M F : Type 0} → TriesLock F → M → List ℕ → F → F → M → Type 0
+AreOpened {M = M} {F = F} locks before path file folder after = (between : M) × ((first : F)
+    × (IsFolder before path folder between × (IsOpened between path first after × locks first (Ok tt) file)))
 
--- The folder wasn't opened; or then the file wasn't; or the file that was opened isn't locked. Nothing is asked behind what was refused.
-abbrev pub IsUnopened : {M F : Type 0} → (F → TryLockError → Type 0) → M → List ℕ → FileFault → M → Type 0
-IsUnopened {M = M} {F = F} refused before path why after = IsNoFolder before path why after
-    ⊎ ((folder : F) × ((between : M) × (IsFolder before path folder between
-    × (IsMissing between path why after ⊎ ((file : F) × (IsOpened between path file after × IsUnlocked refused file why))))))
+-- The folder wasn't opened; or it was let go as it was opened, since the file wasn't then, or since the file that was opened isn't locked. Nothing is
+-- asked behind what was refused.
+abbrev pub IsUnopened : {M F : Type 0} → TriesLock F → M → List ℕ → FileFault → M → Type 0
+IsUnopened {M = M} {F = F} locks before path why after = IsNoFolder before path why after
+    ⊎ ((folder : F) × ((between : M) × (IsFolder before path folder between × (WasLetGo folder
+    × (IsMissing between path why after ⊎ ((file : F) × (IsOpened between path file after × IsUnlocked locks file why)))))))

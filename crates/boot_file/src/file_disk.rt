@@ -1,10 +1,10 @@
 // A boot file and its folder as the disk of boot_store.
-ghost use Rattle.std.specs.Prelude.{◌≡◌, ◌+◌, ◌≤◌, ◌↔◌, ◌++◌, ◌∷◌, [], None, take, IfErr, IfOk, IfSome, OnErr, OnOk};
+ghost use Rattle.std.specs.Prelude.{◌≡◌, ◌+◌, ◌≤◌, ◌↔◌, ◌++◌, ◌∷◌, [], None, Ok, take, IfErr, IfOk, IfSome, OnErr, OnOk};
 ghost use Rattle.boot_store.specs.Moment.{StillKept, bytes_of, synced};
 ghost use Rattle.boot_file.specs.Calls.{IsBothSynced, IsFilled, ReadsDisk, SyncsDisk, WritesDisk};
-ghost use Rattle.boot_file.specs.Locks.{IsOfOpening, IsUnlocked};
+ghost use Rattle.boot_file.specs.Locks.{IsOfOpening, IsUnlocked, WasLetGo};
 
-use crate::locks::not_locked;
+use crate::locks::{let_go, not_locked};
 use crate::{Blocks, FileFault, Lockable};
 use boot_store::{DeviceFault, Disk, Failures};
 use std::io;
@@ -35,23 +35,30 @@ impl<F: Drop> FileDisk<F> {
         }
     }
 
-    /// The same, of a file that is locked first. It can be asked for nothing else here, so that nothing of
-    /// it is read or written before it is locked.
+    /// The same, of a file that is locked first, by one call. It can be asked for nothing else here, so that nothing
+    /// of it is read or written before it is locked.
     ///
     /// # Errors
     /// InUse where another opening has it locked, NotLocked where the lock is refused.
-    pub fn locked(file: F, folder: F) -> Result<Self, FileFault>
+    pub fn locked(mut file: F, folder: F) -> Result<Self, FileFault>
     where
         F: Lockable,
         ensures locked { IfOk result (λ d. F.locked d.file) }
-        ensures file { IfOk result (λ d. d.file ≡ file) }
+        ensures file { IfOk result (λ d. F.locks file (Ok tt) d.file) }
         ensures folder { IfOk result (λ d. d.folder ≡ folder) }
-        ensures err { IfErr result (IsUnlocked F.refused file) }
+        ensures err { IfErr result (IsUnlocked F.locks file) }
+        ensures gone { IfErr result (λ _. WasLetGo folder) }
         ensures opening { IfErr result IsOfOpening }
         ensures none_failed { IfOk result (λ d. d.failures ≡ 0) }
     {
-        file.try_lock().map_err(not_locked)?;
-        Ok(FileDisk::new(file, folder))
+        match file.try_lock() {
+            Ok(()) => Ok(FileDisk::new(file, folder)),
+            Err(error) => {
+                let_go(file);
+                let_go(folder);
+                Err(not_locked(error))
+            }
+        }
     }
 
     /// The file.

@@ -8,6 +8,7 @@ mod file_disk;
 mod founding;
 mod locks;
 mod machine;
+mod openings;
 mod places;
 
 pub use blocks::Blocks;
@@ -15,4 +16,5 @@ pub use faults::FileFault;
 pub use file_disk::FileDisk;
 pub use locks::Lockable;
 pub use machine::Machine;
+pub use openings::Opened;
 pub use places::{create, open};

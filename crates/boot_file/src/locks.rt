@@ -1,8 +1,8 @@
 // The lock by which one process alone has a boot file.
-ghost use Rattle.std.specs.Prelude.{◌≡◌, IfErr, OnOk};
-ghost use Rattle.std.specs.declared.fs.locks.TryLockError.{TryLockError};
+ghost use Rattle.std.specs.Prelude.{◌≡◌, OnOk};
+ghost use Rattle.boot_file.specs.Calls.{TriesLock, WasLocked};
 ghost use Rattle.boot_file.specs.declared.faults.FileFault.TheVariants.{InUse, NotLocked};
-ghost use Rattle.boot_file.specs.Locks.{IsOfOpening, fault_of};
+ghost use Rattle.boot_file.specs.Locks.{IsLocked, IsOfOpening, WasLetGo, fault_of};
 
 use crate::FileFault;
 use std::fs::{File, TryLockError};
@@ -13,25 +13,32 @@ pub trait Lockable {
     /// This opening has the file locked.
     ghost locked: { Self → Type 0 };
 
-    /// Why it may not be.
-    ghost refused: { Self → TryLockError → Type 0 };
+    /// The call, by what the file was, what it answered, and what it is then.
+    ghost locks: { TriesLock Self };
 
     /// Locks the file, unless another opening of it is locked.
-    fn try_lock(&self) -> Result<(), TryLockError>
-        ensures locked { OnOk result (locked self.now) }
-        ensures refused { IfErr result (λ error. refused self.now error) };
+    fn try_lock(&mut self) -> Result<(), TryLockError>
+        ensures locked { OnOk result (locked self.new) }
+        ensures locks { locks self.old result self.new };
 }
 
-/// No clause can say what the system's lock does.
+/// No clause can say what the system's lock does, so the call has a name.
 impl Lockable for File {
-    ghost locked = { λ _. Unit {0} };
+    ghost locked = { IsLocked };
 
-    ghost refused = { λ _ _. Unit {0} };
+    ghost locks = { WasLocked };
 
-    fn try_lock(&self) -> Result<(), TryLockError> {
+    #[tactic(auto, unfolding(crate::specs::Calls::WasLocked))]
+    fn try_lock(&mut self) -> Result<(), TryLockError> {
         File::try_lock(self)
     }
 }
+
+/// Lets a file or a folder go. Of what it is nothing is known here, so nothing else can be done with it.
+#[tactic(auto, unfolding(crate::specs::Locks::WasLetGo))]
+pub(crate) fn let_go<F: Drop>(_file: F)
+    ensures { WasLetGo _file }
+{}
 
 /// Why a file isn't locked.
 pub(crate) fn not_locked(error: TryLockError) -> FileFault

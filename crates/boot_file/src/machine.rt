@@ -2,7 +2,7 @@
 ghost use Rattle.std.specs.Prelude.{IfErr, IfOk, OnOk};
 ghost use Rattle.boot_file.specs.Deeds.{WasLinked, WasLookedFor, WasOpened, WasRemoved, WasUnlinked, WasUnopened};
 
-use crate::FileDisk;
+use crate::{FileDisk, Opened};
 use std::alloc::Global;
 use std::fs::{Files, OpenOptions};
 use std::io;
@@ -27,15 +27,19 @@ impl<R: AllocGlobal> Machine<'_, R> {
 }
 
 impl<R: Files> Machine<'_, R> {
-    /// Opens what is at a path, by these options.
+    /// Opens what is at a path, by these options. What is answered can be asked for no more than an opened file can.
     #[tactic(auto, unfolding(crate::specs::Deeds::WasOpened, crate::specs::Deeds::WasUnopened))]
-    pub(crate) fn told_to_open(&mut self, options: &OpenOptions, path: &str) -> io::Result<R::File>
+    pub(crate) fn told_to_open(
+        &mut self,
+        options: &OpenOptions,
+        path: &str,
+    ) -> io::Result<Opened<R::File>>
         ensures opened { IfOk result
             (λ file. WasOpened self.old options.now path.now file self.new) }
         ensures unopened { IfErr result
             (λ error. WasUnopened self.old options.now path.now error self.new) }
     {
-        options.open(self.rt, path)
+        Ok(Opened::new(options.open(self.rt, path)?))
     }
 
     /// Looks whether there is anything of a name.
@@ -50,7 +54,7 @@ impl<R: Files> Machine<'_, R> {
     #[tactic(auto, unfolding(crate::specs::Deeds::WasLinked, crate::specs::Deeds::WasUnlinked))]
     pub(crate) fn told_to_link(
         &mut self,
-        _disk: &FileDisk<R::File>,
+        _disk: &FileDisk<Opened<R::File>>,
         other: &str,
         path: &str,
     ) -> io::Result<()>

@@ -9,8 +9,9 @@ ghost use Rattle.boot_file.specs.Opened.{AreOpened, IsAsItIs, IsFolder, IsNoFold
 ghost use Rattle.boot_file.specs.declared.faults.FileFault.TheVariants as faults;
 
 use crate::founding::written;
+use crate::locks::let_go;
 use crate::machine::Machine;
-use crate::{Blocks, FileDisk, FileFault, Lockable};
+use crate::{Blocks, FileDisk, FileFault, Lockable, Opened};
 use boot_store::Disk;
 use std::alloc::Global;
 use std::fs::{Files, OpenOptions};
@@ -97,7 +98,10 @@ fn name_beside(alloc: Global, path: &str) -> Result<String, FileFault>
 }
 
 /// The folder that has a path's name.
-fn folder_at<R: Files>(machine: &mut Machine<'_, R>, path: &str) -> Result<R::File, FileFault>
+fn folder_at<R: Files>(
+    machine: &mut Machine<'_, R>,
+    path: &str,
+) -> Result<Opened<R::File>, FileFault>
     ensures opened { IfOk result (λ folder. IsFolder machine.old path.now folder machine.new) }
     ensures err { IfErr result (λ why. IsNoFolder machine.old path.now why machine.new) }
     ensures opening { IfErr result IsOfOpening }
@@ -120,18 +124,19 @@ fn folder_at<R: Files>(machine: &mut Machine<'_, R>, path: &str) -> Result<R::Fi
 pub fn create<R: Files + AllocGlobal>(
     machine: &mut Machine<'_, R>,
     path: &str,
-) -> Result<FileDisk<R::File>, FileFault>
+) -> Result<FileDisk<Opened<R::File>>, FileFault>
 where
     R::File: Blocks,
-    ensures zero { IfOk result (λ d. ⟦<R::File as Blocks>⟧.honest d.file
-        → LeavesNumber 0 (⟦<R::File as Blocks>⟧.now d.file)) }
-    ensures named { IfOk result (λ d. ⟦<R::File as Blocks>⟧.honest d.file
-        → ⟦<R::File as Blocks>⟧.named d.file) }
+    ensures zero { IfOk result (λ d. ⟦<Opened<R::File> as Blocks>⟧.honest d.file
+        → LeavesNumber 0 (⟦<Opened<R::File> as Blocks>⟧.now d.file)) }
+    ensures named { IfOk result (λ d. ⟦<Opened<R::File> as Blocks>⟧.honest d.file
+        → ⟦<Opened<R::File> as Blocks>⟧.named d.file) }
     ensures none_failed { IfOk result (λ d. d.failures ≡ 0) }
-    ensures made { IsMade (IsWhole ⟦<R::File as Blocks>⟧.honest ⟦<R::File as Blocks>⟧.now)
-        ⟦<FileDisk<R::File> as Disk>⟧.reads
-        ⟦<FileDisk<R::File> as Disk>⟧.writes
-        ⟦<FileDisk<R::File> as Disk>⟧.syncs
+    ensures made { IsMade (IsWhole ⟦<Opened<R::File> as Blocks>⟧.honest
+        ⟦<Opened<R::File> as Blocks>⟧.now)
+        ⟦<FileDisk<Opened<R::File>> as Disk>⟧.reads
+        ⟦<FileDisk<Opened<R::File>> as Disk>⟧.writes
+        ⟦<FileDisk<Opened<R::File>> as Disk>⟧.syncs
         machine.old path.now result machine.new }
     ensures err { IfErr result IsOfMaking }
 {
@@ -142,20 +147,21 @@ where
 /// Makes it in its folder.
 fn made_in<R: Files + AllocGlobal>(
     machine: &mut Machine<'_, R>,
-    folder: R::File,
+    folder: Opened<R::File>,
     path: &str,
-) -> Result<FileDisk<R::File>, FileFault>
+) -> Result<FileDisk<Opened<R::File>>, FileFault>
 where
     R::File: Blocks,
-    ensures zero { IfOk result (λ d. ⟦<R::File as Blocks>⟧.honest d.file
-        → LeavesNumber 0 (⟦<R::File as Blocks>⟧.now d.file)) }
-    ensures named { IfOk result (λ d. ⟦<R::File as Blocks>⟧.honest d.file
-        → ⟦<R::File as Blocks>⟧.named d.file) }
+    ensures zero { IfOk result (λ d. ⟦<Opened<R::File> as Blocks>⟧.honest d.file
+        → LeavesNumber 0 (⟦<Opened<R::File> as Blocks>⟧.now d.file)) }
+    ensures named { IfOk result (λ d. ⟦<Opened<R::File> as Blocks>⟧.honest d.file
+        → ⟦<Opened<R::File> as Blocks>⟧.named d.file) }
     ensures none_failed { IfOk result (λ d. d.failures ≡ 0) }
-    ensures made { IsMadeIn (IsWhole ⟦<R::File as Blocks>⟧.honest ⟦<R::File as Blocks>⟧.now)
-        ⟦<FileDisk<R::File> as Disk>⟧.reads
-        ⟦<FileDisk<R::File> as Disk>⟧.writes
-        ⟦<FileDisk<R::File> as Disk>⟧.syncs
+    ensures made { IsMadeIn (IsWhole ⟦<Opened<R::File> as Blocks>⟧.honest
+        ⟦<Opened<R::File> as Blocks>⟧.now)
+        ⟦<FileDisk<Opened<R::File>> as Disk>⟧.reads
+        ⟦<FileDisk<Opened<R::File>> as Disk>⟧.writes
+        ⟦<FileDisk<Opened<R::File>> as Disk>⟧.syncs
         folder machine.old path.now result machine.new }
     ensures err { IfErr result IsOfMaking }
 {
@@ -171,22 +177,23 @@ where
 /// Writes it under another name, and gives it its own once it is on the disk.
 fn placed<R: Files>(
     machine: &mut Machine<'_, R>,
-    folder: R::File,
+    folder: Opened<R::File>,
     other: &str,
     path: &str,
-) -> Result<FileDisk<R::File>, FileFault>
+) -> Result<FileDisk<Opened<R::File>>, FileFault>
 where
     R::File: Blocks,
     requires beside { other.now ≡ beside path.now }
-    ensures zero { IfOk result (λ d. ⟦<R::File as Blocks>⟧.honest d.file
-        → LeavesNumber 0 (⟦<R::File as Blocks>⟧.now d.file)) }
-    ensures named { IfOk result (λ d. ⟦<R::File as Blocks>⟧.honest d.file
-        → ⟦<R::File as Blocks>⟧.named d.file) }
+    ensures zero { IfOk result (λ d. ⟦<Opened<R::File> as Blocks>⟧.honest d.file
+        → LeavesNumber 0 (⟦<Opened<R::File> as Blocks>⟧.now d.file)) }
+    ensures named { IfOk result (λ d. ⟦<Opened<R::File> as Blocks>⟧.honest d.file
+        → ⟦<Opened<R::File> as Blocks>⟧.named d.file) }
     ensures none_failed { IfOk result (λ d. d.failures ≡ 0) }
-    ensures made { IsPlaced (IsWhole ⟦<R::File as Blocks>⟧.honest ⟦<R::File as Blocks>⟧.now)
-        ⟦<FileDisk<R::File> as Disk>⟧.reads
-        ⟦<FileDisk<R::File> as Disk>⟧.writes
-        ⟦<FileDisk<R::File> as Disk>⟧.syncs
+    ensures made { IsPlaced (IsWhole ⟦<Opened<R::File> as Blocks>⟧.honest
+        ⟦<Opened<R::File> as Blocks>⟧.now)
+        ⟦<FileDisk<Opened<R::File>> as Disk>⟧.reads
+        ⟦<FileDisk<Opened<R::File>> as Disk>⟧.writes
+        ⟦<FileDisk<Opened<R::File>> as Disk>⟧.syncs
         folder machine.old path.now result machine.new }
     ensures err { IfErr result IsOfMaking }
 {
@@ -200,23 +207,24 @@ where
 /// Writes the file of a disk, which has another name, and gives it its own then.
 fn finished<R: Files>(
     machine: &mut Machine<'_, R>,
-    mut disk: FileDisk<R::File>,
+    mut disk: FileDisk<Opened<R::File>>,
     other: &str,
     path: &str,
-) -> Result<FileDisk<R::File>, FileFault>
+) -> Result<FileDisk<Opened<R::File>>, FileFault>
 where
     R::File: Blocks,
     requires beside { other.now ≡ beside path.now }
     requires none_failed { disk.failures ≡ 0 }
-    ensures zero { IfOk result (λ d. ⟦<R::File as Blocks>⟧.honest d.file
-        → LeavesNumber 0 (⟦<R::File as Blocks>⟧.now d.file)) }
-    ensures named { IfOk result (λ d. ⟦<R::File as Blocks>⟧.honest d.file
-        → ⟦<R::File as Blocks>⟧.named d.file) }
+    ensures zero { IfOk result (λ d. ⟦<Opened<R::File> as Blocks>⟧.honest d.file
+        → LeavesNumber 0 (⟦<Opened<R::File> as Blocks>⟧.now d.file)) }
+    ensures named { IfOk result (λ d. ⟦<Opened<R::File> as Blocks>⟧.honest d.file
+        → ⟦<Opened<R::File> as Blocks>⟧.named d.file) }
     ensures none_failed { IfOk result (λ d. d.failures ≡ 0) }
-    ensures made { IsFinished (IsWhole ⟦<R::File as Blocks>⟧.honest ⟦<R::File as Blocks>⟧.now)
-        ⟦<FileDisk<R::File> as Disk>⟧.reads
-        ⟦<FileDisk<R::File> as Disk>⟧.writes
-        ⟦<FileDisk<R::File> as Disk>⟧.syncs
+    ensures made { IsFinished (IsWhole ⟦<Opened<R::File> as Blocks>⟧.honest
+        ⟦<Opened<R::File> as Blocks>⟧.now)
+        ⟦<FileDisk<Opened<R::File>> as Disk>⟧.reads
+        ⟦<FileDisk<Opened<R::File>> as Disk>⟧.writes
+        ⟦<FileDisk<Opened<R::File>> as Disk>⟧.syncs
         machine.old path.now disk result machine.new }
     ensures err { IfErr result IsOfMaking }
 {
@@ -229,23 +237,24 @@ where
 /// Gives the file of a disk, once it is written, its own name, and syncs that.
 fn named<R: Files>(
     machine: &mut Machine<'_, R>,
-    mut disk: FileDisk<R::File>,
+    mut disk: FileDisk<Opened<R::File>>,
     other: &str,
     path: &str,
-) -> Result<FileDisk<R::File>, FileFault>
+) -> Result<FileDisk<Opened<R::File>>, FileFault>
 where
     R::File: Blocks,
     requires beside { other.now ≡ beside path.now }
     requires none_failed { disk.failures ≡ 0 }
-    requires whole { ⟦<R::File as Blocks>⟧.honest disk.file
-        → LeavesNumber 0 (⟦<R::File as Blocks>⟧.now disk.file) }
-    ensures zero { IfOk result (λ d. ⟦<R::File as Blocks>⟧.honest d.file
-        → LeavesNumber 0 (⟦<R::File as Blocks>⟧.now d.file)) }
-    ensures named { IfOk result (λ d. ⟦<R::File as Blocks>⟧.honest d.file
-        → ⟦<R::File as Blocks>⟧.named d.file) }
+    requires whole { ⟦<Opened<R::File> as Blocks>⟧.honest disk.file
+        → LeavesNumber 0 (⟦<Opened<R::File> as Blocks>⟧.now disk.file) }
+    ensures zero { IfOk result (λ d. ⟦<Opened<R::File> as Blocks>⟧.honest d.file
+        → LeavesNumber 0 (⟦<Opened<R::File> as Blocks>⟧.now d.file)) }
+    ensures named { IfOk result (λ d. ⟦<Opened<R::File> as Blocks>⟧.honest d.file
+        → ⟦<Opened<R::File> as Blocks>⟧.named d.file) }
     ensures none_failed { IfOk result (λ d. d.failures ≡ 0) }
-    ensures made { IsNamed (IsWhole ⟦<R::File as Blocks>⟧.honest ⟦<R::File as Blocks>⟧.now)
-        ⟦<FileDisk<R::File> as Disk>⟧.syncs machine.old path.now disk result machine.new }
+    ensures made { IsNamed (IsWhole ⟦<Opened<R::File> as Blocks>⟧.honest
+        ⟦<Opened<R::File> as Blocks>⟧.now)
+        ⟦<FileDisk<Opened<R::File>> as Disk>⟧.syncs machine.old path.now disk result machine.new }
     ensures err { IfErr result IsOfMaking }
 {
     if let Err(error) = machine.told_to_link(&disk, other, path) {
@@ -269,20 +278,24 @@ where
 pub fn open<R: Files>(
     machine: &mut Machine<'_, R>,
     path: &str,
-) -> Result<FileDisk<R::File>, FileFault>
+) -> Result<FileDisk<Opened<R::File>>, FileFault>
 where
     R::File: Blocks + Lockable,
-    ensures locked { IfOk result (λ d. ⟦<R::File as Lockable>⟧.locked d.file) }
+    ensures locked { IfOk result (λ d. ⟦<Opened<R::File> as Lockable>⟧.locked d.file) }
     ensures opened { IfOk result
-        (λ d. AreOpened machine.old path.now d.file d.folder machine.new) }
+        (λ d. AreOpened ⟦<Opened<R::File> as Lockable>⟧.locks
+        machine.old path.now d.file d.folder machine.new) }
     ensures none_failed { IfOk result (λ d. d.failures ≡ 0) }
     ensures err { IfErr result IsOfOpening }
-    ensures cause { IfErr result (λ why. IsUnopened ⟦<R::File as Lockable>⟧.refused
+    ensures cause { IfErr result (λ why. IsUnopened ⟦<Opened<R::File> as Lockable>⟧.locks
         machine.old path.now why machine.new) }
 {
     let folder = folder_at(machine, path)?;
     match machine.told_to_open(&as_it_is(), path) {
         Ok(file) => FileDisk::locked(file, folder),
-        Err(error) => Err(not_opened(error)),
+        Err(error) => {
+            let_go(folder);
+            Err(not_opened(error))
+        }
     }
 }

@@ -1,4 +1,4 @@
-use Rattle.std.proofs.Common.{◌≡◌, ◌-◌, ⊎_elim, length, take, drop, ◌∙◌, ap, arith}
+use Rattle.std.proofs.Common.{◌≡◌, ◌-◌, ⊎_elim, length, take, drop, ◌∙◌, ap, arith, rules}
 use Rattle.std.proofs.lemmas.List.{length-map}
 use Rattle.boot_store.specs.Moment.{Moment, bytes_of}
 use Rattle.boot_file.proofs.Filling.{filled_more, filled_whole}
@@ -36,7 +36,7 @@ loop-filled-preserved g c =
       passes = λ h. c.read_at.ensures.passes (loop.honesty.0 h) ∙ loop.passes h;
       name = λ h named. c.read_at.ensures.name (loop.honesty.0 h) (loop.name h named);
       read = read_more g.F.Blocks.reads c.args.file.now c.loop-filled.file c.read_at.new.self n c.in-Ok.count room c.read_at.new.room
-          (omega (arith, loop.long, loop.short)) (omega (arith, c.in-Ok.ensures.count, kept, size)) loop.read c.in-Ok.ensures.reads;
+          (omega (arith, loop.long, loop.short)) (omega (arith, c.in-Ok.ensures.count, kept, size)) (search rules) loop.read c.in-Ok.ensures.reads;
       taken = λ h. c.in-Ok.ensures.taken (loop.honesty.0 h) ∙ loop.taken h;
       honesty = (λ h. c.read_at.ensures.honesty.0 (loop.honesty.0 h), λ h. loop.honesty.1 (c.read_at.ensures.honesty.1 h));
     }

@@ -1,6 +1,7 @@
 use Rattle.std.proofs.Common.{List, ℕ, inl, subst, sym}
 use Rattle.boot_file.specs.Calls.{ReadsDisk, SyncsDisk, WritesDisk}
 use Rattle.boot_file.specs.Deeds.{WasOpened, WasRemoved, WasUnopened}
+use Rattle.boot_file.specs.Openings.{ReadsOpened, SyncsOpenedName, TriesOpened, WritesOpened}
 use Rattle.boot_file.specs.Made.{IsWhole, beside}
 use Rattle.boot_file.proofs.Placing.{placed_by}
 use Rattle.boot_file.proofs.places.placed.Goals as goal
@@ -14,8 +15,8 @@ returns-in-Ok-clause-made g c =
     let removed = subst (λ (p : List ℕ). WasRemoved m p free) other c.told_to_remove.ensures in
     let as_other = subst (λ (p : List ℕ). WasOpened free c.anew.result p c.in-Ok.file opened) other c.in-Ok.ensures.opened in
     let asked = subst (λ file. WasOpened free c.anew.result (beside c.args.path.now) file opened) (sym c.new.ensures.file) as_other in
-    placed_by (IsWhole g.R.File.Blocks.honest g.R.File.Blocks.now) (ReadsDisk g.R.File.Blocks.drops g.R.File.Blocks.reads)
-    (WritesDisk g.R.File.Blocks.writes) (SyncsDisk g.R.File.Blocks.syncs g.R.File.Blocks.names)
+    placed_by (IsWhole (λ opened. g.R.File.Blocks.honest opened.file) (λ opened. g.R.File.Blocks.now opened.file)) (ReadsDisk (TriesOpened g.R.File.Blocks.drops) (ReadsOpened g.R.File.Blocks.reads))
+    (WritesDisk (WritesOpened g.R.File.Blocks.writes)) (SyncsDisk (TriesOpened g.R.File.Blocks.syncs) (SyncsOpenedName g.R.File.Blocks.names))
     c.args.folder m free c.finished.new.machine c.args.path.now c.finished.result removed
     (opened, (c.new.result, (record { options = c.anew.result; how = c.anew.ensures; asked = asked }, (c.new.ensures.folder, c.finished.ensures.made))))
 
