@@ -12,6 +12,7 @@ use Rattle.boot_file.specs.Opened.{IsToRead}
 use Rattle.checks.specs.BootFiles.{found_in}
 use Rattle.checks.specs.Memory.{WasShort, WasUnread}
 use Rattle.checks.specs.Sights.{Finds, Takes, short, taken}
+use Rattle.checks.specs.declared.machine.Opened.{Opened}
 use Rattle.checks.specs.declared.surroundings.Found.{Found}
 use Rattle.checks.specs.declared.surroundings.Found.TheVariants as found
 use Rattle.checks.specs.declared.surroundings.Seen.{Seen}
@@ -31,7 +32,7 @@ abbrev pub Locks : Type 0 → Type 1
 Locks F = F → Result (Unit {0}) TryLockError → F → Type 0
 
 -- Who was asked for the file at this path, where it is a regular one, by these options, answered so, and is this then. No more is known of it, so this is no more than a
--- name for the call, as are the four below it: who makes the call has it, and nobody else.
+-- name for the call, as are the two below it: who makes the call has it, and nobody else.
 unfoldable pub WasOpened : {P F : Type 0} → P → OpenOptions → List ℕ → Result (Option F) Error → P → Type 0
 WasOpened before options path answer after = Unit {0}
 
@@ -43,9 +44,9 @@ WasBegun before answer after = Unit {0}
 unfoldable pub WasLet : {F : Type 0} → Lets F
 WasLet before mode after = Unit {0}
 
--- and to be locked
-unfoldable pub WasLocked : {F : Type 0} → Locks F
-WasLocked before answer after = Unit {0}
+-- what was opened has the lock of the file within
+abbrev pub LocksOpened : {F : Type 0} → Locks F → Locks (Opened F)
+LocksOpened locks before answer after = locks before.file answer after.file
 
 -- a box runs on it: another opening of it is locked
 abbrev pub is_used : Result (Unit {0}) TryLockError → Bool
@@ -78,10 +79,10 @@ IsSeenAt {F = F} begins lets locks (Ok (Some file)) (found.File seen) = (last : 
 IsSeenAt begins lets locks (Ok (Some file)) other = ⊥
 
 -- just what was opened at a path, once, to be read as it is, was seen, and nothing else asked
-abbrev pub IsFoundIn : {P : Type 0} → (F : Type 0) → Finds P
-IsFoundIn F before path what after =
-    (options : OpenOptions) × (IsToRead options × ((opened : Result (Option F) Error)
-    × (WasOpened before options path opened after × IsSeenAt WasBegun WasLet WasLocked opened what)))
+abbrev pub IsFoundIn : {P : Type 0} → (F : Type 0) → Locks F → Finds P
+IsFoundIn F locks before path what after =
+    (options : OpenOptions) × (IsToRead options × ((opened : Result (Option (Opened F)) Error)
+    × (WasOpened before options path opened after × IsSeenAt WasBegun WasLet (LocksOpened locks) opened what)))
 
 -- ---- an MTU
 

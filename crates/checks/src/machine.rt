@@ -1,10 +1,13 @@
 //! The system, as who is asked for files. Each thing it is asked has a name, and no more is known of it.
 ghost use Rattle.checks.specs.Openings.{WasOpened};
 
+use crate::openings::Opening;
+use boot_file::Lockable;
 use faults::Reads;
 use std::alloc::Global;
-use std::fs::{self, OpenOptions};
-use std::io;
+use std::fs::{self, OpenFile, OpenOptions, TryLockError};
+use std::io::{self, Read};
+use std::os::unix::fs::PermissionsExt;
 use std::rt::Files;
 
 /// This machine. Who has it asks by the calls that have names, and by no others.
@@ -26,19 +29,64 @@ impl<R: AllocGlobal> ThisMachine<'_, R> {
 }
 
 impl<R: Files> ThisMachine<'_, R> {
-    /// Asks the system for the file at a path, where it is a regular one, by these options.
+    /// Asks the system for the file at a path, where it is a regular one, by these options. What is answered can be asked
+    /// by `Opening` alone.
     #[tactic(auto, unfolding(crate::specs::Openings::WasOpened))]
     pub(crate) fn told_to_open(
         &mut self,
         options: &OpenOptions,
         path: &str,
-    ) -> io::Result<Option<R::File>>
+    ) -> io::Result<Option<Opened<R::File>>>
         ensures { WasOpened self.old options.now path.now result self.new }
     {
         if !fs::metadata(self.0, path)?.is_file() {
             return Ok(None);
         }
-        Ok(Some(options.open(self.0, path)?))
+        Ok(Some(Opened {
+            file: options.open(self.0, path)?,
+        }))
+    }
+}
+
+/// A boot file that was opened. Nobody sees it but this module, so that it can be asked by `Opening` alone.
+#[derive(Drop)]
+pub struct Opened<F> {
+    file: F,
+}
+
+/// That it is asked for its first bytes and for its mode has names, and of these no more is known; its lock is that of the
+/// file. Of a file whose bytes are known the first are read.
+impl<F: Read + OpenFile + Lockable> Opening for Opened<F> {
+    ghost use Rattle.std.specs.Prelude.{◌≡◌, IfOk, IfSome, take};
+    ghost use Rattle.checks.specs.Openings.{LocksOpened, WasBegun, WasLet};
+
+    ghost begins = { WasBegun };
+
+    ghost lets = { WasLet };
+
+    ghost locks = { LocksOpened F.locks };
+
+    #[tactic(auto, unfolding(crate::specs::Openings::WasBegun))]
+    fn first(&mut self) -> io::Result<[u8; 32]>
+        ensures asked { WasBegun self.old result self.new }
+        ensures bytes { IfSome (F.remaining self.old.file)
+            (λ bytes. IfOk result (λ first. first ≡ take 32 bytes)) }
+    {
+        let mut bytes = [0; 32];
+        self.file.read_exact(&mut bytes)?;
+        Ok(bytes)
+    }
+
+    #[tactic(auto, unfolding(crate::specs::Openings::WasLet))]
+    fn mode(&mut self) -> Option<u32> {
+        match self.file.metadata() {
+            Ok(metadata) => Some(metadata.permissions().mode()),
+            Err(_) => None,
+        }
+    }
+
+    fn lock(&mut self) -> Result<(), TryLockError> {
+        self.file.try_lock()
     }
 }
 

@@ -5,11 +5,9 @@ ghost use Rattle.checks.specs.BootFiles.{found_in};
 ghost use Rattle.checks.specs.Openings.{IsSeenIn, WasLetGo, is_used};
 
 use crate::Seen;
-use boot_file::Lockable;
 use byteorder::{BigEndian, ByteOrder};
-use std::fs::{OpenFile, TryLockError};
-use std::io::{self, Read};
-use std::os::unix::fs::PermissionsExt;
+use std::fs::TryLockError;
+use std::io;
 
 /// A boot file that was opened.
 pub(crate) trait Opening {
@@ -37,43 +35,6 @@ pub(crate) trait Opening {
     /// Locks it, unless another opening of it is locked.
     fn lock(&mut self) -> Result<(), TryLockError>
         ensures { locks self.old result self.new };
-}
-
-/// Each of its answers has a name, and of its mode and its lock no more is known. Of a file whose bytes are known the first are
-/// read.
-impl<F: Read + OpenFile + Lockable> Opening for F {
-    ghost use Rattle.std.specs.Prelude.{◌≡◌, IfOk, IfSome, take};
-    ghost use Rattle.checks.specs.Openings.{WasBegun, WasLet, WasLocked};
-
-    ghost begins = { WasBegun };
-
-    ghost lets = { WasLet };
-
-    ghost locks = { WasLocked };
-
-    #[tactic(auto, unfolding(crate::specs::Openings::WasBegun))]
-    fn first(&mut self) -> io::Result<[u8; 32]>
-        ensures asked { WasBegun self.old result self.new }
-        ensures bytes { IfSome (F.remaining self.old)
-            (λ bytes. IfOk result (λ first. first ≡ take 32 bytes)) }
-    {
-        let mut bytes = [0; 32];
-        self.read_exact(&mut bytes)?;
-        Ok(bytes)
-    }
-
-    #[tactic(auto, unfolding(crate::specs::Openings::WasLet))]
-    fn mode(&mut self) -> Option<u32> {
-        match self.metadata() {
-            Ok(metadata) => Some(metadata.permissions().mode()),
-            Err(_) => None,
-        }
-    }
-
-    #[tactic(auto, unfolding(crate::specs::Openings::WasLocked))]
-    fn lock(&mut self) -> Result<(), TryLockError> {
-        self.try_lock()
-    }
 }
 
 /// Looks into a boot file.

@@ -73,7 +73,7 @@ where
 {
     ghost use Rattle.checks.specs.Openings.{IsFoundIn, IsTakenIn};
 
-    ghost finds = { IsFoundIn R.File };
+    ghost finds = { IsFoundIn R.File ⟦<R::File as Lockable>⟧.locks };
 
     ghost takes = { IsTakenIn };
 
