@@ -14,7 +14,7 @@ taken_on (Ok done) path word before after line last made told gone = (line, (las
 taken_on (Err why) path word before after line last made told gone = tt
 
 pub untaken_on : {M T E : Type 0} (r : Result T E) (path : Paths) (word : List ℕ) (before after : M) (line last : SystemLine)
-    → IsDialled WasDialled WasLimited path before after line → OnErr r (IsLost passes word line last ⊎ Tells passes word false line last) → WasLetGo last
+    → IsDialled WasDialled WasLimited path before after line → OnErr r (IsLost passes word 5 line last ⊎ Tells passes word false line last) → WasLetGo last
     → OnErr r (IsUntaken path word before after)
 untaken_on (Ok done) path word before after line last made lost gone = tt
 untaken_on (Err why) path word before after line last made lost gone = inr (line, (last, (made, (lost, gone))))
@@ -29,7 +29,7 @@ answered_on (Err why) path word room before after line last made answered gone =
 
 pub unanswered_on : {M E : Type 0} (r : Result ℕ E) (path : Paths) (word : List ℕ) (room : ℕ) (before after : M) (line last : SystemLine)
     → IsDialled WasDialled WasLimited path before after line
-    → OnErr r (IsLost passes word line last ⊎ IsAnswered passes word room [] line last) → WasLetGo last
+    → OnErr r (IsLost passes word room line last ⊎ IsAnswered passes word room [] line last) → WasLetGo last
     → OnErr r (IsUnanswered path word room before after)
 unanswered_on (Ok count) path word room before after line last made lost gone = tt
 unanswered_on (Err why) path word room before after line last made lost gone = inr (line, (last, (made, (lost, gone))))

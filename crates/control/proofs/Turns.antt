@@ -1,12 +1,14 @@
 -- Callers who are asked one after the other.
-use Rattle.std.proofs.Common.{arith, ◌≡◌, ◌<◌, ◌≤◌, ◌∙◌, ◌+◌, ◌∷◌, ◌++◌, [], ℕ, zero, suc, List, Option, Some, inl, inr, ap, sym, refl, subst, length, take, drop, set, get_or, length-take-le, take-append-drop}
+use Rattle.std.proofs.Common.{arith, ◌≡◌, ◌<◌, ◌≤◌, ◌∙◌, ◌+◌, ◌∷◌, ◌++◌, [], ℕ, zero, suc, List, Option, Some, None, inl, inr, ap, sym, refl, subst, length, take, drop, set, get_or, length-take-le, take-append-drop}
 use Rattle.std.specs.Io.KnownBytes.{Consumes}
 use Rattle.std.specs.List.{remove, slice_get}
 use Rattle.std.proofs.lemmas.List.{drop-drop, drop-set, drop-set-lt, drop_at, drop_more, length-set, take-set, take_all, take_at, take_more, take_more_set}
 use Rattle.control.specs.Asking.{AreLeft, IsLeftBySpeaker, IsSilent, SaysNoWord}
+use Rattle.control.specs.Calling.{IsLetGoAt}
 use Rattle.control.specs.Heard.{HasSpoken}
 use Rattle.control.specs.Reads.{Reads}
 use Rattle.control.specs.Saying.{IsOfOneRead}
+use Rattle.control.specs.Speaking.{WasLetGo}
 use Rattle.control.specs.declared.callers.Said.TheVariants as said
 
 first_of : {S : Type 0} (xs : List S) (i : ℕ) → slice_get (drop i xs) 0 ≡ slice_get xs i
@@ -23,6 +25,14 @@ looked : {S : Type 0} (xs : List S) (i : ℕ) (d : S) → i < length xs → slic
 looked [] i d h = absurd (omega (arith, h))
 looked (x ∷ xs) zero d h = refl
 looked (x ∷ xs) (suc i) d h = looked xs i d (omega (arith, h))
+
+abbrev one_of : {S : Type 0} → S → Option S → S
+one_of d None = d
+one_of d (Some x) = x
+
+-- who was let go at his place is he who stands there
+pub gone_there : {S : Type 0} (xs : List S) (i : ℕ) (y : S) → i < length xs → IsLetGoAt (set xs i y) i → WasLetGo y
+gone_there {S} xs i y h gone = subst (λ (z : S). WasLetGo z) (ap (one_of y) (sym gone.1.0 ∙ there xs i y h)) gone.1.1
 
 -- one more has said nothing
 pub behind_silent : {S : Type 0} (callers first : List S) (silent turn : ℕ) (y : S) → drop silent callers ≡ drop turn first

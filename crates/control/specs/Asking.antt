@@ -2,6 +2,7 @@
 use Rattle.std.specs.Prelude.{ℕ, ◌≡◌, ◌⊎◌, List, [], ◌∷◌, ◌++◌, length, remove, slice_get, Option, Some, None}
 use Rattle.control.specs.Reads.{Reads}
 use Rattle.control.specs.Saying.{IsOfOneRead}
+use Rattle.control.specs.Speaking.{WasLetGo}
 use Rattle.control.specs.declared.callers.Heard.{Heard}
 use Rattle.control.specs.declared.callers.Heard.TheVariants as heard
 use Rattle.control.specs.declared.callers.Said.TheVariants as said
@@ -10,9 +11,10 @@ use Rattle.control.specs.declared.callers.Said.TheVariants as said
 abbrev pub IsSilent : {S : Type 0} → Reads S → ℕ → S → S → Type 0
 IsSilent reads long before after = (room : List ℕ) × ((length room ≡ long) × IsOfOneRead reads before room said.Nothing after)
 
--- asked so, he has said what is no word; or he has gone, or can't be read
+-- asked so, he has said what is no word; or he has gone, or can't be read; and he was let go as he is then
 abbrev pub SaysNoWord : {S : Type 0} → Reads S → ℕ → S → Type 0
-SaysNoWord {S} reads long before = (room : List ℕ) × (after : S) × ((length room ≡ long) × IsOfOneRead reads before room said.NoWord after)
+SaysNoWord {S} reads long before =
+    (room : List ℕ) × (after : S) × ((length room ≡ long) × (IsOfOneRead reads before room said.NoWord after × WasLetGo after))
 
 -- each of these was asked so, and just those are left who have said nothing yet, in their order
 abbrev pub AreLeft : {S : Type 0} → Reads S → ℕ → List S → List S → Type 0

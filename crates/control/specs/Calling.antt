@@ -1,5 +1,5 @@
 -- Who calls at a listener, and is let in.
-use Rattle.std.specs.Prelude.{Bool, true, false, ◌≡◌, ◌≢◌, ◌⊎◌, List, [], ◌∷◌, ◌++◌, Option, Some, None, Result, Ok, Err}
+use Rattle.std.specs.Prelude.{ℕ, Bool, true, false, ◌≡◌, ◌≢◌, ◌≤◌, ◌⊎◌, List, [], ◌∷◌, ◌++◌, length, slice_get, Option, Some, None, Result, Ok, Err}
 use Rattle.std.specs.IoError.{error_kind}
 use Rattle.std.specs.declared.io.Error.{Error}
 use Rattle.std.specs.declared.io.ErrorKind.TheVariants.{WouldBlock}
@@ -44,13 +44,19 @@ abbrev pub IsKept : {S : Type 0} → Result (Unit {0}) Error → List S → S �
 IsKept (Ok done) callers caller callers2 = callers2 ≡ callers ++ caller ∷ []
 IsKept (Err error) callers caller callers2 = (callers2 ≡ callers) × WasLetGo caller
 
--- Somebody calls, and waits are to report him, once, under this token. Where eight are waited for, the one that was waited for longest makes room for him.
+-- who stands at this place was let go as he is
+abbrev pub IsLetGoAt : {S : Type 0} → List S → ℕ → Type 0
+IsLetGoAt {S} callers at = (caller : S) × ((slice_get callers at ≡ Some caller) × WasLetGo caller)
+
+-- Somebody calls, and waits are to report him, once, under this token. Where eight are waited for, the one that was waited for longest makes room for him,
+-- and is let go as he is.
 pub record HasCalled {W L S : Type 0} (calls : Calls L S) (reports : Reporting W S) (token : Token) (waits : W) (before : L) (callers : List S) (waits2 : W) (after : L) (callers2 : List S) : Type 0 where
   pub caller : S
   pub called : calls before (Ok caller) after
   pub answer : Result (Unit {0}) Error
   pub registered : S
   pub asked : reports waits caller token answer registered waits2
+  pub gone : 8 ≤ length callers → IsLetGoAt callers 0
   pub kept : IsKept answer (with_room callers) registered callers2
 
 -- by whether somebody may call still, behind a call that failed so: just not where it would block

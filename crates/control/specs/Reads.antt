@@ -1,5 +1,5 @@
 -- What reads answer.
-use Rattle.std.specs.Prelude.{ℕ, zero, suc, ◌≡◌, ◌≤◌, ◌⊎◌, ◌-◌, ◌^◌, List, take, Result, Ok, Err}
+use Rattle.std.specs.Prelude.{ℕ, zero, suc, ◌≡◌, ◌≤◌, ◌⊎◌, ◌-◌, ◌^◌, List, length, take, Result, Ok, Err}
 use Rattle.std.specs.IoError.{error_kind}
 use Rattle.std.specs.declared.io.Error.{Error}
 use Rattle.std.specs.declared.io.ErrorKind.TheVariants.{Interrupted}
@@ -18,26 +18,27 @@ abbrev pub IsInterrupted : Result ℕ Error → Type 0
 IsInterrupted (Ok count) = ⊥
 IsInterrupted (Err error) = error_kind error ≡ Interrupted
 
--- so many reads, one after the other, each of which was interrupted
-abbrev pub AreInterrupted : {S : Type 0} → Reads S → ℕ → S → S → Type 0
-AreInterrupted reads zero before after = after ≡ before
-AreInterrupted {S} reads (suc turns) before after =
-    (middle : S) × (room : List ℕ) × (answer : Result ℕ Error) × AreInterrupted reads turns before middle × reads middle room answer after
-    × IsInterrupted answer
+-- so many reads of a room of this length, one after the other, each of which was interrupted
+abbrev pub AreInterrupted : {S : Type 0} → Reads S → ℕ → ℕ → S → S → Type 0
+AreInterrupted reads long zero before after = after ≡ before
+AreInterrupted {S} reads long (suc turns) before after =
+    (middle : S) × (room : List ℕ) × (answer : Result ℕ Error) × AreInterrupted reads long turns before middle × (length room ≡ long)
+    × reads middle room answer after × IsInterrupted answer
 
--- Read once, and again behind each read that was interrupted, and behind no other: what the last one answered is the result. It wasn't
+-- Read once, and again with as much room behind each read that was interrupted, and behind no other: what the last one answered is the result. It wasn't
 -- interrupted, or all of 2 ^ 64 were.
 pub record IsNext {S : Type 0} (reads : Reads S) (before : S) (room : List ℕ) (result : Result ℕ Error) (after : S) : Type 0 where
   pub turns : ℕ
   pub middle : S
-  pub interrupted : AreInterrupted reads turns before middle
+  pub interrupted : AreInterrupted reads (length room) turns before middle
   pub last : reads middle room result after
   pub ended : (¬ IsInterrupted result) ⊎ (2 ^ 64 - 1 ≤ turns)
 
--- these bytes were read so
-abbrev pub IsRead : {S : Type 0} → Reads S → S → List ℕ → S → Type 0
-IsRead reads before bytes after = (room : List ℕ) × (count : ℕ) × (IsNext reads before room (Ok count) after × (bytes ≡ take count room))
+-- these bytes were read so, into a room of this length
+abbrev pub IsRead : {S : Type 0} → Reads S → S → ℕ → List ℕ → S → Type 0
+IsRead reads before long bytes after =
+    (room : List ℕ) × (count : ℕ) × ((length room ≡ long) × (IsNext reads before room (Ok count) after × (bytes ≡ take count room)))
 
 -- none could be had so
-abbrev pub IsUnread : {S : Type 0} → Reads S → S → S → Type 0
-IsUnread reads before after = (room : List ℕ) × (error : Error) × IsNext reads before room (Err error) after
+abbrev pub IsUnread : {S : Type 0} → Reads S → S → ℕ → S → Type 0
+IsUnread reads before long after = (room : List ℕ) × (error : Error) × ((length room ≡ long) × IsNext reads before room (Err error) after)

@@ -1,5 +1,5 @@
 -- What a caller has said, and what he is answered.
-use Rattle.std.specs.Prelude.{ℕ, Bool, true, false, ◌≡◌, ◌≢◌, ◌<◌, ◌≤◌, ◌⊎◌, List, [], ◌∷◌, ◌++◌, length, take, Option, Some, is_some, Result, Ok, Err}
+use Rattle.std.specs.Prelude.{ℕ, Bool, true, false, ◌≡◌, ◌≢◌, ◌<◌, ◌≤◌, ◌⊎◌, ◌-◌, List, [], ◌∷◌, ◌++◌, length, take, Option, Some, is_some, Result, Ok, Err}
 use Rattle.std.specs.IoError.{error_kind}
 use Rattle.std.specs.declared.io.Error.{Error}
 use Rattle.std.specs.declared.io.ErrorKind.TheVariants.{WouldBlock}
@@ -43,19 +43,20 @@ is_heard other = false
 abbrev pub IsEnded : List (List ℕ) → Type 0
 IsEnded parts = (earlier : List (List ℕ)) × (parts ≡ earlier ++ [] ∷ [])
 
--- these bytes come, part by part: all there are, or as many as a room of this length takes; nothing else passes
+-- these bytes come, part by part, each asked for with all the room that is left: all there are, or as many as a room of this length takes;
+-- nothing else passes
 pub record Comes {L : Type 0} (does : Does L) (room : ℕ) (bytes : List ℕ) (before after : L) : Type 0 where
   pub parts : List (List ℕ)
-  pub come : ComeIn does parts before after
+  pub come : ComeIn does room parts before after
   pub bytes_are : concat parts ≡ bytes
   pub all : length bytes < room → IsEnded parts
 
--- some parts come, and then none can be had; nothing else passes
-pub record IsCut {L : Type 0} (does : Does L) (before after : L) : Type 0 where
+-- some parts come so, and then none can be had for what is left of the room; nothing else passes
+pub record IsCut {L : Type 0} (does : Does L) (room : ℕ) (before after : L) : Type 0 where
   pub parts : List (List ℕ)
   pub between : L
-  pub come : ComeIn does parts before between
-  pub cut : does between not_come after
+  pub come : ComeIn does room parts before between
+  pub cut : does between (not_come (room - length (concat parts))) after
 
 -- just this word is said, whole, by one call, and once; then this answer comes, all of it, or as much as a room of this length takes;
 -- nothing else passes
@@ -64,11 +65,11 @@ pub record IsAnswered {L : Type 0} (does : Does L) (word : List ℕ) (room : ℕ
   pub is_said : does before (said word) between
   pub comes : Comes does room answer between after
 
--- a word can't be said; or just it is, whole, by one call, and once, and then its answer, or the rest of it, can't be had; nothing else
--- passes
-abbrev pub IsLost : {L : Type 0} → Does L → List ℕ → L → L → Type 0
-IsLost {L} does word before after =
-    does before (not_said word) after ⊎ ((between : L) × (does before (said word) between × IsCut does between after))
+-- a word can't be said; or just it is, whole, by one call, and once, and then its answer, for which there is so much room, or the rest of it,
+-- can't be had; nothing else passes
+abbrev pub IsLost : {L : Type 0} → Does L → List ℕ → ℕ → L → L → Type 0
+IsLost {L} does word room before after =
+    does before (not_said word) after ⊎ ((between : L) × (does before (said word) between × IsCut does room between after))
 
 -- just this word is said, so; then an answer comes, or the first five bytes of one, which says that the word is taken, or doesn't
 abbrev pub Tells : {L : Type 0} → Does L → List ℕ → Bool → L → L → Type 0

@@ -50,7 +50,7 @@ IsTaken path word before after = OnLine path (λ line last. Tells passes word tr
 -- there was no line to him; or just the word was said, or couldn't be, and no answer came that he took it
 abbrev pub IsUntaken : {M : Type 0} → Paths → List ℕ → M → M → Type 0
 IsUntaken path word before after =
-    HasNoLine path before after ⊎ OnLine path (λ line last. IsLost passes word line last ⊎ Tells passes word false line last) before after
+    HasNoLine path before after ⊎ OnLine path (λ line last. IsLost passes word 5 line last ⊎ Tells passes word false line last) before after
 
 -- just this word was said to whoever listens at this path, and he answered these bytes: all, or as much as a room of this length takes
 abbrev pub IsAnsweredBy : {M : Type 0} → Paths → List ℕ → ℕ → List ℕ → M → M → Type 0
@@ -59,4 +59,4 @@ IsAnsweredBy path word room answer before after = OnLine path (λ line last. IsA
 -- there was no line to him; or just the word was said, or couldn't be, and no answer came
 abbrev pub IsUnanswered : {M : Type 0} → Paths → List ℕ → ℕ → M → M → Type 0
 IsUnanswered path word room before after =
-    HasNoLine path before after ⊎ OnLine path (λ line last. IsLost passes word line last ⊎ IsAnswered passes word room [] line last) before after
+    HasNoLine path before after ⊎ OnLine path (λ line last. IsLost passes word room line last ⊎ IsAnswered passes word room [] line last) before after

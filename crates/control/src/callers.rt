@@ -1,6 +1,7 @@
 //! Who is waited for: what callers have said, and what they are answered.
 ghost use Rattle.std.specs.Prelude.{◌≡◌, ◌-◌, ◌≤◌, ◌<◌, ◌⊎◌, length, remove, vec_len, vec_capacity, IfSome};
 ghost use Rattle.control.specs.Asking.{AreAsked, IsTakenOut};
+ghost use Rattle.control.specs.Calling.{IsLetGoAt};
 ghost use Rattle.control.specs.Counting.{AreCounted, speakers, too_many};
 ghost use Rattle.control.specs.Counting.{unanswered_after, with_more, with_room};
 ghost use Rattle.control.specs.Heard.{AreHeard, IsBySpeaker, IsWord};
@@ -87,6 +88,7 @@ pub(crate) fn make_room<S: Drop>(callers: &mut Vec<S>, refused: &mut u64)
     ensures callers { callers.new.items ≡ with_room callers.old.items }
     ensures fewer { vec_len callers.new ≡ vec_len callers.old - too_many (vec_len callers.old) }
     ensures few { vec_len callers.old ≤ 8 → vec_len callers.new < 8 }
+    ensures gone { 8 ≤ vec_len callers.old → IsLetGoAt callers.old.items 0 }
     ensures counted { refused.new ≡ with_more refused.old (too_many (vec_len callers.old)) }
     ensures more { refused.old ≤ refused.new }
     ensures capacity { vec_capacity callers.new ≡ vec_capacity callers.old }
@@ -97,14 +99,15 @@ pub(crate) fn make_room<S: Drop>(callers: &mut Vec<S>, refused: &mut u64)
     }
 }
 
-/// A caller is no longer waited for, and has no answer.
+/// A caller is no longer waited for, and is let go as he is, without an answer.
 fn refuse<S: Drop>(callers: &mut Vec<S>, at: usize, refused: &mut u64)
     requires { at < vec_len callers.old }
     ensures others { callers.new.items ≡ remove callers.old.items at }
+    ensures gone { IsLetGoAt callers.old.items at }
     ensures counted { refused.new ≡ with_more refused.old 1 }
     ensures capacity { vec_capacity callers.new ≡ vec_capacity callers.old }
 {
-    callers.remove(at);
+    let_go(callers.remove(at));
     *refused = refused.saturating_add(1);
 }
 

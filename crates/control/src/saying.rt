@@ -64,7 +64,7 @@ pub fn say<R: Net>(
 /// Says a word, once, and waits until it is taken.
 fn say_at<L: Line>(line: &mut L, word: &[u8]) -> Result<(), NoSocket>
     ensures taken { OnOk result (Tells L.does word.now true line.old line.new) }
-    ensures untaken { OnErr result (IsLost L.does word.now line.old line.new
+    ensures untaken { OnErr result (IsLost L.does word.now 5 line.old line.new
         ⊎ Tells L.does word.now false line.old line.new) }
 {
     let mut answer = [0; 5];
@@ -120,7 +120,7 @@ fn ask_at<L: Line>(line: &mut L, word: &[u8], room: &mut [u8]) -> Result<usize, 
     ensures room { length room.new ≡ length room.old }
     ensures answered { IfOk result (λ count. IsAnswered L.does word.now (length room.new)
         (take count room.new) line.old line.new) }
-    ensures unanswered { OnErr result (IsLost L.does word.now line.old line.new
+    ensures unanswered { OnErr result (IsLost L.does word.now (length room.new) line.old line.new
         ⊎ IsAnswered L.does word.now (length room.new) [] line.old line.new) }
 {
     match exchange(line, word, room)? {
@@ -135,7 +135,8 @@ fn exchange<L: Line>(line: &mut L, word: &[u8], room: &mut [u8]) -> io::Result<u
     ensures room { length room.new ≡ length room.old }
     ensures answered { IfOk result (λ count. IsAnswered L.does word.now (length room.new)
         (take count room.new) line.old line.new) }
-    ensures lost { OnErr result (IsLost L.does word.now line.old line.new) }
+    ensures lost { OnErr result
+        (IsLost L.does word.now (length room.new) line.old line.new) }
 {
     line.say(word)?;
     whole(line, room)
@@ -181,7 +182,7 @@ fn whole<L: Line>(line: &mut L, room: &mut [u8]) -> io::Result<usize>
     ensures room { length room.new ≡ length room.old }
     ensures comes { IfOk result (λ count. Comes L.does (length room.new) (take count room.new)
         line.old line.new) }
-    ensures cut { OnErr result (IsCut L.does line.old line.new) }
+    ensures cut { OnErr result (IsCut L.does (length room.new) line.old line.new) }
 {
     let mut count = 0;
     while count < room.len() {

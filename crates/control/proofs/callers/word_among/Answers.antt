@@ -1,6 +1,6 @@
 use Rattle.std.proofs.Common.{rules, arith, ◌≡◌, ◌<◌, length}
 use Rattle.std.proofs.lemmas.Grind.{common_steps}
-use Rattle.control.proofs.Turns.{behind_refused, behind_silent, left_by_speaker, left_gone, left_silent, left_silent_all, spoken}
+use Rattle.control.proofs.Turns.{behind_refused, behind_silent, gone_there, left_by_speaker, left_gone, left_silent, left_silent_all, spoken}
 use Rattle.control.proofs.callers.word_among.Goals.{in-Nothing, in-NoWord}
 use Rattle.control.proofs.callers.word_among.Goals as goal
 
@@ -31,7 +31,7 @@ loop-turn-preserved g c =
       ];
       left = elim c.match-asked.branch [
         | in-Nothing w ↦ rw (w.callers-is, w.silent-is) (left_silent g.S.Speaks.answers (length c.args.room.now) c.loop-turn.callers.items c.args.callers.now.items c.loop-turn.silent c.loop-turn._turn _ c.asked.new.caller _ within before_end c.loop-turn.invariant.rest c.index_mut.ensures.value (_, (long, w.in-Nothing.ensures.once)) c.loop-turn.invariant.left)
-        | in-NoWord w ↦ rw (w.callers-is, w.silent-is, w.refuse.ensures.others) (left_gone g.S.Speaks.answers (length c.args.room.now) c.loop-turn.callers.items c.args.callers.now.items c.loop-turn.silent c.loop-turn._turn _ c.asked.new.caller _ within before_end c.loop-turn.invariant.rest c.index_mut.ensures.value (_, _, (long, w.in-NoWord.ensures.once)) c.loop-turn.invariant.left)
+        | in-NoWord w ↦ rw (w.callers-is, w.silent-is, w.refuse.ensures.others) (left_gone g.S.Speaks.answers (length c.args.room.now) c.loop-turn.callers.items c.args.callers.now.items c.loop-turn.silent c.loop-turn._turn _ c.asked.new.caller _ within before_end c.loop-turn.invariant.rest c.index_mut.ensures.value (_, _, (long, (w.in-NoWord.ensures.once, gone_there _ _ _ within w.refuse.ensures.gone))) c.loop-turn.invariant.left)
       ];
       counted = grind (arith, common_steps);
       capacity = grind (arith, common_steps);
