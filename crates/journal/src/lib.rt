@@ -2,6 +2,7 @@
 #![tactic(auto)]
 
 mod causes;
+mod desks;
 mod destinations;
 mod entries;
 mod filters;

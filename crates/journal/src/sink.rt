@@ -1,119 +1,24 @@
 //! A sink that never waits.
-ghost use Rattle.std.specs.Prelude.{◌≡◌, ◌<◌, true, false, ℕ, [], List, None, Option, Some, IsTrue};
+ghost use Rattle.std.specs.Prelude.{◌≡◌, true, ℕ, [], List, None, Option, Some};
 ghost use Rattle.log.specs.Filter.{Rule, filtered_inner, filtered_rules};
-ghost use Rattle.journal.specs.Fates.{all_after, left_after, left_told};
-ghost use Rattle.journal.specs.Lines.{AddsCut, AddsLeftOut, AddsLine, AddsOffer, IsOffered, IsPut, IsToldOnce, left_out_text};
-ghost use Rattle.journal.specs.Sinks.{format_of};
+ghost use Rattle.journal.specs.Sinks.{HasLeftOut, format_of};
 ghost use Rattle.journal.specs.declared.lines.Format.{Format as Writing};
-ghost use Rattle.journal.specs.declared.sink.Fate.TheVariants as fates;
 
+use crate::desks::SharedDesk;
 use crate::destinations::Outlet;
-use crate::lines::{Format, LeftOutLine, Shown};
+use crate::lines::{Format, Shown};
 use log::filter::FilteredLog;
 use log::kv::Source;
 use log::span::Spans;
 use log::{Log, Metadata, Record};
 use std::alloc::Allocator;
-use std::cell::RefCell;
 use std::fmt::Display;
-
-/// What became of a line.
-#[derive(Clone, Copy, Debug, PartialEq, Eq)]
-pub(crate) enum Fate {
-    /// It was written; and before it how many were left out, if any were.
-    Written,
-    /// It was left out.
-    LeftOut,
-    /// How many were left out was written, and then this one was left out.
-    ToldAndLeftOut,
-}
-
-/// An outlet, how many lines were left out that stand in no line of it yet, and how many ever were.
-#[derive(Drop)]
-struct Desk<O> {
-    outlet: O,
-    left_out: u64,
-    all: u64,
-}
-
-impl<O: Outlet> Desk<O> {
-    /// Writes a line where there is room for it; and before it how many were left out, in this format.
-    fn offer<D: Display + Drop>(&mut self, format: Format, line: D) -> Fate
-        ensures left { self.new.left_out ≡ left_after result self.old.left_out }
-        ensures told { result ≡ fates.ToldAndLeftOut → 0 < self.old.left_out }
-        ensures all { self.new.all ≡ all_after result self.old.all }
-        ensures asks { IsOffered O.looks O.writes self.old.outlet format self.old.left_out
-            (D.output line) result self.new.outlet }
-        ensures stands { AddsOffer (O.contents self.old.outlet) (O.contents self.new.outlet)
-            format self.old.left_out (D.output line) result }
-    {
-        let owed = 0 < self.left_out;
-        if !self.tell_left_out(format) {
-            self.left_out = self.left_out.saturating_add(1);
-            self.all = self.all.saturating_add(1);
-            return Fate::LeftOut;
-        }
-        if self.put(line) {
-            return Fate::Written;
-        }
-        self.left_out = 1;
-        self.all = self.all.saturating_add(1);
-        if owed {
-            Fate::ToldAndLeftOut
-        } else {
-            Fate::LeftOut
-        }
-    }
-
-    /// Writes how many lines were left out, if any were and there is room; and says whether all were told.
-    fn tell_left_out(&mut self, format: Format) -> bool
-        ensures left { self.new.left_out ≡ left_told result self.old.left_out }
-        ensures all { self.new.all ≡ self.old.all }
-        ensures asks { IsToldOnce O.looks O.writes self.old.outlet format self.old.left_out
-            result self.new.outlet }
-        ensures told { IsTrue result → AddsLeftOut (O.contents self.old.outlet)
-            (O.contents self.new.outlet) format self.old.left_out }
-        ensures some { result ≡ false → 0 < self.old.left_out }
-        ensures cut { result ≡ false → AddsCut (O.contents self.old.outlet)
-            (O.contents self.new.outlet) (Some (left_out_text format self.old.left_out)) }
-    {
-        let lines = self.left_out;
-        if lines == 0 {
-            return true;
-        }
-        let is_told = self.put(LeftOutLine { format, lines });
-        if is_told {
-            self.left_out = 0;
-        }
-        is_told
-    }
-
-    /// Writes a line if there is room, and says whether it was written.
-    fn put<D: Display + Drop>(&mut self, line: D) -> bool
-        ensures written { IsTrue result → AddsLine (O.contents self.old.outlet)
-            (O.contents self.new.outlet) (D.output line) }
-        ensures cut { result ≡ false → AddsCut (O.contents self.old.outlet)
-            (O.contents self.new.outlet) (D.output line) }
-        ensures asks { IsPut O.looks O.writes self.old.outlet (D.output line)
-            result self.new.outlet }
-        ensures left { self.new.left_out ≡ self.old.left_out }
-        ensures all { self.new.all ≡ self.old.all }
-    {
-        if !self.outlet.has_room() {
-            return false;
-        }
-        match self.outlet.write(line) {
-            Ok(()) => true,
-            Err(_) => false,
-        }
-    }
-}
 
 /// Writes each record by one write, where that doesn't wait. It counts what it leaves out, and writes the count when
 /// there is room again: before the next record, or at a `flush`.
 #[derive(Drop)]
 pub struct Unhindered<O> {
-    desk: RefCell<Desk<O>>,
+    desk: SharedDesk<O>,
     format: Format,
 }
 
@@ -123,11 +28,7 @@ impl<O> Unhindered<O> {
         ensures { format_of result ≡ format }
     {
         Unhindered {
-            desk: RefCell::new(Desk {
-                outlet,
-                left_out: 0,
-                all: 0,
-            }),
+            desk: SharedDesk::new(outlet),
             format,
         }
     }
@@ -143,15 +44,12 @@ impl<O: Outlet> Log for Unhindered<O> {
     }
 
     fn log<D: Display, K: Source, S: Spans>(&self, record: &Record<'_, D, K, S>) {
-        if let Ok(mut desk) = self.desk.try_borrow_mut() {
-            let _fate = desk.offer(self.format, Shown::new(self.format, record));
-        }
+        self.desk
+            .offer(self.format, Shown::new(self.format, record));
     }
 
     fn flush(&self) {
-        if let Ok(mut desk) = self.desk.try_borrow_mut() {
-            let _is_told = desk.tell_left_out(self.format);
-        }
+        self.desk.tell_left_out(self.format);
     }
 
     fn target(&self) -> &str {
@@ -178,9 +76,11 @@ pub trait Journal: Log {
 impl<O: Outlet> Journal for Unhindered<O> {
     ghost writes = { λ sink. Some (format_of sink) };
 
+    ghost leaves_out = { HasLeftOut };
+
     fn lines_left_out(&self) -> u64 {
-        match self.desk.try_borrow() {
-            Ok(desk) => desk.all,
+        match self.desk.told_to_lend() {
+            Ok(desk) => desk.lines_left_out(),
             Err(_) => 0,
         }
     }
