@@ -12,6 +12,7 @@ use Rattle.control.specs.Answers.{Content, heard, page as page_of, report as rep
 use Rattle.control.specs.Paths.{IsBeside, Paths}
 use Rattle.control.specs.declared.words.Word.{Word}
 use Rattle.control.specs.declared.words.Word.TheVariants.{Pairs}
+use Rattle.boot_file.specs.Locks.{IsOfMaking}
 use Rattle.boot_file.specs.declared.faults.FileFault.{FileFault}
 use Rattle.boot_file.specs.declared.faults.FileFault.TheVariants as file
 use Rattle.faults.specs.Faults.{IsUnread}
@@ -56,11 +57,11 @@ pub data Deed : Type 0 where
 abbrev pub Does : Type 0 → Type 1
 Does S = S → Deed → S → Type 0
 
--- a boot file couldn't be made: just that was tried, and just what was answered is told; want of memory only where it was that, or memory to tell it was
--- refused
+-- a boot file couldn't be made: just that was tried, and just what was answered, a fault of making, is told; want of memory only where it was that, or memory
+-- to tell it was refused
 abbrev pub HasUnmade : {S : Type 0} → Does S → List ℕ → BoxFault → S → S → Type 0
 HasUnmade does path why before after = (answer : FileFault) × (does before (unmade path answer) after
-    × (TellsBootFile path answer why × (why ≡ fault.Run NoMemory → (answer ≡ file.NoMemory) ⊎ WasShort path)))
+    × (IsOfMaking answer × (TellsBootFile path answer why × (why ≡ fault.Run NoMemory → (answer ≡ file.NoMemory) ⊎ WasShort path))))
 
 -- The settings at a path were read: those of its text have a box of this id, whose boot file is this
 pub record IsBoxOf {S : Type 0} (does : Does S) (settings : List ℕ) (id : GatewayId) (boot_file : List ℕ) (before after : S) : Type 0 where

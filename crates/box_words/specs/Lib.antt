@@ -3,4 +3,5 @@ pub mod Faults
 pub mod Said
 pub mod Deeds
 pub mod Ends
+pub mod Making
 pub mod Machines

@@ -13,6 +13,7 @@ use Rattle.control.specs.Speaking.{IsAnsweredBy, IsTaken, IsUnanswered, IsUntake
 use Rattle.control.specs.Words.{word_of}
 use Rattle.control.specs.declared.words.Word.{Word}
 use Rattle.box_words.specs.Deeds.{Deed, asked, awaits, made, past, read, rested, said, unmade, unread, unsaid}
+use Rattle.box_words.specs.Making.{Makes}
 use Rattle.box_words.specs.Memory.{WasShort}
 
 -- It was asked for nothing yet. It is no more than a name for what it is made as, and so is the one below it for a call.
@@ -83,21 +84,45 @@ is_past None limit = true
 
 -- What is asked of the system for a deed, and what comes of it for the machine's wait. The text of a file is what the system answered of it, and so is why there
 -- is none. A wait of so many seconds begins at the moment that its clock gives, and whether it is over is by what the clock gives then. Nothing else changes the
--- wait. Where a word is said the system is asked for nothing.
+-- wait. Where a word is said, or a boot file made, the system is asked for nothing.
 abbrev pub AsksOf : {S : Type 0} → S → Waiting → Deed → S → Waiting → Type 0
 AsksOf system wait (awaits seconds) system2 wait2 = WasNow system wait2.since system2 × (wait2.limit ≡ seconds * 1_000_000_000)
 AsksOf system wait (past answer) system2 wait2 =
     ((passed : Option Duration) × (HasBeen system wait.since passed system2 × (answer ≡ is_past passed wait.limit))) × (wait2 ≡ wait)
 AsksOf system wait (read path text) system2 wait2 = (WasDone system (read path text) system2 × WasRead path (Ok text)) × (wait2 ≡ wait)
 AsksOf system wait (unread path why) system2 wait2 = (WasDone system (unread path why) system2 × IsOfReading path why) × (wait2 ≡ wait)
-AsksOf system wait (made path) system2 wait2 = WasDone system (made path) system2 × (wait2 ≡ wait)
-AsksOf system wait (unmade path why) system2 wait2 = WasDone system (unmade path why) system2 × (wait2 ≡ wait)
+AsksOf system wait (made path) system2 wait2 = (system2 ≡ system) × (wait2 ≡ wait)
+AsksOf system wait (unmade path why) system2 wait2 = (system2 ≡ system) × (wait2 ≡ wait)
 AsksOf system wait (rested milliseconds) system2 wait2 = WasDone system (rested milliseconds) system2 × (wait2 ≡ wait)
 AsksOf system wait (said path word) system2 wait2 = (system2 ≡ system) × (wait2 ≡ wait)
 AsksOf system wait (asked path word answer) system2 wait2 = (system2 ≡ system) × (wait2 ≡ wait)
 AsksOf system wait (unsaid path word) system2 wait2 = (system2 ≡ system) × (wait2 ≡ wait)
 
--- what a deed is to this machine, by all that it has: its system, what makes its lines, and its wait
-pub record MachineDoes {S L : Type 0} (system : S) (lines : L) (wait : Waiting) (deed : Deed) (system2 : S) (lines2 : L) (wait2 : Waiting) : Type 0 where
-  pub asks : AsksOf system wait deed system2 wait2
-  pub comes : ComesOf lines deed lines2
+-- what is asked of who makes boot files for a deed: for a boot file just that, and else nothing
+abbrev pub MakesOf : {B : Type 0} → Makes B → B → Deed → B → Type 0
+MakesOf makes files (made path) files2 = makes files path None files2
+MakesOf makes files (unmade path why) files2 = makes files path (Some why) files2
+MakesOf makes files (read path text) files2 = files2 ≡ files
+MakesOf makes files (unread path why) files2 = files2 ≡ files
+MakesOf makes files (said path word) files2 = files2 ≡ files
+MakesOf makes files (asked path word answer) files2 = files2 ≡ files
+MakesOf makes files (unsaid path word) files2 = files2 ≡ files
+MakesOf makes files (awaits seconds) files2 = files2 ≡ files
+MakesOf makes files (past answer) files2 = files2 ≡ files
+MakesOf makes files (rested milliseconds) files2 = files2 ≡ files
+
+-- what a machine has: its system, who makes its boot files, what makes its lines to boxes, and its wait
+pub record Parts (S B L : Type 0) : Type 0 where
+  pub system : S
+  pub boot_files : B
+  pub lines : L
+  pub wait : Waiting
+
+abbrev pub parts : {S B L : Type 0} → S → B → L → Waiting → Parts S B L
+parts system boot_files lines wait = record { system = system; boot_files = boot_files; lines = lines; wait = wait }
+
+-- what a deed is to this machine, by all that it has
+pub record MachineDoes {S B L : Type 0} (makes : Makes B) (before : Parts S B L) (deed : Deed) (after : Parts S B L) : Type 0 where
+  pub asks : AsksOf before.system before.wait deed after.system after.wait
+  pub files : MakesOf makes before.boot_files deed after.boot_files
+  pub comes : ComesOf before.lines deed after.lines

@@ -1,12 +1,12 @@
 //! This machine's system, as an operator's commands ask it. What it is asked has names, and no more is known of it.
-ghost use Rattle.std.specs.Prelude.{◌≡◌, IfErr, IfOk, Ok, OnOk, string_bytes};
+ghost use Rattle.std.specs.Prelude.{◌≡◌, IfErr, IfOk, Ok, string_bytes};
 ghost use Rattle.faults.specs.Faults.{IsUnread, status_of};
 ghost use Rattle.faults.specs.Files.{WasRead};
-ghost use Rattle.box_words.specs.Deeds.{made, read, rested, unmade, unread};
+ghost use Rattle.box_words.specs.Deeds.{read, rested, unread};
 ghost use Rattle.box_words.specs.Ends.{WasAsked, WasAskedBy};
 ghost use Rattle.box_words.specs.Machines.{IsOfReading, WasDone, WasNow, WasSince};
+ghost use Rattle.box_words.specs.Making.{WasLetGo};
 
-use boot_file::{Blocks, FileFault};
 use faults::{Fault, text_of};
 use std::fs::Files;
 use std::net::{Net, SocketAddr, UdpSocket};
@@ -39,18 +39,6 @@ impl<R: Files + AllocGlobal> System<'_, R> {
         ensures status { IfErr result (λ why. status_of why ≡ 1) }
     {
         text_of(self.0, path)
-    }
-
-    /// Has it make a boot file.
-    #[tactic(auto, unfolding(crate::specs::Machines::WasDone))]
-    pub(crate) fn told_to_make(&mut self, path: &str) -> Result<(), FileFault>
-    where
-        R::File: Blocks,
-        ensures made { OnOk result (WasDone self.old (made path.now) self.new) }
-        ensures unmade { IfErr result (λ why. WasDone self.old (unmade path.now why) self.new) }
-    {
-        boot_file::create(&mut boot_file::Machine::new(self.0), path)?;
-        Ok(())
     }
 }
 
@@ -89,4 +77,12 @@ impl<R: Net> System<'_, R> {
     {
         UdpSocket::bind(self.0, address).is_err()
     }
+}
+
+/// Lets the disk of a boot file go, as it is.
+#[tactic(auto, unfolding(crate::specs::Making::WasLetGo))]
+pub(crate) fn let_go<D: Drop>(disk: D)
+    ensures { WasLetGo disk }
+{
+    drop(disk);
 }

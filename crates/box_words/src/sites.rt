@@ -1,14 +1,17 @@
 //! Where an operator's commands work.
 ghost use Rattle.std.specs.Duration.{as_nanos};
 ghost use Rattle.std.specs.Prelude.{◌≡◌, ◌≤◌, ◌*◌, IfErr, IfOk, OnErr, OnOk, length, string_bytes, take};
+ghost use Rattle.boot_file.specs.Locks.{IsOfMaking};
 ghost use Rattle.control.specs.Answers.{answer_of};
 ghost use Rattle.control.specs.Words.{word_of};
 ghost use Rattle.faults.specs.Faults.{IsUnread, status_of};
 ghost use Rattle.box_words.specs.Deeds.{Deed, asked, awaits, made, past, read, rested, said, unmade, unread, unsaid};
-ghost use Rattle.box_words.specs.Machines.{HasBeen, IsUntouched, MachineDoes, is_past, waiting};
+ghost use Rattle.box_words.specs.Machines.{HasBeen, IsUntouched, MachineDoes, is_past, parts, waiting};
+ghost use Rattle.box_words.specs.Making.{MakesBootFile};
 
-use crate::machine::System;
-use boot_file::{Blocks, FileFault};
+use crate::machine::{System, let_go};
+use boot_file::{Blocks, FileDisk, FileFault, Opened, create};
+use boot_store::Disk;
 use control::{ControlPath, NoSocket};
 use faults::Fault;
 use std::fs::Files;
@@ -36,7 +39,8 @@ pub trait Site {
     fn make(&mut self, path: &str) -> Result<(), FileFault>
         ensures made { OnOk result (does self.old (made path.now) self.new) }
         ensures unmade { IfErr result
-            (λ fault. does self.old (unmade path.now fault) self.new) };
+            (λ fault. does self.old (unmade path.now fault) self.new) }
+        ensures making { IfErr result IsOfMaking };
 
     /// Says a word to the box whose control socket lies there, and waits until it is heard.
     fn say(&mut self, path: &ControlPath, word: &[u8]) -> Result<(), NoSocket>
@@ -67,11 +71,13 @@ pub trait Site {
         ensures { does self.old (rested 100) self.new };
 }
 
-/// This machine: its system is asked for files, and to wait; boxes are spoken to at their control sockets. Who has it can ask
-/// it for the deeds below alone: the system itself is at hand in `machine`, and nowhere else.
+/// This machine: its system is asked for files, and to wait; boot files are made by `boot_file`; boxes are spoken to at their
+/// control sockets. Who has it can ask it for the deeds below alone: the system itself is at hand in `machine`, and nowhere
+/// else.
 #[derive(Drop)]
 pub struct Machine<'a, R> {
     system: System<'a, R>,
+    boot_files: boot_file::Machine<'a, R>,
     lines: control::Machine<'a, R>,
     /// Since when it is waited, as far as the clock could be read, and for how long.
     since: Option<Instant>,
@@ -86,6 +92,7 @@ impl<'a, R> Machine<'a, R> {
     {
         Machine {
             system: System::new(rt),
+            boot_files: boot_file::Machine::new(rt),
             lines: control::Machine::new(rt),
             since: None,
             limit: Duration::ZERO,
@@ -93,21 +100,41 @@ impl<'a, R> Machine<'a, R> {
     }
 }
 
-/// Each deed is one call of its system's, or one line to a box.
+/// Each deed is one call of its system's, a boot file that is made, or one line to a box. All else that it has stays.
 impl<R: Files + Net + Clock + AllocGlobal> Site for Machine<'_, R>
 where
     R::File: Blocks,
 {
     ghost does = { λ before deed after.
-        MachineDoes before.system before.lines (waiting before.since before.limit) deed
-        after.system after.lines (waiting after.since after.limit) };
+        (after ≡ record before {
+          system = after.system;
+          boot_files = after.boot_files;
+          lines = after.lines;
+          since = after.since;
+          limit = after.limit;
+        })
+        × MachineDoes (MakesBootFile ⟦<Opened<R::File> as Blocks>⟧.honest
+        ⟦<Opened<R::File> as Blocks>⟧.named
+        ⟦<Opened<R::File> as Blocks>⟧.now
+        ⟦<FileDisk<Opened<R::File>> as Disk>⟧.reads
+        ⟦<FileDisk<Opened<R::File>> as Disk>⟧.writes
+        ⟦<FileDisk<Opened<R::File>> as Disk>⟧.syncs)
+        (parts before.system before.boot_files before.lines (waiting before.since before.limit))
+        deed
+        (parts after.system after.boot_files after.lines (waiting after.since after.limit)) };
 
     fn text(&mut self, path: &str) -> Result<String, Fault> {
         self.system.told_to_read(path)
     }
 
     fn make(&mut self, path: &str) -> Result<(), FileFault> {
-        self.system.told_to_make(path)
+        match create(&mut self.boot_files, path) {
+            Ok(disk) => {
+                let_go(disk);
+                Ok(())
+            }
+            Err(fault) => Err(fault),
+        }
     }
 
     fn say(&mut self, path: &ControlPath, word: &[u8]) -> Result<(), NoSocket> {
