@@ -1,7 +1,9 @@
 -- A capture of a run, as it is written.
-use Rattle.std.specs.Prelude.{◌≡◌, ◌⊎◌, ℕ, Bool, true, false, List, [], ◌∷◌, Option, Result, Ok, Err, is_ok}
+use Rattle.std.specs.Prelude.{◌≡◌, ◌⊎◌, ℕ, Bool, true, false, List, [], ◌∷◌, Option, Result, Ok, Err, is_ok, IsErrAnd}
 use Rattle.std.specs.Io.KnownBytes.{Appends}
+use Rattle.std.specs.IoError.{error_kind}
 use Rattle.std.specs.declared.io.Error.{Error}
+use Rattle.std.specs.declared.io.ErrorKind.TheVariants.{Other}
 use Rattle.outlets.specs.Outputs.{WasFlushed}
 use Rattle.outlets.specs.Written.{IsWritten}
 use Rattle.nat_types.specs.declared.events.WorldEvent.{WorldEvent}
@@ -46,7 +48,12 @@ abbrev pub Refuses : {W : Type 0} → W → Moments → World → WorldEvent →
 Refuses before m w e s after m2 marked =
     (m2 ≡ moments_after m e (is_ok s.answer)) × ((marked ≡ true) × IsOneUnput (packets_of m2 w e s) before after)
 
--- the output was to hand on what it keeps, once; and what it answered is the answer, where nothing was refused before
+-- what is answered at the end of a capture whose output answered so: just that, where nothing was refused before; else an error of the kind `Other`
+abbrev pub IsAnswer : Bool → Result (Unit {0}) Error → Result (Unit {0}) Error → Type 0
+IsAnswer false answer result = result ≡ answer
+IsAnswer true answer result = IsErrAnd result (λ error. error_kind error ≡ Other)
+
+-- the output was to hand on what it keeps, once, and this is the answer
 abbrev pub IsHandedOn : {W : Type 0} → W → Bool → Result (Unit {0}) Error → W → Type 0
 IsHandedOn before is_refused result after =
-    (answer : Result (Unit {0}) Error) × (WasFlushed before answer after × (is_refused ≡ false → result ≡ answer))
+    (answer : Result (Unit {0}) Error) × (WasFlushed before answer after × IsAnswer is_refused answer result)
