@@ -284,16 +284,16 @@ runs_below f up does above says who rounds track until_eof g g2 t t2 r Holds hel
 pub ran_below : {T W : Type 0} (f : T → W) (up : Calls T) (does : Calls W) (above : IsAbove f up does) (says : WireSays W) (who : Identity) (start : Start) (g g2 : Shown)
     (t t2 t3 : T) (wire : W) (m m2 : Option Manager) → f t ≡ wire → f t3 ≡ f t2 → IsLetGo (path_in start.capture) wire (f t3)
     → (r : RunsOn up (says_over f says) who start.rounds start.track start.until_eof g g2 t t2) → HearsAll who.boot r.had.all.moments m m2
-    → WasToldRun start who.boot r.last.told → RanOn does says who start g g2 wire m m2
+    → WasToldRun start who.boot g.moment r.last.told → RanOn does says who start g g2 wire m m2
 ran_below {W = W} f up does above says who start g g2 t t2 t3 wire m m2 first same gone r heard recorded =
     record { wire2 = f t2; run = ran.0; heard = ran.1.0; recorded = ran.1.1; let_go = subst (λ (w : W). IsLetGo (path_in start.capture) wire w) same gone }
   where
     ran : (run : RunsOn does says who start.rounds start.track start.until_eof g g2 wire (f t2))
-        × (HearsAll who.boot run.had.all.moments m m2 × WasToldRun start who.boot run.last.told)
+        × (HearsAll who.boot run.had.all.moments m m2 × WasToldRun start who.boot g.moment run.last.told)
     ran = subst (λ (w : W). (run : RunsOn does says who start.rounds start.track start.until_eof g g2 w (f t2))
-        × (HearsAll who.boot run.had.all.moments m m2 × WasToldRun start who.boot run.last.told)) first
+        × (HearsAll who.boot run.had.all.moments m m2 × WasToldRun start who.boot g.moment run.last.told)) first
         (runs_below f up does above says who start.rounds start.track start.until_eof g g2 t t2 r (λ moments. HearsAll who.boot moments m m2) heard
-        (λ told. WasToldRun start who.boot told) recorded)
+        (λ told. WasToldRun start who.boot g.moment told) recorded)
 
 -- the calls of a wire whose packets are captured are those of the wire below it
 pub above_tapped : {W M O : Type 0} (does : W → Call → W → Type 0) (answers : W → Place → List ℕ → Bool → W → Type 0) (contents : Holds O) (IsFull : O → Type 0)

@@ -1,16 +1,18 @@
 -- What is known of a fault at which a start ends.
 use Rattle.std.proofs.Common.{◌≡◌, ◌⊎◌, inl, inr, subst, sym, refl, ℕ, Bool, List, [], ◌∷◌, Option, Some, None, Result, Ok, Err, IfErr, IsErrAnd, false, is_some, true≢false}
 use Rattle.std.specs.Borrow.{Bor}
+use Rattle.nat_types.specs.declared.gateways.GatewayId.{GatewayId}
+use Rattle.settings.specs.declared.whole.Settings.{Settings}
 use Rattle.boot_store.specs.Crash.{Decides}
 use Rattle.boot_store.specs.Moment.{Moment}
 use Rattle.sockets.specs.declared.ends.End.{End}
 use Rattle.sockets.specs.declared.places.Ports.{Ports}
 use Rattle.box_words.specs.Ends.{AsksSystem, IsAsked, IsFirstRefused, by_system}
 use Rattle.box_words.specs.declared.refusals.BoxFault.{BoxFault}
-use Rattle.gate.specs.Asked.{path_in}
-use Rattle.gate.specs.Failing.{IsUnbegun, LacksEnd, LacksGateway, LacksNumber}
-use Rattle.gate.specs.Named.{IsOpened, WasGiven, WasSpared, boot_number, seed}
-use Rattle.gate.specs.Orders.{IsBehind, IsBehindLine, IsInOrder, IsInSomeOrder, IsSilentOrTaken, IsSparing, IsUnrecorded, IsUnrun, IsUnstarted, IsUntaken}
+use Rattle.gate.specs.Asked.{boot_file_of, path_in}
+use Rattle.gate.specs.Failing.{IsUnbegun, LacksEnd, LacksGateway, LacksNumberOf}
+use Rattle.gate.specs.Named.{IsOpened, WasGiven, WasHad, WasSpared, boot_number, locked_file, seed}
+use Rattle.gate.specs.Orders.{IsBehind, IsBehindLine, IsInOrder, IsInSomeOrder, IsSilentOrTaken, IsSparing, IsUnbooted, IsUnrun, IsUnstarted, IsUntaken}
 use Rattle.gate.specs.Printing.{HasPrinted, Holds}
 use Rattle.gate.specs.Sparing.{FailsLogged}
 use Rattle.gate.specs.declared.running.Start.{Start}
@@ -50,11 +52,11 @@ rounds_behind (Err why) contents capture path boot output between output2 A B C 
     inr (subst (λ p. IsUnbegun p why) (sym same) unbegun.0.0, subst (λ o. HasPrinted contents output boot o) (sym unbegun.1.0) printed)
 
 -- what is refused behind it is of a gateway that isn't started
-pub unstarted_behind : {T O : Type 0} (r : Result T BoxFault) (contents : Holds O) (capture : Option (List ℕ)) (Untouched : Type 0) (boot : ℕ) (output output2 : O)
-    → WasGiven seed → WasGiven boot_number → IfErr r (λ why. IsBehindLine contents capture boot why output output2)
-    → IfErr r (IsUnstarted contents capture Untouched output output2)
-unstarted_behind (Ok x) contents capture Untouched boot output output2 seeded given is = tt
-unstarted_behind (Err why) contents capture Untouched boot output output2 seeded given is = inr (seeded, inr (given, inr (boot, inr is)))
+pub unstarted_behind : {T O : Type 0} (r : Result T BoxFault) (contents : Holds O) (capture : Option (List ℕ)) (settings : Settings) (id : GatewayId) (Untouched : Type 0) (boot : ℕ)
+    (output output2 : O) → WasGiven seed → WasGiven boot_number → IfErr r (λ why. IsBehindLine contents capture boot why output output2)
+    → IfErr r (IsUnstarted contents capture settings id Untouched output output2)
+unstarted_behind (Ok x) contents capture settings id Untouched boot output output2 seeded given is = tt
+unstarted_behind (Err why) contents capture settings id Untouched boot output output2 seeded given is = inr (seeded, inr (given, inr (boot, inr is)))
 
 -- and comes behind the number
 pub in_order : {T O : Type 0} (r : Result T BoxFault) (contents : Holds O) (capture : Option (List ℕ)) (honest : Type 0) (found : Bool) (before after : Moment) (boot : ℕ)
@@ -63,19 +65,14 @@ pub in_order : {T O : Type 0} (r : Result T BoxFault) (contents : Holds O) (capt
 in_order (Ok x) contents capture honest found before after boot output output2 taken is = tt
 in_order (Err why) contents capture honest found before after boot output output2 taken is = inr (boot, (taken, inr is))
 
--- and a log was handed a record before
-pub recorded_behind : {T O L : Type 0} (r : Result T BoxFault) (contents : Holds O) (capture : Option (List ℕ)) (boot : ℕ) (output output2 : O) (log log2 : L)
-    → IfErr r (λ why. IsBehindLine contents capture boot why output output2) → IfErr r (IsUnrecorded contents capture output output2 log log2)
-recorded_behind (Ok x) contents capture boot output output2 log log2 is = tt
-recorded_behind (Err why) contents capture boot output output2 log log2 is = inr (boot, is)
-
 -- ---- a gateway that isn't started
 
 -- no boot number, or no memory behind it, is of one that has its seed
-pub unbooted : {O : Type 0} (contents : Holds O) (capture : Option (List ℕ)) (Untouched : Type 0) (output output2 : O) (why : BoxFault) → WasGiven seed
-    → LacksNumber why ⊎ (WasGiven boot_number × LacksGateway why) → IsUnstarted contents capture Untouched output output2 why
-unbooted contents capture Untouched output output2 why seeded (inl lacks) = inr (seeded, inl lacks)
-unbooted contents capture Untouched output output2 why seeded (inr lacks) = inr (seeded, inr (lacks.0, inl lacks.1))
+pub unbooted : {D O : Type 0} (contents : Holds O) (settings : Settings) (id : GatewayId) (Untouched : Type 0) (disk : D) (output output2 : O) (why : BoxFault)
+    → WasHad (locked_file (boot_file_of settings id)) disk → WasGiven seed → LacksNumberOf disk why ⊎ (WasGiven boot_number × LacksGateway settings why)
+    → IsUnbooted contents settings id Untouched output output2 why
+unbooted contents settings id Untouched disk output output2 why had seeded (inl lacks) = inr (seeded, inl (lacks (boot_file_of settings id) had))
+unbooted contents settings id Untouched disk output output2 why had seeded (inr lacks) = inr (seeded, inr (lacks.0, inl lacks.1))
 
 -- what comes behind a number without a capture does so with one
 behind_with : {O : Type 0} (contents : Holds O) (capture : Option (List ℕ)) (boot : ℕ) (why : BoxFault) (output output2 : O)
@@ -92,35 +89,38 @@ with_capture contents capture honest found before after why output output2 (inr 
     inr (boot, (taken, behind_with contents capture boot why output output2 behind))
 
 -- and then so much is as it was, where there is no seed
-pub unstarted_with : {O : Type 0} (contents : Holds O) (capture : Option (List ℕ)) (A B : Type 0) (output output2 : O) (why : BoxFault) → B
-    → IsUnstarted contents None A output output2 why → IsUnstarted contents capture (A × B) output output2 why
-unstarted_with contents capture A B output output2 why b (inl lacks) = inl (lacks.0, (lacks.1, b))
-unstarted_with contents capture A B output output2 why b (inr (seeded, inl number)) = inr (seeded, inl number)
-unstarted_with contents capture A B output output2 why b (inr (seeded, inr (given, inl memory))) = inr (seeded, inr (given, inl memory))
-unstarted_with contents capture A B output output2 why b (inr (seeded, inr (given, inr (boot, behind)))) =
-    inr (seeded, inr (given, inr (boot, behind_with contents capture boot why output output2 behind)))
+pub unstarted_with : {O : Type 0} (contents : Holds O) (capture : Option (List ℕ)) (settings : Settings) (id : GatewayId) (A B : Type 0) (output output2 : O) (why : BoxFault)
+    → B → IsUnbooted contents settings id A output output2 why → IsUnstarted contents capture settings id (A × B) output output2 why
+unstarted_with contents capture settings id A B output output2 why b (inl lacks) = inl (lacks.0, (lacks.1, b))
+unstarted_with contents capture settings id A B output output2 why b (inr (seeded, inl number)) = inr (seeded, inl number)
+unstarted_with contents capture settings id A B output output2 why b (inr (seeded, inr (given, inl memory))) = inr (seeded, inr (given, inl memory))
+unstarted_with contents capture settings id A B output output2 why b (inr (seeded, inr (given, inr (boot, line)))) =
+    inr (seeded, inr (given, inr (boot, inl line)))
 
 -- it fails for its seed, or behind that, where the file of a capture was had, and was spared
-pub logged_behind : {T O : Type 0} (r : Result T BoxFault) (contents : Holds O) (start : Start) (Untouched : Type 0) (output output2 : O)
+pub logged_behind : {T O : Type 0} (r : Result T BoxFault) (contents : Holds O) (start : Start) (settings : Settings) (Untouched : Type 0) (output output2 : O)
     → IsOpened (path_in start.capture) → IfErr r (λ why. IsSparing contents (path_in start.capture) why output output2)
-    → IfErr r (IsUnstarted contents (path_in start.capture) Untouched output output2) → IfErr r (FailsLogged contents start output output2)
-logged_behind (Ok x) contents start Untouched output output2 opened kept is = tt
-logged_behind (Err why) contents start Untouched output output2 opened kept (inl lacks) = inr ((opened, kept), inl lacks.0)
-logged_behind (Err why) contents start Untouched output output2 opened kept (inr behind) = inr ((opened, kept), inr behind)
+    → IfErr r (IsUnstarted contents (path_in start.capture) settings start.id Untouched output output2)
+    → IfErr r (FailsLogged contents start settings output output2)
+logged_behind (Ok x) contents start settings Untouched output output2 opened kept is = tt
+logged_behind (Err why) contents start settings Untouched output output2 opened kept (inl lacks) = inr ((opened, kept), inl lacks.0)
+logged_behind (Err why) contents start settings Untouched output output2 opened kept (inr behind) = inr ((opened, kept), inr behind)
 
 -- and so much is as it was, or there was a seed
-pub untouched : {T O : Type 0} (r : Result T BoxFault) (contents : Holds O) (capture : Option (List ℕ)) (Untouched : Type 0) (output output2 : O)
-    → IfErr r (IsUnstarted contents capture Untouched output output2) → IfErr r (λ why. IsUnrun contents capture output output2 why ⊎ Untouched)
-untouched (Ok x) contents capture Untouched output output2 is = tt
-untouched (Err why) contents capture Untouched output output2 (inl lacks) = inr lacks.1
-untouched (Err why) contents capture Untouched output output2 (inr behind) = inl behind.1
+pub untouched : {T O : Type 0} (r : Result T BoxFault) (contents : Holds O) (capture : Option (List ℕ)) (settings : Settings) (id : GatewayId) (Untouched : Type 0)
+    (output output2 : O) → IfErr r (IsUnstarted contents capture settings id Untouched output output2)
+    → IfErr r (λ why. IsUnrun contents capture settings id output output2 why ⊎ Untouched)
+untouched (Ok x) contents capture settings id Untouched output output2 is = tt
+untouched (Err why) contents capture settings id Untouched output output2 (inl lacks) = inr lacks.1
+untouched (Err why) contents capture settings id Untouched output output2 (inr behind) = inl behind.1
 
 -- and of a disk that is so a number was taken behind the seed
-pub untaken : {T O D : Type 0} (r : Result T BoxFault) (contents : Holds O) (capture : Option (List ℕ)) (M : Type 0) (disk disk2 : D) (output output2 : O)
-    → IfErr r (λ why. IsUnrun contents capture output output2 why ⊎ ((disk2 ≡ disk) × M)) → IsUntaken contents capture r disk disk2 output2
-untaken (Ok x) contents capture M disk disk2 output output2 is = tt
-untaken (Err why) contents capture M disk disk2 output output2 (inl behind) = inl (output, behind)
-untaken (Err why) contents capture M disk disk2 output output2 (inr same) = inr same.0
+pub untaken : {T O D : Type 0} (r : Result T BoxFault) (contents : Holds O) (capture : Option (List ℕ)) (settings : Settings) (id : GatewayId) (M : Type 0) (disk disk2 : D)
+    (output output2 : O) → IfErr r (λ why. IsUnrun contents capture settings id output output2 why ⊎ ((disk2 ≡ disk) × M))
+    → IsUntaken contents capture settings id r disk disk2 output2
+untaken (Ok x) contents capture settings id M disk disk2 output output2 is = tt
+untaken (Err why) contents capture settings id M disk disk2 output output2 (inl behind) = inl (output, behind)
+untaken (Err why) contents capture settings id M disk disk2 output output2 (inr same) = inr same.0
 
 -- ---- the file of a capture
 

@@ -15,7 +15,7 @@ use Rattle.supervision.specs.declared.managers.Manager.{Manager}
 use Rattle.gate.specs.Asked.{IsFilter, IsNotified, IsWatched, boot_file_of, path_in}
 use Rattle.gate.specs.Boots.{HasStarted, IsIdentity}
 use Rattle.gate.specs.Failing.{IsUnbegun, LacksEnd}
-use Rattle.gate.specs.Named.{IsCaptured, WasGiven, WasHad, WasLetGo, WasTapped, begun_capture, number_of, tapped_wire}
+use Rattle.gate.specs.Named.{IsCaptured, WasClosed, WasGiven, WasHad, WasLetGo, WasTapped, WasUnlocked, begun_capture, number_of, tapped_wire}
 use Rattle.gate.specs.Served.{HasRun, HasServed, RunsOpened}
 use Rattle.gate.specs.Printing.{HasEnded, HasPrinted, Holds}
 use Rattle.gate.specs.Logs.{WasToldRun}
@@ -72,7 +72,7 @@ let_go_bare None wire wire2 none gone = gone
 -- behind its run
 pub ran_bare : {W : Type 0} (does : Calls W) (says : WireSays W) (who : Identity) (start : Start) (g g2 : Shown) (wire wire2 : W) (m m2 : Option Manager)
     → is_some start.capture ≡ false → WasLetGo wire2 → (run : RunsOn does says who start.rounds start.track start.until_eof g g2 wire wire2)
-    × (HearsAll who.boot run.had.all.moments m m2 × WasToldRun start who.boot run.last.told) → RanOn does says who start g g2 wire m m2
+    × (HearsAll who.boot run.had.all.moments m m2 × WasToldRun start who.boot g.moment run.last.told) → RanOn does says who start g g2 wire m m2
 ran_bare does says who start g g2 wire wire2 m m2 none gone ran =
     record { wire2 = wire2; run = ran.0; heard = ran.1.0; recorded = ran.1.1; let_go = let_go_bare start.capture wire wire2 none gone }
 
@@ -166,3 +166,17 @@ pub has_served : {T E O : Type 0} (r : Result T E) (contents : Holds O) (start :
 has_served (Ok x) contents start settings ways manager manager2 before after run notified gone =
     record { settings = settings; ways = ways; fits = run.0; manager = manager; manager2 = manager2; notified = notified; run = run.1; let_go = gone }
 has_served (Err e) contents start settings ways manager manager2 before after run notified gone = tt
+
+-- ---- what was let go
+
+-- the log of a start that was served
+pub closed_at : {O : Type 0} (r : Result (Unit {0}) BoxFault) (capture : Option (List ℕ)) (output : O) → WasClosed capture r output
+    → OnOk r (WasClosed capture (Ok tt) output)
+closed_at (Ok x) capture output was = was
+closed_at (Err why) capture output was = tt
+
+-- and its boot file
+pub unlocked_at : {O : Type 0} (r : Result (Unit {0}) BoxFault) (path : List ℕ) (output : O) (A B : Type 0) → A → WasUnlocked path r output → OnOk r B
+    → OnOk r ((A × WasUnlocked path (Ok tt) output) × B)
+unlocked_at (Ok x) path output A B a was b = ((a, was), b)
+unlocked_at (Err why) path output A B a was b = tt

@@ -2,14 +2,16 @@
 use Rattle.std.specs.Prelude.{◌≡◌, ◌⊎◌, ℕ, List, [], ◌∷◌, Option, Some, None}
 use Rattle.std.specs.Borrow.{Bor}
 use Rattle.settings.specs.declared.whole.Settings.{Settings}
+use Rattle.settings_file.specs.Clashes.{clash_of_one}
 use Rattle.control.specs.Paths.{socket_of}
+use Rattle.sockets.specs.Inheriting.{AreUnblocked}
 use Rattle.sockets.specs.declared.ways.Ways.{Ways}
 use Rattle.supervision.specs.Descriptors.{IsSet, IsUnset}
 use Rattle.supervision.specs.Managers.{IsManagerText, IsNoManagerText}
 use Rattle.supervision.specs.declared.managers.Manager.{Manager}
 use Rattle.box_words.specs.declared.refusals.BoxFault.{BoxFault}
 use Rattle.box_words.specs.declared.refusals.BoxFault.TheVariants as fault
-use Rattle.gate.specs.Asked.{boot_file_of, box_ports, path_in}
+use Rattle.gate.specs.Asked.{IsFilter, IsWatched, boot_file_of, box_ports, on_loopback, path_in}
 use Rattle.gate.specs.Named.{IsFresh, Need, WasGiven, capture_file, control_socket, descriptors, locked_file, own_sockets, path_beside, service_manager, settings_text}
 use Rattle.gate.specs.Starts.{AreHeld, AreWays}
 use Rattle.gate.specs.declared.machine.Machine.{Machine}
@@ -38,11 +40,17 @@ SetsNone text before after fault.NoManager = IsNoManagerText text × (after ≡ 
 SetsNone text before after (fault.NotOpen why) = (number : ℕ) × (IsManagerText text number × ((why.0 ≡ number) × IsUnset before number after))
 SetsNone text before after other = ⊥
 
--- it was asked for these, each once, in this order, up to one of them or to the last, and for nothing else; and for each only behind those that it gave
-abbrev pub AsksUpTo : {M : Type 0} → M → List Need → M → Type 0
-AsksUpTo m [] m2 = m2 ≡ m
-AsksUpTo {M = M} m (need ∷ needs) m2 =
-    (m2 ≡ m) ⊎ ((between : M) × (WasAsked m need between × ((m2 ≡ between) ⊎ (WasGiven need × AsksUpTo between needs m2))))
+-- a start asks for the file of a capture only where its filter is one
+abbrev pub IsDue : Start → Need → Type 0
+IsDue start (capture_file path) = IsFilter start.log
+IsDue start other = Unit {0}
+
+-- It was asked for these by a start, each once, in this order, up to one of them or to the last, and for nothing else; and for each only where it is due,
+-- and behind those that it gave.
+abbrev pub AsksUpTo : {M : Type 0} → M → Start → List Need → M → Type 0
+AsksUpTo m start [] m2 = m2 ≡ m
+AsksUpTo {M = M} m start (need ∷ needs) m2 = (m2 ≡ m) ⊎ (IsDue start need × ((between : M) × (WasAsked m need between
+    × ((m2 ≡ between) ⊎ (WasGiven need × AsksUpTo between start needs m2)))))
 
 -- the file of a capture, where there is to be one
 abbrev pub captures : Option (List ℕ) → List Need
@@ -70,15 +78,20 @@ abbrev pub AsksManager : {M : Type 0} → M → Option (Bor (List ℕ)) → M �
 AsksManager m (Some text) m2 = WasAsked m (service_manager text.now) m2
 AsksManager m None m2 = m2 ≡ m
 
--- that one, once, and then those
-abbrev pub AsksWatched : {M : Type 0} → M → Start → Settings → Ways → M → Type 0
-AsksWatched {M = M} m start settings ways m2 =
-    (between : M) × (AsksManager m start.notify between × AsksUpTo between (pathed start settings ways) m2)
+-- nothing, or where the ports on loopback can be had together those
+abbrev pub AsksApart : {M : Type 0} → M → Start → Settings → Ways → M → Type 0
+AsksApart m start settings ways m2 =
+    (m2 ≡ m) ⊎ ((clash_of_one settings start.id (on_loopback ways) ≡ None) × AsksUpTo m start (pathed start settings ways) m2)
 
--- the descriptors of these ways, once, and then nothing, or those
+-- that manager, once, and then nothing, or where it is had, or none is asked for, those
+abbrev pub AsksWatched : {M : Type 0} → M → Start → Settings → Ways → M → Type 0
+AsksWatched {M = M} m start settings ways m2 = (between : M) × (AsksManager m start.notify between
+    × ((m2 ≡ between) ⊎ (IsWatched start.notify × AsksApart between start settings ways m2)))
+
+-- the descriptors of these ways, once, and then nothing, or where each never waits those
 abbrev pub AsksInherited : {M : Type 0} → M → Start → Settings → Ways → M → Type 0
-AsksInherited {M = M} m start settings ways m2 =
-    (between : M) × (WasAsked m (descriptors ways) between × ((m2 ≡ between) ⊎ AsksWatched between start settings ways m2))
+AsksInherited {M = M} m start settings ways m2 = (between : M) × (WasAsked m (descriptors ways) between
+    × ((m2 ≡ between) ⊎ (AreUnblocked ways None × AsksWatched between start settings ways m2)))
 
 -- by settings it is asked for nothing, or for those of the ways that the start's texts write
 abbrev pub AsksBy : {M : Type 0} → M → Start → Settings → M → Type 0

@@ -40,8 +40,8 @@ use Rattle.spec_step.specs.Shown.{Shown}
 use Rattle.gateway.specs.Lacks.{LacksGateway as LacksParts}
 use Rattle.rounds.specs.Ends.{WasEnded}
 use Rattle.gate.specs.Asked.{IsSaid, box_ports, on_loopback}
-use Rattle.gate.specs.Named.{Need, WasAnswered, WasDenied, WasDrawn, WasGot, WasRead, WasUndrawn, begun_capture, boot_number, capture_file}
-use Rattle.gate.specs.Named.{control_socket, locked_file, new_gateway, own_sockets}
+use Rattle.gate.specs.Named.{Need, WasAnswered, WasDenied, WasDrawn, WasGot, WasHad, WasRead, WasUndrawn, begun_capture, capture_file}
+use Rattle.gate.specs.Named.{control_socket, locked_file, new_gateway, number_of, own_sockets}
 use Rattle.gate.specs.Printing.{Holds, IsLineRefused, boot_line}
 
 -- The file at this path gives no text: who asked for it, once, was answered so that just this is told; and want of memory only where that was what was
@@ -164,10 +164,14 @@ LacksSeed why = (why ≡ fault.Run run.NoMemory)
 abbrev pub LacksMemory : Need → BoxFault → Type 0
 LacksMemory need why = (why ≡ fault.Run run.NoMemory) × WasDenied need (fault.Run run.NoMemory)
 
--- for a gateway: for what one of some settings needs
-abbrev pub LacksGateway : BoxFault → Type 0
-LacksGateway why = LacksMemory new_gateway why × ((settings : Settings) × LacksParts settings)
+-- for a gateway of these settings: for what that needs
+abbrev pub LacksGateway : Settings → BoxFault → Type 0
+LacksGateway settings why = LacksMemory new_gateway why × LacksParts settings
 
--- no boot number is had
-abbrev pub LacksNumber : BoxFault → Type 0
-LacksNumber why = (reason : BootFault) × ((why ≡ of_boot reason) × WasDenied boot_number (of_boot reason))
+-- no boot number of the boot file at this path is had
+abbrev pub LacksNumber : List ℕ → BoxFault → Type 0
+LacksNumber path why = (reason : BootFault) × ((why ≡ of_boot reason) × WasDenied (number_of path) (of_boot reason))
+
+-- none is had of this disk: where that is the locked boot file at a path, none of that one
+abbrev pub LacksNumberOf : {D : Type 0} → D → BoxFault → Type 0
+LacksNumberOf disk why = (path : List ℕ) → WasHad (locked_file path) disk → LacksNumber path why

@@ -1,17 +1,21 @@
 -- What the log of a box is told.
-use Rattle.std.specs.Prelude.{◌≡◌, ◌⊎◌, ℕ, List, [], Option, Some, None, IfSome, Result, IfErr, OnOk}
+use Rattle.std.specs.Prelude.{◌≡◌, ◌⊎◌, ℕ, List, Option, Some, None, IfSome, Result, IfErr, OnOk}
 use Rattle.log.specs.Filter.{Rule}
 use Rattle.journal.specs.Handed.{Enables, IsTold, IsToldLeftOut as TellsLeftOut, IsUnhanded, WasPutDown, log_of}
 use Rattle.journal.specs.declared.entries.Entry.TheVariants.{Boot}
 use Rattle.journal.specs.declared.lines.Format.{Format}
 use Rattle.journal.specs.declared.pens.Pen.{Pen}
-use Rattle.rounds.specs.Tellings.{ToldLog}
+use Rattle.nat_types.specs.declared.gateways.GatewayId.{GatewayId}
+use Rattle.settings.specs.declared.whole.Settings.{Settings}
+use Rattle.spec_step.specs.Shown.{Shown}
+use Rattle.rounds.specs.Tellings.{IsNewTeller, ToldLog}
 use Rattle.rounds.specs.declared.teller.Telling.{Telling}
 use Rattle.box_words.specs.declared.refusals.BoxFault.{BoxFault}
 use Rattle.gate.specs.Asked.{IsChosenBy}
-use Rattle.gate.specs.Named.{IsTellerOf, IsUntold, WasLeftOut, WasRecorded}
-use Rattle.gate.specs.Orders.{IsBehindLine}
-use Rattle.gate.specs.Printing.{Holds}
+use Rattle.gate.specs.Failing.{IsUnbegun}
+use Rattle.gate.specs.Named.{IsTellerOf, IsUntold, WasLeftOut, WasLent, WasRecorded}
+use Rattle.gate.specs.Orders.{EndIsRefused, IsBeforeLine}
+use Rattle.gate.specs.Printing.{HasEnded, HasPrinted, Holds}
 use Rattle.gate.specs.declared.running.Start.{Start}
 
 -- its records pass by the rules that a start's filter has, where it says by which, and are written in the start's format
@@ -42,43 +46,55 @@ IsToldOfLeftOut enables log packets = IsAskedAlone log (λ pen after. TellsLeftO
 abbrev pub IsToldLeftOut : {L : Type 0} → L → L → Type 0
 IsToldLeftOut log log2 = (packets : ℕ) × WasLeftOut log packets log2
 
--- Beside what its run told it, it was told of a boot, once, and nothing else; or, where there is a capture, then how many packets that left out.
-abbrev pub IsRecorded : {L : Type 0} → Option (List ℕ) → L → L → Type 0
-IsRecorded None log log2 = (boot : ℕ) × WasRecorded log boot log2
-IsRecorded {L = L} (Some path) log log2 = (boot : ℕ) × ((between : L) × (WasRecorded log boot between × IsToldLeftOut between log2))
+-- It was lent to one who tells of a run, once, and told nothing else; or, where there is a capture, then how many packets that left out.
+abbrev pub IsToldOfRun : {L : Type 0} → Option (List ℕ) → L → L → Type 0
+IsToldOfRun None log log2 = WasLent log log2
+IsToldOfRun {L = L} (Some path) log log2 = (between : L) × (WasLent log between × IsToldLeftOut between log2)
+
+-- it was told of this boot, once, then so of a run, and of nothing else
+abbrev pub IsRecorded : {L : Type 0} → Option (List ℕ) → ℕ → L → L → Type 0
+IsRecorded {L = L} capture boot log log2 = (between : L) × (WasRecorded log boot between × IsToldOfRun capture between log2)
+
+-- so it was of the boot whose line was printed, and of its run, behind which `end` was
+abbrev pub IsRecordedToEnd : {O L : Type 0} → Holds O → Option (List ℕ) → O → O → L → L → Type 0
+IsRecordedToEnd {O = O} contents capture output output2 log log2 = (boot : ℕ) × ((between : O) × (HasPrinted contents output boot between
+    × (((g : Shown) × HasEnded contents g between output2) × IsRecorded capture boot log log2)))
 
 -- it was told nothing when it was made, and is told of this boot since, and of nothing else
 abbrev pub IsToldOfThis : {L : Type 0} → ℕ → L → Type 0
 IsToldOfThis {L = L} boot now = (log : L) × (IsUntold log × WasRecorded log boot now)
 
--- a run is told by this to such a log
+-- a run is told by this to such a log, to which it was lent
 abbrev pub IsOwnTeller : {T : Type 0} → Type 0 → ℕ → T → Type 0
-IsOwnTeller L boot teller = (now : L) × (IsToldOfThis boot now × IsTellerOf now teller)
+IsOwnTeller L boot teller = (before : L) × ((now : L) × (IsToldOfThis boot before × (WasLent before now × IsTellerOf now teller)))
 
--- The log of a start was told just this of its run in this boot, and handed just what that is, by who tells of that one alone, and who was let go
--- then. It is no more than a name: only who lets him go looks what stands here.
-unfoldable pub WasToldRun : Start → ℕ → List Telling → Type 0
-WasToldRun start boot told = Unit {0}
+-- The log of a start was told just this of its run in this boot, whose gateway begins at this moment, and handed just what that is, by who tells of that
+-- one alone, from that moment on, and who was let go then. It is no more than a name: only who lets him go looks what stands here.
+unfoldable pub WasToldRun : Start → ℕ → ℕ → List Telling → Type 0
+WasToldRun start boot moment told = Unit {0}
 
--- who tells of a run in this boot to the start's own log, and told nothing yet
-pub record IsOwnAndNew {L : Type 0} (passes : L → Option (List Rule)) (writes : L → Option Format) (Records : Type 0) (start : Start) (boot : ℕ)
+-- who tells of a run in this boot, from this moment on, to the start's own log, and told nothing yet
+pub record IsOwnAndNew {L : Type 0} (passes : L → Option (List Rule)) (writes : L → Option Format) (Records : Type 0) (start : Start) (boot moment : ℕ)
     (teller : ToldLog L) : Type 0
   where
     pub own : IsOwnTeller Records boot teller
     pub log : IsOwnLog passes writes start teller.log
-    pub untold : teller.told ≡ []
+    pub new : IsNewTeller teller.log moment teller
 
--- Of a start it was told at most: nothing; or of a boot, once; or, where there is a capture, then how many packets that left out.
-abbrev pub IsToldAtMost : {L : Type 0} → Option (List ℕ) → L → L → Type 0
-IsToldAtMost capture log log2 = (log2 ≡ log) ⊎ (((boot : ℕ) × WasRecorded log boot log2) ⊎ IsRecorded capture log log2)
+-- Behind the line of this boot a start is refused for this, and so much the log was told: of the boot and its run, where output refuses `end`; of the
+-- boot alone, where no capture is begun.
+abbrev pub IsToldBehind : {O L : Type 0} → Holds O → Option (List ℕ) → ℕ → O → O → L → L → BoxFault → Type 0
+IsToldBehind contents capture boot output output2 log log2 why = (EndIsRefused contents output output2 boot why × IsRecorded capture boot log log2)
+    ⊎ ((IsUnbegun capture why × HasPrinted contents output boot output2) × WasRecorded log boot log2)
 
--- Of a start that is refused for this it was told nothing; or the line of a boot was printed before, this comes behind it, and it was told at most that.
-abbrev pub IsToldBehind : {O L : Type 0} → Holds O → Option (List ℕ) → O → L → L → BoxFault → Type 0
-IsToldBehind {O = O} contents capture output2 log log2 why = (log2 ≡ log)
-    ⊎ ((output : O) × ((boot : ℕ) × (IsBehindLine contents capture boot why output output2 × IsToldAtMost capture log log2)))
+-- Of a start that is refused for this it was told nothing, and it comes before the line of a boot; or just so much of one whose line was printed before.
+abbrev pub IsToldAtRefusal : {O L : Type 0} → Holds O → Option (List ℕ) → Settings → GatewayId → O → O → L → L → BoxFault → Type 0
+IsToldAtRefusal contents capture settings id output output2 log log2 why = ((log2 ≡ log) × IsBeforeLine contents capture settings id output output2 why)
+    ⊎ ((boot : ℕ) × IsToldBehind contents capture boot output output2 log log2 why)
 
 -- One that was told nothing when it was made was told so of a start that ended so, and has printed so: all that it is to be told where the start was
 -- served.
-abbrev pub IsToldSo : {O L T : Type 0} → Holds O → Option (List ℕ) → Result T BoxFault → O → L → Type 0
-IsToldSo {L = L} contents capture ended output2 log2 = (log : L) × (IsUntold log
-    × (OnOk ended (IsRecorded capture log log2) × IfErr ended (IsToldBehind contents capture output2 log log2)))
+abbrev pub IsToldSo : {O L T : Type 0} → Holds O → Option (List ℕ) → Settings → GatewayId → Result T BoxFault → O → L → Type 0
+IsToldSo {O = O} {L = L} contents capture settings id ended output2 log2 = (log : L) × (IsUntold log × ((output : O)
+    × (OnOk ended (IsRecordedToEnd contents capture output output2 log log2)
+    × IfErr ended (IsToldAtRefusal contents capture settings id output output2 log log2))))

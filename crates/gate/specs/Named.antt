@@ -70,23 +70,27 @@ WasLeftOut before packets after = Unit {0}
 unfoldable pub IsUntold : {L : Type 0} → L → Type 0
 IsUntold log = Unit {0}
 
--- this tells a run to a log that is this
+-- a log that was this was lent to one who is to tell of a run, once, and is this since
+unfoldable pub WasLent : {L : Type 0} → L → L → Type 0
+WasLent before after = Unit {0}
+
+-- this tells a run to a log that is this, to which it was lent
 unfoldable pub IsTellerOf : {L T : Type 0} → L → T → Type 0
 IsTellerOf log teller = Unit {0}
 
--- A log was let go that was told of a start what it is to be told by how that ended, and no more, with a capture at this path or without (`IsToldSo` of
--- Logs).
-unfoldable pub WasClosed : Option (List ℕ) → Type 0
-WasClosed capture = Unit {0}
+-- A log was let go that was told of a start what it is to be told where that ends so, and has printed so, and no more, with a capture at this path or
+-- without (`IsToldSo` of Logs).
+unfoldable pub WasClosed : {O : Type 0} → Option (List ℕ) → Result (Unit {0}) BoxFault → O → Type 0
+WasClosed capture ended output = Unit {0}
 
 -- a disk that was this was asked for its next boot number, once, answered this, and is this since
 unfoldable pub WasNumbered : {D : Type 0} → D → Result ℕ BootFault → D → Type 0
 WasNumbered before answer after = Unit {0}
 
--- The boot file at a path was let go that was locked: as it was then, or as it was left by who asked it for a number, once (`IsLeft`); and where the
--- start was served, behind its run.
-unfoldable pub WasUnlocked : List ℕ → Type 0
-WasUnlocked path = Unit {0}
+-- The boot file at a path was let go that was locked, where a start ends so, and has printed so: as it was then, or, where a number may be taken, as it
+-- was left by who asked it for one, once (`IsLeft`); and where the start was served, behind its run.
+unfoldable pub WasUnlocked : {O : Type 0} → List ℕ → Result (Unit {0}) BoxFault → O → Type 0
+WasUnlocked path ended output = Unit {0}
 
 -- the file at a path that was opened for a capture was let go as it was: no capture was begun there
 unfoldable pub WasSpared : List ℕ → Type 0

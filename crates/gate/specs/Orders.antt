@@ -2,8 +2,11 @@
 use Rattle.std.specs.Prelude.{◌≡◌, ◌⊎◌, ℕ, Bool, List, Option, Some, None, Result, Ok, IfErr}
 use Rattle.boot_store.specs.Crash.{Decides}
 use Rattle.boot_store.specs.Moment.{Moment}
+use Rattle.nat_types.specs.declared.gateways.GatewayId.{GatewayId}
+use Rattle.settings.specs.declared.whole.Settings.{Settings}
 use Rattle.box_words.specs.declared.refusals.BoxFault.{BoxFault}
-use Rattle.gate.specs.Failing.{IsUnbegun, LacksEnd, LacksGateway, LacksLine, LacksNumber, LacksSeed}
+use Rattle.gate.specs.Asked.{boot_file_of}
+use Rattle.gate.specs.Failing.{IsUnbegun, LacksCapture, LacksEnd, LacksGateway, LacksLine, LacksNumber, LacksSeed}
 use Rattle.gate.specs.Named.{WasGiven, WasSpared, boot_number, seed}
 use Rattle.gate.specs.Printing.{HasPrinted, Holds}
 
@@ -35,25 +38,37 @@ abbrev pub IsSparing : {O : Type 0} → Holds O → Option (List ℕ) → BoxFau
 IsSparing contents (Some path) why output output2 = WasSpared path ⊎ ((boot : ℕ) × IsBehindLine contents (Some path) boot why output output2)
 IsSparing contents None why output output2 = Unit {0}
 
--- A gateway isn't run that has its seed: no boot number is had; or one was, and there is no memory for the gateway, or it is refused by what comes
--- behind the number.
-abbrev pub IsUnrun : {O : Type 0} → Holds O → Option (List ℕ) → O → O → BoxFault → Type 0
-IsUnrun contents capture output output2 why = LacksNumber why
-    ⊎ (WasGiven boot_number × (LacksGateway why ⊎ ((boot : ℕ) × IsBehind contents capture boot why output output2)))
+-- The line of a boot isn't printed of a box that has its seed: no number of its boot file is had; or one was, and there is no memory for the gateway, or
+-- output refuses the line.
+abbrev pub IsUnannounced : {O : Type 0} → Holds O → Settings → GatewayId → O → O → BoxFault → Type 0
+IsUnannounced contents settings id output output2 why = LacksNumber (boot_file_of settings id) why
+    ⊎ (WasGiven boot_number × (LacksGateway settings why ⊎ ((boot : ℕ) × LacksLine contents boot output output2 why)))
+
+-- Only this refuses a start that has its log, before that line: its capture's file, the seed, or what is above.
+abbrev pub IsBeforeLine : {O : Type 0} → Holds O → Option (List ℕ) → Settings → GatewayId → O → O → BoxFault → Type 0
+IsBeforeLine contents capture settings id output output2 why =
+    LacksCapture capture why ⊎ (LacksSeed why ⊎ (WasGiven seed × IsUnannounced contents settings id output output2 why))
+
+-- no gateway begins, and where there is no seed, nothing was taken
+abbrev pub IsUnbooted : {O : Type 0} → Holds O → Settings → GatewayId → Type 0 → O → O → BoxFault → Type 0
+IsUnbooted contents settings id Untouched output output2 why =
+    (LacksSeed why × Untouched) ⊎ (WasGiven seed × IsUnannounced contents settings id output output2 why)
+
+-- A gateway isn't run that has its seed: no number of its boot file is had; or one was, and there is no memory for the gateway, or it is refused by what
+-- comes behind the number.
+abbrev pub IsUnrun : {O : Type 0} → Holds O → Option (List ℕ) → Settings → GatewayId → O → O → BoxFault → Type 0
+IsUnrun contents capture settings id output output2 why = LacksNumber (boot_file_of settings id) why
+    ⊎ (WasGiven boot_number × (LacksGateway settings why ⊎ ((boot : ℕ) × IsBehind contents capture boot why output output2)))
 
 -- where a start is refused, a disk is as it was; or that comes behind the seed, where a number may have been taken
-abbrev pub IsUntaken : {O D T : Type 0} → Holds O → Option (List ℕ) → Result T BoxFault → D → D → O → Type 0
-IsUntaken {O = O} contents capture result disk disk2 output2 =
-    IfErr result (λ why. ((output : O) × IsUnrun contents capture output output2 why) ⊎ (disk2 ≡ disk))
+abbrev pub IsUntaken : {O D T : Type 0} → Holds O → Option (List ℕ) → Settings → GatewayId → Result T BoxFault → D → D → O → Type 0
+IsUntaken {O = O} contents capture settings id result disk disk2 output2 =
+    IfErr result (λ why. ((output : O) × IsUnrun contents capture settings id output output2 why) ⊎ (disk2 ≡ disk))
 
 -- or it has no seed, and then nothing was taken or told
-abbrev pub IsUnstarted : {O : Type 0} → Holds O → Option (List ℕ) → Type 0 → O → O → BoxFault → Type 0
-IsUnstarted contents capture Untouched output output2 why = (LacksSeed why × Untouched)
-    ⊎ (WasGiven seed × IsUnrun contents capture output output2 why)
-
--- What a log is handed before a refusal: no record; or the line of a boot was printed before, and this comes behind it.
-abbrev pub IsUnrecorded : {O L : Type 0} → Holds O → Option (List ℕ) → O → O → L → L → BoxFault → Type 0
-IsUnrecorded contents capture before after log log2 why = (log2 ≡ log) ⊎ ((boot : ℕ) × IsBehindLine contents capture boot why before after)
+abbrev pub IsUnstarted : {O : Type 0} → Holds O → Option (List ℕ) → Settings → GatewayId → Type 0 → O → O → BoxFault → Type 0
+IsUnstarted contents capture settings id Untouched output output2 why = (LacksSeed why × Untouched)
+    ⊎ (WasGiven seed × IsUnrun contents capture settings id output output2 why)
 
 -- What is printed before a refusal: nothing; or a number was taken before, and the refusal is one that comes behind it.
 abbrev pub IsInOrder : {O : Type 0} → Holds O → Option (List ℕ) → Type 0 → Bool → Moment → Moment → BoxFault → O → O → Type 0

@@ -1,5 +1,5 @@
 -- What is done by a start that is served.
-use Rattle.std.specs.Prelude.{Option}
+use Rattle.std.specs.Prelude.{Option, Ok}
 use Rattle.settings.specs.declared.whole.Settings.{Settings}
 use Rattle.spec_step.specs.Shown.{Shown}
 use Rattle.rounds.specs.Rounds.{Calls, WireSays}
@@ -38,7 +38,8 @@ pub record HasRun {W O : Type 0} (contents : Holds O) (does : Calls W) (says : W
 
 -- the same on the system's sockets, once those of its places were had, with a log that was told no more of the start than it is to be
 abbrev pub RunsWired : {O : Type 0} → Holds O → Start → Settings → Ways → Option Manager → Option Manager → O → O → Type 0
-RunsWired contents start settings ways m m2 before after = (WasGiven (own_sockets ways (box_ports settings start.id)) × WasClosed (path_in start.capture))
+RunsWired contents start settings ways m m2 before after =
+    (WasGiven (own_sockets ways (box_ports settings start.id)) × WasClosed (path_in start.capture) (Ok tt) after)
     × ((wire : Sockets) × HasRun contents does_at says_at settings start wire m m2 before after)
 
 -- and a control socket before,
@@ -54,7 +55,7 @@ RanLocked {O = O} contents start settings ways after = (m : Option Manager) × (
 -- and its boot file, locked, before that, which was let go behind it as its number had left it
 abbrev pub RunsOpened : {O : Type 0} → Holds O → Start → Settings → Ways → Option Manager → Option Manager → O → O → Type 0
 RunsOpened contents start settings ways m m2 before after =
-    (WasGiven (locked_file (boot_file_of settings start.id)) × WasUnlocked (boot_file_of settings start.id))
+    (WasGiven (locked_file (boot_file_of settings start.id)) × WasUnlocked (boot_file_of settings start.id) (Ok tt) after)
     × RunsLocked contents start settings ways m m2 before after
 
 -- The settings of a text that was read at the start's path were run so, by ways that its texts write. By what settings and ways say, its

@@ -1,5 +1,5 @@
 -- Why a start is refused, and what it leaves alone then: its sockets and its service manager.
-use Rattle.std.specs.Prelude.{◌≡◌, ◌≤◌, ◌⊎◌, Option, None, length}
+use Rattle.std.specs.Prelude.{◌≡◌, ◌≤◌, ◌⊎◌, Option, None, Err, length}
 use Rattle.settings.specs.declared.whole.Settings.{Settings}
 use Rattle.settings_file.specs.Clashes.{clash_of_one}
 use Rattle.control.specs.Paths.{socket_of}
@@ -26,36 +26,36 @@ use Rattle.gate.specs.declared.running.Start.{Start}
 -- the capture, the seed, the boot number, the capture, output. What the system gives or refuses is said by name, want of memory too.
 
 -- the seed, and behind it the boot number, the capture, and output
-abbrev pub FailsOpened : {O : Type 0} → Holds O → Start → O → O → BoxFault → Type 0
-FailsOpened contents start before after why =
-    LacksSeed why ⊎ (WasGiven seed × IsUnrun contents (path_in start.capture) before after why)
+abbrev pub FailsOpened : {O : Type 0} → Holds O → Start → Settings → O → O → BoxFault → Type 0
+FailsOpened contents start settings before after why =
+    LacksSeed why ⊎ (WasGiven seed × IsUnrun contents (path_in start.capture) settings start.id before after why)
 
 -- The file of the capture, where there is to be one. It is let go as it was, but for what comes behind the line of a boot.
-abbrev pub FailsLogged : {O : Type 0} → Holds O → Start → O → O → BoxFault → Type 0
-FailsLogged contents start before after why = LacksCapture (path_in start.capture) why
-    ⊎ ((IsOpened (path_in start.capture) × IsSparing contents (path_in start.capture) why before after) × FailsOpened contents start before after why)
+abbrev pub FailsLogged : {O : Type 0} → Holds O → Start → Settings → O → O → BoxFault → Type 0
+FailsLogged contents start settings before after why = LacksCapture (path_in start.capture) why
+    ⊎ ((IsOpened (path_in start.capture) × IsSparing contents (path_in start.capture) why before after) × FailsOpened contents start settings before after why)
 
--- the filter, by which there is a log then, which is told no more of the start than it is to be
-abbrev pub FailsWired : {O : Type 0} → Holds O → Start → O → O → BoxFault → Type 0
-FailsWired contents start before after why =
-    LacksFilter start.log why ⊎ ((IsFilter start.log × WasClosed (path_in start.capture)) × FailsLogged contents start before after why)
+-- the filter, by which there is a log then, which is told no more of a start that ends so than it is to be
+abbrev pub FailsWired : {O : Type 0} → Holds O → Start → Settings → O → O → BoxFault → Type 0
+FailsWired contents start settings before after why = LacksFilter start.log why
+    ⊎ ((IsFilter start.log × WasClosed (path_in start.capture) (Err why) after) × FailsLogged contents start settings before after why)
 
 -- The sockets. They are let go as they were, but for a run at whose end output was refused.
 abbrev pub FailsHeard : {O : Type 0} → Holds O → Start → Settings → Ways → Option Manager → Option Manager → O → O → BoxFault → Type 0
 FailsHeard contents start settings ways m m2 before after why = LacksPlace settings start.id ways why
     ⊎ (WasGiven (own_sockets ways (box_ports settings start.id))
     × ((wire : Sockets) × (WasHad (own_sockets ways (box_ports settings start.id)) wire
-    × (FailsWired contents start before after why × IsSpared contents does_at says_at settings start wire m m2 before after why))))
+    × (FailsWired contents start settings before after why × IsSpared contents does_at says_at settings start wire m m2 before after why))))
 
 -- the control socket
 abbrev pub FailsLocked : {O : Type 0} → Holds O → Start → Settings → Ways → Option Manager → Option Manager → O → O → BoxFault → Type 0
 FailsLocked contents start settings ways m m2 before after why = LacksControl (boot_file_of settings start.id) why
     ⊎ (WasGiven (control_socket (socket_of (boot_file_of settings start.id))) × FailsHeard contents start settings ways m m2 before after why)
 
--- The boot file. It is let go as it was locked, or as its number left it.
+-- The boot file. It is let go as it was locked, or, where this comes behind the seed, as its number left it.
 abbrev pub FailsOpening : {O : Type 0} → Holds O → Start → Settings → Ways → Option Manager → Option Manager → O → O → BoxFault → Type 0
 FailsOpening contents start settings ways m m2 before after why = LacksBootFile (boot_file_of settings start.id) why
-    ⊎ ((WasGiven (locked_file (boot_file_of settings start.id)) × WasUnlocked (boot_file_of settings start.id))
+    ⊎ ((WasGiven (locked_file (boot_file_of settings start.id)) × WasUnlocked (boot_file_of settings start.id) (Err why) after)
     × FailsLocked contents start settings ways m m2 before after why)
 
 -- the path of the control socket

@@ -84,14 +84,14 @@ IsTapped {W = W} {M = M} {O = O} does says tapped = (start : Start) → (path : 
     → WasHad (tapped_wire path start.id) first → WasRun does says start first last → tapped.wire ≡ last.wire → WasTapped path first.wire tapped.wire
 
 -- So ran the box of a start, as this one, from a gateway to a gateway, on a wire, by its capture where there is one, and the wire was let go behind
--- that. Its service manager, where it has one, heard of just that run, and its own log was told of it.
+-- that. Its service manager, where it has one, heard of just that run, and its own log was told of it, from the gateway's moment on.
 pub record RanOn {W : Type 0} (does : Calls W) (says : WireSays W) (who : Identity) (start : Start) (g g2 : Shown) (wire : W) (m m2 : Option Manager)
     : Type 0
   where
     pub wire2 : W
     pub run : RunsOn does says who start.rounds start.track start.until_eof g g2 wire wire2
     pub heard : HearsAll who.boot run.had.all.moments m m2
-    pub recorded : WasToldRun start who.boot run.last.told
+    pub recorded : WasToldRun start who.boot g.moment run.last.told
     pub let_go : IsLetGo (path_in start.capture) wire wire2
 
 -- the same, of some gateway of these settings' box, whose boot's line was printed; and then output refused its end

@@ -34,7 +34,8 @@ pub(crate) fn capture_at<'a, R: Files + Net + AllocGlobal>(
 ) -> Result<Option<CaptureAt<'a, R::File>>, BoxFault>
     requires wired { WasGiven all_sockets }
     requires valid { IsFilter start.now.log }
-    ensures asks { AsksUpTo machine.old (captures (path_in start.now.capture)) machine.new }
+    ensures asks { AsksUpTo machine.old start.now (captures (path_in start.now.capture))
+        machine.new }
     ensures asked { IfOk result (λ capture. is_some capture ≡ is_some start.now.capture) }
     ensures path { IfOk result (λ capture. option_map (λ c. c.path.now) capture
         ≡ path_in start.now.capture) }

@@ -17,7 +17,7 @@ ghost use Rattle.gate.specs.Starts.{CanOpen};
 
 use crate::files::FileSystem;
 use crate::running::Start;
-use boot_file::{Blocks, FileDisk, FileFault, Lockable, Machine as BootFiles};
+use boot_file::{Blocks, FileDisk, FileFault, Lockable, Machine as BootFiles, Opened};
 use box_words::{BoxFault, Refused, System as Ends, refused_end};
 use control::{Bound, ControlPath, Machine as Listeners};
 use faults::{Fault, text_by};
@@ -90,7 +90,7 @@ impl<R: Files + AllocGlobal> Machine<'_, R> {
         start: &Start<'_>,
         settings: &Settings,
         ways: &Ways,
-    ) -> Result<FileDisk<R::File>, BoxFault>
+    ) -> Result<FileDisk<Opened<R::File>>, BoxFault>
     where
         R::File: Blocks + Lockable,
         requires can { CanOpen start.now settings.now ways.now }
@@ -100,7 +100,7 @@ impl<R: Files + AllocGlobal> Machine<'_, R> {
             (WasGiven (locked_file (boot_file_of settings.now start.now.id))) }
         ensures had { IfOk result
             (WasHad (locked_file (boot_file_of settings.now start.now.id))) }
-        ensures locked { IfOk result (λ disk. ⟦<R::File as Lockable>⟧.locked disk.file) }
+        ensures locked { IfOk result (λ disk. ⟦<Opened<R::File> as Lockable>⟧.locked disk.file) }
         ensures err { IfErr result (LacksBootFile (boot_file_of settings.now start.now.id)) }
     {
         let path = settings.gateway(start.id).boot_file.as_str();
@@ -118,7 +118,7 @@ impl<R: Files + AllocGlobal> Machine<'_, R> {
         _settings: &Settings,
         _ways: &Ways,
         path: &str,
-    ) -> Result<FileDisk<R::File>, FileFault>
+    ) -> Result<FileDisk<Opened<R::File>>, FileFault>
     where
         R::File: Blocks + Lockable,
         requires can { CanOpen _start.now _settings.now _ways.now }
@@ -126,13 +126,13 @@ impl<R: Files + AllocGlobal> Machine<'_, R> {
         ensures asked { WasAsked self.old (locked_file path.now) self.new }
         ensures net { LeavesNet self.old self.new }
         ensures files { self.new.files ≡ self.old.files }
-        ensures opened { IfOk result (λ disk. AreOpened self.old.boot_files path.now disk.file
-            disk.folder self.new.boot_files) }
-        ensures unopened { IfErr result (λ why. IsUnopened ⟦<R::File as Lockable>⟧.refused
+        ensures opened { IfOk result (λ disk. AreOpened ⟦<Opened<R::File> as Lockable>⟧.locks
+            self.old.boot_files path.now disk.file disk.folder self.new.boot_files) }
+        ensures unopened { IfErr result (λ why. IsUnopened ⟦<Opened<R::File> as Lockable>⟧.locks
             self.old.boot_files path.now why self.new.boot_files) }
         ensures given { OnOk result (WasGiven (locked_file path.now)) }
         ensures had { IfOk result (WasHad (locked_file path.now)) }
-        ensures locked { IfOk result (λ disk. ⟦<R::File as Lockable>⟧.locked disk.file) }
+        ensures locked { IfOk result (λ disk. ⟦<Opened<R::File> as Lockable>⟧.locked disk.file) }
         ensures answered { IfErr result (WasAnswered (locked_file path.now)) }
         ensures kind { IfErr result IsOfOpening }
     {

@@ -7,7 +7,7 @@ ghost use Rattle.rounds.specs.Rounds.{calls, wire_says};
 ghost use Rattle.rounds.specs.Tellings.{IsNewTeller, ToldLog};
 ghost use Rattle.gate.specs.Asked.{path_in};
 ghost use Rattle.gate.specs.Logs.{IsAskedOnce, IsLikeLog, IsOwnAndNew, IsToldOfBoot, IsToldOfLeftOut, IsToldSo, WasToldRun};
-ghost use Rattle.gate.specs.Named.{IsTellerOf, WasClosed, WasLeftOut, WasLetGo, WasRecorded};
+ghost use Rattle.gate.specs.Named.{IsTellerOf, WasClosed, WasLeftOut, WasLent, WasLetGo, WasRecorded};
 ghost use Rattle.gate.specs.Wires.{IsTapped};
 ghost use Rattle.gate.specs.declared.recording.Records.{Records};
 
@@ -15,6 +15,7 @@ use crate::running::Start;
 use box_words::BoxFault;
 use journal::{Entry, Journal, Pen};
 use rounds::Teller;
+use settings::Settings;
 use sockets::Wire;
 use std::io::Write;
 use tap::{Moments, Outlet, Tapped};
@@ -25,6 +26,10 @@ pub(crate) struct Records<L> {
     log: L,
 }
 
+/// That one run may be told to it. Nobody has it but who was lent the log.
+#[derive(Drop)]
+pub(crate) struct OneRun(());
+
 /// Those of a log.
 pub(crate) fn records_in<L>(log: L) -> Records<L>
     ensures { result.log ≡ log }
@@ -33,26 +38,27 @@ pub(crate) fn records_in<L>(log: L) -> Records<L>
 }
 
 impl<L: Drop> Records<L> {
-    /// Lets it go, once it was told of a start no more than it is to be told, by how that ended and what it has printed.
+    /// Lets it go, once it was told of a start no more than it is to be told, by how that ends and what it has printed.
     #[tactic(auto, unfolding(crate::specs::Named::WasClosed))]
     pub(crate) fn close<O: Write>(
         self,
         _start: &Start<'_>,
+        _settings: &Settings,
         _output: &O,
         _ended: &Result<(), BoxFault>,
     )
-        requires told { IsToldSo O.contents (path_in _start.now.capture) _ended.now _output.now
-            self }
-        ensures { WasClosed (path_in _start.now.capture) }
+        requires told { IsToldSo O.contents (path_in _start.now.capture) _settings.now
+            _start.now.id _ended.now _output.now self }
+        ensures { WasClosed (path_in _start.now.capture) _ended.now _output.now }
     {
         drop(self);
     }
 }
 
 impl<L> Records<L> {
-    /// Who tells it of a run that begins at this moment.
+    /// Who tells it of the run for which it was lent, which begins at this moment.
     #[tactic(auto, unfolding(crate::specs::Named::IsTellerOf))]
-    pub(crate) fn teller_at(&self, moment: u64) -> Teller<'_, L>
+    pub(crate) fn teller_at(&self, _run: OneRun, moment: u64) -> Teller<'_, L>
         ensures new { IsNewTeller self.now.log moment result }
         ensures own { IsTellerOf self.now result }
     {
@@ -61,6 +67,15 @@ impl<L> Records<L> {
 }
 
 impl<L: Journal> Records<L> {
+    /// Lends it to one who is to tell of a run. So each of these leaves a trace.
+    #[tactic(auto, unfolding(crate::specs::Named::WasLent))]
+    pub(crate) fn lend(&mut self) -> OneRun
+        ensures lent { WasLent self.old self.new }
+        ensures like { IsLikeLog L.passes L.writes self.old.log self.new.log }
+    {
+        OneRun(())
+    }
+
     /// Hands it the first record of a box: that of its boot.
     #[tactic(auto, unfolding(crate::specs::Named::WasRecorded))]
     pub(crate) fn told_of_boot(&mut self, boot: u64)
@@ -91,12 +106,18 @@ impl<L: Journal> Records<L> {
     }
 }
 
-/// Lets go who told the records of a run in this boot.
+/// Lets go who told the records of a run in this boot, which began at this moment.
 #[tactic(auto, unfolding(crate::specs::Logs::WasToldRun))]
-pub(crate) fn put_away<L: Journal>(teller: Teller<'_, L>, _start: &Start<'_>, _boot: u64)
+pub(crate) fn put_away<L: Journal>(
+    teller: Teller<'_, L>,
+    _start: &Start<'_>,
+    _boot: u64,
+    _moment: u64,
+)
     ensures { (first : ToldLog L)
-        → IsOwnAndNew L.passes L.writes (Records L) _start.now _boot first
-        → HandsAll L.enables first teller.entry → WasToldRun _start.now _boot teller.entry.told }
+        → IsOwnAndNew L.passes L.writes (Records L) _start.now _boot _moment first
+        → HandsAll L.enables first teller.entry
+        → WasToldRun _start.now _boot _moment teller.entry.told }
 {
     drop(teller);
 }

@@ -1,5 +1,5 @@
 //! How a box is run.
-ghost use Rattle.std.specs.Prelude.{◌≡◌, ◌⊎◌, ◌<◌, IfErr, IsTrue, OnOk, Some, false, is_some};
+ghost use Rattle.std.specs.Prelude.{◌≡◌, ◌⊎◌, ◌<◌, IfErr, IsTrue, Ok, OnOk, Some, false, is_some};
 ghost use Rattle.nat_types.specs.declared.gateways.GatewayId.TheVariants.{Zero};
 ghost use Rattle.control.specs.Paths.{IsBeside, socket_of};
 ghost use Rattle.sockets.specs.Inheriting.{AreUnblocked};
@@ -7,13 +7,13 @@ ghost use Rattle.rounds.specs.Rounds.{calls, wire_says};
 ghost use Rattle.rounds.specs.Tellings.{IsNewTeller};
 ghost use Rattle.box_words.specs.Faults.{fault_text};
 ghost use Rattle.outlets.specs.Telling.{IsToldOf};
-ghost use Rattle.gate.specs.Asking.{AsksBy, AsksFor, AsksUpTo, AsksWatched, WasAskedFor, captures, listeners, openings, pathed, places};
+ghost use Rattle.gate.specs.Asking.{AsksApart, AsksBy, AsksFor, AsksUpTo, AsksWatched, WasAskedFor, captures, listeners, openings, places};
 ghost use Rattle.gate.specs.Asked.{IsFilter, IsNotified, boot_file_of, path_in};
 ghost use Rattle.gate.specs.Boots.{IsIdentity};
 ghost use Rattle.gate.specs.Failing.{IsUnbegun, LacksEnd};
-ghost use Rattle.gate.specs.Logs.{IsOwnLog, IsOwnTeller, IsRecorded, IsToldAtMost, IsToldLeftOut, IsToldOfThis, WasToldRun};
+ghost use Rattle.gate.specs.Logs.{IsOwnLog, IsOwnTeller, IsRecordedToEnd, IsToldAtRefusal, IsToldOfRun, IsToldOfThis, WasToldRun};
 ghost use Rattle.gate.specs.Named.{IsLeft, IsUntold, WasClosed, WasGiven, WasHad, WasLetGo, all_sockets, begun_capture, boot_number, capture_file, control_socket, locked_file};
-ghost use Rattle.gate.specs.Orders.{IsInOrder, IsInSomeOrder, IsNumbered, IsSilentOrTaken, IsSparing, IsUnrecorded, IsUnrun, IsUnstarted};
+ghost use Rattle.gate.specs.Orders.{IsInOrder, IsInSomeOrder, IsNumbered, IsSilentOrTaken, IsSparing, IsUnrun, IsUnstarted};
 ghost use Rattle.gate.specs.Printing.{HasEnded};
 ghost use Rattle.gate.specs.Served.{HasRun, HasServed, RunsLocked, RunsOpened, RunsWired};
 ghost use Rattle.gate.specs.Sparing.{FailsHeard, FailsHeld, FailsInherited, FailsLocked, FailsLogged, FailsOpening, FailsWatched, FailsWired, IsRefusal};
@@ -30,7 +30,7 @@ use crate::rest::{Means, Rest, rest_of};
 use crate::starting::started;
 use crate::ways::{WayTexts, ways_of};
 use crate::wires::{let_go, unlock};
-use boot_file::{Blocks, FileDisk, Lockable};
+use boot_file::{Blocks, FileDisk, Lockable, Opened};
 use boot_store::Disk;
 use box_words::BoxFault;
 use control::{Bound, ControlPath};
@@ -91,15 +91,15 @@ where
     ensures status { (result ≡ 0) ⊎ (result ≡ 1) }
     ensures served { result ≡ 0 → HasServed O.contents start.now output.old output.new }
     ensures order { result ≡ 1 → IsSilentOrTaken
-        ⟦<FileDisk<R::File> as Disk>⟧.honest ⟦<FileDisk<R::File> as Disk>⟧.now start.now.found
-        output.old output.new }
+        ⟦<FileDisk<Opened<R::File>> as Disk>⟧.honest ⟦<FileDisk<Opened<R::File>> as Disk>⟧.now
+        start.now.found output.old output.new }
     ensures asks { WasAskedFor start.now }
     ensures quiet { result ≡ 0 → errors.new ≡ errors.old }
     ensures failed { result ≡ 1 → IsToldOf E.tells fault_text (λ why. IsRefusal O.contents
         start.now output.old output.new why
         × IsInSomeOrder O.contents (path_in start.now.capture)
-        ⟦<FileDisk<R::File> as Disk>⟧.honest ⟦<FileDisk<R::File> as Disk>⟧.now start.now.found
-        why output.old output.new) errors.old errors.new }
+        ⟦<FileDisk<Opened<R::File>> as Disk>⟧.honest ⟦<FileDisk<Opened<R::File>> as Disk>⟧.now
+        start.now.found why output.old output.new) errors.old errors.new }
 {
     let mut machine = machine_of(rt);
     match served(&mut machine, rest_of(rt), start, output) {
@@ -136,8 +136,8 @@ where
     ensures ok { OnOk result (HasServed O.contents start.now output.old output.new) }
     ensures err { IfErr result (IsRefusal O.contents start.now output.old output.new) }
     ensures order { IfErr result (λ why. IsInSomeOrder O.contents (path_in start.now.capture)
-        ⟦<FileDisk<R::File> as Disk>⟧.honest ⟦<FileDisk<R::File> as Disk>⟧.now start.now.found
-        why output.old output.new) }
+        ⟦<FileDisk<Opened<R::File>> as Disk>⟧.honest ⟦<FileDisk<Opened<R::File>> as Disk>⟧.now
+        start.now.found why output.old output.new) }
 {
     let settings = settings_at(machine, rest.alloc(), start.settings)?;
     let ended = reached(machine, rest, start, &settings, output);
@@ -166,8 +166,8 @@ where
     ensures err { IfErr result (FailsHeld O.contents start.now settings.now
         output.old output.new) }
     ensures order { IfErr result (λ why. IsInSomeOrder O.contents (path_in start.now.capture)
-        ⟦<FileDisk<R::File> as Disk>⟧.honest ⟦<FileDisk<R::File> as Disk>⟧.now start.now.found
-        why output.old output.new) }
+        ⟦<FileDisk<Opened<R::File>> as Disk>⟧.honest ⟦<FileDisk<Opened<R::File>> as Disk>⟧.now
+        start.now.found why output.old output.new) }
 {
     let ways = ways_of(start.ways)?;
     machine.told_to_inherit(&ways)?;
@@ -197,8 +197,8 @@ where
     ensures err { IfErr result (FailsInherited O.contents start.now settings.now ways.now
         output.old output.new) }
     ensures order { IfErr result (λ why. IsInSomeOrder O.contents (path_in start.now.capture)
-        ⟦<FileDisk<R::File> as Disk>⟧.honest ⟦<FileDisk<R::File> as Disk>⟧.now start.now.found
-        why output.old output.new) }
+        ⟦<FileDisk<Opened<R::File>> as Disk>⟧.honest ⟦<FileDisk<Opened<R::File>> as Disk>⟧.now
+        start.now.found why output.old output.new) }
 {
     let mut manager = manager_of(machine, start.notify)?;
     let ended = apart(machine, rest, start, settings, ways, &mut manager, output);
@@ -225,7 +225,7 @@ where
     requires found { IsTrue start.now.found → start.now.id ≡ Zero }
     requires watched { AreWatched start.now settings.now ways.now }
     requires notified { IsNotified start.now.notify manager.old }
-    ensures asks { AsksUpTo machine.old (pathed start.now settings.now ways.now) machine.new }
+    ensures asks { AsksApart machine.old start.now settings.now ways.now machine.new }
     ensures ok { OnOk result (CanOpen start.now settings.now ways.now × RunsOpened O.contents
         start.now settings.now ways.now manager.old manager.new output.old output.new) }
     ensures err { IfErr result (FailsWatched O.contents start.now settings.now ways.now
@@ -233,8 +233,8 @@ where
     ensures unheard { IfErr result (IsUnheard O.contents output.old output.new
         manager.old manager.new) }
     ensures order { IfErr result (λ why. IsInSomeOrder O.contents (path_in start.now.capture)
-        ⟦<FileDisk<R::File> as Disk>⟧.honest ⟦<FileDisk<R::File> as Disk>⟧.now start.now.found
-        why output.old output.new) }
+        ⟦<FileDisk<Opened<R::File>> as Disk>⟧.honest ⟦<FileDisk<Opened<R::File>> as Disk>⟧.now
+        start.now.found why output.old output.new) }
 {
     without_clash(settings, start.id, ways)?;
     let path = machine.told_to_give_path(settings, start.id)?;
@@ -262,7 +262,8 @@ where
     requires can { CanOpen start.now settings.now ways.now }
     requires notified { IsNotified start.now.notify manager.old }
     requires beside { IsBeside (boot_file_of settings.now start.now.id) path.now }
-    ensures asks { AsksUpTo machine.old (openings start.now settings.now ways.now) machine.new }
+    ensures asks { AsksUpTo machine.old start.now
+        (openings start.now settings.now ways.now) machine.new }
     ensures ok { OnOk result (RunsOpened O.contents start.now settings.now ways.now
         manager.old manager.new output.old output.new) }
     ensures err { IfErr result (FailsOpening O.contents start.now settings.now ways.now
@@ -270,8 +271,8 @@ where
     ensures unheard { IfErr result (IsUnheard O.contents output.old output.new
         manager.old manager.new) }
     ensures order { IfErr result (λ why. IsInSomeOrder O.contents (path_in start.now.capture)
-        ⟦<FileDisk<R::File> as Disk>⟧.honest ⟦<FileDisk<R::File> as Disk>⟧.now start.now.found
-        why output.old output.new) }
+        ⟦<FileDisk<Opened<R::File>> as Disk>⟧.honest ⟦<FileDisk<Opened<R::File>> as Disk>⟧.now
+        start.now.found why output.old output.new) }
 {
     match machine.told_to_lock(start, settings, ways) {
         Ok(mut disk) => {
@@ -298,36 +299,38 @@ fn connected<
     ways: &Ways,
     path: &ControlPath,
     manager: &mut Option<Manager>,
-    disk: &mut FileDisk<R::File>,
+    disk: &mut FileDisk<Opened<R::File>>,
     output: &mut O,
 ) -> Result<(), BoxFault>
 where
     R::File: Blocks + Lockable + AsRawFd,
     requires found { IsTrue start.now.found → start.now.id ≡ Zero }
     requires notified { IsNotified start.now.notify manager.old }
-    requires locked { ⟦<R::File as Lockable>⟧.locked disk.old.file }
+    requires locked { ⟦<Opened<R::File> as Lockable>⟧.locked disk.old.file }
     requires given { WasGiven (locked_file (boot_file_of settings.now start.now.id)) }
     requires had { WasHad (locked_file (boot_file_of settings.now start.now.id)) disk.old }
     requires written { AreWays start.now.ways ways.now }
     requires beside { IsBeside (boot_file_of settings.now start.now.id) path.now }
-    ensures asks { AsksUpTo machine.old (listeners start.now settings.now ways.now) machine.new }
+    ensures asks { AsksUpTo machine.old start.now
+        (listeners start.now settings.now ways.now) machine.new }
     ensures ok { OnOk result (RunsLocked O.contents start.now settings.now ways.now
         manager.old manager.new output.old output.new) }
     ensures err { IfErr result (FailsLocked O.contents start.now settings.now ways.now
         manager.old manager.new output.old output.new) }
     ensures untouched { IfErr result (λ why. IsUnrun O.contents (path_in start.now.capture)
-        output.old output.new why ⊎ ((disk.new ≡ disk.old) × (manager.new ≡ manager.old))) }
+        settings.now start.now.id output.old output.new why
+        ⊎ ((disk.new ≡ disk.old) × (manager.new ≡ manager.old))) }
     ensures left { IsLeft disk.old disk.new }
-    ensures decided { ⟦<FileDisk<R::File> as Disk>⟧.honest disk.old
+    ensures decided { ⟦<FileDisk<Opened<R::File>> as Disk>⟧.honest disk.old
         → OnOk result (IsNumbered start.now.found
-        (⟦<FileDisk<R::File> as Disk>⟧.now disk.old)
-        (⟦<FileDisk<R::File> as Disk>⟧.now disk.new)) }
+        (⟦<FileDisk<Opened<R::File>> as Disk>⟧.now disk.old)
+        (⟦<FileDisk<Opened<R::File>> as Disk>⟧.now disk.new)) }
     ensures unheard { IfErr result (IsUnheard O.contents output.old output.new
         manager.old manager.new) }
     ensures order { IfErr result (λ why. IsInOrder O.contents (path_in start.now.capture)
-        (⟦<FileDisk<R::File> as Disk>⟧.honest disk.old) start.now.found
-        (⟦<FileDisk<R::File> as Disk>⟧.now disk.old)
-        (⟦<FileDisk<R::File> as Disk>⟧.now disk.new) why output.old output.new) }
+        (⟦<FileDisk<Opened<R::File>> as Disk>⟧.honest disk.old) start.now.found
+        (⟦<FileDisk<Opened<R::File>> as Disk>⟧.now disk.old)
+        (⟦<FileDisk<Opened<R::File>> as Disk>⟧.now disk.new) why output.old output.new) }
 {
     let control = machine.told_to_hear(settings, start.id, path)?;
     wired(
@@ -360,13 +363,15 @@ where
     requires heard { WasHad (control_socket (socket_of (boot_file_of settings.now start.now.id)))
         control }
     requires written { AreWays start.now.ways ways.now }
-    ensures asks { AsksUpTo machine.old (places start.now settings.now ways.now) machine.new }
+    ensures asks { AsksUpTo machine.old start.now
+        (places start.now settings.now ways.now) machine.new }
     ensures ok { OnOk result (RunsWired O.contents start.now settings.now ways.now
         manager.old manager.new output.old output.new) }
     ensures err { IfErr result (FailsHeard O.contents start.now settings.now ways.now
         manager.old manager.new output.old output.new) }
     ensures untouched { IfErr result (λ why. IsUnrun O.contents (path_in start.now.capture)
-        output.old output.new why ⊎ ((disk.new ≡ disk.old) × (manager.new ≡ manager.old))) }
+        settings.now start.now.id output.old output.new why
+        ⊎ ((disk.new ≡ disk.old) × (manager.new ≡ manager.old))) }
     ensures left { IsLeft disk.old disk.new }
     ensures decided { D.honest disk.old
         → OnOk result (IsNumbered start.now.found (D.now disk.old) (D.now disk.new)) }
@@ -403,15 +408,18 @@ where
     requires had { WasHad (locked_file (boot_file_of settings.now start.now.id)) disk.old }
     requires wired { WasGiven all_sockets }
     requires own { IsOfSockets settings.now start.now wire }
-    ensures asks { AsksUpTo machine.old (captures (path_in start.now.capture)) machine.new }
+    ensures asks { AsksUpTo machine.old start.now (captures (path_in start.now.capture))
+        machine.new }
     ensures ok { OnOk result (HasRun O.contents does_at says_at settings.now start.now wire
         manager.old manager.new output.old output.new) }
-    ensures closed { OnOk result (WasClosed (path_in start.now.capture)) }
-    ensures err { IfErr result (FailsWired O.contents start.now output.old output.new) }
+    ensures closed { OnOk result (WasClosed (path_in start.now.capture) (Ok tt) output.new) }
+    ensures err { IfErr result (FailsWired O.contents start.now settings.now
+        output.old output.new) }
     ensures spared { IfErr result (IsSpared O.contents does_at says_at settings.now start.now
         wire manager.old manager.new output.old output.new) }
     ensures untouched { IfErr result (λ why. IsUnrun O.contents (path_in start.now.capture)
-        output.old output.new why ⊎ ((disk.new ≡ disk.old) × (manager.new ≡ manager.old))) }
+        settings.now start.now.id output.old output.new why
+        ⊎ ((disk.new ≡ disk.old) × (manager.new ≡ manager.old))) }
     ensures left { IsLeft disk.old disk.new }
     ensures decided { D.honest disk.old
         → OnOk result (IsNumbered start.now.found (D.now disk.old) (D.now disk.new)) }
@@ -434,7 +442,7 @@ where
                 output,
                 &mut records,
             );
-            records.close(start, output, &ended);
+            records.close(start, settings, output, &ended);
             ended
         }
         Err(fault) => {
@@ -473,21 +481,23 @@ where
     requires wired { WasGiven all_sockets }
     requires log { IsOwnLog L.passes L.writes start.now records.old.log }
     requires untold { IsUntold records.old }
-    ensures asks { AsksUpTo machine.old (captures (path_in start.now.capture)) machine.new }
+    ensures asks { AsksUpTo machine.old start.now (captures (path_in start.now.capture))
+        machine.new }
     ensures ok { OnOk result (HasRun O.contents (calls W.does W.answers)
         (wire_says W.waits W.failing W.lost) settings.now start.now wire
         manager.old manager.new output.old output.new) }
-    ensures err { IfErr result (FailsLogged O.contents start.now output.old output.new) }
+    ensures err { IfErr result (FailsLogged O.contents start.now settings.now
+        output.old output.new) }
     ensures spared { IfErr result (IsSpared O.contents (calls W.does W.answers)
         (wire_says W.waits W.failing W.lost) settings.now start.now wire
         manager.old manager.new output.old output.new) }
     ensures untouched { IfErr result (λ why. IsUnrun O.contents (path_in start.now.capture)
-        output.old output.new why ⊎ ((disk.new ≡ disk.old) × (manager.new ≡ manager.old))) }
-    ensures told { IsToldAtMost (path_in start.now.capture) records.old records.new }
-    ensures recorded { OnOk result
-        (IsRecorded (path_in start.now.capture) records.old records.new) }
-    ensures unrecorded { IfErr result (IsUnrecorded O.contents (path_in start.now.capture)
+        settings.now start.now.id output.old output.new why
+        ⊎ ((disk.new ≡ disk.old) × (manager.new ≡ manager.old))) }
+    ensures recorded { OnOk result (IsRecordedToEnd O.contents (path_in start.now.capture)
         output.old output.new records.old records.new) }
+    ensures told { IfErr result (IsToldAtRefusal O.contents (path_in start.now.capture)
+        settings.now start.now.id output.old output.new records.old records.new) }
     ensures left { IsLeft disk.old disk.new }
     ensures decided { D.honest disk.old
         → OnOk result (IsNumbered start.now.found (D.now disk.old) (D.now disk.new)) }
@@ -541,18 +551,18 @@ fn tapped<
     ensures ok { OnOk result (HasRun O.contents (calls W.does W.answers)
         (wire_says W.waits W.failing W.lost) settings.now start.now wire
         manager.old manager.new output.old output.new) }
-    ensures err { IfErr result (IsUnstarted O.contents (path_in start.now.capture)
-        ((disk.new ≡ disk.old) × (manager.new ≡ manager.old)) output.old output.new) }
+    ensures err { IfErr result (IsUnstarted O.contents (path_in start.now.capture) settings.now
+        start.now.id ((disk.new ≡ disk.old) × (manager.new ≡ manager.old))
+        output.old output.new) }
     ensures kept { IfErr result (λ why. IsSparing O.contents (path_in start.now.capture) why
         output.old output.new) }
     ensures spared { IfErr result (IsSpared O.contents (calls W.does W.answers)
         (wire_says W.waits W.failing W.lost) settings.now start.now wire
         manager.old manager.new output.old output.new) }
-    ensures told { IsToldAtMost (path_in start.now.capture) records.old records.new }
-    ensures recorded { OnOk result
-        (IsRecorded (path_in start.now.capture) records.old records.new) }
-    ensures unrecorded { IfErr result (IsUnrecorded O.contents (path_in start.now.capture)
+    ensures recorded { OnOk result (IsRecordedToEnd O.contents (path_in start.now.capture)
         output.old output.new records.old records.new) }
+    ensures told { IfErr result (IsToldAtRefusal O.contents (path_in start.now.capture)
+        settings.now start.now.id output.old output.new records.old records.new) }
     ensures left { IsLeft disk.old disk.new }
     ensures decided { D.honest disk.old
         → OnOk result (IsNumbered start.now.found (D.now disk.old) (D.now disk.new)) }
@@ -626,8 +636,12 @@ fn tapped_rounds<
         identity start.now gateway.old gateway.new wire manager.old manager.new) }
     ensures ended { OnOk result (HasEnded O.contents gateway.new output.old output.new) }
     ensures begun { OnOk result (WasGiven (begun_capture capture.entry.path.now)) }
-    ensures told { (records.new ≡ records.old) ⊎ IsToldLeftOut records.old records.new }
-    ensures recorded { OnOk result (IsToldLeftOut records.old records.new) }
+    ensures recorded { OnOk result
+        (IsToldOfRun (Some capture.entry.path.now) records.old records.new) }
+    ensures told { IfErr result (λ why. (LacksEnd O.contents output.old output.new why
+        × IsToldOfRun (Some capture.entry.path.now) records.old records.new)
+        ⊎ (IsUnbegun (Some capture.entry.path.now) why
+        × ((output.new ≡ output.old) × (records.new ≡ records.old)))) }
     ensures unrun { IfErr result (λ why.
         (LacksEnd O.contents output.old output.new why
         × RanOn (calls W.does W.answers) (wire_says W.waits W.failing W.lost) identity start.now
@@ -637,7 +651,8 @@ fn tapped_rounds<
         × ((manager.new ≡ manager.old) × (gateway.new ≡ gateway.old))))) }
 {
     let mut wire = capture.begin(means.alloc(), wire, start.id, means.moments())?;
-    let teller = records.teller_at(gateway.moment());
+    let run = records.lend();
+    let teller = records.teller_at(run, gateway.moment());
     let ended = rounds_of(
         means, gateway, &mut wire, start, settings, identity, manager, output, teller,
     );
@@ -674,16 +689,16 @@ fn run<
     ensures ok { OnOk result (HasRun O.contents (calls W.does W.answers)
         (wire_says W.waits W.failing W.lost) settings.now start.now wire
         manager.old manager.new output.old output.new) }
-    ensures err { IfErr result (IsUnstarted O.contents (path_in start.now.capture)
-        ((disk.new ≡ disk.old) × (manager.new ≡ manager.old)) output.old output.new) }
+    ensures err { IfErr result (IsUnstarted O.contents (path_in start.now.capture) settings.now
+        start.now.id ((disk.new ≡ disk.old) × (manager.new ≡ manager.old))
+        output.old output.new) }
     ensures spared { IfErr result (IsSpared O.contents (calls W.does W.answers)
         (wire_says W.waits W.failing W.lost) settings.now start.now wire
         manager.old manager.new output.old output.new) }
-    ensures told { IsToldAtMost (path_in start.now.capture) records.old records.new }
-    ensures recorded { OnOk result
-        (IsRecorded (path_in start.now.capture) records.old records.new) }
-    ensures unrecorded { IfErr result (IsUnrecorded O.contents (path_in start.now.capture)
+    ensures recorded { OnOk result (IsRecordedToEnd O.contents (path_in start.now.capture)
         output.old output.new records.old records.new) }
+    ensures told { IfErr result (IsToldAtRefusal O.contents (path_in start.now.capture)
+        settings.now start.now.id output.old output.new records.old records.new) }
     ensures left { IsLeft disk.old disk.new }
     ensures decided { D.honest disk.old
         → OnOk result (IsNumbered start.now.found (D.now disk.old) (D.now disk.new)) }
@@ -703,7 +718,8 @@ fn run<
         records,
     ) {
         Ok((identity, mut gateway)) => {
-            let teller = records.teller_at(gateway.moment());
+            let run = records.lend();
+            let teller = records.teller_at(run, gateway.moment());
             let ended = rounds_of(
                 means,
                 &mut gateway,
@@ -750,11 +766,12 @@ fn rounds_of<C: Clock + Input + AllocGlobal, W: Wire, O: Write, L: Journal>(
         start.now.rounds start.now.track start.now.until_eof
         gateway.old gateway.new wire.old wire.new)
         × (HearsAll identity.boot run.had.all.moments manager.old manager.new
-        × WasToldRun start.now identity.boot run.last.told) }
+        × WasToldRun start.now identity.boot gateway.old.moment run.last.told) }
     ensures ended { OnOk result (HasEnded O.contents gateway.new output.old output.new) }
     ensures err { IfErr result (LacksEnd O.contents output.old output.new) }
 {
     let alloc = means.alloc();
+    let moment = gateway.moment();
     manager.ready(identity.boot);
     let mut clock = means.stopwatch();
     let mut until = InputEnd::new(means.input(start.until_eof));
@@ -772,7 +789,7 @@ fn rounds_of<C: Clock + Input + AllocGlobal, W: Wire, O: Write, L: Journal>(
         &mut teller,
     );
     let_go(until);
-    put_away(teller, start, identity.boot);
+    put_away(teller, start, identity.boot, moment);
     served?;
     Ok(())
 }

@@ -5,10 +5,11 @@ ghost use Rattle.outlets.specs.Printed.{Prints};
 ghost use Rattle.boot_store.specs.declared.faults.BootFault.{BootFault as Reason};
 ghost use Rattle.boot_store.specs.Crash.{Decides, Keeps as KeepsFile, Rises, Since};
 ghost use Rattle.gate.specs.Boots.{HasBoot, HasStarted, IsIdentity, IsStart, TellsNumber};
-ghost use Rattle.gate.specs.Failing.{LacksGateway, LacksLine, LacksNumber};
+ghost use Rattle.gate.specs.Asked.{boot_file_of};
+ghost use Rattle.gate.specs.Failing.{LacksGateway, LacksLine, LacksNumberOf};
 ghost use Rattle.gate.specs.Logs.{IsLikeLog, IsToldOfBoot};
-ghost use Rattle.gate.specs.Named.{IsLeft, IsNumberOf, WasGiven, WasNumbered, WasRecorded, boot_number, seed};
-ghost use Rattle.gate.specs.Orders.{IsInOrder, IsUnstarted};
+ghost use Rattle.gate.specs.Named.{IsLeft, IsNumberOf, WasGiven, WasHad, WasNumbered, WasRecorded, boot_number, locked_file, seed};
+ghost use Rattle.gate.specs.Orders.{IsInOrder, IsUnbooted};
 ghost use Rattle.gate.specs.Printing.{HasLine, HasNumber, HasPrinted, IsLinePrinted, IsLineRefused, boot_line, boot_text};
 
 use crate::recording::Records;
@@ -39,6 +40,7 @@ pub(crate) fn started<R: RandomSource + AllocGlobal, D: Disk, O: Write, L: Journ
     records: &mut Records<L>,
 ) -> Result<(Identity, Gateway), BoxFault>
     requires found { IsTrue found → id ≡ Zero }
+    requires had { WasHad (locked_file (boot_file_of settings.now id)) disk.old }
     ensures start { IfOk result (λ begun. HasStarted O.contents settings.now id found
         output.old output.new begun.1) }
     ensures identity { IfOk result (λ begun. IsIdentity settings.now id begun.0 begun.1) }
@@ -53,7 +55,7 @@ pub(crate) fn started<R: RandomSource + AllocGlobal, D: Disk, O: Write, L: Journ
     ensures seeded { OnOk result (WasGiven seed) }
     ensures given { OnOk result (WasGiven boot_number) }
     ensures own_number { OnOk result (IsNumberOf disk.old) }
-    ensures err { IfErr result (IsUnstarted O.contents None (disk.new ≡ disk.old)
+    ensures err { IfErr result (IsUnbooted O.contents settings.now id (disk.new ≡ disk.old)
         output.old output.new) }
     ensures left { IsLeft disk.old disk.new }
     ensures printed { IfOk result
@@ -135,8 +137,8 @@ fn booted<D: Disk>(
     ensures above_zero { IfOk result (λ start. 0 < start.0) }
     ensures given { OnOk result (WasGiven boot_number) }
     ensures own_number { OnOk result (IsNumberOf disk.old) }
-    ensures err { IfErr result (λ why. LacksNumber why
-        ⊎ (WasGiven boot_number × LacksGateway why)) }
+    ensures err { IfErr result (λ why. LacksNumberOf disk.old why
+        ⊎ (WasGiven boot_number × LacksGateway settings.now why)) }
     ensures left { (answer : Result ℕ Reason) × WasNumbered disk.old answer disk.new }
     ensures rises { D.honest disk.old
         → IfOk result (λ start. Rises (D.now disk.old) (D.now disk.new) (Ok start.0)) }
@@ -157,7 +159,7 @@ fn numbered<D: Disk>(disk: &mut D, found: bool) -> Result<u64, BoxFault>
     ensures given { OnOk result (WasGiven boot_number) }
     ensures own_number { OnOk result (IsNumberOf disk.old) }
     ensures above_zero { IfOk result (λ boot. 0 < boot) }
-    ensures err { IfErr result LacksNumber }
+    ensures err { IfErr result (LacksNumberOf disk.old) }
     ensures left { (answer : Result ℕ Reason) × WasNumbered disk.old answer disk.new }
     ensures told { D.honest disk.old → IfErr result (TellsNumber found (D.failures disk.old)
         (D.failures disk.new) (D.now disk.old) (D.now disk.new)) }
@@ -188,7 +190,7 @@ fn begun(
     requires boot { 0 < boot }
     requires found { IsTrue found → id ≡ Zero }
     ensures start { IfOk result (IsStart settings.now id found hashers boot) }
-    ensures err { IfErr result LacksGateway }
+    ensures err { IfErr result (LacksGateway settings.now) }
 {
     let gateway = Gateway::new(alloc, settings, id, boot, found, hashers)?;
     Ok(gateway)

@@ -32,10 +32,10 @@ pub(crate) fn unlock<D: Drop, O: Write>(
 )
     requires left { (first : D) × (WasHad (locked_file (boot_file_of _settings.now _start.now.id))
         first × (IsLeft first disk × IsUntaken O.contents (path_in _start.now.capture)
-        _ended.now first disk _output.now)) }
+        _settings.now _start.now.id _ended.now first disk _output.now)) }
     requires ran { OnOk _ended.now (RanLocked O.contents _start.now _settings.now _ways.now
         _output.now) }
-    ensures { WasUnlocked (boot_file_of _settings.now _start.now.id) }
+    ensures { WasUnlocked (boot_file_of _settings.now _start.now.id) _ended.now _output.now }
 {
     drop(disk);
 }

@@ -22,7 +22,7 @@ returns-in_err-path-clause-err g c =
     c.from_residual-in_err-path.ensures.1 (inr (c.in_ok-without_clash.ensures.ok, inl c.in_err-path.ensures.err))
 
 pub returns-in_err-path-clause-asks : goal.returns-in_err-path-clause-asks
-returns-in_err-path-clause-asks g c = inr (_, (c.in_err-path.ensures.asked, inl refl))
+returns-in_err-path-clause-asks g c = inr (c.in_ok-without_clash.ensures.ok, inr (tt, (_, (c.in_err-path.ensures.asked, inl refl))))
 
 pub returns-clause-err : goal.returns-clause-err
 returns-clause-err g c =
@@ -46,7 +46,8 @@ returns-clause-ok g c =
     c.locked.ensures.ok
 
 pub returns-clause-asks : goal.returns-clause-asks
-returns-clause-asks g c = inr (_, (c.in_ok-path.ensures.asked, inr (c.in_ok-path.ensures.given, c.locked.ensures.asks)))
+returns-clause-asks g c =
+    inr (c.in_ok-without_clash.ensures.ok, inr (tt, (_, (c.in_ok-path.ensures.asked, inr (c.in_ok-path.ensures.given, c.locked.ensures.asks)))))
 
 pub returns-clause-unheard : goal.returns-clause-unheard
 returns-clause-unheard g c = c.locked.ensures.unheard

@@ -10,18 +10,18 @@ returns-in-Err-clause-spared g c = inl (c.let_go.ensures, refl)
 
 pub returns-in-Ok-Some-clause-err : goal.returns-in-Ok-Some-clause-err
 returns-in-Ok-Some-clause-err g c =
-    logged_behind c.tapped.result g.O.Write.contents c.args.start.now _ _ _ c.in-Ok-Some.ensures.given c.tapped.ensures.kept c.tapped.ensures.err
+    logged_behind c.tapped.result g.O.Write.contents c.args.start.now c.args.settings.now _ _ _ c.in-Ok-Some.ensures.given c.tapped.ensures.kept c.tapped.ensures.err
 
 pub returns-in-Ok-Some-clause-untouched : goal.returns-in-Ok-Some-clause-untouched
-returns-in-Ok-Some-clause-untouched g c = untouched c.tapped.result g.O.Write.contents _ _ _ _ c.tapped.ensures.err
+returns-in-Ok-Some-clause-untouched g c = untouched c.tapped.result g.O.Write.contents _ c.args.settings.now c.args.start.now.id _ _ _ c.tapped.ensures.err
 
 pub returns-in-Ok-None-clause-err : goal.returns-in-Ok-None-clause-err
 returns-in-Ok-None-clause-err g c =
-    logged_behind c.run.result g.O.Write.contents c.args.start.now _ _ _ c.in-Ok-None.ensures.given
+    logged_behind c.run.result g.O.Write.contents c.args.start.now c.args.settings.now _ _ _ c.in-Ok-None.ensures.given
     (sparing_none c.run.result g.O.Write.contents c.args.start.now.capture _ _ (sym c.in-Ok-None.ensures.asked ∙ ap is_some c.in-Ok-None.field-0-is)) c.run.ensures.err
 
 pub returns-in-Ok-None-clause-untouched : goal.returns-in-Ok-None-clause-untouched
-returns-in-Ok-None-clause-untouched g c = untouched c.run.result g.O.Write.contents _ _ _ _ c.run.ensures.err
+returns-in-Ok-None-clause-untouched g c = untouched c.run.result g.O.Write.contents _ c.args.settings.now c.args.start.now.id _ _ _ c.run.ensures.err
 
 pub returns-in-Ok-Some-clause-order : goal.returns-in-Ok-Some-clause-order
 returns-in-Ok-Some-clause-order g c = c.tapped.ensures.order
@@ -53,12 +53,6 @@ returns-in-Ok-Some-clause-unheard g c = c.tapped.ensures.unheard
 pub returns-in-Ok-None-clause-unheard : goal.returns-in-Ok-None-clause-unheard
 returns-in-Ok-None-clause-unheard g c = c.run.ensures.unheard
 
-pub returns-in-Ok-Some-clause-unrecorded : goal.returns-in-Ok-Some-clause-unrecorded
-returns-in-Ok-Some-clause-unrecorded g c = c.tapped.ensures.unrecorded
-
-pub returns-in-Ok-None-clause-unrecorded : goal.returns-in-Ok-None-clause-unrecorded
-returns-in-Ok-None-clause-unrecorded g c = c.run.ensures.unrecorded
-
 pub returns-in-Ok-Some-clause-recorded : goal.returns-in-Ok-Some-clause-recorded
 returns-in-Ok-Some-clause-recorded g c = c.tapped.ensures.recorded
 
@@ -72,7 +66,7 @@ pub returns-in-Ok-None-clause-told : goal.returns-in-Ok-None-clause-told
 returns-in-Ok-None-clause-told g c = c.run.ensures.told
 
 pub returns-in-Err-clause-told : goal.returns-in-Err-clause-told
-returns-in-Err-clause-told g c = inl refl
+returns-in-Err-clause-told g c = inl (refl, inl c.in-Err.ensures.err)
 
 pub returns-in-Ok-Some-clause-left : goal.returns-in-Ok-Some-clause-left
 returns-in-Ok-Some-clause-left g c = c.tapped.ensures.left

@@ -23,10 +23,10 @@ returns-clause-err g c =
     (WasGiven (control_socket (socket_of (boot_file_of c.args.settings.now c.args.start.now.id)))) c.in_ok-control.ensures.given c.wired.ensures.err
 
 pub returns-clause-asks : goal.returns-clause-asks
-returns-clause-asks g c = inr (_, (c.in_ok-control.ensures.asked, inr (c.in_ok-control.ensures.given, c.wired.ensures.asks)))
+returns-clause-asks g c = inr (tt, (_, (c.in_ok-control.ensures.asked, inr (c.in_ok-control.ensures.given, c.wired.ensures.asks))))
 
 pub returns-in_err-control-clause-asks : goal.returns-in_err-control-clause-asks
-returns-in_err-control-clause-asks g c = inr (_, (c.in_err-control.ensures.asked, inl refl))
+returns-in_err-control-clause-asks g c = inr (tt, (_, (c.in_err-control.ensures.asked, inl refl)))
 
 pub returns-clause-untouched : goal.returns-clause-untouched
 returns-clause-untouched g c = c.wired.ensures.untouched

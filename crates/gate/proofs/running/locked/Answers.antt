@@ -1,18 +1,19 @@
 use Rattle.std.proofs.Common.{inl, inr, refl}
 use Rattle.gate.specs.Asked.{boot_file_of}
-use Rattle.gate.specs.Failing.{LacksBootFile}
-use Rattle.gate.specs.Sparing.{FailsLocked}
-use Rattle.gate.proofs.Refusing.{behind_it, of_some_disk, untaken}
-use Rattle.gate.proofs.Serving.{also, on_some}
+use Rattle.gate.proofs.Refusing.{of_some_disk, untaken}
+use Rattle.gate.proofs.Serving.{on_some, unlocked_at}
+use Rattle.gate.proofs.Sparing.{behind_lock}
 use Rattle.gate.proofs.running.locked.Goals as goal
 
 pub returns-in-Ok-clause-ok : goal.returns-in-Ok-clause-ok
-returns-in-Ok-clause-ok g c = also c.connected-ended.result _ _ (c.in-Ok.ensures.given, c.unlock.ensures) c.connected-ended.ensures.ok
+returns-in-Ok-clause-ok g c =
+    unlocked_at c.connected-ended.result (boot_file_of c.args.settings.now c.args.start.now.id) c.connected-ended.new.output _ _ c.in-Ok.ensures.given c.unlock.ensures
+    c.connected-ended.ensures.ok
 
 pub returns-in-Ok-clause-err : goal.returns-in-Ok-clause-err
 returns-in-Ok-clause-err g c =
-    behind_it c.connected-ended.result (LacksBootFile (boot_file_of c.args.settings.now c.args.start.now.id))
-    (FailsLocked g.O.Write.contents c.args.start.now c.args.settings.now c.args.ways.now _ _ _ _) _ (c.in-Ok.ensures.given, c.unlock.ensures) c.connected-ended.ensures.err
+    behind_lock c.connected-ended.result g.O.Write.contents c.args.start.now c.args.settings.now c.args.ways.now _ _ _ _ c.in-Ok.ensures.given c.unlock.ensures
+    c.connected-ended.ensures.err
 
 pub returns-in-Ok-clause-order : goal.returns-in-Ok-clause-order
 returns-in-Ok-clause-order g c =
@@ -25,10 +26,10 @@ pub returns-in-Ok-clause-unheard : goal.returns-in-Ok-clause-unheard
 returns-in-Ok-clause-unheard g c = c.connected-ended.ensures.unheard
 
 pub returns-in-Ok-clause-asks : goal.returns-in-Ok-clause-asks
-returns-in-Ok-clause-asks g c = inr (_, (c.in-Ok.ensures.asked, inr (c.in-Ok.ensures.given, c.connected-ended.ensures.asks)))
+returns-in-Ok-clause-asks g c = inr (tt, (_, (c.in-Ok.ensures.asked, inr (c.in-Ok.ensures.given, c.connected-ended.ensures.asks))))
 
 pub returns-in-Err-clause-asks : goal.returns-in-Err-clause-asks
-returns-in-Err-clause-asks g c = inr (_, (c.in-Err.ensures.asked, inl refl))
+returns-in-Err-clause-asks g c = inr (tt, (_, (c.in-Err.ensures.asked, inl refl)))
 
 pub unlock-requires-clause-left : goal.unlock-requires-clause-left
 unlock-requires-clause-left g c = (
@@ -37,7 +38,7 @@ unlock-requires-clause-left g c = (
     c.in-Ok.ensures.had,
     (
       c.connected-ended.ensures.left,
-      untaken c.connected-ended.result g.O.Write.contents _ _ _ _ _ _ c.connected-ended.ensures.untouched,
+      untaken c.connected-ended.result g.O.Write.contents _ c.args.settings.now c.args.start.now.id _ _ _ _ _ c.connected-ended.ensures.untouched,
     ),
   ),
 )

@@ -1,18 +1,14 @@
 use Rattle.std.proofs.Common.{inl, refl}
-use Rattle.gate.specs.Asked.{IsFilter, path_in}
-use Rattle.gate.specs.Failing.{LacksFilter}
-use Rattle.gate.specs.Sparing.{FailsLogged}
+use Rattle.gate.specs.Asked.{path_in}
 use Rattle.gate.proofs.Asking.{none_asked}
-use Rattle.gate.specs.Named.{WasClosed}
-use Rattle.gate.proofs.Recorded.{told_at_refusal}
-use Rattle.gate.proofs.Refusing.{behind_it}
-use Rattle.gate.proofs.Serving.{always}
+use Rattle.gate.proofs.Serving.{closed_at}
+use Rattle.gate.proofs.Sparing.{behind_log}
 use Rattle.gate.proofs.running.logged.Goals as goal
 
 pub returns-in-Ok-clause-err : goal.returns-in-Ok-clause-err
 returns-in-Ok-clause-err g c =
-    behind_it c.captured-ended.result (LacksFilter c.args.start.now.log) (FailsLogged g.O.Write.contents c.args.start.now _ _)
-    (IsFilter c.args.start.now.log × WasClosed (path_in c.args.start.now.capture)) (c.in-Ok.ensures.valid, c.close.ensures) c.captured-ended.ensures.err
+    behind_log c.captured-ended.result g.O.Write.contents c.args.start.now c.args.settings.now _ _ c.in-Ok.ensures.valid c.close.ensures
+    c.captured-ended.ensures.err
 
 pub returns-in-Ok-clause-ok : goal.returns-in-Ok-clause-ok
 returns-in-Ok-clause-ok g c = c.captured-ended.ensures.ok
@@ -33,7 +29,7 @@ pub returns-in-Ok-clause-asks : goal.returns-in-Ok-clause-asks
 returns-in-Ok-clause-asks g c = c.captured-ended.ensures.asks
 
 pub returns-in-Err-clause-asks : goal.returns-in-Err-clause-asks
-returns-in-Err-clause-asks g c = none_asked _ _
+returns-in-Err-clause-asks g c = none_asked _ _ _
 
 pub close-requires : goal.close-requires
 close-requires g c = record {
@@ -41,16 +37,13 @@ close-requires g c = record {
     _,
     (
       c.in-Ok.ensures.untold,
-      (
-        c.captured-ended.ensures.recorded,
-        told_at_refusal c.captured-ended.result g.O.Write.contents _ _ _ _ _ c.captured-ended.ensures.told c.captured-ended.ensures.unrecorded,
-      ),
+      (_, (c.captured-ended.ensures.recorded, c.captured-ended.ensures.told)),
     ),
   );
 }
 
 pub returns-in-Ok-clause-closed : goal.returns-in-Ok-clause-closed
-returns-in-Ok-clause-closed g c = always c.captured-ended.result _ c.close.ensures
+returns-in-Ok-clause-closed g c = closed_at c.captured-ended.result (path_in c.args.start.now.capture) c.captured-ended.new.output c.close.ensures
 
 pub returns-in-Ok-clause-left : goal.returns-in-Ok-clause-left
 returns-in-Ok-clause-left g c = c.captured-ended.ensures.left

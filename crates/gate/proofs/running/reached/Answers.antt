@@ -18,7 +18,7 @@ returns-clause-err g c =
     behind_ways c.watched.result g.O.Write.contents c.args.start.now c.args.settings.now _ _ _ c.in_ok-ways.ensures.ok c.in_ok-told_to_inherit.ensures.ok c.watched.ensures.err
 
 pub returns-clause-asks : goal.returns-clause-asks
-returns-clause-asks g c = inr (_, (c.in_ok-ways.ensures.ok, (_, (c.in_ok-told_to_inherit.ensures.asked, inr c.watched.ensures.asks))))
+returns-clause-asks g c = inr (_, (c.in_ok-ways.ensures.ok, (_, (c.in_ok-told_to_inherit.ensures.asked, inr (c.in_ok-told_to_inherit.ensures.ok, c.watched.ensures.asks)))))
 
 pub returns-in_err-ways-clause-asks : goal.returns-in_err-ways-clause-asks
 returns-in_err-ways-clause-asks g c = inl refl

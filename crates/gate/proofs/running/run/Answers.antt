@@ -1,8 +1,8 @@
 use Rattle.std.proofs.Common.{inl, inr, refl, sym}
 use Rattle.rounds.specs.Rounds.{calls, wire_says}
 use Rattle.gate.proofs.Heard.{unheard_behind}
-use Rattle.gate.proofs.Recorded.{new_again, own_again, own_like, recorded_alone}
-use Rattle.gate.proofs.Refusing.{end_behind, in_order, recorded_behind, unstarted_behind, unstarted_with, with_capture}
+use Rattle.gate.proofs.Recorded.{new_again, of_run_bare, own_again, own_like, recorded_to_end, told_bare, told_unbooted}
+use Rattle.gate.proofs.Refusing.{end_behind, in_order, unstarted_behind, unstarted_with, with_capture}
 use Rattle.gate.proofs.Serving.{always, has_run, on_sockets, ran_bare, spared_behind, uncaptured}
 use Rattle.gate.proofs.running.run.Goals as goal
 
@@ -19,11 +19,11 @@ returns-in-Ok-clause-ok g c =
 
 pub returns-in-Ok-clause-err : goal.returns-in-Ok-clause-err
 returns-in-Ok-clause-err g c =
-    unstarted_behind c.rounds_of-ended.result g.O.Write.contents _ _ _ _ _ c.in-Ok.ensures.seeded c.in-Ok.ensures.given
+    unstarted_behind c.rounds_of-ended.result g.O.Write.contents _ c.args.settings.now c.args.start.now.id _ _ _ _ c.in-Ok.ensures.seeded c.in-Ok.ensures.given
     (end_behind c.rounds_of-ended.result g.O.Write.contents _ _ _ _ _ c.in-Ok.ensures.printed c.rounds_of-ended.ensures.err)
 
 pub returns-in-Err-clause-err : goal.returns-in-Err-clause-err
-returns-in-Err-clause-err g c = unstarted_with g.O.Write.contents _ _ _ _ _ _ refl c.in-Err.ensures.err
+returns-in-Err-clause-err g c = unstarted_with g.O.Write.contents _ c.args.settings.now c.args.start.now.id _ _ _ _ _ refl c.in-Err.ensures.err
 
 pub returns-in-Ok-clause-spared : goal.returns-in-Ok-clause-spared
 returns-in-Ok-clause-spared g c =
@@ -55,24 +55,18 @@ pub returns-in-Ok-clause-unheard : goal.returns-in-Ok-clause-unheard
 returns-in-Ok-clause-unheard g c =
     unheard_behind c.rounds_of-ended.result g.O.Write.contents _ _ _ _ _ _ c.in-Ok.ensures.printed (_, c.rounds_of-ended.ensures.runs.1.0) c.rounds_of-ended.ensures.err
 
-pub returns-in-Ok-clause-unrecorded : goal.returns-in-Ok-clause-unrecorded
-returns-in-Ok-clause-unrecorded g c =
-    recorded_behind c.rounds_of-ended.result g.O.Write.contents _ _ _ _ _ _
-    (end_behind c.rounds_of-ended.result g.O.Write.contents _ _ _ _ _ c.in-Ok.ensures.printed c.rounds_of-ended.ensures.err)
-
-pub returns-in-Err-clause-unrecorded : goal.returns-in-Err-clause-unrecorded
-returns-in-Err-clause-unrecorded g c = inl c.in-Err.ensures.unrecorded
-
 pub returns-in-Ok-clause-recorded : goal.returns-in-Ok-clause-recorded
 returns-in-Ok-clause-recorded g c =
-    recorded_alone c.rounds_of-ended.result c.args.start.now.capture _ _ c.requires.uncaptured
-    (always c.rounds_of-ended.result _ (_, c.in-Ok.ensures.recorded))
+    recorded_to_end c.rounds_of-ended.result g.O.Write.contents _ _ _ _ _ _ _ _ _ c.in-Ok.ensures.printed c.rounds_of-ended.ensures.ended c.in-Ok.ensures.recorded
+    (always c.rounds_of-ended.result _ (of_run_bare c.args.start.now.capture _ _ c.requires.uncaptured c.lend-run.ensures.lent))
 
 pub returns-in-Ok-clause-told : goal.returns-in-Ok-clause-told
-returns-in-Ok-clause-told g c = inr (inl (_, c.in-Ok.ensures.recorded))
+returns-in-Ok-clause-told g c =
+    told_bare c.rounds_of-ended.result g.O.Write.contents c.args.start.now.capture c.args.settings.now c.args.start.now.id _ _ _ _ _ _ _ c.requires.uncaptured c.in-Ok.ensures.printed c.in-Ok.ensures.recorded
+    c.lend-run.ensures.lent c.rounds_of-ended.ensures.err
 
 pub returns-in-Err-clause-told : goal.returns-in-Err-clause-told
-returns-in-Err-clause-told g c = inl c.in-Err.ensures.unrecorded
+returns-in-Err-clause-told g c = told_unbooted g.O.Write.contents _ c.args.settings.now c.args.start.now.id _ _ _ _ _ _ c.in-Err.ensures.unrecorded c.in-Err.ensures.err
 
 pub rounds_of-ended-requires-clause-fresh : goal.rounds_of-ended-requires-clause-fresh
 rounds_of-ended-requires-clause-fresh g c = rw c.moment.ensures at (new_again _ _ _ c.teller_at-teller.ensures.new)
@@ -80,10 +74,13 @@ rounds_of-ended-requires-clause-fresh g c = rw c.moment.ensures at (new_again _ 
 pub rounds_of-ended-requires-clause-log : goal.rounds_of-ended-requires-clause-log
 rounds_of-ended-requires-clause-log g c =
     own_again g.L.Journal.passes g.L.Journal.writes c.args.start.now _ _ (sym c.teller_at-teller.ensures.new.of_log)
-    (own_like g.L.Journal.passes g.L.Journal.writes c.args.start.now _ _ c.requires.log c.in-Ok.ensures.like)
+    (own_like g.L.Journal.passes g.L.Journal.writes c.args.start.now _ _ (
+    own_like g.L.Journal.passes g.L.Journal.writes c.args.start.now _ _ c.requires.log c.in-Ok.ensures.like
+    ) c.lend-run.ensures.like)
 
 pub rounds_of-ended-requires-clause-teller : goal.rounds_of-ended-requires-clause-teller
-rounds_of-ended-requires-clause-teller g c = (_, ((_, (c.requires.untold, c.in-Ok.ensures.recorded)), c.teller_at-teller.ensures.own))
+rounds_of-ended-requires-clause-teller g c =
+    (_, (_, ((_, (c.requires.untold, c.in-Ok.ensures.recorded)), (c.lend-run.ensures.lent, c.teller_at-teller.ensures.own))))
 
 pub returns-in-Ok-clause-left : goal.returns-in-Ok-clause-left
 returns-in-Ok-clause-left g c = c.in-Ok.ensures.left

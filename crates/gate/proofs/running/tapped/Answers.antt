@@ -1,8 +1,8 @@
 use Rattle.std.proofs.Common.{inl, refl}
 use Rattle.rounds.specs.Rounds.{calls, wire_says}
 use Rattle.gate.proofs.Heard.{unheard_tapped}
-use Rattle.gate.proofs.Recorded.{recorded_both, told_behind}
-use Rattle.gate.proofs.Refusing.{in_order, recorded_behind, rounds_behind, sparing_at, sparing_behind, unstarted_behind, unstarted_with, with_capture}
+use Rattle.gate.proofs.Recorded.{of_run_at, recorded_to_end, told_tapped, told_unbooted}
+use Rattle.gate.proofs.Refusing.{in_order, rounds_behind, sparing_at, sparing_behind, unstarted_behind, unstarted_with, with_capture}
 use Rattle.gate.proofs.Serving.{always, captured_at, has_run, spared_tapped}
 use Rattle.gate.proofs.running.tapped.Goals as goal
 
@@ -15,7 +15,7 @@ returns-in-Ok-clause-ok g c =
 
 pub returns-in-Ok-clause-err : goal.returns-in-Ok-clause-err
 returns-in-Ok-clause-err g c =
-    unstarted_behind c.tapped_rounds-ended.result g.O.Write.contents _ _ _ _ _ c.in-Ok.ensures.seeded c.in-Ok.ensures.given
+    unstarted_behind c.tapped_rounds-ended.result g.O.Write.contents _ c.args.settings.now c.args.start.now.id _ _ _ _ c.in-Ok.ensures.seeded c.in-Ok.ensures.given
     (rounds_behind c.tapped_rounds-ended.result g.O.Write.contents _ c.args.capture.path.now _ _ _ _ _ _ _ c.requires.captured c.in-Ok.ensures.printed
     c.tapped_rounds-ended.ensures.unrun)
 
@@ -34,7 +34,7 @@ returns-in-Ok-clause-order g c =
     c.tapped_rounds-ended.ensures.unrun)
 
 pub returns-in-Err-clause-err : goal.returns-in-Err-clause-err
-returns-in-Err-clause-err g c = unstarted_with g.O.Write.contents _ _ _ _ _ _ refl c.in-Err.ensures.err
+returns-in-Err-clause-err g c = unstarted_with g.O.Write.contents _ c.args.settings.now c.args.start.now.id _ _ _ _ _ refl c.in-Err.ensures.err
 
 pub returns-in-Err-clause-spared : goal.returns-in-Err-clause-spared
 returns-in-Err-clause-spared g c = inl (c.let_go.ensures, refl)
@@ -47,26 +47,18 @@ returns-in-Ok-clause-unheard g c =
     unheard_tapped c.tapped_rounds-ended.result g.O.Write.contents (calls g.W.Wire.does g.W.Wire.answers) (wire_says g.W.Wire.waits g.W.Wire.failing g.W.Wire.lost) _ c.args.start.now _ _ _ _ _ c.args.capture.path.now c.args.wire _ _ _ _
     c.in-Ok.ensures.printed c.tapped_rounds-ended.ensures.unrun
 
-pub returns-in-Ok-clause-unrecorded : goal.returns-in-Ok-clause-unrecorded
-returns-in-Ok-clause-unrecorded g c =
-    recorded_behind c.tapped_rounds-ended.result g.O.Write.contents _ _ _ _ _ _
-    (rounds_behind c.tapped_rounds-ended.result g.O.Write.contents _ c.args.capture.path.now _ _ _ _ _ _ _ c.requires.captured c.in-Ok.ensures.printed
-    c.tapped_rounds-ended.ensures.unrun)
-
-pub returns-in-Err-clause-unrecorded : goal.returns-in-Err-clause-unrecorded
-returns-in-Err-clause-unrecorded g c = inl c.in-Err.ensures.unrecorded
-
 pub returns-in-Ok-clause-recorded : goal.returns-in-Ok-clause-recorded
 returns-in-Ok-clause-recorded g c =
-    recorded_both c.tapped_rounds-ended.result _ c.args.capture.path.now _ _ _ _ c.requires.captured c.in-Ok.ensures.recorded
-    c.tapped_rounds-ended.ensures.recorded
+    recorded_to_end c.tapped_rounds-ended.result g.O.Write.contents _ _ _ _ _ _ _ _ _ c.in-Ok.ensures.printed c.tapped_rounds-ended.ensures.ended c.in-Ok.ensures.recorded
+    (of_run_at c.tapped_rounds-ended.result _ c.args.capture.path.now _ _ c.requires.captured c.tapped_rounds-ended.ensures.recorded)
 
 pub returns-in-Ok-clause-told : goal.returns-in-Ok-clause-told
 returns-in-Ok-clause-told g c =
-    told_behind _ c.args.capture.path.now _ _ _ _ c.requires.captured c.in-Ok.ensures.recorded c.tapped_rounds-ended.ensures.told
+    told_tapped c.tapped_rounds-ended.result g.O.Write.contents _ c.args.capture.path.now c.args.settings.now c.args.start.now.id _ _ _ _ _ _ _ c.requires.captured c.in-Ok.ensures.printed c.in-Ok.ensures.recorded
+    c.tapped_rounds-ended.ensures.told
 
 pub returns-in-Err-clause-told : goal.returns-in-Err-clause-told
-returns-in-Err-clause-told g c = inl c.in-Err.ensures.unrecorded
+returns-in-Err-clause-told g c = told_unbooted g.O.Write.contents _ c.args.settings.now c.args.start.now.id _ _ _ _ _ _ c.in-Err.ensures.unrecorded c.in-Err.ensures.err
 
 pub tapped_rounds-ended-requires-clause-begun : goal.tapped_rounds-ended-requires-clause-begun
 tapped_rounds-ended-requires-clause-begun g c = (_, (c.requires.untold, c.in-Ok.ensures.recorded))

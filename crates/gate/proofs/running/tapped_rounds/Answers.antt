@@ -1,7 +1,7 @@
-use Rattle.std.proofs.Common.{inl, inr, refl, sym}
+use Rattle.std.proofs.Common.{inr, refl, sym}
 use Rattle.rounds.specs.Rounds.{calls, wire_says}
 use Rattle.gate.proofs.Below.{above_tapped, ran_below}
-use Rattle.gate.proofs.Recorded.{new_again, own_again}
+use Rattle.gate.proofs.Recorded.{new_again, own_again, own_like}
 use Rattle.gate.proofs.Refusing.{handed_on, only_this}
 use Rattle.gate.proofs.Serving.{always, let_go_tapped, on_tapped}
 use Rattle.gate.proofs.running.tapped_rounds.Goals as goal
@@ -46,19 +46,21 @@ rounds_of-ended-requires-clause-own g c =
     on_tapped _ c.args.capture.path.now c.args.settings.now c.args.start.now _ c.requires.captured c.in_ok-wire.ensures.had
 
 pub returns-clause-recorded : goal.returns-clause-recorded
-returns-clause-recorded g c = always c.rounds_of-ended.result _ (_, c.told_of_left_out.ensures.left_out)
+returns-clause-recorded g c = always c.rounds_of-ended.result _ (_, (c.lend-run.ensures.lent, (_, c.told_of_left_out.ensures.left_out)))
 
 pub returns-clause-told : goal.returns-clause-told
-returns-clause-told g c = inr (_, c.told_of_left_out.ensures.left_out)
+returns-clause-told g c =
+    only_this c.rounds_of-ended.result _ _ _ (_, (c.lend-run.ensures.lent, (_, c.told_of_left_out.ensures.left_out))) c.rounds_of-ended.ensures.err
 
 pub returns-in_err-wire-clause-told : goal.returns-in_err-wire-clause-told
-returns-in_err-wire-clause-told g c = inl refl
+returns-in_err-wire-clause-told g c = handed_on c.from_residual.result _ _ c.from_residual.ensures.1 (inr (c.in_err-wire.ensures.err, (refl, refl)))
 
 pub rounds_of-ended-requires-clause-fresh : goal.rounds_of-ended-requires-clause-fresh
 rounds_of-ended-requires-clause-fresh g c = rw c.moment.ensures at (new_again _ _ _ c.teller_at-teller.ensures.new)
 
 pub rounds_of-ended-requires-clause-log : goal.rounds_of-ended-requires-clause-log
-rounds_of-ended-requires-clause-log g c = own_again g.L.Journal.passes g.L.Journal.writes c.args.start.now _ _ (sym c.teller_at-teller.ensures.new.of_log) c.requires.log
+rounds_of-ended-requires-clause-log g c = own_again g.L.Journal.passes g.L.Journal.writes c.args.start.now _ _ (sym c.teller_at-teller.ensures.new.of_log)
+    (own_like g.L.Journal.passes g.L.Journal.writes c.args.start.now _ _ c.requires.log c.lend-run.ensures.like)
 
 pub rounds_of-ended-requires-clause-teller : goal.rounds_of-ended-requires-clause-teller
-rounds_of-ended-requires-clause-teller g c = (_, (c.requires.begun, c.teller_at-teller.ensures.own))
+rounds_of-ended-requires-clause-teller g c = (_, (_, (c.requires.begun, (c.lend-run.ensures.lent, c.teller_at-teller.ensures.own))))

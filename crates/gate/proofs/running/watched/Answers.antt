@@ -1,4 +1,4 @@
-use Rattle.std.proofs.Common.{inl, refl}
+use Rattle.std.proofs.Common.{inl, inr, refl}
 use Rattle.gate.specs.Sparing.{FailsInherited}
 use Rattle.gate.proofs.Refusing.{handed_on}
 use Rattle.gate.proofs.Serving.{has_served}
@@ -24,7 +24,7 @@ returns-clause-err g c =
     c.apart-ended.ensures.err c.apart-ended.ensures.unheard c.let_go.ensures
 
 pub returns-clause-asks : goal.returns-clause-asks
-returns-clause-asks g c = (_, (c.in_ok-manager.ensures.asked, c.apart-ended.ensures.asks))
+returns-clause-asks g c = (_, (c.in_ok-manager.ensures.asked, inr ((_, c.in_ok-manager.ensures.ok), c.apart-ended.ensures.asks)))
 
 pub apart-ended-requires-clause-watched : goal.apart-ended-requires-clause-watched
 apart-ended-requires-clause-watched g c =

@@ -35,10 +35,10 @@ pub returns-clause-unheard : goal.returns-clause-unheard
 returns-clause-unheard g c = c.logged.ensures.unheard
 
 pub returns-clause-asks : goal.returns-clause-asks
-returns-clause-asks g c = inr (_, (c.in_ok-wire.ensures.asked, inr (c.in_ok-wire.ensures.given, c.logged.ensures.asks)))
+returns-clause-asks g c = inr (tt, (_, (c.in_ok-wire.ensures.asked, inr (c.in_ok-wire.ensures.given, c.logged.ensures.asks))))
 
 pub returns-in_err-wire-clause-asks : goal.returns-in_err-wire-clause-asks
-returns-in_err-wire-clause-asks g c = inr (_, (c.in_err-wire.ensures.asked, inl refl))
+returns-in_err-wire-clause-asks g c = inr (tt, (_, (c.in_err-wire.ensures.asked, inl refl)))
 
 pub returns-clause-left : goal.returns-clause-left
 returns-clause-left g c = c.logged.ensures.left

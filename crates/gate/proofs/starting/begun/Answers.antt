@@ -13,10 +13,10 @@ pub returns-clause-start : goal.returns-clause-start
 returns-clause-start c = is_start _ c.args.id c.args.boot c.args.found _ _ c.in_ok-gateway.ensures.begins
 
 -- memory was refused for the parts of a gateway of these settings
-lacks : {X : Type 0} (r : Result X BoxFault) (settings : Settings) → IfErr r (λ why. why ≡ fault.Run run.NoMemory) → LacksParts settings → IfErr r LacksGateway
+lacks : {X : Type 0} (r : Result X BoxFault) (settings : Settings) → IfErr r (λ why. why ≡ fault.Run run.NoMemory) → LacksParts settings → IfErr r (LacksGateway settings)
 unfolding WasDenied
 lacks (Ok begun) settings told parts = tt
-lacks (Err why) settings told parts = ((told, tt), (settings, parts))
+lacks (Err why) settings told parts = ((told, tt), parts)
 
 pub returns-in_err-gateway-clause-err : goal.returns-in_err-gateway-clause-err
 returns-in_err-gateway-clause-err c =

@@ -5,7 +5,7 @@ use Rattle.gate.proofs.starting.numbered.Goals as goal
 
 pub returns-in-Err-clause-err : goal.returns-in-Err-clause-err
 unfolding WasDenied
-returns-in-Err-clause-err g c = (c.in-Err.fault, (c.from.ensures, tt))
+returns-in-Err-clause-err g c path had = (c.in-Err.fault, (c.from.ensures, tt))
 
 pub returns-in-Ok-clause-decided : goal.returns-in-Ok-clause-decided
 returns-in-Ok-clause-decided g c h =

@@ -1,19 +1,19 @@
-use Rattle.std.proofs.Common.{None, inl, inr, refl}
-use Rattle.gate.specs.Orders.{IsUnstarted}
+use Rattle.std.proofs.Common.{inl, inr, refl}
+use Rattle.gate.specs.Orders.{IsUnbooted}
 use Rattle.gate.proofs.Refusing.{handed_on, unbooted}
 use Rattle.gate.proofs.starting.started.Goals as goal
 
 pub returns-in_err-hashers-clause-err : goal.returns-in_err-hashers-clause-err
 returns-in_err-hashers-clause-err g c =
-    handed_on c.from_residual.result (IsUnstarted g.O.Write.contents None _ _ _) _ c.from_residual.ensures.1 (inl (c.in_err-hashers.ensures.err, refl))
+    handed_on c.from_residual.result (IsUnbooted g.O.Write.contents c.args.settings.now c.args.id _ _ _) _ c.from_residual.ensures.1 (inl (c.in_err-hashers.ensures.err, refl))
 
 pub returns-in_err-boot-clause-err : goal.returns-in_err-boot-clause-err
 returns-in_err-boot-clause-err g c =
-    handed_on c.from_residual-in_err-boot.result (IsUnstarted g.O.Write.contents None _ _ _) _ c.from_residual-in_err-boot.ensures.1
-    (unbooted g.O.Write.contents None _ _ _ _ c.in_ok-hashers.ensures.given c.in_err-boot.ensures.err)
+    handed_on c.from_residual-in_err-boot.result (IsUnbooted g.O.Write.contents c.args.settings.now c.args.id _ _ _) _ c.from_residual-in_err-boot.ensures.1
+    (unbooted g.O.Write.contents c.args.settings.now c.args.id _ _ _ _ _ c.requires.had c.in_ok-hashers.ensures.given c.in_err-boot.ensures.err)
 
 pub returns-in-Err-clause-err : goal.returns-in-Err-clause-err
-returns-in-Err-clause-err g c = inr (c.in_ok-hashers.ensures.given, inr (c.in_ok-boot.ensures.given, inr (_, inl c.in-Err.ensures.err)))
+returns-in-Err-clause-err g c = inr (c.in_ok-hashers.ensures.given, inr (c.in_ok-boot.ensures.given, inr (_, c.in-Err.ensures.err)))
 
 pub returns-in-Err-clause-order : goal.returns-in-Err-clause-order
 returns-in-Err-clause-order g c = inr (_, (c.in_ok-boot.ensures.decided, inl c.in-Err.ensures.err))
