@@ -5,7 +5,6 @@ mod Telling
 mod Passing
 mod Taping
 mod Recording
-mod Ending
 mod Looking
 mod Hearing
 mod Listing

@@ -1,6 +1,5 @@
 -- Runs that were taken down in a file.
 use Rattle.std.proofs.Common.{◌≡◌, ◌⊎◌, ℕ, Bool, true, List, Option, None, Result, Ok, Err, IfErr, IfOk, OnOk, refl, subst, sym}
-use Rattle.std.specs.IoError.{error_kind}
 use Rattle.std.specs.Prelude.{is_err}
 use Rattle.std.specs.declared.io.Error.{Error}
 use Rattle.settings_file.specs.Clashes.{clash_of_both}
@@ -15,24 +14,17 @@ use Rattle.simulation.specs.Tapes.{IsTapedRun, StopsTaped}
 use Rattle.loopback_run.specs.Stops.{Opens}
 use Rattle.loopback_run.specs.Tapes.{IsTapedLoop, StopsTapedLoop, TapesScript as TapesLoop}
 use Rattle.loopback_run.specs.Turns.{Passes}
-use Rattle.commands.specs.Captures.{IsCaptured, IsClosed, IsHeldBy, IsLoopCaptured, IsOfEvents, TapesPassed, TapesSim}
+use Rattle.commands.specs.Captures.{IsCaptured, IsHeldBy, IsLoopCaptured, IsOfEvents, TapesPassed, TapesSim}
 use Rattle.commands.specs.Hosts.{Begins, Closes}
 use Rattle.commands.specs.Meters.{EndsBehind, Overhears, OverhearsAll, OverhearsSome, Reads}
 use Rattle.commands.proofs.Hearing.{overheard_of}
 use Rattle.commands.proofs.Statuses.{isnt_1}
 
 -- a run that ends well has ended its tape
-pub ended_of : {X Y A : Type 0} (written : Result X Y) (status : ℕ) → IfOk written (λ done. A) → (is_err written ≡ true → status ≡ 1)
-    → (status ≡ 0) ⊎ (status ≡ 3) → A
-ended_of (Ok x) status a refused done = a
-ended_of (Err e) status a refused done = isnt_1 status (refused refl) done
-
--- what was answered where a tape was to be ended
-pub closed_of : {H T : Type 0} (begins : Begins H T) (closes : Closes H T) (written : Result (Unit {0}) Error) (host : H) (last : T)
-    → IfOk written (λ _. closes host last (Ok tt)) → IfErr written (λ error. closes host last (Err (error_kind error)))
-    → IsClosed begins closes host last written
-closed_of begins closes (Ok done) host last ended unended = ended
-closed_of begins closes (Err error) host last ended unended = unended
+pub ended_of : {H T : Type 0} (closes : Closes H T) (host : H) (last : T) (written : Result (Unit {0}) Error) (status : ℕ) → closes host last written
+    → (is_err written ≡ true → status ≡ 1) → (status ≡ 0) ⊎ (status ≡ 3) → closes host last (Ok tt)
+ended_of closes host last (Ok done) status ended refused well = ended
+ended_of closes host last (Err error) status ended refused well = isnt_1 status (refused refl) well
 
 -- how a run of the job of two texts ended, how much was heard of it by then, and what took it down
 pub tapes_sim : {T O C E : Type 0} (r : Result ℕ Fault) (takes refuses : TakesOn T) (contents : O → Option (List ℕ)) (is_watched : Bool) (reads : Reads C)

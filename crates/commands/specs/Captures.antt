@@ -106,14 +106,9 @@ TapesPassed opens passes before after takes refuses prints text script (Err why)
 module _ {H T : Type 0} (begins : Begins H T) (closes : Closes H T) where
   -- just the capture in the file at a path was to be begun, and couldn't be, which this fault tells
   pub record IsUnbegun (path : List ℕ) (why : Fault) (before after : H) : Type 0 where
-    pub cause : ErrorKind
-    pub unbegun : begins before path (Err cause) after
-    pub told : IsOfCapture path cause why
-
-  -- it was ended, or couldn't be
-  abbrev pub IsClosed : H → T → Result (Unit {0}) Error → Type 0
-  IsClosed host last (Ok done) = closes host last (Ok tt)
-  IsClosed host last (Err error) = closes host last (Err (error_kind error))
+    pub error : Error
+    pub unbegun : begins before path (Err error) after
+    pub told : IsOfCapture path (error_kind error) why
 
   -- Just the capture in that file was begun; it took down just so much of a run that ended so; and it was ended, or couldn't be: this is the
   -- fault that is told of that
@@ -124,7 +119,7 @@ module _ {H T : Type 0} (begins : Begins H T) (closes : Closes H T) where
     pub run : Result ℕ Fault
     pub taped : tapes run first last
     pub written : Result (Unit {0}) Error
-    pub closed : IsClosed after last written
+    pub closed : closes after last written
     pub told : IsOfEnd path run written why
 
   -- What a fault leaves that ends a run with a capture in the file at a path: none was begun, for such a fault of the texts or the ports,

@@ -1,9 +1,14 @@
 -- What comes of works on this machine.
 use Rattle.std.specs.Prelude.{◌≡◌, ◌⊎◌, ℕ, Bool, false, List, [], ◌∷◌, ◌++◌, Result, Ok, Err}
+use Rattle.std.specs.Io.Buffered.{writer_buffer, writer_inner}
 use Rattle.std.specs.IoError.{error_kind}
+use Rattle.std.specs.declared.alloc.Global.{Global}
 use Rattle.std.specs.declared.io.Error.{Error}
-use Rattle.std.specs.declared.io.ErrorKind.{ErrorKind}
+use Rattle.std.specs.declared.io.ErrorKind.TheVariants.{OutOfMemory}
+use Rattle.std.specs.declared.io.buffered.BufWriter.{BufWriter}
+use Rattle.captures.specs.Captures.{head}
 use Rattle.outlets.specs.Telling.{IsToldOf, Telling}
+use Rattle.outlets.specs.Written.{IsWritten}
 use Rattle.checks.specs.Comparing.{HasCompared}
 use Rattle.checks.specs.Reports.{HasChecked}
 use Rattle.checks.specs.Sights.{Finds, Takes}
@@ -57,34 +62,53 @@ WorksHere finds takes around behind serves before (compared one other) printed l
 WorksHere finds takes around behind serves before (served plan) printed lines status after = (behind ≡ around) × (start : Start)
     × (plan_in start ≡ plan) × serves before start printed lines status after
 
--- just a capture in the file at this path was begun, by what begins them before and then
-unfoldable pub WasBegun : {C T : Type 0} → C → List ℕ → T → C → Type 0
-WasBegun before path capture after = Unit {0}
+-- ---- captures
 
--- it was to be, and couldn't, for this cause
-unfoldable pub WasUnbegun : {C : Type 0} → C → List ℕ → ErrorKind → C → Type 0
-WasUnbegun before path cause after = Unit {0}
+-- what may be answered where the file at a path is to be opened for a capture, and what who opens it is then
+abbrev pub Opens : Type 0 → Type 0 → Type 1
+Opens C F = C → List ℕ → Result F Error → C → Type 0
 
--- one was let go: nothing more is written there
+-- just the file at this path was to be opened by who opens them here, by what he was before and is then, and this was answered
+unfoldable pub WasOpened : {C F : Type 0} → Opens C F
+WasOpened before path answer after = Unit {0}
+
+-- memory for a buffer over this file was asked for, and refused
+unfoldable pub WasUnbuffered : {F : Type 0} → F → Type 0
+WasUnbuffered file = Unit {0}
+
+-- what takes a capture was let go: nothing more is written there
 unfoldable pub WasLetGo : {T : Type 0} → T → Type 0
 WasLetGo capture = Unit {0}
 
--- it was ended with this answer, as `simulation` says it: its output was to hand on what it keeps, once; and then it was let go, as that left it
-pub record IsEndedBy {W : Type 0} (capture : Capture W) (answer : Result (Unit {0}) Error) : Type 0 where
+-- A capture is as it is begun: its clocks are those of a beginning, and nothing was refused yet
+abbrev pub IsFresh : Moments → Bool → Type 0
+IsFresh clocks is_refused = (clocks ≡ founding_moments) × (is_refused ≡ false)
+
+-- a new buffer over this file was to take the head of a capture, and nothing else, and answered so
+pub record IsHeaded {F : Type 0} (file : F) (answer : Result (Unit {0}) Error) (after : BufWriter F Global) : Type 0 where
+  pub output : BufWriter F Global
+  pub over : writer_inner output ≡ file
+  pub empty : writer_buffer output ≡ []
+  pub put : IsWritten output head answer after
+
+-- a capture was begun in this file: its output has the head, and nothing else
+abbrev pub IsBegunIn : {F : Type 0} → F → Capture (BufWriter F Global) → Type 0
+IsBegunIn file capture = IsHeaded file (Ok tt) capture.output × IsFresh capture.clocks capture.is_refused
+
+-- none could be begun there: there was no memory for a buffer; or the head was refused by this error, and the buffer let go
+abbrev pub IsUnbegunIn : {F : Type 0} → F → Error → Type 0
+IsUnbegunIn {F = F} file error = (WasUnbuffered file × (error_kind error ≡ OutOfMemory))
+    ⊎ ((after : BufWriter F Global) × (IsHeaded file (Err error) after × WasLetGo after))
+
+-- A capture was begun in the file at a path, which was opened, once. Or that file wasn't had, or no capture could be begun in it: this is why
+abbrev pub IsBegunAt : {C F : Type 0} → Opens C F → C → List ℕ → Result (Capture (BufWriter F Global)) Error → C → Type 0
+IsBegunAt {F = F} opens before path (Ok capture) after = (file : F) × (opens before path (Ok file) after × IsBegunIn file capture)
+IsBegunAt {F = F} opens before path (Err error) after = opens before path (Err error) after
+    ⊎ ((file : F) × (opens before path (Ok file) after × IsUnbegunIn file error))
+
+-- A capture was ended with this answer, as `simulation` says it: its output was to hand on what it keeps, once; and then it was let go, as that
+-- left it
+pub record HasEnded {W : Type 0} (capture : Capture W) (answer : Result (Unit {0}) Error) : Type 0 where
   pub last : Capture W
   pub asked : IsHandedOn capture.output capture.is_refused answer last.output
   pub is_let_go : WasLetGo last
-
--- the same by what is known of the answer
-abbrev pub HasEnded : {W : Type 0} → Capture W → Result (Unit {0}) ErrorKind → Type 0
-HasEnded capture (Ok done) = IsEndedBy capture (Ok tt)
-HasEnded capture (Err cause) = (error : Error) × ((error_kind error ≡ cause) × IsEndedBy capture (Err error))
-
--- how a capture is begun in the file at a path
-abbrev pub IsBegunAt : {C T : Type 0} → C → List ℕ → Result T ErrorKind → C → Type 0
-IsBegunAt before path (Ok capture) after = WasBegun before path capture after
-IsBegunAt before path (Err cause) after = WasUnbegun before path cause after
-
--- a capture is as it is begun: its clocks are those of a beginning, and nothing was refused yet
-abbrev pub IsFresh : Moments → Bool → Type 0
-IsFresh clocks is_refused = (clocks ≡ founding_moments) × (is_refused ≡ false)

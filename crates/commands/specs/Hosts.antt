@@ -1,6 +1,6 @@
 -- What the program works on, and what is asked of a host beside the deeds at a site.
 use Rattle.std.specs.Prelude.{ℕ, Bool, List, Option, Result, option_map, string_bytes}
-use Rattle.std.specs.declared.io.ErrorKind.{ErrorKind}
+use Rattle.std.specs.declared.io.Error.{Error}
 use Rattle.outlets.specs.Telling.{AreTold, Telling}
 use Rattle.nat_types.specs.declared.gateways.GatewayId.{GatewayId}
 use Rattle.checks.specs.declared.requests.Request.{Request}
@@ -130,11 +130,11 @@ HasWorked tells works work printed status worker worker2 before after =
 -- what may be answered where a capture is to be begun in the file at a path, what takes a run down or why there is none, and what the
 -- host is then
 abbrev pub Begins : Type 0 → Type 0 → Type 1
-Begins H T = H → List ℕ → Result T ErrorKind → H → Type 0
+Begins H T = H → List ℕ → Result T Error → H → Type 0
 
 -- what may be answered where it is to be ended
 abbrev pub Closes : Type 0 → Type 0 → Type 1
-Closes H T = H → T → Result (Unit {0}) ErrorKind → Type 0
+Closes H T = H → T → Result (Unit {0}) Error → Type 0
 
 -- where a task is done: a site, a host, the output, and who is told of faults
 pub record Scene (S H O E : Type 0) : Type 0 where

@@ -1,17 +1,53 @@
 //! The file of a capture.
 ghost use Rattle.std.specs.IoError.{error_kind};
-ghost use Rattle.std.specs.Prelude.{◌≡◌, ◌⊎◌, is_err, false, true, Err, Ok, IfErr, IfOk, IsErr, OnOk};
+ghost use Rattle.std.specs.Io.Buffered.{writer_buffer, writer_inner};
+ghost use Rattle.std.specs.Prelude.{◌≡◌, ◌⊎◌, [], is_err, false, true, Ok, IfErr, IfOk, OnErr};
+ghost use Rattle.std.specs.declared.io.ErrorKind.TheVariants.{OutOfMemory};
 ghost use Rattle.faults.specs.Faults.{status_of};
 ghost use Rattle.faults.specs.Texts.{fault_text};
 ghost use Rattle.outlets.specs.Telling.{IsToldOf};
 ghost use Rattle.commands.specs.Captures.{IsOfCapture, IsOfEnd};
-ghost use Rattle.commands.specs.Here.{HasEnded, WasLetGo};
+ghost use Rattle.commands.specs.Here.{HasEnded, IsBegunIn, IsUnbegunIn, WasLetGo, WasUnbuffered};
 
 use faults::Fault;
 use outlets::Tells;
 use simulation::Capture;
 use std::alloc::Global;
-use std::io::{self, Write};
+use std::io::{self, BufWriter, Write};
+
+/// Begins a capture in a file that was opened for it: its head is written.
+///
+/// # Errors
+///
+/// Where there is no memory, or output is refused.
+pub(crate) fn begun_in<W: Write + Drop>(alloc: Global, file: W) -> io::Result<Capture<BufWriter<W>>>
+    ensures begun { IfOk result (IsBegunIn file) }
+    ensures unbegun { IfErr result (IsUnbegunIn file) }
+{
+    let output = buffer_over(alloc, file)?;
+    match Capture::begin(output) {
+        Ok(capture) => Ok(capture),
+        Err(unbegun) => {
+            let_go(unbegun.output);
+            Err(unbegun.error)
+        }
+    }
+}
+
+/// A new buffer over a file.
+///
+/// # Errors
+///
+/// Where there is no memory.
+#[tactic(auto, unfolding(crate::specs::Here::WasUnbuffered))]
+fn buffer_over<W: Write + Drop>(alloc: Global, file: W) -> io::Result<BufWriter<W>>
+    ensures over { IfOk result (λ output. writer_inner output ≡ file) }
+    ensures empty { IfOk result (λ output. writer_buffer output ≡ []) }
+    ensures memory { IfErr result (λ error. error_kind error ≡ OutOfMemory) }
+    ensures unbuffered { OnErr result (WasUnbuffered file) }
+{
+    BufWriter::new(alloc, file)
+}
 
 /// Ends a capture: all of it is handed on.
 ///
@@ -19,9 +55,7 @@ use std::io::{self, Write};
 ///
 /// Where that is refused, or something was refused before.
 pub(crate) fn end_of<W: Write + Drop>(mut capture: Capture<W>) -> io::Result<()>
-    ensures refused { capture.is_refused ≡ true → IsErr result }
-    ensures ended { OnOk result (HasEnded capture (Ok tt)) }
-    ensures unended { IfErr result (λ error. HasEnded capture (Err (error_kind error))) }
+    ensures { HasEnded capture result }
 {
     let answer = capture.end();
     let_go(capture);

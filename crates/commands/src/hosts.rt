@@ -1,17 +1,16 @@
 //! Who looks at settings, runs gateways and takes runs down.
-ghost use Rattle.std.specs.IoError.{error_kind};
-ghost use Rattle.std.specs.Prelude.{◌≡◌, ◌⊎◌, Err, IfErr, IfOk, IsErr, IsTrue, Ok, true};
+ghost use Rattle.std.specs.Prelude.{◌≡◌, ◌⊎◌, IsTrue, true};
 ghost use Rattle.nat_types.specs.declared.gateways.GatewayId.TheVariants.{Zero};
 ghost use Rattle.box_words.specs.Machines.{IsUntouched};
 ghost use Rattle.checks.specs.Counts.{AreAlike, IsCleanText, IsGoodText};
 ghost use Rattle.gate.specs.Served.{HasServed};
-ghost use Rattle.commands.specs.Here.{HasEnded, IsBegunAt, IsFresh, WorksHere};
+ghost use Rattle.commands.specs.Here.{HasEnded, IsBegunAt, WorksHere};
 ghost use Rattle.commands.specs.Hosts.{HasWorked, compared, looked, plan_in, scope_in, served, text_in, written};
 
-use crate::capture_files::end_of;
+use crate::capture_files::{begun_in, end_of};
 use crate::machine::{SystemCaptures, SystemServes};
+use crate::opening::Opens;
 use crate::serving::Serves;
-use boot_file::Lockable;
 use checks::{Request, Source, Surroundings, ThisMachine, check, compare};
 use faults::Job;
 use frame_sim::Tape;
@@ -19,13 +18,12 @@ use gate::Start;
 use outlets::Tells;
 use simulation::Capture;
 use std::alloc::Global;
-use std::fs::Files;
 use std::io::{self, BufWriter, Write};
 
 /// Who looks at settings, runs gateways, and takes runs down in files.
 pub(crate) trait Host {
     ghost use Rattle.std.specs.Prelude.{ℕ, List, Result};
-    ghost use Rattle.std.specs.declared.io.ErrorKind.{ErrorKind};
+    ghost use Rattle.std.specs.declared.io.Error.{Error};
     ghost use Rattle.commands.specs.Hosts.{Work, Written};
 
     /// What a work may print, which lines it may tell, with which status, and what the host is then.
@@ -35,21 +33,18 @@ pub(crate) trait Host {
     type Record: Tape + Drop;
 
     /// What may be answered where it is to be begun in the file at a path, and what the host is then.
-    ghost begins: { Self → List ℕ → Result Self.Record ErrorKind → Self → Type 0 };
+    ghost begins: { Self → List ℕ → Result Self.Record Error → Self → Type 0 };
 
     /// What may be answered where it is to be ended.
-    ghost ends: { Self → Self.Record → Result (Unit {0}) ErrorKind → Type 0 };
+    ghost ends: { Self → Self.Record → Result (Unit {0}) Error → Type 0 };
 
     /// Begins to take a run down in the file at a path, once what is to be run is read.
     fn begin(&mut self, path: &str, job: &Job) -> io::Result<Self::Record>
-        ensures begun { IfOk result (λ tape. begins self.old path.now (Ok tape) self.new) }
-        ensures unbegun { IfErr result
-            (λ error. begins self.old path.now (Err (error_kind error)) self.new) };
+        ensures { begins self.old path.now result self.new };
 
     /// Ends it.
     fn end(&self, tape: Self::Record) -> io::Result<()>
-        ensures ended { IfOk result (λ _. ends self.now tape (Ok tt)) }
-        ensures unended { IfErr result (λ error. ends self.now tape (Err (error_kind error))) };
+        ensures { ends self.now tape result };
 
     /// Looks at a text of settings, and around.
     fn look<O: Write, E: Tells>(
@@ -95,20 +90,21 @@ pub(crate) trait Host {
             → HasServed O.contents start.now output.old output.new };
 }
 
-/// This machine as a host: who begins captures here, what is looked at around it, who runs gateways, and where memory is asked
-/// for. The first three are asked by what they were before and are then: which capture was begun, or couldn't be, what was
-/// looked at and found (as `checks` has it), and which start was run have names (`WasBegun`, `WasUnbegun`, `WasServed`). How a
-/// capture was ended is said of the capture itself (`HasEnded`). All else that it has stays as it is. Beyond that nothing is
-/// known of what the system answers, nor of what a file holds.
+/// This machine as a host: who opens the files of captures here, what is looked at around it, who runs gateways, and where
+/// memory is asked for. Of the first three no more is known here than that each can be asked for that, so nobody else can be
+/// asked. They are asked by what they were before and are then: which file was opened, and what was answered, what was looked at
+/// and found (as `checks` has it), and which start was run have names (`WasOpened`, `WasServed`). How a capture was begun in its
+/// file is said of that file (`IsBegunAt`), and how it was ended of the capture (`HasEnded`). All else that it has stays as it
+/// is. Beyond that nothing is known of what the system answers, nor of what a file holds.
 #[derive(Drop)]
-pub(crate) struct ThisHost<'a, R, G> {
-    captures: SystemCaptures<'a, R>,
-    around: ThisMachine<'a, R>,
+pub(crate) struct ThisHost<C, A, G> {
+    captures: C,
+    around: A,
     gateways: G,
     alloc: Global,
 }
 
-impl<'a, R: AllocGlobal> ThisHost<'a, R, SystemServes<'a, R>> {
+impl<'a, R: AllocGlobal> ThisHost<SystemCaptures<'a, R>, ThisMachine<'a, R>, SystemServes<'a, R>> {
     /// It was asked for nothing yet.
     #[tactic(auto, unfolding(box_words::specs::Machines::IsUntouched))]
     pub(crate) fn new(rt: &'a R) -> Self
@@ -123,31 +119,26 @@ impl<'a, R: AllocGlobal> ThisHost<'a, R, SystemServes<'a, R>> {
     }
 }
 
-impl<R: Files + AllocGlobal, G: Serves> Host for ThisHost<'_, R, G>
-where
-    R::File: Lockable,
-{
+impl<C: Opens, A: Surroundings, G: Serves> Host for ThisHost<C, A, G> {
     ghost works = { λ host work printed lines status host2.
         (host2 ≡ record host { around = host2.around; gateways = host2.gateways })
-        × WorksHere ⟦<ThisMachine<'static, R> as Surroundings>⟧.finds
-        ⟦<ThisMachine<'static, R> as Surroundings>⟧.takes host.around host2.around
+        × WorksHere A.finds A.takes host.around host2.around
         G.serves host.gateways work printed lines status host2.gateways };
 
-    type Record = Capture<BufWriter<R::File>>;
+    type Record = Capture<BufWriter<C::File>>;
 
     ghost begins = { λ host path answer host2.
         (host2 ≡ record host { captures = host2.captures })
-        × IsBegunAt host.captures path answer host2.captures
-        × IfOk answer (λ tape. IsFresh tape.clocks tape.is_refused) };
+        × IsBegunAt C.opens host.captures path answer host2.captures };
 
-    ghost ends = { λ _ tape answer. HasEnded tape answer
-        × (tape.is_refused ≡ true → IsErr answer) };
+    ghost ends = { λ _ tape answer. HasEnded tape answer };
 
-    fn begin(&mut self, path: &str, _job: &Job) -> io::Result<Capture<BufWriter<R::File>>> {
-        self.captures.told_to_begin(path)
+    fn begin(&mut self, path: &str, _job: &Job) -> io::Result<Capture<BufWriter<C::File>>> {
+        let file = self.captures.open(path)?;
+        begun_in(self.alloc, file)
     }
 
-    fn end(&self, tape: Capture<BufWriter<R::File>>) -> io::Result<()> {
+    fn end(&self, tape: Capture<BufWriter<C::File>>) -> io::Result<()> {
         end_of(tape)
     }
 

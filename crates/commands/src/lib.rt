@@ -7,6 +7,7 @@ mod commands;
 mod hosts;
 mod machine;
 mod meters;
+mod opening;
 mod runs;
 mod serving;
 mod versions;

@@ -1,7 +1,6 @@
 //! This machine, as the commands have it: all that has the system at hand. What it is asked has names, and no more is known
 //! of it.
-ghost use Rattle.std.specs.IoError.{error_kind};
-ghost use Rattle.std.specs.Prelude.{◌≡◌, ◌⊎◌, ◌≤◌, IfErr, IfOk, IsTrue, false, map, string_bytes};
+ghost use Rattle.std.specs.Prelude.{◌≡◌, ◌⊎◌, ◌≤◌, IsTrue, false, map, string_bytes};
 ghost use Rattle.nat_types.specs.declared.gateways.GatewayId.TheVariants.{Zero};
 ghost use Rattle.command_line.specs.Line.{AskVersion, MayAskVersion};
 ghost use Rattle.box_words.specs.Machines.{IsUntouched};
@@ -9,7 +8,7 @@ ghost use Rattle.gate.specs.Served.{HasServed};
 ghost use Rattle.loopback_run.specs.Holds.{IsUnasked};
 ghost use Rattle.commands.specs.Acts.{Acts};
 ghost use Rattle.commands.specs.Ends.{AreDoneAnew};
-ghost use Rattle.commands.specs.Here.{IsFresh, ServesHere, WasBegun, WasServed, WasUnbegun};
+ghost use Rattle.commands.specs.Here.{ServesHere, WasOpened, WasServed};
 ghost use Rattle.commands.specs.Hosts.{HasWorked, written};
 ghost use Rattle.commands.specs.Meters.{Overhears, Watches};
 ghost use Rattle.commands.specs.Words.{AreRefused, HasActedSomewhere, IsRefusalTold};
@@ -19,6 +18,7 @@ use crate::hosts::{Host, ThisHost};
 use boot_file::{Blocks, Lockable};
 use box_words::{Machine, Site};
 use captures::{Reader, open};
+use checks::ThisMachine;
 use frame_sim::Tape;
 use gate::{Start, gate};
 use loopback_run::{Channel, Loopback};
@@ -64,11 +64,11 @@ where
     ensures most { result ≤ 3 }
     ensures acts { HasActedSomewhere E.tells IsUntouched IsUntouched IsUnasked
         (λ clock clock2. Acts ⟦<Machine<'static, R> as Site>⟧.does
-        ⟦<ThisHost<'static, R, SystemServes<'static, R>> as Host>⟧.works
+        ⟦<Here<'static, R> as Host>⟧.works
         ⟦<Capture<BufWriter<R::File>> as Tape>⟧.takes
         ⟦<Capture<BufWriter<R::File>> as Tape>⟧.refuses
-        ⟦<ThisHost<'static, R, SystemServes<'static, R>> as Host>⟧.begins
-        ⟦<ThisHost<'static, R, SystemServes<'static, R>> as Host>⟧.ends
+        ⟦<Here<'static, R> as Host>⟧.begins
+        ⟦<Here<'static, R> as Host>⟧.ends
         ⟦<Loopback<'r, R> as Channel>⟧.opens ⟦<Loopback<'r, R> as Channel>⟧.refuses
         ⟦<Loopback<'r, R> as Channel>⟧.passes O.contents E.tells
         (Watches is_watched ⟦<Stopwatch<'static, R> as Clockwork>⟧.reads E.tells clock clock2)
@@ -93,7 +93,10 @@ where
     )
 }
 
-/// Where captures are begun on this machine.
+/// This machine as a host.
+type Here<'a, R> = ThisHost<SystemCaptures<'a, R>, ThisMachine<'a, R>, SystemServes<'a, R>>;
+
+/// Who opens the files of captures on this machine.
 #[derive(Drop)]
 pub(crate) struct SystemCaptures<'a, R> {
     rt: &'a R,
@@ -105,25 +108,18 @@ impl<'a, R> SystemCaptures<'a, R> {
     }
 }
 
-impl<R: Files + AllocGlobal> SystemCaptures<'_, R> {
-    /// Has the system open the file at a path, and begins a capture there. One that is there loses what it has, where that is
-    /// a capture. The reader of a named pipe is waited for.
+impl<R: Files> SystemCaptures<'_, R> {
+    /// Has the system open the file at a path for a capture. One that is there loses what it has, where that is a capture. The
+    /// reader of a named pipe is waited for.
     ///
     /// # Errors
     ///
-    /// `AlreadyExists` where it is a regular file that has something else, and keeps it; where it can't be made or written.
-    #[tactic(auto, unfolding(crate::specs::Here::WasBegun, crate::specs::Here::WasUnbegun))]
-    pub(crate) fn told_to_begin(&mut self, path: &str) -> io::Result<Capture<BufWriter<R::File>>>
-        ensures fresh { IfOk result (λ capture. IsFresh capture.clocks capture.is_refused) }
-        ensures begun { IfOk result (λ capture. WasBegun self.old path.now capture self.new) }
-        ensures unbegun { IfErr result
-            (λ error. WasUnbegun self.old path.now (error_kind error) self.new) }
+    /// `AlreadyExists` where it is a regular file that has something else, and keeps it; where it can't be made or emptied.
+    #[tactic(auto, unfolding(crate::specs::Here::WasOpened))]
+    pub(crate) fn told_to_open(&mut self, path: &str) -> io::Result<R::File>
+        ensures { WasOpened self.old path.now result self.new }
     {
-        let file = open(self.rt, path, Reader::Awaited)?.clear()?;
-        match Capture::begin(BufWriter::new(self.rt.alloc(), file)?) {
-            Ok(capture) => Ok(capture),
-            Err(unbegun) => Err(unbegun.error),
-        }
+        open(self.rt, path, Reader::Awaited)?.clear()
     }
 }
 

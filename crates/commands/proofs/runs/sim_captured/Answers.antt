@@ -1,6 +1,6 @@
 use Rattle.std.proofs.Common.{◌∙◌, inl, inr, refl}
 use Rattle.commands.proofs.Hearing.{heard_of, unheard}
-use Rattle.commands.proofs.Recording.{captured_of, closed_of, ended_of, tapes_sim}
+use Rattle.commands.proofs.Recording.{captured_of, ended_of, tapes_sim}
 use Rattle.commands.proofs.Statuses.{isnt_1}
 use Rattle.faults.specs.Texts.{fault_text}
 use Rattle.commands.proofs.Telling.{told_as}
@@ -8,8 +8,8 @@ use Rattle.commands.proofs.runs.sim_captured.Goals as goal
 
 pub returns-in-Ok-begin-clause-captured : goal.returns-in-Ok-begin-clause-captured
 returns-in-Ok-begin-clause-captured g c h =
-    captured_of _ _ _ g.O.Write.contents _ _ _ _ _ _ _ _ _ _ _ _ c.in-Ok.ensures.job c.in-Ok.ensures.good c.in-Ok-begin.ensures.begun
-    c.taped-run.ensures.run (c.ended.ensures.run h) (ended_of _ _ c.end-written.ensures.ended c.ended.ensures.written h)
+    captured_of _ _ _ g.O.Write.contents _ _ _ _ _ _ _ _ _ _ _ _ c.in-Ok.ensures.job c.in-Ok.ensures.good c.in-Ok-begin.ensures
+    c.taped-run.ensures.run (c.ended.ensures.run h) (ended_of g.H.Host.ends _ _ _ _ c.end-written.ensures c.ended.ensures.written h)
 
 pub returns-clause-captured : goal.returns-clause-captured
 returns-clause-captured g c done = isnt_1 _ (c.tell.ensures.status ∙ c.in-Err.ensures.known) done
@@ -35,11 +35,11 @@ returns-in-Ok-begin-clause-failed g c one =
           told_as g.E.Tells.tells fault_text _ _ c.taped-run.new.errors c.ended.new.errors (c.ended.ensures.told one) (λ why is. inr (record {
             first = c.in-Ok-begin.tape;
             last = c.taped-run.new.tape;
-            begun = c.in-Ok-begin.ensures.begun;
+            begun = c.in-Ok-begin.ensures;
             run = c.taped-run.result;
             taped = ran.1.1;
             written = c.end-written.result;
-            closed = closed_of g.H.Host.begins g.H.Host.ends c.end-written.result _ c.taped-run.new.tape c.end-written.ensures.ended c.end-written.ensures.unended;
+            closed = c.end-written.ensures;
             told = is;
           })),
         ),
@@ -58,8 +58,8 @@ returns-in-Ok-clause-failed g c one = (
         inr (
           (refl, (c.in-Ok.job, (c.in-Ok.ensures.job, c.in-Ok.ensures.good))),
           record {
-            cause = _;
-            unbegun = c.in-Err-begin.ensures.unbegun;
+            error = _;
+            unbegun = c.in-Err-begin.ensures;
             told = is;
           },
         ),
