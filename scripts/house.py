@@ -2,12 +2,23 @@
 """Looks whether the house is in order: says what isn't, a line each, with status 1.
 
     scripts/house.py [FOLDER]      this repository, or the one in FOLDER
-    scripts/house.py --self-test   plants one fault of each kind in a copy, and shows that it is found
+    scripts/house.py --self-test   plants faults of each kind in a copy, and shows that each is found
 
 A dependency of a crate in crates.txt has to be named by the crate's own sources; comments and quoted texts don't
 count. The lemmas that other crates cite
 stand in proofs/Offered.antt, the one file that proofs/Lib.antt shows (`pub mod`); no crate imports another's other
 proof files. Each folder of crates/ has its line in crates.txt and in crates/README.md.
+
+The system is at hand in few modules (AT_HAND), by types whose fields nobody else sees and who can't be copied. There a function
+that uses such a field has the name of a call, changes whose field it is (`&mut self`), gives the system to nobody, and doesn't say
+that who asks is as he was; but for those that make the type of what they know nothing of, hand on one call (HANDS_ON), give its
+memory, or stand in OTHERWISE. Nothing beside functions uses one. No other type has the system by a field (THROUGH), few functions
+are handed it (HANDED), and nobody else does anything where he is let go (DROPS). Who asks with no handle, by `libc` or `os`, stands
+in BY_NUMBER. Nobody stands in for the system: its rights are no type's of the program, and what the program asks by a trait of its
+own is answered by those in ANSWERED alone. These tables, and who looks at them, stand in handles.py. Which function has the name
+of which call stands in names.txt.
+
+All this reads text, and is no parser: what gets past it would have to be written to get past it.
 """
 import argparse
 import functools
@@ -17,48 +28,16 @@ import shutil
 import sys
 import tempfile
 
+sys.dont_write_bytecode = True  # Nothing is left in the repository.
+import handles
+from sources import CALL, FIELD, code_of, crates_of, found_in, names_of_calls, sources_of
+
 # A library that a crate's sources name nowhere, and that its check asks for all the same: a public clause of a crate
 # below, or the code of a derive, leads to it. Each was left out once, and the check was refused.
 LED_TO = {}
 
-# What of a source is no code: comments, quoted texts, characters.
-QUOTED = r'b?"(?:\\.|[^"\\])*"'
-NO_CODE = {
-    ".rt": re.compile(r"//[^\n]*|/\*.*?\*/|b?'(?:\\.[^']*|[^'\\])'|" + QUOTED, re.S),
-    ".antt": re.compile(r"(?<!\S)--[^\n]*|\{-.*?-\}|" + QUOTED, re.S),
-}
-
-# The name of a call, which may say more of it: behind `Unit {0} ×`.
-CALL = re.compile(r"(?m)^unfoldable pub (\w+) :[^\n]*\n\1(?: [^\n]*)? = Unit \{0\}(?: ×|$)")
-
-
-def crates_of(top):
-    """The crates of crates.txt, each with what it stands on."""
-    found = {}
-    for line in (top / "crates.txt").read_text(encoding="utf-8").splitlines():
-        line = line.split("#")[0].strip()
-        if ":" in line:
-            name, libraries = line.split(":", 1)
-            found[name.split()[0]] = libraries.split()
-    return found
-
-
-def sources_of(folder):
-    for part in ("src", "specs", "proofs"):
-        for path in sorted((folder / part).rglob("*")):
-            if path.suffix in (".rt", ".antt"):
-                yield path
-
 
 @functools.cache
-def code_in(suffix, text):
-    return NO_CODE[suffix].sub(" ", text)
-
-
-def code_of(path):
-    return code_in(path.suffix, path.read_text(encoding="utf-8"))
-
-
 def names_in(text):
     """The libraries that a source may name: heads of paths, and of modules of definitions and lemmas."""
     return set(re.findall(r"\bRattle\.(\w+)\.", text)) | set(re.findall(r"(?<![\w:])(\w+)::", text)) \
@@ -75,6 +54,9 @@ def unused(top, crates):
                 yield f"crates.txt: {name} names {library} nowhere"
 
 
+CITED = re.compile(r"\bRattle\.(\w+)\.proofs\.(\w+)")
+
+
 def past_the_door(top, crates):
     for name in crates:
         lib = top / "crates" / name / "proofs" / "Lib.antt"
@@ -83,21 +65,15 @@ def past_the_door(top, crates):
                 if module != "Offered":
                     yield f"crates/{name}/proofs/Lib.antt: shows {module}, and only Offered may be shown"
         for path in sources_of(top / "crates" / name):
-            for owner, module in re.findall(r"\bRattle\.(\w+)\.proofs\.(\w+)", code_of(path)):
+            for owner, module in found_in(CITED, code_of(path)):
                 if owner != name and owner in crates and module != "Offered":
                     yield f"{path.relative_to(top)}: cites {owner}'s {module}, and not its Offered"
-
-
-def names_of_calls(top, crates):
-    for name in crates:
-        for path in sorted((top / "crates" / name / "specs").rglob("*.antt")):
-            yield from CALL.findall(code_of(path))
 
 
 def has_name(folder, proof, call):
     """Whether the function of this file of answers says in its attribute that it looks into a name."""
     source = folder / "src" / f"{proof.relative_to(folder).parts[1]}.rt"
-    attribute = rf"#\[tactic\([^\]]*\b{call}\b[^\]]*\]\s*(?:pub(?:\(crate\))? )?fn {proof.parent.name}\b"
+    attribute = rf"#\[tactic\([^\]]*\b{call}\b[^\]]*\]\s*{handles.BEFORE}fn {proof.parent.name}\b"
     return source.exists() and re.search(attribute, code_of(source)) is not None
 
 
@@ -119,7 +95,6 @@ WORD = re.compile(r"[A-Za-z_][\w'-]*")
 DEFINED = re.compile(r"(?:(?:abbrev|unfoldable|pub|record|data) )*([A-Za-z_][\w'-]*)")
 KEPT = re.compile(r"ghost (?:invariant|Value) = \{(.*?)\};", re.S)
 STRUCT = re.compile(r"(?ms)^(?:pub(?:\([a-z]+\))? )?struct .*?^\}")
-FIELD = re.compile(r"(?ms)^    ghost \w+: \{(.*?)\},$")
 
 
 def brought_in(code):
@@ -182,20 +157,41 @@ def kept(top, crates):
                 yield f"{path.relative_to(top)}: a type keeps {word}, which speaks of a name of a call"
 
 
-OPENED = re.compile(r"#\[tactic\([^\]]*unfolding\(([^\]]*)\)\)\]\s*(?:pub(?:\([a-z]+\))? )?fn (\w+)")
+def names_given(top):
+    """The lines of scripts/names.txt: a place, a function, and the names of calls that it has."""
+    lines = (top / "scripts" / "names.txt").read_text(encoding="utf-8").splitlines()
+    return [line for line in lines if line and not line.startswith("#")]
 
 
 def untold_names(top, crates):
-    """Who has the name of a call by his attribute, and stands in no row of his crate in docs/THEOREM.md."""
-    calls = set(names_of_calls(top, crates))
+    """Who has the name of a call by his attribute, and has no line of scripts/names.txt, or no row of his crate in
+    docs/THEOREM.md."""
+    calls, left = set(names_of_calls(top, crates)), names_given(top)
     rows = [it for it in (top / "docs" / "THEOREM.md").read_text(encoding="utf-8").splitlines() if it.startswith("| `")]
+    for place, path, code in handles.of_the_program(top, crates):
+        crate = place.split("/")[0]
+        told = {word for row in rows if f"`{crate}`" in row.split("|")[1] for word in re.findall(r"`(\w+)`", row.split("|")[2])}
+        for function in handles.functions_in(code):
+            words = sorted(handles.opened_by(function) & calls)
+            line = " ".join((place, function.name, *words))
+            if words and line not in left:
+                yield f"{path}: scripts/names.txt has no line {line}"
+            elif words:
+                left.remove(line)
+                if function.name not in told:
+                    yield f"{path}: {function.name} has {words[0]}, the name of a call, and no row of docs/THEOREM.md"
+    for line in left:
+        yield f"scripts/names.txt: {line}: nobody there has it"
+
+
+def unfolded_by_none(top, crates):
+    """An attribute that looks into a name, and is of a file, an impl or a statement: nobody would be told by it."""
     for crate in crates:
-        told = {word for row in rows if f"`{crate}`" in row.split("|")[1] for word in re.findall(r"`(\w+)`", row)}
         for path in sorted((top / "crates" / crate / "src").rglob("*.rt")):
-            for opened, function in OPENED.findall(code_of(path)):
-                words = {it.strip().split("::")[-1] for it in opened.split(",")} & calls
-                if words and function not in told:
-                    yield f"{path.relative_to(top)}: {function} has {min(words)}, the name of a call, and no row of docs/THEOREM.md"
+            code = code_of(path)
+            seen = "".join(function.attributes for function in handles.functions_in(code))
+            if code.count("unfolding(") > seen.count("unfolding("):
+                yield f"{path.relative_to(top)}: unfolds something for what is no function"
 
 
 NEVER_LET_GO = re.compile(r"\bmem::forget\b|\bmem::\{[^}]*\bforget\b|\bManuallyDrop\b|(?:::|\.)leak\b|\binto_raw\b")
@@ -205,7 +201,7 @@ def never_let_go(top, crates):
     """What is forgotten isn't let go, whatever its contract says."""
     for crate in crates:
         for path in sorted((top / "crates" / crate / "src").rglob("*.rt")):
-            for found in NEVER_LET_GO.findall(code_of(path)):
+            for found in found_in(NEVER_LET_GO, code_of(path)):
                 yield f"{path.relative_to(top)}: {found}: what is forgotten isn't let go"
 
 
@@ -240,7 +236,7 @@ def other_versions(top):
 
 def faults(top):
     crates = crates_of(top)
-    looks = (unused, past_the_door, looked_into, kept, untold_names, never_let_go, without_a_sign)
+    looks = (unused, past_the_door, looked_into, kept, untold_names, unfolded_by_none, never_let_go, *handles.LOOKS, without_a_sign)
     return [line for look in looks for line in look(top, crates)] + list(other_versions(top))
 
 
@@ -258,9 +254,65 @@ PLANTED = {
     "invariant": ("bindings/src/planted.rt",
                   "ghost use Rattle.slots.specs.Memory as lacks;\nghost invariant = { λ t. lacks.LacksDues t.room };\n",
                   "a type keeps lacks.LacksDues"),
-    "holder": ("bindings/src/planted.rt",
-               "#[tactic(auto, unfolding(memory::specs::Memory::WasRefused))]\nfn planted()\n{}\n", "planted has WasRefused"),
+    "holder": ("bindings/src/holder.rt",
+               "#[tactic(auto, unfolding(memory::specs::Memory::WasRefused))]\n#[inline]\nfn planted()\n{}\n",
+               "scripts/names.txt has no line bindings/holder planted WasRefused"),
+    "named": ("gate/src/named.rt", "#[tactic(auto, unfolding(crate::specs::Named::WasAnswered))]\nfn begin()\n{}\n",
+              "scripts/names.txt has no line gate/named begin WasAnswered"),
     "forgotten": ("sums/src/planted.rt", "use std::mem::{forget, swap};\n", "mem::{forget"),
+    "field": ("box_words/src/planted.rt", "struct Planted<'a, R> {\n    count: u8,\n    rt: &'a R,\n}\n",
+              "Planted has the system at hand by rt"),
+    "handed": ("tap/src/planted.rt", "fn planted<R: Files>(rt: &R, path: &str) {}\n", "planted is handed the system"),
+    "answers": ("gate/src/planted.rt", "impl Clock for Planted {}\n", "Planted answers as Clock"),
+    "writer": ("gate/src/writers.rt", "impl io::Write for Stubborn {}\n", "Stubborn answers as Write"),
+    "draws": ("gateway/src/planted.rt", "impl slots::Draws for Planted {}\n", "Planted answers as Draws"),
+    "own": ("gate/src/own.rt", "trait Owned {}\nimpl Owned for Planted {}\n", "Planted answers as Owned"),
+    "model": ("gate/src/models.rt", "use boot_store::ModelDisk;\n", "names ModelDisk"),
+    "unfolds": ("sums/src/unfolds.rt", "#[tactic(auto, unfolding(x::Y))]\nstruct Planted;\n", "unfolds something"),
+    "going": ("journal/src/planted.rt", "impl<R> Drop for Planted<R> {\n    fn drop(self) {}\n}\n", "Planted does something"),
+}
+
+MORE, WORDS, OPENINGS = "sums/src/more.rt", "box_words/src/machine.rt", "boot_file/src/openings.rt"
+CLOCK, REST = "impl<R: Clock> System<'_, R> {\n", "told_to_rest(&mut self, milliseconds: u64)\n"
+BY_HAND = "impl<F: OpenFile> Opened<F> {\n    fn cut(&self) {\n        self.file.set_len(0);\n    }\n"
+
+# A fault that is a line more, or another: where, what stands there, what is planted in its place, and the beginning of what is
+# said of it. A file that isn't there is empty.
+CHANGED = {
+    "again": ("box_words/src/machine.rt", "impl<'a, R> System<'a, R> {\n",
+              "impl<'a, R> System<'a, R> {\n    fn again(&self) -> System<'a, R> {\n        System(self.0)\n    }\n",
+              "again uses the system at hand"),
+    "twin": ("inputs/src/standard_input.rt", "#[derive(Drop)]", "#[derive(Clone, Drop)]",
+             "StandardInput has the system at hand, and may"),
+    "row": ("commands/src/meters.rt", "Drop for Meter", "Lets for Meter", "has no Drop for Meter, which"),
+    "shown": ("control/src/machine.rt", "    rt: &'a R,\n", "    pub rt: &'a R,\n", "Machine has the system at hand by a field"),
+    "of itself": (WORDS, CLOCK, CLOCK + "    fn of_itself(machine: &Self) -> &R {\n        machine.0\n    }\n", "of_itself uses the system"),
+    "used up": (WORDS, CLOCK, CLOCK + "    fn used_up(self) -> u8 {\n        go(self.0)\n    }\n", "used_up uses the system"),
+    "generics": (WORDS, CLOCK, CLOCK + "    fn generics<F: Fn(u8)>(&self) {\n        go(self.0);\n    }\n", "generics uses the system"),
+    "array": (WORDS, CLOCK, CLOCK + "    fn array(&self) -> [[u8; { 1 }]; 1] {\n        go(self.0)\n    }\n", "array uses the system"),
+    "pattern": (WORDS, CLOCK, CLOCK + "    fn pattern(&self) {\n        let System::<'_, R>(rt) = self;\n    }\n", "pattern uses the system"),
+    "raw": (WORDS, CLOCK, CLOCK + '    fn raw(&self) {\n        go(r"\\", self.0, "");\n    }\n', "raw uses the system"),
+    "constant": (WORDS, CLOCK, CLOCK + "    const GIVE: fn(&Self) -> &R = |machine| machine.0;\n", "something that is no function"),
+    "result": (WORDS, REST, REST.replace("\n", " -> &R\n"), "told_to_rest gives the system"),
+    "same": (WORDS, "asked_now(&mut self) -> Option<Instant>\n",
+             "asked_now(&mut self) -> Option<Instant>\n        ensures same { self.new ≡ self.old }\n", "asked_now says that who asks"),
+    "cut": (OPENINGS, "impl<F: Blocks> Blocks for", BY_HAND + "}\n\nimpl<F: Blocks> Blocks for", "cut uses the system"),
+    "otherwise": (OPENINGS, "self.file.sync()", "self.file.drop_cache()", "sync uses the system"),
+    "lock": ("checks/src/machine.rt", "self.file.try_lock()", "self.file.set_len(0);\n        self.file.try_lock()", "lock uses the system"),
+    "twice": ("sockets/src/machine.rt", "impl Waiting {\n", "impl Waiting {\n    fn send(&self) {\n        go(&self.0);\n    }\n",
+              "has send twice"),
+    "number": (MORE, "", "fn number() {\n    libc::ftruncate(4, 0);\n}\n", "libc::ftruncate asks the system"),
+    "brought": (MORE, "", "use os::{open_overwrite};\n", "use os::{open_overwrite}: another word"),
+    "array of it": (MORE, "", "fn array_of<R: AsRef<R> + Files>(rt: [&R; 1]) {}\n", "array_of is handed the system"),
+    "runtime": (MORE, "", "fn runtime<R: Runtime>(rt: &mut R) {}\n", "runtime is handed the system"),
+    "any": (MORE, "", "fn any(rt: &dyn Files) {}\n", "any is handed the system"),
+    "core": (MORE, "", "fn core(rt: &LibcRuntime) {}\n", "core is handed the system"),
+    "blanket": (MORE, "", "impl<T: Files> Asks for T {}\n", "whoever has a right of the system's answers here, as T"),
+    "renamed": (MORE, "", "use std::rt::Clock as Other;\n", "Clock as Other: another word"),
+    "reference": (MORE, "", "impl<'a> Clock for &'a Lent {}\n", "Lent answers as Clock"),
+    "path": (MORE, "", "mod inner { impl ::std::rt::Clock for Inner {} }\n", "Inner answers as Clock"),
+    "written": (MORE, "", "macro_rules! written { () => {} }\n", "macro_rules writes code"),
+    "kept": (MORE, "", "struct Kept<'a, r, F: Fn(u8)> {\n    rt: &'a r,\n    ask: F,\n}\n", "Kept has the system at hand by rt"),
 }
 
 
@@ -270,6 +322,15 @@ def plant(top, fault):
         place, text, said = PLANTED[fault]
         (top / "crates" / place).write_text(text)
         return f"crates/{place}: {said}"
+    if fault in CHANGED:
+        place, old, new, said = CHANGED[fault]
+        path = top / "crates" / place
+        path.write_text((path.read_text() if path.exists() else "").replace(old, new, 1))
+        return f"crates/{place}: {said}"
+    if fault == "theorem":
+        path = top / "docs" / "THEOREM.md"
+        path.write_text(path.read_text().replace("| `told_to_draw` |", "| `drawn` |"))
+        return "crates/gate/src/rest.rt: told_to_draw has WasDrawn"
     if fault == "dependency":
         path = top / "crates.txt"
         path.write_text(re.sub(r"(?m)^(sums:.*)$", r"\1 slab", path.read_text()))
@@ -289,17 +350,21 @@ def plant(top, fault):
 
 
 def self_test(top):
-    """Each planted fault, behind those before it, gives its own line more and no other, also where the repository isn't in order yet."""
+    """Each planted fault, with others or behind them, gives its own line more and no other, also where the repository isn't in order
+    yet."""
     with tempfile.TemporaryDirectory(prefix="house-") as room:
         copy = copy_of(top, pathlib.Path(room))
         before = set(faults(copy))
-        for fault in (*PLANTED, "dependency", "door", "version", "folder"):
-            wanted = plant(copy, fault)
+        for planted in (PLANTED, CHANGED, ["theorem"], ["dependency"], ["door"], ["version"], ["folder"]):
+            wanted = {fault: plant(copy, fault) for fault in planted}
             now = faults(copy)
             found = [line for line in now if line not in before]
-            if len(found) != 1 or not found[0].startswith(wanted):
-                sys.exit(f"house: the planted {fault} isn't found")
-            print(f"house: found {found[0]}")
+            for fault, said in wanted.items():
+                if sum(line.startswith(said) for line in found) != 1:
+                    sys.exit(f"house: the planted {fault} isn't found")
+            if len(found) != len(wanted):
+                sys.exit(f"house: of {', '.join(wanted)} more is said than one line each")
+            print("".join(f"house: found {line}\n" for line in found), end="")
             before = set(now)
 
 
