@@ -3,6 +3,7 @@ ghost use Rattle.std.specs.Prelude.{IfErr, IfOk, OnOk};
 ghost use Rattle.boot_file.specs.Deeds.{WasLinked, WasLookedFor, WasOpened, WasRemoved, WasUnlinked, WasUnopened};
 
 use crate::{FileDisk, Opened};
+use runtimes::Hosted;
 use std::alloc::Global;
 use std::fs::{Files, OpenOptions};
 use std::io;
@@ -13,7 +14,7 @@ pub struct Machine<'a, R> {
     rt: &'a R,
 }
 
-impl<'a, R> Machine<'a, R> {
+impl<'a, R: Hosted> Machine<'a, R> {
     pub fn new(rt: &'a R) -> Machine<'a, R> {
         Machine { rt }
     }

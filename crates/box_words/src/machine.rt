@@ -8,6 +8,7 @@ ghost use Rattle.box_words.specs.Machines.{IsOfReading, WasDone, WasNow, WasSinc
 ghost use Rattle.box_words.specs.Making.{WasLetGo};
 
 use faults::{Fault, text_of};
+use runtimes::Hosted;
 use std::fs::Files;
 use std::net::{Net, SocketAddr, UdpSocket};
 use std::rt::Clock;
@@ -19,14 +20,14 @@ use std::time::{Duration, Instant};
 #[derive(Drop)]
 pub struct System<'a, R>(&'a R);
 
-impl<'a, R> System<'a, R> {
+impl<'a, R: Hosted> System<'a, R> {
     /// The system at hand. It can't be asked for anything here.
     pub fn new(rt: &'a R) -> System<'a, R> {
         System(rt)
     }
 }
 
-impl<R: Files + AllocGlobal> System<'_, R> {
+impl<R: Files + AllocGlobal + Hosted> System<'_, R> {
     /// Asks it for the text of a file.
     #[tactic(auto, unfolding(crate::specs::Machines::WasDone))]
     pub(crate) fn told_to_read(&mut self, path: &str) -> Result<String, Fault>

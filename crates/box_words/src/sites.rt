@@ -14,6 +14,7 @@ use boot_file::{Blocks, FileDisk, FileFault, Opened, create};
 use boot_store::Disk;
 use control::{ControlPath, NoSocket};
 use faults::Fault;
+use runtimes::Hosted;
 use std::fs::Files;
 use std::net::Net;
 use std::rt::Clock;
@@ -84,7 +85,7 @@ pub struct Machine<'a, R> {
     limit: Duration,
 }
 
-impl<'a, R> Machine<'a, R> {
+impl<'a, R: Hosted> Machine<'a, R> {
     /// It was asked for nothing yet.
     #[tactic(auto, unfolding(crate::specs::Machines::IsUntouched))]
     pub fn new(rt: &'a R) -> Machine<'a, R>
@@ -101,7 +102,7 @@ impl<'a, R> Machine<'a, R> {
 }
 
 /// Each deed is one call of its system's, a boot file that is made, or one line to a box. All else that it has stays.
-impl<R: Files + Net + Clock + AllocGlobal> Site for Machine<'_, R>
+impl<R: Files + Net + Clock + AllocGlobal + Hosted> Site for Machine<'_, R>
 where
     R::File: Blocks,
 {

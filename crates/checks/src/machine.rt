@@ -4,6 +4,7 @@ ghost use Rattle.checks.specs.Openings.{WasOpened};
 use crate::openings::Opening;
 use boot_file::Lockable;
 use faults::Reads;
+use runtimes::Hosted;
 use std::alloc::Global;
 use std::fs::{self, OpenFile, OpenOptions, TryLockError};
 use std::io::{self, Read};
@@ -14,7 +15,7 @@ use std::rt::Files;
 #[derive(Drop)]
 pub struct ThisMachine<'a, R>(&'a R);
 
-impl<'a, R> ThisMachine<'a, R> {
+impl<'a, R: Hosted> ThisMachine<'a, R> {
     /// The system at hand.
     pub fn new(rt: &'a R) -> ThisMachine<'a, R> {
         ThisMachine(rt)

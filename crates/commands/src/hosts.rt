@@ -16,6 +16,7 @@ use faults::Job;
 use frame_sim::Tape;
 use gate::Start;
 use outlets::Tells;
+use runtimes::Hosted;
 use simulation::Capture;
 use std::alloc::Global;
 use std::io::{self, BufWriter, Write};
@@ -104,7 +105,11 @@ pub(crate) struct ThisHost<C, A, G> {
     alloc: Global,
 }
 
-impl<'a, R: AllocGlobal> ThisHost<SystemCaptures<'a, R>, ThisMachine<'a, R>, SystemServes<'a, R>> {
+impl<'a, R: AllocGlobal + Hosted> ThisHost<
+    SystemCaptures<'a, R>,
+    ThisMachine<'a, R>,
+    SystemServes<'a, R>,
+> {
     /// It was asked for nothing yet.
     #[tactic(auto, unfolding(box_words::specs::Machines::IsUntouched))]
     pub(crate) fn new(rt: &'a R) -> Self

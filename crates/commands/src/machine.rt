@@ -24,6 +24,7 @@ use gate::{Start, gate};
 use loopback_run::{Channel, Loopback};
 use outlets::Tells;
 use rounds::{Clockwork, Stopwatch};
+use runtimes::Hosted;
 use simulation::Capture;
 use std::fs::Files;
 use std::io::{self, BufWriter, Write};
@@ -43,7 +44,7 @@ use std::rt::{Clock, Env};
 /// | 3 | an event of the script was refused |
 pub fn act<
     'r,
-    R: Files + Net + Clock + RandomSource + Eprint + Env + Input + AllocGlobal,
+    R: Files + Net + Clock + RandomSource + Eprint + Env + Input + AllocGlobal + Hosted,
     O: Write,
     E: Tells,
 >(rt: &'r R, words: &[String], is_watched: bool, output: &mut O, errors: &mut E) -> u8
@@ -102,7 +103,7 @@ pub(crate) struct SystemCaptures<'a, R> {
     rt: &'a R,
 }
 
-impl<'a, R> SystemCaptures<'a, R> {
+impl<'a, R: Hosted> SystemCaptures<'a, R> {
     pub(crate) fn new(rt: &'a R) -> Self {
         SystemCaptures { rt }
     }
@@ -129,13 +130,15 @@ pub(crate) struct SystemServes<'a, R> {
     rt: &'a R,
 }
 
-impl<'a, R> SystemServes<'a, R> {
+impl<'a, R: Hosted> SystemServes<'a, R> {
     pub(crate) fn new(rt: &'a R) -> Self {
         SystemServes { rt }
     }
 }
 
-impl<R: Files + Net + Clock + RandomSource + Eprint + Env + Input + AllocGlobal> SystemServes<'_, R>
+impl<
+    R: Files + Net + Clock + RandomSource + Eprint + Env + Input + AllocGlobal + Hosted,
+> SystemServes<'_, R>
 where
     R::File: Blocks + Lockable + AsRawFd,
 {

@@ -9,6 +9,7 @@ use crate::machine::SystemServes;
 use boot_file::{Blocks, Lockable};
 use gate::Start;
 use outlets::Tells;
+use runtimes::Hosted;
 use std::fs::Files;
 use std::io::Write;
 use std::net::Net;
@@ -38,7 +39,7 @@ pub(crate) trait Serves {
 }
 
 /// This machine: one start is one call of it.
-impl<R: Files + Net + Clock + RandomSource + Eprint + Env + Input + AllocGlobal> Serves
+impl<R: Files + Net + Clock + RandomSource + Eprint + Env + Input + AllocGlobal + Hosted> Serves
     for SystemServes<'_, R>
 where
     R::File: Blocks + Lockable + AsRawFd,

@@ -13,6 +13,7 @@ use mio::event::Source;
 use mio::net::UnixListener;
 use mio::{Interest, Registry, Token};
 use outlets::Takes;
+use runtimes::Hosted;
 use std::fs::{Files, Permissions};
 use std::io::{self, Read, Write};
 use std::net::Net;
@@ -27,7 +28,7 @@ pub struct Machine<'a, R> {
     rt: &'a R,
 }
 
-impl<'a, R> Machine<'a, R> {
+impl<'a, R: Hosted> Machine<'a, R> {
     pub fn new(rt: &'a R) -> Machine<'a, R> {
         Machine { rt }
     }

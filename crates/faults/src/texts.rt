@@ -7,6 +7,7 @@ ghost use Rattle.faults.specs.Memory.{WasShort};
 ghost use Rattle.faults.specs.declared.faults.Fault.TheVariants as faults;
 
 use crate::Fault;
+use runtimes::Hosted;
 use std::alloc::Global;
 use std::rt::Files;
 use std::{fs, io};
@@ -31,7 +32,7 @@ pub trait Reads {
 #[derive(Drop)]
 pub struct SystemReads<'a, R>(pub &'a R);
 
-impl<R: Files + AllocGlobal> Reads for SystemReads<'_, R> {
+impl<R: Files + AllocGlobal + Hosted> Reads for SystemReads<'_, R> {
     ghost use Rattle.faults.specs.Files.{WasRead};
 
     ghost answers = { λ _ path answer _. WasRead path answer };
@@ -47,7 +48,7 @@ impl<R: Files + AllocGlobal> Reads for SystemReads<'_, R> {
 /// # Errors
 ///
 /// `File` where it can't be read, `NotText` where it isn't UTF-8, `NoMemory`.
-pub fn text_of<R: Files + AllocGlobal>(rt: &R, path: &str) -> Result<String, Fault>
+pub fn text_of<R: Files + AllocGlobal + Hosted>(rt: &R, path: &str) -> Result<String, Fault>
     ensures text { IfOk result (λ text. WasRead path.now (Ok (string_bytes text))) }
     ensures told { IfErr result (IsUnread path.now) }
     ensures unread { IfErr result (TellsUnread (WasRead path.now) path.now) }

@@ -5,6 +5,7 @@ ghost use Rattle.gate.specs.Named.{WasGot, WasTried};
 
 use faults::Reads;
 use polls::Asker;
+use runtimes::Hosted;
 use std::alloc::Global;
 use std::fs::{self, Files};
 use std::io;
@@ -26,7 +27,7 @@ impl<'a, R> Model for FileSystem<'a, R> {
     ghost view = { λ f. f.asker };
 }
 
-impl<'a, R> FileSystem<'a, R> {
+impl<'a, R: Hosted> FileSystem<'a, R> {
     /// It was asked for nothing yet, and can't be here.
     pub(crate) fn new(rt: &'a R) -> FileSystem<'a, R> {
         FileSystem {

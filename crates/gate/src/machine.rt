@@ -22,6 +22,7 @@ use box_words::{BoxFault, Refused, System as Ends, refused_end};
 use control::{Bound, ControlPath, Machine as Listeners};
 use faults::{Fault, text_by};
 use nat_types::{GatewayId, NoMemory};
+use runtimes::Hosted;
 use settings::Settings;
 use sockets::{Machine as Places, Ports, SocketFault, Sockets, Ways, ports_of};
 use std::fs::Files;
@@ -43,7 +44,7 @@ pub(crate) struct Machine<'a, R> {
 
 /// This system. It was asked for nothing yet, and can't be here.
 #[tactic(auto, unfolding(crate::specs::Named::IsFresh))]
-pub(crate) fn machine_of<R>(rt: &R) -> Machine<'_, R>
+pub(crate) fn machine_of<R: Hosted>(rt: &R) -> Machine<'_, R>
     ensures { IsFresh result }
 {
     Machine {

@@ -13,7 +13,7 @@ ghost use Rattle.gate.specs.declared.recording.Records.{Records};
 
 use crate::running::Start;
 use box_words::BoxFault;
-use journal::{Entry, Journal, Pen};
+use journal::{Entry, Journal, OwnLog, Pen};
 use rounds::Teller;
 use settings::Settings;
 use sockets::Wire;
@@ -31,7 +31,7 @@ pub(crate) struct Records<L> {
 pub(crate) struct OneRun(());
 
 /// Those of a log.
-pub(crate) fn records_in<L>(log: L) -> Records<L>
+pub(crate) fn records_in<L: OwnLog>(log: L) -> Records<L>
     ensures { result.log ≡ log }
 {
     Records { log }

@@ -19,6 +19,7 @@ use log::filter::{Filter, FilteredLog};
 use nat_types::NoMemory;
 use polls::Asker;
 use rounds::Stopwatch;
+use runtimes::Hosted;
 use slots::Draws;
 use std::alloc::Global;
 use std::io;
@@ -46,7 +47,7 @@ type Kept<'a, R> = (
 );
 
 /// That of this system.
-pub(crate) fn rest_of<R>(rt: &R) -> Rest<'_, R> {
+pub(crate) fn rest_of<R: Hosted>(rt: &R) -> Rest<'_, R> {
     Rest { rt }
 }
 
@@ -56,7 +57,7 @@ impl<R: AllocGlobal> Rest<'_, R> {
     }
 }
 
-impl<'a, R: Env + AllocGlobal> Rest<'a, R> {
+impl<'a, R: Env + AllocGlobal + Hosted> Rest<'a, R> {
     /// The box's records, on the standard error, by the option's filter, or else by the environment's, which were told nothing
     /// yet, and can't be here; and what a run needs beside them. They are had once its sockets are, and only once: the rest is
     /// used up.
@@ -88,7 +89,7 @@ impl<R: AllocGlobal> Means<'_, R> {
     }
 }
 
-impl<R: RandomSource> Means<'_, R> {
+impl<R: RandomSource + Hosted> Means<'_, R> {
     /// The hashers of a seed that is drawn now. Where the system refuses a seed, that is told as memory
     /// that it refuses.
     #[tactic(auto, unfolding(crate::specs::Named::WasGiven))]
@@ -120,7 +121,7 @@ impl<'a, R> Model for Seeds<'a, R> {
     ghost view = { λ s. s.asker };
 }
 
-impl<'a, R> Seeds<'a, R> {
+impl<'a, R: Hosted> Seeds<'a, R> {
     /// Nothing was drawn yet.
     fn new(rt: &'a R) -> Seeds<'a, R> {
         Seeds {
@@ -153,7 +154,7 @@ impl<R: RandomSource> Seeds<'_, R> {
     }
 }
 
-impl<'a, R: Clock> Means<'a, R> {
+impl<'a, R: Clock + Hosted> Means<'a, R> {
     /// What says when the packets of a capture came. It wasn't asked yet.
     pub(crate) fn moments(&self) -> SinceFirst<'a, R>
         ensures start { result.start ≡ None }
@@ -170,7 +171,7 @@ impl<'a, R: Clock> Means<'a, R> {
     }
 }
 
-impl<'a, R> Means<'a, R> {
+impl<'a, R: Hosted> Means<'a, R> {
     /// The standard input, where it is watched. It was asked for nothing yet, and nobody else has it: the means are used up.
     pub(crate) fn input(self, is_watched: bool) -> Option<StandardInput<'a, R>>
         ensures watched { is_some result ≡ is_watched }
@@ -186,7 +187,11 @@ impl<'a, R> Means<'a, R> {
 }
 
 /// A log on the standard error, by a filter. It can't be told anything here.
-fn log_by<R>(rt: &R, filter: Filter, format: Format) -> FilteredLog<Unhindered<StandardError<&R>>>
+fn log_by<R: Hosted>(
+    rt: &R,
+    filter: Filter,
+    format: Format,
+) -> FilteredLog<Unhindered<StandardError<&R>>>
     ensures rules { filtered_rules result ≡ filter_rules filter }
     ensures format { format_of (filtered_inner result) ≡ format }
 {
@@ -194,7 +199,10 @@ fn log_by<R>(rt: &R, filter: Filter, format: Format) -> FilteredLog<Unhindered<S
 }
 
 /// The option's filter, or else the environment's.
-fn filter_by<R: Env + AllocGlobal>(rt: &R, option: Option<&str>) -> Result<Filter, BoxFault>
+fn filter_by<R: Env + AllocGlobal + Hosted>(
+    rt: &R,
+    option: Option<&str>,
+) -> Result<Filter, BoxFault>
     ensures chosen { IfOk result (λ filter. IsChosenBy option.entry (filter_rules filter)) }
     ensures valid { OnOk result (IsFilter option.entry) }
     ensures err { IfErr result (LacksFilter option.entry) }
@@ -218,7 +226,7 @@ fn as_option_says(alloc: Global, text: &str) -> Result<Filter, BoxFault>
 }
 
 /// The environment's, if it has one.
-fn as_environment_says<R: Env + AllocGlobal>(rt: &R) -> Result<Filter, BoxFault>
+fn as_environment_says<R: Env + AllocGlobal + Hosted>(rt: &R) -> Result<Filter, BoxFault>
     ensures chosen { IfOk result (λ filter. IsChosenBy None (filter_rules filter)) }
     ensures valid { OnOk result (IsFilter None) }
     ensures err { IfErr result (LacksFilter None) }
@@ -243,7 +251,7 @@ fn as_said(alloc: Global, said: &Option<String>) -> Result<Filter, BoxFault>
 }
 
 /// The text that the environment has for a filter, if it has one.
-fn said_by_environment<R: Env + AllocGlobal>(rt: &R) -> Result<Option<String>, BoxFault>
+fn said_by_environment<R: Env + AllocGlobal + Hosted>(rt: &R) -> Result<Option<String>, BoxFault>
     ensures said { IfOk result (λ text. WasSaid (option_map string_bytes text)) }
     ensures err { IfErr result (LacksFilter None) }
 {

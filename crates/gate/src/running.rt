@@ -39,6 +39,7 @@ use journal::{Format, Journal};
 use nat_types::GatewayId;
 use outlets::Tells;
 use rounds::{Identity, InputEnd, Teller, serve};
+use runtimes::Hosted;
 use settings::Settings;
 use sockets::{Sockets, Ways, Wire};
 use std::fs::{Files, OpenFile};
@@ -81,7 +82,7 @@ pub struct Start<'a> {
 /// printed first. The answer is the exit status: 0, or 1 for a fault, which is told on `errors`. Its records go to the
 /// standard error of `rt`, and wait for nobody.
 pub fn gate<
-    R: Files + Net + Clock + RandomSource + Eprint + Env + Input + AllocGlobal,
+    R: Files + Net + Clock + RandomSource + Eprint + Env + Input + AllocGlobal + Hosted,
     O: Write,
     E: Tells,
 >(rt: &R, start: &Start<'_>, output: &mut O, errors: &mut E) -> u8
@@ -121,7 +122,7 @@ where
 /// on a box that runs already touches none of its sockets, and only where all else is had a file loses what it has.
 fn served<
     R: Files + Net + AllocGlobal,
-    C: Clock + RandomSource + Eprint + Env + Input + AllocGlobal,
+    C: Clock + RandomSource + Eprint + Env + Input + AllocGlobal + Hosted,
     O: Write,
 >(
     machine: &mut Machine<'_, R>,
@@ -148,7 +149,7 @@ where
 /// Reads the ways of the places, and takes over their descriptors.
 fn reached<
     R: Files + Net + AllocGlobal,
-    C: Clock + RandomSource + Eprint + Env + Input + AllocGlobal,
+    C: Clock + RandomSource + Eprint + Env + Input + AllocGlobal + Hosted,
     O: Write,
 >(
     machine: &mut Machine<'_, R>,
@@ -177,7 +178,7 @@ where
 /// Takes over the service manager's descriptor, and lets the manager go once all is done.
 fn watched<
     R: Files + Net + AllocGlobal,
-    C: Clock + RandomSource + Eprint + Env + Input + AllocGlobal,
+    C: Clock + RandomSource + Eprint + Env + Input + AllocGlobal + Hosted,
     O: Write,
 >(
     machine: &mut Machine<'_, R>,
@@ -209,7 +210,7 @@ where
 /// Looks whether the ports of the places on loopback can be had together. The control socket's path is made.
 fn apart<
     R: Files + Net + AllocGlobal,
-    C: Clock + RandomSource + Eprint + Env + Input + AllocGlobal,
+    C: Clock + RandomSource + Eprint + Env + Input + AllocGlobal + Hosted,
     O: Write,
 >(
     machine: &mut Machine<'_, R>,
@@ -244,7 +245,7 @@ where
 /// Opens and locks the boot file, for as long as the gateway runs.
 fn locked<
     R: Files + Net + AllocGlobal,
-    C: Clock + RandomSource + Eprint + Env + Input + AllocGlobal,
+    C: Clock + RandomSource + Eprint + Env + Input + AllocGlobal + Hosted,
     O: Write,
 >(
     machine: &mut Machine<'_, R>,
@@ -289,7 +290,7 @@ where
 /// Opens the control socket, while the boot file is locked: no other box listens there.
 fn connected<
     R: Files + Net + AllocGlobal,
-    C: Clock + RandomSource + Eprint + Env + Input + AllocGlobal,
+    C: Clock + RandomSource + Eprint + Env + Input + AllocGlobal + Hosted,
     O: Write,
 >(
     machine: &mut Machine<'_, R>,
@@ -341,7 +342,7 @@ where
 /// Opens the sockets that the ways need. Nothing is asked of the disk before all is had that comes before its number.
 fn wired<
     R: Files + Net + AllocGlobal,
-    C: Clock + RandomSource + Eprint + Env + Input + AllocGlobal,
+    C: Clock + RandomSource + Eprint + Env + Input + AllocGlobal + Hosted,
     D: Disk,
     O: Write,
 >(
@@ -388,7 +389,7 @@ where
 /// Reads the filter of the records.
 fn logged<
     R: Files + Net + AllocGlobal,
-    C: Clock + RandomSource + Eprint + Env + Input + AllocGlobal,
+    C: Clock + RandomSource + Eprint + Env + Input + AllocGlobal + Hosted,
     D: Disk,
     O: Write,
 >(
@@ -455,7 +456,7 @@ where
 /// Opens the file of a capture, where there is to be one, and runs the gateway.
 fn captured<
     R: Files + Net + AllocGlobal,
-    C: Clock + RandomSource + Input + AllocGlobal,
+    C: Clock + RandomSource + Input + AllocGlobal + Hosted,
     D: Disk,
     W: Wire + Drop,
     O: Write,
@@ -523,7 +524,7 @@ where
 /// capture is begun once the boot number is taken.
 fn tapped<
     F: Read + Write + Seek + OpenFile + AsRawFd + Drop,
-    C: Clock + RandomSource + Input + AllocGlobal,
+    C: Clock + RandomSource + Input + AllocGlobal + Hosted,
     D: Disk,
     W: Wire + Drop,
     O: Write,
@@ -609,7 +610,7 @@ fn tapped<
 /// out.
 fn tapped_rounds<
     F: Read + Write + Seek + OpenFile + AsRawFd + Drop,
-    C: Clock + Input + AllocGlobal,
+    C: Clock + Input + AllocGlobal + Hosted,
     W: Wire + Drop,
     O: Write,
     L: Journal,
@@ -663,7 +664,7 @@ fn tapped_rounds<
 
 /// Starts the gateway and runs its rounds, on a wire.
 fn run<
-    C: Clock + RandomSource + Input + AllocGlobal,
+    C: Clock + RandomSource + Input + AllocGlobal + Hosted,
     D: Disk,
     W: Wire + Drop,
     O: Write,
@@ -744,7 +745,7 @@ fn run<
 
 /// Runs a gateway until it is told to end, or has had its rounds. Its manager hears first that it is up. After an Err it was
 /// run too, and `end` isn't written.
-fn rounds_of<C: Clock + Input + AllocGlobal, W: Wire, O: Write, L: Journal>(
+fn rounds_of<C: Clock + Input + AllocGlobal + Hosted, W: Wire, O: Write, L: Journal>(
     means: Means<'_, C>,
     gateway: &mut Gateway,
     wire: &mut W,

@@ -23,6 +23,7 @@ use journal::Journal;
 use nat_types::GatewayId;
 use outlets::{told_to_flush, told_to_put};
 use rounds::Identity;
+use runtimes::Hosted;
 use settings::Settings;
 use std::alloc::Global;
 use std::io::{self, Write};
@@ -30,7 +31,7 @@ use std::random::RandomSource;
 
 /// A gateway in the next boot of its disk, whose number is printed before anything is sent, and is the first record. Its
 /// seed is drawn first, so that a start without one takes no number. The answer has who the box is.
-pub(crate) fn started<R: RandomSource + AllocGlobal, D: Disk, O: Write, L: Journal>(
+pub(crate) fn started<R: RandomSource + AllocGlobal + Hosted, D: Disk, O: Write, L: Journal>(
     means: &Means<'_, R>,
     disk: &mut D,
     settings: &Settings,

@@ -4,6 +4,7 @@ ghost use Rattle.polls.specs.Polls.{HasNoReport, HasReport};
 ghost use Rattle.inputs.specs.Inputs.{IsReported, IsUnasked, WasRead};
 
 use polls::{Asker, standard_input_is_reported};
+use runtimes::Hosted;
 use std::io::{self, Read};
 use std::marker::Model;
 
@@ -22,7 +23,7 @@ impl<'a, R> Model for StandardInput<'a, R> {
     ghost view = { λ s. s.asker };
 }
 
-impl<'a, R> StandardInput<'a, R> {
+impl<'a, R: Hosted> StandardInput<'a, R> {
     /// It was asked for nothing yet.
     #[tactic(auto, unfolding(crate::specs::Inputs::IsUnasked))]
     pub fn new(rt: &'a R) -> StandardInput<'a, R>
@@ -33,7 +34,9 @@ impl<'a, R> StandardInput<'a, R> {
             asker: Asker::new(),
         }
     }
+}
 
+impl<R> StandardInput<'_, R> {
     /// Asks whether something stands there, or it is closed. It doesn't wait; and it can't read, since of `R` nothing is known.
     pub(crate) fn is_reported(&mut self) -> bool
         ensures reported { result ≡ true → HasReport self.old self.new }

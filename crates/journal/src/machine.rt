@@ -2,6 +2,7 @@
 ghost use Rattle.std.specs.Prelude.{Err, IfErr, IfOk, Ok, string_bytes};
 ghost use Rattle.journal.specs.Filters.{WasAsked, WasSaidOf};
 
+use runtimes::Hosted;
 use std::alloc::Global;
 use std::env::{self, VarError};
 use std::rt::Env;
@@ -12,7 +13,7 @@ pub struct Machine<'a, R> {
     rt: &'a R,
 }
 
-impl<'a, R> Machine<'a, R> {
+impl<'a, R: Hosted> Machine<'a, R> {
     pub fn new(rt: &'a R) -> Machine<'a, R> {
         Machine { rt }
     }

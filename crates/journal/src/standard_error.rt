@@ -1,6 +1,7 @@
 //! The system's standard error. What it is asked has names, and only here it is at hand.
 ghost use Rattle.journal.specs.Errors.{IsSeenRoomy, WasSeen, WasWritten};
 
+use runtimes::Hosted;
 use std::fmt::Display;
 use std::io;
 
@@ -10,12 +11,14 @@ pub struct StandardError<R> {
     rt: R,
 }
 
-impl<R> StandardError<R> {
+impl<R: Hosted> StandardError<R> {
     /// Nothing is known of its room.
     pub fn new(rt: R) -> StandardError<R> {
         StandardError { rt }
     }
+}
 
+impl<R> StandardError<R> {
     /// Whether the system says that a write to it wouldn't wait: a pipe has room for 4,096 bytes then. That doesn't wait.
     pub(crate) fn is_roomy(&mut self) -> bool
         ensures { WasSeen self.old result self.new }

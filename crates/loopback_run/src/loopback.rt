@@ -7,6 +7,7 @@ use crate::carriers::{Binds, Carries, Unbound};
 use crate::machine::{SystemBinds, SystemPort};
 use crate::{Channel, Passed, PortFault};
 use nat_types::{GatewayId, Side};
+use runtimes::Hosted;
 use settings::{GatewaySettings, Settings};
 use sockets::Place;
 use std::snapshot::Snapshot;
@@ -225,7 +226,7 @@ impl<B: Binds<S>, S: Carries + Drop> Channel for Holding<B, S> {
 /// The own UDP ports of both gateways on the loopback address. A send, a receive or a clock that fails loses the bytes.
 pub type Loopback<'a, R> = Holding<SystemBinds<'a, R>, SystemPort<'a, R>>;
 
-impl<'a, R> Loopback<'a, R> {
+impl<'a, R: Hosted> Loopback<'a, R> {
     ghost use Rattle.loopback_run.specs.Holds.{IsUnasked};
 
     /// Was never asked for its ports. Nothing is asked of the system here: of an `R` alone nothing can be.

@@ -6,6 +6,7 @@ ghost use Rattle.loopback_run.specs.Carrying.{WasAwaited, WasNow, WasReceived, W
 
 use mio::net::UdpSocket;
 use mio::{Events, Interest, Poll, Token};
+use runtimes::Hosted;
 use sockets::LONGEST;
 use std::alloc::Global;
 use std::io;
@@ -89,7 +90,7 @@ pub struct SystemBinds<'a, R> {
     system: &'a R,
 }
 
-impl<'a, R> SystemBinds<'a, R> {
+impl<'a, R: Hosted> SystemBinds<'a, R> {
     pub(crate) fn new(system: &'a R) -> SystemBinds<'a, R> {
         SystemBinds { system }
     }

@@ -2,6 +2,7 @@
 ghost use Rattle.rounds.specs.Clocks.{WasNow};
 
 use polls::Asker;
+use runtimes::Hosted;
 use std::marker::Model;
 use std::rt::Clock;
 use std::time::Instant;
@@ -21,7 +22,7 @@ impl<'a, R> Model for SystemClock<'a, R> {
     ghost view = { λ c. c.asker };
 }
 
-impl<'a, R> SystemClock<'a, R> {
+impl<'a, R: Hosted> SystemClock<'a, R> {
     /// It wasn't asked yet.
     pub(crate) fn new(rt: &'a R) -> SystemClock<'a, R> {
         SystemClock {

@@ -3,6 +3,7 @@ ghost use Rattle.std.specs.Prelude.{◌≡◌, ℕ, ◌≤◌, IfSome, IsNone};
 ghost use Rattle.rounds.specs.Clocks.{HasPassed, HasRead, WasStarted, centiseconds as span_of};
 
 use crate::asked_clock::SystemClock;
+use runtimes::Hosted;
 use std::marker::Model;
 use std::rt::Clock;
 use std::time::Instant;
@@ -49,7 +50,7 @@ fn passed(start: Option<Instant>, now: Option<Instant>) -> Option<u64>
     centiseconds(start?, now?)
 }
 
-impl<'a, R: Clock> Stopwatch<'a, R> {
+impl<'a, R: Clock + Hosted> Stopwatch<'a, R> {
     /// Begins at 0.
     pub fn start(rt: &'a R) -> Stopwatch<'a, R>
         ensures start { WasStarted result }

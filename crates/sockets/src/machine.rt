@@ -13,6 +13,7 @@ use control::{Bound, Control, Waits};
 use mio::net::UdpSocket;
 use mio::unix::SourceFd;
 use mio::{Events, Interest, Poll, Token};
+use runtimes::Hosted;
 use std::alloc::{AllocError, Global};
 use std::io::{self, ErrorKind};
 use std::net::{Net, SocketAddr};
@@ -23,7 +24,7 @@ use std::time::Duration;
 #[derive(Drop)]
 pub struct Machine<'a, R>(&'a R);
 
-impl<'a, R> Machine<'a, R> {
+impl<'a, R: Hosted> Machine<'a, R> {
     /// The system at hand. It can't be asked for anything here.
     pub fn new(net: &'a R) -> Machine<'a, R> {
         Machine(net)

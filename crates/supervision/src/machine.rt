@@ -5,6 +5,7 @@ ghost use Rattle.supervision.specs.Descriptors.{IsRefused, IsSet, IsSetOnce, IsU
 
 use crate::NotOpen;
 use arrayvec::ArrayString;
+use runtimes::Hosted;
 use std::marker::Model;
 use std::net::Net;
 use std::os::fd::RawFd;
@@ -16,7 +17,7 @@ pub struct Machine<'a, R> {
     _net: &'a R,
 }
 
-impl<'a, R> Machine<'a, R> {
+impl<'a, R: Hosted> Machine<'a, R> {
     /// It can't be asked for anything here.
     pub fn new(net: &'a R) -> Machine<'a, R> {
         Machine { _net: net }

@@ -4,6 +4,7 @@ ghost use Rattle.std.specs.Duration.{as_nanos};
 ghost use Rattle.tap.specs.Moments.{HasReadSince, IsReading};
 
 use crate::asked_clock::SystemClock;
+use runtimes::Hosted;
 use std::marker::Model;
 use std::rt::Clock;
 use std::time::{Duration, Instant};
@@ -53,7 +54,7 @@ fn reading(start: Option<Instant>, now: Option<Instant>, last: u64) -> u64
     }
 }
 
-impl<'a, R> SinceFirst<'a, R> {
+impl<'a, R: Hosted> SinceFirst<'a, R> {
     /// It wasn't asked yet.
     pub fn new(rt: &'a R) -> SinceFirst<'a, R>
         ensures start { result.start ≡ None }
