@@ -53,17 +53,28 @@ class Edit:
             elif self.files and at is not None:
                 self.files[-1][1][-1][at] += "\n" + line
 
-    def put_into(self, crate):
-        """Puts it into the files of the crate in that folder, and gives what each of them had."""
-        had = {crate / name: (crate / name).read_text(encoding="utf-8") for name, _ in self.files}
+    def changed(self, crate):
+        """Each file of the crate in that folder that it edits, with what it makes of it. A text that doesn't stand there just
+        once is a LookupError."""
+        made = {}
         for name, pairs in self.files:
-            text = (crate / name).read_text(encoding="utf-8")
+            file = crate / name
+            text = made.get(file) or (file.read_text(encoding="utf-8") if file.is_file() else "")
             for old, new in pairs:
                 if text.count(old) != 1:
-                    put_back(had)
-                    raise SystemExit(f"edits: {self.crate}/{self.name}: its old text stands {text.count(old)} times")
+                    raise LookupError(f"its old text stands {text.count(old)} times in {name}")
                 text = text.replace(old, new)
-            (crate / name).write_text(text, encoding="utf-8")
+            made[file] = text
+        return made
+
+    def put_into(self, crate):
+        """Puts it into the files of the crate in that folder, and gives what each of them had."""
+        try:
+            made = self.changed(crate)
+        except LookupError as fault:
+            raise SystemExit(f"edits: {self.crate}/{self.name}: {fault}") from fault
+        had = {file: file.read_text(encoding="utf-8") for file in made}
+        put_back(made)
         return had
 
 

@@ -74,6 +74,10 @@ HANDS_ON = {
 # A module of AT_HAND that only hands on: what it is asked has the names of whom it asks, and none of its own.
 NAMELESS = ("boot_file/openings",)
 
+# What has to be known of that of which a type of AT_HAND is made, by its module: nothing, or the one trait that is named here. Elsewhere it
+# is `Hosted`, so that nobody can be made up for the system.
+MADE_OF = {"boot_file/openings": "", "gate/recording": "OwnLog", "journal/pens": "", "tap/asked_files": ""}
+
 # Types of AT_HAND whose field is public, and the one crate of the program that names each.
 OPEN = {"SystemReads": "faults", "SystemDraws": "slots"}
 
@@ -116,6 +120,7 @@ ANSWERED = {
     "EndLine": "rounds/ends:O",
     "Folders": "control/machine:Machine",
     "Host": "commands/hosts:ThisHost",
+    "Hosted": "runtimes/hosted:HostRuntime runtimes/hosted:R",
     "Journal": "journal/sink:FilteredLog journal/sink:Unhindered",
     "Limits": "control/machine:SystemLine",
     "Line": "control/lines:S",
@@ -127,10 +132,12 @@ ANSWERED = {
     "Opens": "commands/opening:SystemCaptures",
     "Outlet": "journal/destinations:StandardError tap/capture_files:CaptureFile",
     "Progress": "commands/meters:Meter simulation/progress:Unwatched",
+    "OwnLog": "journal/own_logs:FilteredLog",
     "Puts": "outlets/puts:T",
     "Reads": "checks/machine:ThisMachine faults/texts:SystemReads gate/files:FileSystem",
     "RefusalText": "frame_sim/events:WorldFault",
     "Reports": "control/machine:Waits",
+    "Sealed": "journal/sealed:FilteredLog runtimes/sealed:HostRuntime runtimes/sealed:R",
     "Serves": "commands/serving:SystemServes",
     "Shows": "box_words/refusals:BoxFault checks/telling:WithPath command_line/faults:ValueFault faults/faults:Fault "
              "frame_sim/events:WorldFault loopback_run/ports:PortFault",
@@ -203,6 +210,7 @@ USED_UP = re.compile(r"\(\s*(?:mut )?self\s*(?:,[^&()]*)?\)")
 MEMORY = re.compile(r"\{\s*self\.\w+\.alloc\(\)\s*\}")
 ONWARD = re.compile(r"\{\s*self\.\w+\.(\w+)\([&\w., ]*\)\s*\}")
 BOUND = re.compile(r"(?:(?<!:):(?!:)|\+)\s*([\w:]+)")
+WHERE = re.compile(r"\bwhere\b")
 SAME = re.compile(r"\bself\.(?:new|old)\s*\)?\s*≡\s*\(?\s*self\.(?:old|new)\b(?!\.)")
 NUMBERED = re.compile(r"(?<![\w.])(?<!\w::)\b((?:libc|os)(?:\s*::\s*\w+)+)")
 BROUGHT = re.compile(r"(?<!ghost )\b(?:use|extern\s+crate)\s+([^;]*);")
@@ -344,26 +352,44 @@ def is_told(result):
     return re.fullmatch(rf"(?:(?:Option<)?(?:\w+::)*(?:{names})(?:<[^&()\[\]]*>)?>?)?", result) is not None
 
 
+def bounds_of(function):
+    """By which traits a function knows that for which it and its `impl` are told."""
+    return {it.split("::")[-1] for it in BOUND.findall(function.said)}
+
+
+def makes_of(place, function):
+    """Of what a function makes a type that has the system at hand, if it does: the word for it."""
+    made = MAKING.fullmatch(function.taken)
+    is_made = made and made[1] not in AT_HAND[place] and made[1] in (*TOLD_FOR.findall(function.said), "Registry")
+    return made[1] if is_made else None
+
+
+def wanted_of(place, word):
+    """What has to be known of that of which such a type is made, and no more than that."""
+    return set() if word == "Registry" else {MADE_OF.get(place, "Hosted")} - {""}
+
+
 def hands_on(place, function):
     """Whether a function makes the one call for which it stands in the table, and asks nobody of whom it knows more."""
     bounds, names = HANDS_ON[place]
     asked = ONWARD.fullmatch(function.body)
     called = dict(it.split("=") for it in names.split())[function.name]
-    return asked is not None and asked[1] == called and {it.split("::")[-1] for it in BOUND.findall(function.said)} <= set(bounds.split())
+    return asked is not None and asked[1] == called and bounds_of(function) <= set(bounds.split())
 
 
 def may_use(place, function, calls):
     """Whether a function may use a field by which the system is at hand: as a call that has a name, and changes whose field it
-    is; as who makes that of the system, or of what had it and is used up, where nothing is known of the system; to hand on one
-    call; or to give the memory."""
-    made = MAKING.fullmatch(function.taken)
+    is; as who makes that of the system, of which nothing is known but that it is no made-up one, or of what had it and is used
+    up; to hand on one call; or to give the memory."""
+    made = makes_of(place, function)
     if function.name in re.findall(r"(\w+)=", HANDS_ON.get(place, ("", ""))[1]):
         return hands_on(place, function)
     if opened_by(function) & calls and CHANGING.match(function.taken) and place not in NAMELESS:
         return True
-    if made and made[1] not in AT_HAND[place] and made[1] in (*TOLD_FOR.findall(function.said), "Registry") \
-            or USED_UP.fullmatch(function.taken) and is_told(function.result):
-        return not re.search(r"(?<!:):(?!:)|\bwhere\b", function.said)
+    if made:
+        return bounds_of(function) == wanted_of(place, made) and not WHERE.search(function.said)
+    if USED_UP.fullmatch(function.taken) and is_told(function.result):
+        return bounds_of(function) <= {"Hosted"} and not WHERE.search(function.said)
     return function.name == "alloc" and MEMORY.fullmatch(function.body) is not None
 
 
@@ -407,7 +433,9 @@ def asked_otherwise(top, crates):
         uses = re.compile(rf"\.\s*(?:{fields})\b(?!\s*\()|\b(?:Self|{'|'.join(types)})\s*(?:::\s*<[^;{{}}()]*>\s*)?[({{]")
         for function in functions_in(code) if types else ():
             name, is_used = function.name, uses.search(function.body)
-            if is_used and (place, name) not in OTHERWISE and not may_use(place, function, calls):
+            if is_used and makes_of(place, function) and not may_use(place, function, calls):
+                yield f"{path}: {name} makes somebody who asks the system of what is no {MADE_OF.get(place, 'Hosted')}, or of more"
+            elif is_used and (place, name) not in OTHERWISE and not may_use(place, function, calls):
                 yield f"{path}: {name} uses the system at hand, and is no call that has a name and is of `&mut self`"
             elif is_used and SAME.search(function.clauses):
                 yield f"{path}: {name} says that who asks is as he was: then whoever makes that call isn't seen"

@@ -7,12 +7,14 @@
 A dependency of a crate in crates.txt has to be named by the crate's own sources; comments and quoted texts don't
 count. The lemmas that other crates cite
 stand in proofs/Offered.antt, the one file that proofs/Lib.antt shows (`pub mod`); no crate imports another's other
-proof files. Each folder of crates/ has its line in crates.txt and in crates/README.md.
+proof files. Each folder of crates/ has its line in crates.txt and in crates/README.md. Each wrong body, in crates/*/must-fail and in
+wrong-bodies/, edits a text that is there.
 
 The system is at hand in few modules (AT_HAND), by types whose fields nobody else sees and who can't be copied. There a function
 that uses such a field has the name of a call, changes whose field it is (`&mut self`), gives the system to nobody, and doesn't say
 that who asks is as he was; but for those that make the type of what they know nothing of, hand on one call (HANDS_ON), give its
-memory, or stand in OTHERWISE. Nothing beside functions uses one. No other type has the system by a field (THROUGH), few functions
+memory, or stand in OTHERWISE. Who makes such a type knows of the system just that it is `Hosted` (MADE_OF), which nothing that is made
+up can be. Nothing beside functions uses one. No other type has the system by a field (THROUGH), few functions
 are handed it (HANDED), and nobody else does anything where he is let go (DROPS). Who asks with no handle, by `libc` or `os`, stands
 in BY_NUMBER. Nobody stands in for the system: its rights are no type's of the program, and what the program asks by a trait of its
 own is answered by those in ANSWERED alone. These tables, and who looks at them, stand in handles.py. Which function has the name
@@ -30,6 +32,7 @@ import tempfile
 
 sys.dont_write_bytecode = True  # Nothing is left in the repository.
 import handles
+from edits import edits_of
 from sources import CALL, FIELD, code_of, crates_of, found_in, names_of_calls, sources_of
 
 # A library that a crate's sources name nowhere, and that its check asks for all the same: a public clause of a crate
@@ -205,6 +208,15 @@ def never_let_go(top, crates):
                 yield f"{path.relative_to(top)}: {found}: what is forgotten isn't let go"
 
 
+def out_of_date(top, _crates):
+    """An edit of a text that isn't there any more: nobody can try it, and what was said of it is of another text."""
+    for edit in edits_of(top, []):
+        try:
+            edit.changed(top / "crates" / edit.crate)
+        except LookupError as fault:
+            yield f"{edit.path.relative_to(top)}: {fault}"
+
+
 def without_a_sign(top, crates):
     plan = (top / "crates" / "README.md").read_text(encoding="utf-8")
     for folder in sorted((top / "crates").iterdir()):
@@ -236,13 +248,13 @@ def other_versions(top):
 
 def faults(top):
     crates = crates_of(top)
-    looks = (unused, past_the_door, looked_into, kept, untold_names, unfolded_by_none, never_let_go, *handles.LOOKS, without_a_sign)
+    looks = (unused, past_the_door, looked_into, kept, untold_names, unfolded_by_none, never_let_go, *handles.LOOKS, out_of_date, without_a_sign)
     return [line for look in looks for line in look(top, crates)] + list(other_versions(top))
 
 
 def copy_of(top, room):
     copy = room / "copy"
-    shutil.copytree(top, copy, ignore=shutil.ignore_patterns(".git", "out", "data", "must-fail"))
+    shutil.copytree(top, copy, ignore=shutil.ignore_patterns(".git", "out", "data", "must-fail", "wrong-bodies"))
     return copy
 
 
@@ -279,9 +291,13 @@ BY_HAND = "impl<F: OpenFile> Opened<F> {\n    fn cut(&self) {\n        self.file
 # A fault that is a line more, or another: where, what stands there, what is planted in its place, and the beginning of what is
 # said of it. A file that isn't there is empty.
 CHANGED = {
-    "again": ("box_words/src/machine.rt", "impl<'a, R> System<'a, R> {\n",
-              "impl<'a, R> System<'a, R> {\n    fn again(&self) -> System<'a, R> {\n        System(self.0)\n    }\n",
+    "again": ("box_words/src/machine.rt", "impl<'a, R: Hosted> System<'a, R> {\n",
+              "impl<'a, R: Hosted> System<'a, R> {\n    fn again(&self) -> System<'a, R> {\n        System(self.0)\n    }\n",
               "again uses the system at hand"),
+    "unhosted": ("rounds/src/asked_clock.rt", "impl<'a, R: Hosted> SystemClock", "impl<'a, R> SystemClock", "new makes somebody who asks"),
+    "any log": ("gate/src/recording.rt", "records_in<L: OwnLog>", "records_in<L: Journal>", "records_in makes somebody who asks"),
+    "more than hosted": ("commands/src/machine.rt", "impl<'a, R: Hosted> SystemCaptures", "impl<'a, R: Hosted + Sized> SystemCaptures",
+                         "new makes somebody who asks"),
     "twin": ("inputs/src/standard_input.rt", "#[derive(Drop)]", "#[derive(Clone, Drop)]",
              "StandardInput has the system at hand, and may"),
     "row": ("commands/src/meters.rt", "Drop for Meter", "Lets for Meter", "has no Drop for Meter, which"),
@@ -331,6 +347,11 @@ def plant(top, fault):
         path = top / "docs" / "THEOREM.md"
         path.write_text(path.read_text().replace("| `told_to_draw` |", "| `drawn` |"))
         return "crates/gate/src/rest.rt: told_to_draw has WasDrawn"
+    if fault == "edit":
+        path = top / "wrong-bodies" / "sums" / "planted.edit"
+        path.parent.mkdir(parents=True)
+        path.write_text("It does nothing.\nfile: src/lib.rt\nold: this isn't there\nnew: nor is this\n")
+        return "wrong-bodies/sums/planted.edit: its old text stands 0 times in src/lib.rt"
     if fault == "dependency":
         path = top / "crates.txt"
         path.write_text(re.sub(r"(?m)^(sums:.*)$", r"\1 slab", path.read_text()))
@@ -355,7 +376,7 @@ def self_test(top):
     with tempfile.TemporaryDirectory(prefix="house-") as room:
         copy = copy_of(top, pathlib.Path(room))
         before = set(faults(copy))
-        for planted in (PLANTED, CHANGED, ["theorem"], ["dependency"], ["door"], ["version"], ["folder"]):
+        for planted in (PLANTED, CHANGED, ["theorem"], ["edit"], ["dependency"], ["door"], ["version"], ["folder"]):
             wanted = {fault: plant(copy, fault) for fault in planted}
             now = faults(copy)
             found = [line for line in now if line not in before]
