@@ -92,7 +92,7 @@ DROPS = {
 
 # Functions that are handed the system itself, beside those that make a type of AT_HAND of it: their lines are trusted.
 HANDED = {
-    "captures/files": "open may_be_regular",
+    "captures/files": "open is_read told_to_open may_be_regular",
     "commands/machine": "act",
     "faults/texts": "text_of",
     "gate/rest": "filter_by as_environment_says said_by_environment",

@@ -1,8 +1,12 @@
 -- The files in which captures are begun.
 use Rattle.std.specs.Prelude.{ℕ, ◌==◌, ◌≡◌, ◌&&◌, ◌⊎◌, Bool, true, false, List, [], ◌∷◌, Option, Some, None, Result, Ok, Err, option_map, take}
+use Rattle.std.specs.Fs.{asks_append, asks_create, asks_create_new, asks_read, asks_truncate, asks_write}
 use Rattle.std.specs.IoError.{error_kind}
+use Rattle.std.specs.declared.fs.options.OpenOptions.{OpenOptions}
 use Rattle.std.specs.declared.io.Error.{Error}
 use Rattle.std.specs.declared.io.ErrorKind.TheVariants.{AlreadyExists}
+use Rattle.captures.specs.declared.files.Reader.{Reader}
+use Rattle.captures.specs.declared.files.Reader.TheVariants.{Awaited, NotAwaited}
 
 -- A capture may be begun in a file that has these bytes: where they are none, or begin as a capture does, with the type of a
 -- Section Header Block.
@@ -63,3 +67,60 @@ IsNoPlace looks before error after =
 -- it was to let go of all that it has, and this was answered
 abbrev pub IsUnemptied : {F : Type 0} → Empties F → F → Error → Type 0
 IsUnemptied {F = F} empties before error = (after : F) × empties before (Err error) after
+
+-- ---- how it is opened
+
+-- how the file of a capture is opened: to be written to, and to be read or not; it is made where it isn't there, and keeps what it has where it is
+pub record IsForCapture (reads : Bool) (options : OpenOptions) : Type 0 where
+  pub reads_so : asks_read options ≡ reads
+  pub writes : asks_write options ≡ true
+  pub appends_none : asks_append options ≡ false
+  pub makes : asks_create options ≡ true
+  pub makes_no_new : asks_create_new options ≡ false
+  pub empties_none : asks_truncate options ≡ false
+
+-- Of this path it was looked whether a regular file, or none, is there. This name, and the one below it, is of a call too.
+unfoldable pub WasSought : List ℕ → Bool → Type 0
+WasSought path regular = Unit {0}
+
+-- the system was asked by these options for the file at this path, and answered this
+unfoldable pub WasOpened : {F : Type 0} → OpenOptions → List ℕ → Result F Error → Type 0
+WasOpened options path answer = Unit {0}
+
+-- it is to be read, too, where the reader of a pipe isn't to be waited for; else where it may be a regular file
+abbrev pub IsRead : List ℕ → Reader → Bool → Type 0
+IsRead path Awaited reads = WasSought path reads
+IsRead path NotAwaited reads = reads ≡ true
+
+-- so the file at this path was asked for, and this was answered
+pub record IsAsked {F : Type 0} (path : List ℕ) (reader : Reader) (answer : Result F Error) : Type 0 where
+  pub reads : Bool
+  pub sought : IsRead path reader reads
+  pub options : OpenOptions
+  pub how : IsForCapture reads options
+  pub asked : WasOpened options path answer
+
+-- that was looked at then, and a capture may be begun in it
+pub record IsOpened {F : Type 0} (path : List ℕ) (reader : Reader) (vacant : F) : Type 0 where
+  pub file : F
+  pub opened : IsAsked path reader (Ok file)
+  pub free : IsFound WasLookedAt file true vacant
+
+-- or it couldn't be looked at, or none may, for which this is told
+pub record IsUnfit (F : Type 0) (path : List ℕ) (reader : Reader) (why : Error) : Type 0 where
+  pub file : F
+  pub after : F
+  pub opened : IsAsked path reader (Ok file)
+  pub refused : IsNoPlace WasLookedAt file why after
+
+-- no file is had at this path for a capture: the system answered so; or it gave one in which none may be begun
+abbrev pub IsUnopened : Type 0 → List ℕ → Reader → Error → Type 0
+IsUnopened F path reader why = IsAsked {F = F} path reader (Err why) ⊎ IsUnfit F path reader why
+
+-- what was opened so had to let go of all that it had, and is this file since
+abbrev pub IsCleared : {F : Type 0} → List ℕ → Reader → F → Type 0
+IsCleared {F = F} path reader file = (vacant : F) × (IsOpened path reader vacant × WasEmptied vacant (Ok tt) file)
+
+-- or it wasn't opened, or refused that
+abbrev pub IsUncleared : Type 0 → List ℕ → Reader → Error → Type 0
+IsUncleared F path reader why = IsUnopened F path reader why ⊎ ((vacant : F) × (IsOpened path reader vacant × IsUnemptied WasEmptied vacant why))

@@ -2,7 +2,7 @@
 ghost use Rattle.std.specs.Prelude.{◌≡◌, ◌≤◌, ◌<◌, ◌↔◌, None, true, Ok, take, length, option_map, IfErr, IfOk, IfSome, IsOk, OnErr, OnOk};
 ghost use Rattle.std.specs.Io.KnownBytes.{Consumes, IsAtEnd};
 ghost use Rattle.std.specs.IoError.{error_kind};
-ghost use Rattle.captures.specs.Files.{Empties, Held, IsFound, IsLookedAt, IsNoPlace, IsUnemptied, Looks, WasEmptied, WasLookedAt, emptied, found_in, is_free, may_begin};
+ghost use Rattle.captures.specs.Files.{Empties, Held, IsForCapture, IsFound, IsLookedAt, IsNoPlace, IsOpened, IsRead, IsUnemptied, IsUnopened, Looks, WasEmptied, WasLookedAt, WasOpened, WasSought, emptied, found_in, is_free, may_begin};
 
 use std::fs::{self, Files, OpenFile, OpenOptions};
 use std::io::{self, ErrorKind, Read, Seek, SeekFrom};
@@ -212,19 +212,67 @@ pub enum Reader {
 /// # Errors
 ///
 /// Where the system refuses it; and as `Vacant::of`.
-pub fn open<R: Files>(rt: &R, path: &str, reader: Reader) -> io::Result<Vacant<R::File>> {
-    let reads = reader == Reader::NotAwaited || may_be_regular(rt, path);
-    let file = OpenOptions::new()
+pub fn open<R: Files>(rt: &R, path: &str, reader: Reader) -> io::Result<Vacant<R::File>>
+    ensures opened { IfOk result (IsOpened path.now reader) }
+    ensures refused { IfErr result (IsUnopened R.File path.now reader) }
+{
+    let options = for_capture(is_read(rt, path, reader));
+    match told_to_open(rt, &options, path) {
+        Ok(file) => place_in(file),
+        Err(error) => Err(error),
+    }
+}
+
+/// The file, where a capture may be begun in it, or why none may.
+fn place_in<F: Opened + Drop>(file: F) -> io::Result<Vacant<F>>
+    ensures free { IfOk result (IsFound F.looks file true) }
+    ensures refused { IfErr result (λ error. (after : F) × IsNoPlace F.looks file error after) }
+{
+    match Vacant::of(file) {
+        Ok(vacant) => Ok(vacant),
+        Err(refused) => Err(refused.error),
+    }
+}
+
+/// How the file of a capture is opened, to be read too or not.
+fn for_capture(reads: bool) -> OpenOptions
+    ensures { IsForCapture reads result }
+{
+    let mut options = OpenOptions::new();
+    options.mode(MODE);
+    options
         .read(reads)
         .write(true)
+        .append(false)
+        .truncate(false)
         .create(true)
-        .mode(MODE)
-        .open(rt, path)?;
-    Vacant::of(file).map_err(|refused| refused.error)
+        .create_new(false);
+    options
+}
+
+/// Whether it is to be read too, so that its opening doesn't wait, or so that its front can be looked at.
+fn is_read<R: Files>(rt: &R, path: &str, reader: Reader) -> bool
+    ensures { IsRead path.now reader result }
+{
+    match reader {
+        Reader::Awaited => may_be_regular(rt, path),
+        Reader::NotAwaited => true,
+    }
+}
+
+/// Asks the system by these options for the file at a path.
+#[tactic(auto, unfolding(crate::specs::Files::WasOpened))]
+fn told_to_open<R: Files>(rt: &R, options: &OpenOptions, path: &str) -> io::Result<R::File>
+    ensures { WasOpened options.now path.now result }
+{
+    options.open(rt, path)
 }
 
 /// Whether a path is that of a regular file, or of none yet.
-fn may_be_regular<R: Files>(rt: &R, path: &str) -> bool {
+#[tactic(auto, unfolding(crate::specs::Files::WasSought))]
+fn may_be_regular<R: Files>(rt: &R, path: &str) -> bool
+    ensures { WasSought path.now result }
+{
     match fs::metadata(rt, path) {
         Ok(found) => found.is_file(),
         Err(_) => true,

@@ -1,11 +1,13 @@
 //! This machine, as the commands have it: all that has the system at hand. What it is asked has names, and no more is known
 //! of it.
-ghost use Rattle.std.specs.Prelude.{◌≡◌, ◌⊎◌, ◌≤◌, IsTrue, false, map, string_bytes};
+ghost use Rattle.std.specs.Prelude.{◌≡◌, ◌⊎◌, ◌≤◌, IfErr, IfOk, IsTrue, false, map, string_bytes};
 ghost use Rattle.nat_types.specs.declared.gateways.GatewayId.TheVariants.{Zero};
 ghost use Rattle.command_line.specs.Line.{AskVersion, MayAskVersion};
 ghost use Rattle.box_words.specs.Machines.{IsUntouched};
 ghost use Rattle.gate.specs.Served.{HasServed};
 ghost use Rattle.loopback_run.specs.Holds.{IsUnasked};
+ghost use Rattle.captures.specs.Files.{IsCleared, IsUncleared};
+ghost use Rattle.captures.specs.declared.files.Reader.TheVariants.{Awaited};
 ghost use Rattle.commands.specs.Acts.{Acts};
 ghost use Rattle.commands.specs.Ends.{AreDoneAnew};
 ghost use Rattle.commands.specs.Here.{ServesHere, WasOpened, WasServed};
@@ -118,9 +120,14 @@ impl<R: Files> SystemCaptures<'_, R> {
     /// `AlreadyExists` where it is a regular file that has something else, and keeps it; where it can't be made or emptied.
     #[tactic(auto, unfolding(crate::specs::Here::WasOpened))]
     pub(crate) fn told_to_open(&mut self, path: &str) -> io::Result<R::File>
-        ensures { WasOpened self.old path.now result self.new }
+        ensures opened { WasOpened self.old path.now result self.new }
+        ensures cleared { IfOk result (IsCleared path.now Awaited) }
+        ensures refused { IfErr result (IsUncleared R.File path.now Awaited) }
     {
-        open(self.rt, path, Reader::Awaited)?.clear()
+        match open(self.rt, path, Reader::Awaited) {
+            Ok(vacant) => vacant.clear(),
+            Err(error) => Err(error),
+        }
     }
 }
 

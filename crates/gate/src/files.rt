@@ -1,6 +1,8 @@
 //! The system's files, and its memory. What it is asked has names, and no more is known of it. No socket can be asked for here.
 ghost use Rattle.std.specs.Prelude.{IfErr, IfOk, Err, Ok};
 ghost use Rattle.std.specs.IoError.{error_kind};
+ghost use Rattle.captures.specs.Files.{IsOpened, IsUnopened};
+ghost use Rattle.captures.specs.declared.files.Reader.TheVariants.{NotAwaited};
 ghost use Rattle.gate.specs.Named.{WasGot, WasTried};
 
 use faults::Reads;
@@ -69,7 +71,9 @@ impl<R: Files> FileSystem<'_, R> {
     /// Has it open the file at a path for a capture.
     #[tactic(auto, unfolding(crate::specs::Named::WasTried))]
     pub(crate) fn told_to_open(&mut self, path: &str) -> io::Result<Vacant<R::File>>
-        ensures { WasTried self.old path.now result self.new }
+        ensures tried { WasTried self.old path.now result self.new }
+        ensures opened { IfOk result (IsOpened path.now NotAwaited) }
+        ensures refused { IfErr result (IsUnopened R.File path.now NotAwaited) }
     {
         tap::open(self.rt, path)
     }

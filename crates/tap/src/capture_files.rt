@@ -2,6 +2,8 @@
 ghost use Rattle.std.specs.Prelude.{◌≡◌, ◌<◌, ◌≤◌, Bool, false, true, List, ℕ, Option, Result, IfErr, IfOk, IsTrue, length};
 ghost use Rattle.std.specs.Io.KnownBytes.{WriteAppends};
 ghost use Rattle.std.specs.Io.{WritesAtMost};
+ghost use Rattle.captures.specs.Files.{IsOpened, IsUnopened};
+ghost use Rattle.captures.specs.declared.files.Reader.TheVariants.{NotAwaited};
 ghost use Rattle.tap.specs.Files.{IsBegunIn, IsUnbegunIn, WasCleared};
 ghost use Rattle.tap.specs.Outlets.{Looks, Writes, taken};
 
@@ -78,7 +80,10 @@ impl<F: Write + AsRawFd> Outlet for CaptureFile<F> {
 /// # Errors
 ///
 /// `AlreadyExists` where it is a regular file that has something, and no capture; where the system refuses it.
-pub fn open<R: Files>(rt: &R, path: &str) -> io::Result<Vacant<R::File>> {
+pub fn open<R: Files>(rt: &R, path: &str) -> io::Result<Vacant<R::File>>
+    ensures opened { IfOk result (IsOpened path.now NotAwaited) }
+    ensures refused { IfErr result (IsUnopened R.File path.now NotAwaited) }
+{
     captures::open(rt, path, Reader::NotAwaited)
 }
 
