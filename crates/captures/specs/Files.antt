@@ -38,12 +38,45 @@ Looks F = F → Result Held Error → F → Type 0
 abbrev pub Empties : Type 0 → Type 1
 Empties F = F → Result (Unit {0}) Error → F → Type 0
 
--- The two below are such of the system's files. They are no more than names, each of a call: who makes the call has it, and nobody else.
-unfoldable pub WasLookedAt : {F : Type 0} → Looks F
-WasLookedAt before found after = Unit {0}
+-- Of a file of the system's it was asked whether it is a regular one; it was read until four bytes were had, or it was at its end; it was rewound to
+-- its front; it was told to let go of all that it has. They are no more than names, each of a call: who makes the call has it, and nobody else.
+unfoldable pub WasAskedKind : {F : Type 0} → F → Result Bool Error → F → Type 0
+WasAskedKind before regular after = Unit {0}
 
-unfoldable pub WasEmptied : {F : Type 0} → Empties F
-WasEmptied before answer after = Unit {0}
+unfoldable pub WasFilled : {F : Type 0} → F → Result (List ℕ) Error → F → Type 0
+WasFilled before bytes after = Unit {0}
+
+unfoldable pub WasRewound : {F : Type 0} → F → Result (Unit {0}) Error → F → Type 0
+WasRewound before answer after = Unit {0}
+
+unfoldable pub WasCut : {F : Type 0} → F → Result (Unit {0}) Error → F → Type 0
+WasCut before answer after = Unit {0}
+
+-- these bytes are at the front of a room, or it is told why none are
+abbrev pub filled_in : List ℕ → Result ℕ Error → Result (List ℕ) Error
+filled_in room (Ok count) = Ok (take count room)
+filled_in room (Err error) = Err error
+
+-- a regular file was read, and then it was rewound; or one of these was refused
+abbrev pub ReadsFront : {F : Type 0} → Looks F
+ReadsFront {F = F} before (Ok (Some front)) after = (read : F) × (WasFilled before (Ok front) read × WasRewound read (Ok tt) after)
+ReadsFront before (Ok None) after = ⊥
+ReadsFront {F = F} before (Err why) after = WasFilled before (Err why) after
+    ⊎ ((read : F) × ((front : List ℕ) × (WasFilled before (Ok front) read × WasRewound read (Err why) after)))
+
+-- so a file of the system's was looked at: it was asked for its kind, and a regular one was read
+abbrev pub SystemLooks : {F : Type 0} → Looks F
+SystemLooks before (Ok None) after = WasAskedKind before (Ok false) after
+SystemLooks {F = F} before (Ok (Some front)) after = (asked : F) × (WasAskedKind before (Ok true) asked × ReadsFront asked (Ok (Some front)) after)
+SystemLooks {F = F} before (Err why) after = WasAskedKind before (Err why) after
+    ⊎ ((asked : F) × (WasAskedKind before (Ok true) asked × ReadsFront asked (Err why) after))
+
+-- and so it was emptied: it was asked for its kind, and a regular one let go of what it had
+abbrev pub SystemEmpties : {F : Type 0} → Empties F
+SystemEmpties {F = F} before (Ok done) after = WasAskedKind before (Ok false) after
+    ⊎ ((asked : F) × (WasAskedKind before (Ok true) asked × WasCut asked (Ok tt) after))
+SystemEmpties {F = F} before (Err why) after = WasAskedKind before (Err why) after
+    ⊎ ((asked : F) × (WasAskedKind before (Ok true) asked × WasCut asked (Err why) after))
 
 -- so many bytes at the front of a room were found, or no regular file
 abbrev pub found_in : List ℕ → Result (Option ℕ) Error → Result Held Error
@@ -104,14 +137,14 @@ pub record IsAsked {F : Type 0} (path : List ℕ) (reader : Reader) (answer : Re
 pub record IsOpened {F : Type 0} (path : List ℕ) (reader : Reader) (vacant : F) : Type 0 where
   pub file : F
   pub opened : IsAsked path reader (Ok file)
-  pub free : IsFound WasLookedAt file true vacant
+  pub free : IsFound SystemLooks file true vacant
 
 -- or it couldn't be looked at, or none may, for which this is told
 pub record IsUnfit (F : Type 0) (path : List ℕ) (reader : Reader) (why : Error) : Type 0 where
   pub file : F
   pub after : F
   pub opened : IsAsked path reader (Ok file)
-  pub refused : IsNoPlace WasLookedAt file why after
+  pub refused : IsNoPlace SystemLooks file why after
 
 -- no file is had at this path for a capture: the system answered so; or it gave one in which none may be begun
 abbrev pub IsUnopened : Type 0 → List ℕ → Reader → Error → Type 0
@@ -119,8 +152,8 @@ IsUnopened F path reader why = IsAsked {F = F} path reader (Err why) ⊎ IsUnfit
 
 -- what was opened so had to let go of all that it had, and is this file since
 abbrev pub IsCleared : {F : Type 0} → List ℕ → Reader → F → Type 0
-IsCleared {F = F} path reader file = (vacant : F) × (IsOpened path reader vacant × WasEmptied vacant (Ok tt) file)
+IsCleared {F = F} path reader file = (vacant : F) × (IsOpened path reader vacant × SystemEmpties vacant (Ok tt) file)
 
 -- or it wasn't opened, or refused that
 abbrev pub IsUncleared : Type 0 → List ℕ → Reader → Error → Type 0
-IsUncleared F path reader why = IsUnopened F path reader why ⊎ ((vacant : F) × (IsOpened path reader vacant × IsUnemptied WasEmptied vacant why))
+IsUncleared F path reader why = IsUnopened F path reader why ⊎ ((vacant : F) × (IsOpened path reader vacant × IsUnemptied SystemEmpties vacant why))

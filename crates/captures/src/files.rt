@@ -2,7 +2,7 @@
 ghost use Rattle.std.specs.Prelude.{◌≡◌, ◌≤◌, ◌<◌, ◌↔◌, None, true, Ok, take, length, option_map, IfErr, IfOk, IfSome, IsOk, OnErr, OnOk};
 ghost use Rattle.std.specs.Io.KnownBytes.{Consumes, IsAtEnd};
 ghost use Rattle.std.specs.IoError.{error_kind};
-ghost use Rattle.captures.specs.Files.{Empties, Held, IsForCapture, IsFound, IsLookedAt, IsNoPlace, IsOpened, IsRead, IsUnemptied, IsUnopened, Looks, WasEmptied, WasLookedAt, WasOpened, WasSought, emptied, found_in, is_free, may_begin};
+ghost use Rattle.captures.specs.Files.{Empties, Held, IsForCapture, IsFound, IsLookedAt, IsNoPlace, IsOpened, IsRead, IsUnemptied, IsUnopened, Looks, ReadsFront, SystemEmpties, SystemLooks, WasAskedKind, WasCut, WasFilled, WasOpened, WasRewound, WasSought, emptied, filled_in, found_in, is_free, may_begin};
 
 use std::fs::{self, Files, OpenFile, OpenOptions};
 use std::io::{self, ErrorKind, Read, Seek, SeekFrom};
@@ -55,7 +55,7 @@ pub trait Opened {
         ensures honesty { honest self.old ↔ honest self.new };
 }
 
-/// No clause can say what the system's files do, so they claim nothing. What was asked of them, and answered, has a name.
+/// No clause can say what the system's files do, so they claim nothing. Each call that is made of them, and its answer, has a name.
 impl<F: Read + Seek + OpenFile> Opened for F {
     ghost held = { λ _. None };
 
@@ -63,26 +63,72 @@ impl<F: Read + Seek + OpenFile> Opened for F {
 
     ghost honest = { λ _. ⊥ };
 
-    ghost looks = { WasLookedAt };
+    ghost looks = { SystemLooks };
 
-    ghost empties = { WasEmptied };
+    ghost empties = { SystemEmpties };
 
-    #[tactic(auto, unfolding(crate::specs::Files::WasLookedAt))]
     fn front(&mut self, room: &mut [u8; FRONT]) -> io::Result<Option<usize>> {
-        if !self.metadata()?.is_file() {
-            return Ok(None);
+        match told_of_kind(self) {
+            Ok(true) => front_of(self, room),
+            Ok(false) => Ok(None),
+            Err(error) => Err(error),
         }
-        let count = fill(self, room)?;
-        self.seek(SeekFrom::Start(0))?;
-        Ok(Some(count))
     }
 
-    #[tactic(auto, unfolding(crate::specs::Files::WasEmptied))]
     fn empty(&mut self) -> io::Result<()> {
-        if self.metadata()?.is_file() {
-            self.set_len(0)?;
+        match told_of_kind(self) {
+            Ok(true) => told_to_cut(self),
+            Ok(false) => Ok(()),
+            Err(error) => Err(error),
         }
-        Ok(())
+    }
+}
+
+/// Asks the system whether a file is a regular one.
+#[tactic(auto, unfolding(crate::specs::Files::WasAskedKind))]
+fn told_of_kind<F: OpenFile>(file: &mut F) -> io::Result<bool>
+    ensures { WasAskedKind file.old result file.new }
+{
+    Ok(file.metadata()?.is_file())
+}
+
+/// Has it let go of all that a file has.
+#[tactic(auto, unfolding(crate::specs::Files::WasCut))]
+fn told_to_cut<F: OpenFile>(file: &mut F) -> io::Result<()>
+    ensures { WasCut file.old result file.new }
+{
+    file.set_len(0)
+}
+
+/// Has a file be read and written from its front on.
+#[tactic(auto, unfolding(crate::specs::Files::WasRewound))]
+fn told_to_rewind<F: Seek>(file: &mut F) -> io::Result<()>
+    ensures { WasRewound file.old result file.new }
+{
+    file.seek(SeekFrom::Start(0))?;
+    Ok(())
+}
+
+/// Reads a file's first bytes, as far as there is room, and says how many there were.
+#[tactic(auto, unfolding(crate::specs::Files::WasFilled))]
+fn told_to_fill<F: Read>(file: &mut F, room: &mut [u8; FRONT]) -> io::Result<usize>
+    ensures within { IfOk result (λ count. count ≤ 4) }
+    ensures filled { WasFilled file.old (filled_in room.new result) file.new }
+{
+    fill(file, room)
+}
+
+/// The same, and then it is rewound.
+fn front_of<F: Read + Seek>(file: &mut F, room: &mut [u8; FRONT]) -> io::Result<Option<usize>>
+    ensures within { IfOk result (λ found. IfSome found (λ count. count ≤ 4)) }
+    ensures read { ReadsFront file.old (found_in room.new result) file.new }
+{
+    match told_to_fill(file, room) {
+        Ok(count) => match told_to_rewind(file) {
+            Ok(()) => Ok(Some(count)),
+            Err(error) => Err(error),
+        },
+        Err(error) => Err(error),
     }
 }
 

@@ -5,6 +5,7 @@ ghost use Rattle.journal.specs.declared.entries.Entry.TheVariants.{Boot};
 ghost use Rattle.rounds.specs.Handing.{HandsAll};
 ghost use Rattle.rounds.specs.Rounds.{calls, wire_says};
 ghost use Rattle.rounds.specs.Tellings.{IsNewTeller, ToldLog};
+ghost use Rattle.tap.specs.Taps.{IsEnded};
 ghost use Rattle.gate.specs.Asked.{path_in};
 ghost use Rattle.gate.specs.Logs.{IsAskedOnce, IsLikeLog, IsOwnAndNew, IsToldOfBoot, IsToldOfLeftOut, IsToldSo, WasToldRun};
 ghost use Rattle.gate.specs.Named.{IsTellerOf, WasClosed, WasLeftOut, WasLent, WasLetGo, WasRecorded};
@@ -93,6 +94,7 @@ impl<L: Journal> Records<L> {
         &mut self,
         tapped: Tapped<W, M, O>,
     )
+        requires ended { IsEnded tapped }
         ensures told { IsToldOfLeftOut L.enables self.old.log tapped.reel.left_out }
         ensures left_out { WasLeftOut self.old tapped.reel.left_out self.new }
         ensures gone { WasLetGo tapped.wire }

@@ -90,3 +90,12 @@ pub record AnswersTapped {W M O : Type 0} (answers : W → Place → List ℕ �
   where
     pub below : answers t.wire to bytes is_failed t2.wire
     pub taken : TakesUnless is_failed contents IsFull reads t to bytes t2
+
+-- A wire whose packets are captured was this when its capture was to be ended, and is this since. It is no more than a name for that call: who makes it
+-- has it, and nobody else.
+unfoldable pub WasEnded : {T : Type 0} → T → T → Type 0
+WasEnded before after = Unit {0}
+
+-- the last that was asked of it is that its capture be ended
+abbrev pub IsEnded : {T : Type 0} → T → Type 0
+IsEnded {T = T} now = (before : T) × WasEnded before now

@@ -5,7 +5,7 @@ ghost use Rattle.captures.specs.declared.interfaces.Direction.TheVariants.{Outbo
 ghost use Rattle.std.specs.Io.KnownBytes.{Keeps};
 ghost use Rattle.tap.specs.Outlets.{IsAskedOnce, IsAskedTwice};
 ghost use Rattle.tap.specs.Reels.{whole};
-ghost use Rattle.tap.specs.Taps.{AnswersTapped, DoesTapped, TakesAnswer, TakesDown, TakesNothing, TakesSent, interface_at};
+ghost use Rattle.tap.specs.Taps.{AnswersTapped, DoesTapped, TakesAnswer, TakesDown, TakesNothing, TakesSent, WasEnded, interface_at};
 
 use crate::{Moments, Outlet, Reel};
 use captures::{Direction, Interface, Packet};
@@ -70,7 +70,9 @@ impl<W: Wire, M: Moments, O: Outlet> Tapped<W, M, O> {
     }
 
     /// Ends the capture: hands on what its last block is owed, as far as there is room.
+    #[tactic(auto, unfolding(crate::specs::Taps::WasEnded))]
     pub fn end(&mut self)
+        ensures called { WasEnded self.old self.new }
         ensures wire { self.new.wire ≡ self.old.wire }
         ensures moments { self.new.moments ≡ self.old.moments }
         ensures kept { Keeps (whole O.contents self.old.reel) (whole O.contents self.new.reel) }
