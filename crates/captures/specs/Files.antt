@@ -1,6 +1,5 @@
 -- The files in which captures are begun.
 use Rattle.std.specs.Prelude.{ℕ, ◌==◌, ◌≡◌, ◌&&◌, ◌⊎◌, Bool, true, false, List, [], ◌∷◌, Option, Some, None, Result, Ok, Err, option_map, take}
-use Rattle.std.specs.Fs.{asks_append, asks_create, asks_create_new, asks_read, asks_truncate, asks_write}
 use Rattle.std.specs.IoError.{error_kind}
 use Rattle.std.specs.declared.fs.options.OpenOptions.{OpenOptions}
 use Rattle.std.specs.declared.io.Error.{Error}
@@ -103,14 +102,17 @@ IsUnemptied {F = F} empties before error = (after : F) × empties before (Err er
 
 -- ---- how it is opened
 
--- how the file of a capture is opened: to be written to, and to be read or not; it is made where it isn't there, and keeps what it has where it is
+-- Options were told with which mode a file is made, and are these since. What is said of a mode the standard library doesn't say, so this is a name too.
+unfoldable pub WasToldMode : OpenOptions → ℕ → OpenOptions → Type 0
+WasToldMode before mode after = Unit {0}
+
+-- How the file of a capture is opened: to be written to, and to be read or not. It is made for its owner alone where it isn't there, and keeps what it
+-- has where it is.
 pub record IsForCapture (reads : Bool) (options : OpenOptions) : Type 0 where
-  pub reads_so : asks_read options ≡ reads
-  pub writes : asks_write options ≡ true
-  pub appends_none : asks_append options ≡ false
-  pub makes : asks_create options ≡ true
-  pub makes_no_new : asks_create_new options ≡ false
-  pub empties_none : asks_truncate options ≡ false
+  pub before : OpenOptions
+  pub told : OpenOptions
+  pub mode : WasToldMode before 0o600 told
+  pub since : options ≡ record told { read = reads; write = true; append = false; truncate = false; create = true; create_new = false }
 
 -- Of this path it was looked whether a regular file, or none, is there. This name, and the one below it, is of a call too.
 unfoldable pub WasSought : List ℕ → Bool → Type 0

@@ -2,7 +2,7 @@
 ghost use Rattle.std.specs.Prelude.{◌≡◌, ◌≤◌, ◌<◌, ◌↔◌, None, true, Ok, take, length, option_map, IfErr, IfOk, IfSome, IsOk, OnErr, OnOk};
 ghost use Rattle.std.specs.Io.KnownBytes.{Consumes, IsAtEnd};
 ghost use Rattle.std.specs.IoError.{error_kind};
-ghost use Rattle.captures.specs.Files.{Empties, Held, IsForCapture, IsFound, IsLookedAt, IsNoPlace, IsOpened, IsRead, IsUnemptied, IsUnopened, Looks, ReadsFront, SystemEmpties, SystemLooks, WasAskedKind, WasCut, WasFilled, WasOpened, WasRewound, WasSought, emptied, filled_in, found_in, is_free, may_begin};
+ghost use Rattle.captures.specs.Files.{Empties, Held, IsForCapture, IsFound, IsLookedAt, IsNoPlace, IsOpened, IsRead, IsUnemptied, IsUnopened, Looks, ReadsFront, SystemEmpties, SystemLooks, WasAskedKind, WasCut, WasFilled, WasOpened, WasRewound, WasSought, WasToldMode, emptied, filled_in, found_in, is_free, may_begin};
 
 use std::fs::{self, Files, OpenFile, OpenOptions};
 use std::io::{self, ErrorKind, Read, Seek, SeekFrom};
@@ -285,7 +285,7 @@ fn for_capture(reads: bool) -> OpenOptions
     ensures { IsForCapture reads result }
 {
     let mut options = OpenOptions::new();
-    options.mode(MODE);
+    told_of_mode(&mut options, MODE);
     options
         .read(reads)
         .write(true)
@@ -294,6 +294,14 @@ fn for_capture(reads: bool) -> OpenOptions
         .create(true)
         .create_new(false);
     options
+}
+
+/// Tells options with which mode a file is made.
+#[tactic(auto, unfolding(crate::specs::Files::WasToldMode))]
+fn told_of_mode(options: &mut OpenOptions, mode: u32)
+    ensures { WasToldMode options.old mode options.new }
+{
+    options.mode(mode);
 }
 
 /// Whether it is to be read too, so that its opening doesn't wait, or so that its front can be looked at.
