@@ -4,12 +4,22 @@ ghost use Rattle.boot_file.specs.Calls.{TriesLock, WasLocked};
 ghost use Rattle.boot_file.specs.declared.faults.FileFault.TheVariants.{InUse, NotLocked};
 ghost use Rattle.boot_file.specs.Locks.{IsLocked, IsOfOpening, WasLetGo, fault_of};
 
-use crate::FileFault;
+use crate::{FileFault, Opened};
 use std::fs::{File, TryLockError};
 
+/// Kept to this file, so that nothing else can be a `Lockable`.
+mod closed {
+    /// Nobody else can name it.
+    pub trait Sealed {}
+}
+
+impl closed::Sealed for File {}
+
+impl<F> closed::Sealed for Opened<F> {}
+
 /// A file that can be locked. A lock is held until the file is closed, so at the latest until the
-/// process ends, whatever ends it.
-pub trait Lockable {
+/// process ends, whatever ends it. It is a file itself, and nothing that shows itself as one.
+pub trait Lockable: closed::Sealed {
     /// This opening has the file locked.
     ghost locked: { Self → Type 0 };
 
@@ -36,7 +46,7 @@ impl Lockable for File {
 
 /// Lets a file or a folder go. Of what it is nothing is known here, so nothing else can be done with it.
 #[tactic(auto, unfolding(crate::specs::Locks::WasLetGo))]
-pub(crate) fn let_go<F: Drop>(_file: F)
+pub(crate) fn let_go<F: Lockable + Drop>(_file: F)
     ensures { WasLetGo _file }
 {}
 

@@ -7,6 +7,7 @@ ghost use Rattle.box_words.specs.Ends.{WasAsked, WasAskedBy};
 ghost use Rattle.box_words.specs.Machines.{IsOfReading, WasDone, WasNow, WasSince};
 ghost use Rattle.box_words.specs.Making.{WasLetGo};
 
+use boot_file::{FileDisk, Opened};
 use faults::{Fault, text_of};
 use runtimes::Hosted;
 use std::fs::Files;
@@ -82,7 +83,7 @@ impl<R: Net> System<'_, R> {
 
 /// Lets the disk of a boot file go, as it is.
 #[tactic(auto, unfolding(crate::specs::Making::WasLetGo))]
-pub(crate) fn let_go<D: Drop>(disk: D)
+pub(crate) fn let_go<F: Drop>(disk: FileDisk<Opened<F>>)
     ensures { WasLetGo disk }
 {
     drop(disk);

@@ -49,6 +49,8 @@ impl Outlet for Page<'_> {
         println!(self.rt; "  page {taken}")?;
         Ok(count)
     }
+
+    fn put_down(self) {}
 }
 
 /// A clock that the cases set.

@@ -5,6 +5,7 @@ ghost use Rattle.checks.specs.BootFiles.{found_in};
 ghost use Rattle.checks.specs.Openings.{IsSeenIn, WasLetGo, is_used};
 
 use crate::Seen;
+use crate::machine::Opened;
 use byteorder::{BigEndian, ByteOrder};
 use std::fs::TryLockError;
 use std::io;
@@ -51,9 +52,22 @@ pub(crate) fn seen_in<F: Opening>(file: &mut F) -> Seen
     }
 }
 
+/// Kept to this file, so that nothing else can be a `Held`.
+mod closed {
+    /// Nobody else can name it.
+    pub trait Sealed {}
+}
+
+/// A boot file that was opened: itself, and nothing that shows itself as that.
+pub(crate) trait Held: Drop + closed::Sealed {}
+
+impl<F: Drop> closed::Sealed for Opened<F> {}
+
+impl<F: Drop> Held for Opened<F> {}
+
 /// Lets a boot file go, and its lock. Of what it is nothing is known here, so nothing else can be done with it.
 #[tactic(auto, unfolding(crate::specs::Openings::WasLetGo))]
-pub(crate) fn let_go<F: Drop>(_file: F)
+pub(crate) fn let_go<F: Held>(_file: F)
     ensures { WasLetGo _file }
 {}
 

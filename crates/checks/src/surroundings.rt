@@ -5,7 +5,7 @@ ghost use Rattle.checks.specs.Openings.{IsMtuRead, IsUnmeasured, IsMtuText, IsSe
 
 use crate::machine::ThisMachine;
 use crate::memory::{file_text, mtu_path};
-use crate::openings::{Opening, let_go, seen_in};
+use crate::openings::{Held, Opening, let_go, seen_in};
 use boot_file::Lockable;
 use faults::{Fault, Reads};
 use std::alloc::{AllocError, Global};
@@ -88,7 +88,7 @@ where
 }
 
 /// What there is where a boot file is to be, by what was opened there.
-fn found_by<F: Opening + Drop>(opened: io::Result<Option<F>>) -> Found
+fn found_by<F: Opening + Held>(opened: io::Result<Option<F>>) -> Found
     ensures { IsSeenAt F.begins F.lets F.locks opened result }
 {
     match opened {

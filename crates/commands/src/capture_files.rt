@@ -62,9 +62,26 @@ pub(crate) fn end_of<W: Write + Drop>(mut capture: Capture<W>) -> io::Result<()>
     answer
 }
 
+/// Kept to this file, so that nothing else can be a `Held`.
+mod closed {
+    /// Nobody else can name it.
+    pub trait Sealed {}
+}
+
+/// A capture, or the buffer of one that wasn't begun: itself, and nothing that shows itself as that.
+trait Held: Drop + closed::Sealed {}
+
+impl<W: Write + Drop> closed::Sealed for Capture<W> {}
+
+impl<W: Write + Drop> Held for Capture<W> {}
+
+impl<W: Write + Drop> closed::Sealed for BufWriter<W> {}
+
+impl<W: Write + Drop> Held for BufWriter<W> {}
+
 /// Lets a capture go: nothing more is written there. Of what it is nothing is known here, so nothing else can be done with it.
 #[tactic(auto, unfolding(crate::specs::Here::WasLetGo))]
-fn let_go<T: Drop>(_capture: T)
+fn let_go<T: Held>(_capture: T)
     ensures { WasLetGo _capture }
 {}
 

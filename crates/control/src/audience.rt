@@ -7,7 +7,7 @@ ghost use Rattle.control.specs.Calling.{AsksFor};
 ghost use Rattle.control.specs.Counting.{AreCounted, speakers, with_more};
 ghost use Rattle.control.specs.Telling.{IsAnsweredIf, IsWritten};
 
-use crate::awaiting::let_go;
+use crate::awaiting::{Held, let_go};
 use crate::callers::{answered, speaker_among};
 use crate::listeners::{Listens, Reports, let_in};
 use crate::newcomers::Newcomers;
@@ -25,7 +25,7 @@ pub(crate) struct Doorway<L, S> {
     callers: Vec<S>,
 }
 
-impl<L: Drop, S: Drop> Doorway<L, S> {
+impl<L: Held, S: Held> Doorway<L, S> {
     pub(crate) fn new(listener: L, callers: Vec<S>) -> Doorway<L, S>
         ensures listener { result.listener ≡ listener }
         ensures callers { result.callers ≡ callers }
@@ -134,7 +134,7 @@ impl<L, S> Audience<L, S> {
     }
 }
 
-impl<L: Listens<S>, S: Speaks + Drop> Audience<L, S> {
+impl<L: Listens<S>, S: Speaks + Held> Audience<L, S> {
     /// A word that somebody says, if one is there: how many bytes of the room it has. Where nobody says one, who calls
     /// next is let in, and waits are to report him.
     pub(crate) fn take<W: Reports<S>>(&mut self, waits: &mut W, room: &mut [u8]) -> Option<usize>
@@ -205,7 +205,7 @@ impl<L: Listens<S>, S: Speaks + Drop> Audience<L, S> {
     }
 }
 
-impl<L, S: Takes + Drop> Audience<L, S> {
+impl<L, S: Takes + Held> Audience<L, S> {
     /// Answers who awaits it, by one write, and lets him go.
     pub(crate) fn answer(&mut self, bytes: &[u8])
         ensures told { IsAnsweredIf (IsWritten S.held S.answers) self.old.speaker bytes.now

@@ -8,7 +8,7 @@ ghost use Rattle.control.specs.Heard.{AreHeard, IsBySpeaker, IsWord};
 ghost use Rattle.control.specs.Saying.{CameFrom, IsOfOneRead, Says};
 ghost use Rattle.control.specs.Telling.{IsAnsweredOnce, IsWritten};
 
-use crate::awaiting::let_go;
+use crate::awaiting::{Held, let_go};
 use crate::speakers::Speaks;
 use crate::word_of;
 use outlets::Takes;
@@ -40,7 +40,7 @@ enum Heard {
 
 /// Who of those who are waited for says a word, and how many bytes it has. Nobody waits for him any more, nor for who said
 /// something else or has gone, which is counted.
-pub(crate) fn speaker_among<S: Speaks + Drop>(
+pub(crate) fn speaker_among<S: Speaks + Held>(
     callers: &mut Vec<S>,
     refused: &mut u64,
     room: &mut [u8],
@@ -61,7 +61,7 @@ pub(crate) fn speaker_among<S: Speaks + Drop>(
 
 /// A word of those who are waited for, one after the other. Who said something else and who has gone is no longer waited
 /// for, and counted.
-fn word_among<S: Speaks + Drop>(callers: &mut Vec<S>, refused: &mut u64, room: &mut [u8]) -> Heard
+fn word_among<S: Speaks + Held>(callers: &mut Vec<S>, refused: &mut u64, room: &mut [u8]) -> Heard
     ensures heard { AreHeard result (vec_len callers.new) room.new }
     ensures speaker { IsBySpeaker S.rest callers.old.items result callers.new.items room.new }
     ensures left { AreAsked S.answers callers.old.items result callers.new.items room.new }
@@ -84,7 +84,7 @@ fn word_among<S: Speaks + Drop>(callers: &mut Vec<S>, refused: &mut u64, room: &
 }
 
 /// Where as many are waited for as may be, who was waited for longest is refused.
-pub(crate) fn make_room<S: Drop>(callers: &mut Vec<S>, refused: &mut u64)
+pub(crate) fn make_room<S: Held>(callers: &mut Vec<S>, refused: &mut u64)
     ensures callers { callers.new.items ≡ with_room callers.old.items }
     ensures fewer { vec_len callers.new ≡ vec_len callers.old - too_many (vec_len callers.old) }
     ensures few { vec_len callers.old ≤ 8 → vec_len callers.new < 8 }
@@ -100,7 +100,7 @@ pub(crate) fn make_room<S: Drop>(callers: &mut Vec<S>, refused: &mut u64)
 }
 
 /// A caller is no longer waited for, and is let go as he is, without an answer.
-fn refuse<S: Drop>(callers: &mut Vec<S>, at: usize, refused: &mut u64)
+fn refuse<S: Held>(callers: &mut Vec<S>, at: usize, refused: &mut u64)
     requires { at < vec_len callers.old }
     ensures others { callers.new.items ≡ remove callers.old.items at }
     ensures gone { IsLetGoAt callers.old.items at }
@@ -112,7 +112,7 @@ fn refuse<S: Drop>(callers: &mut Vec<S>, at: usize, refused: &mut u64)
 }
 
 /// Answers a caller by one write, and lets him go. How many went unanswered then: one more, where he hasn't the whole answer.
-pub(crate) fn answered<S: Takes + Drop>(mut caller: S, bytes: &[u8], before: u64) -> u64
+pub(crate) fn answered<S: Takes + Held>(mut caller: S, bytes: &[u8], before: u64) -> u64
     ensures told { IsAnsweredOnce (IsWritten S.held S.answers) caller bytes.now before result }
     ensures counted { (result ≡ before) ⊎ (result ≡ with_more before 1) }
 {

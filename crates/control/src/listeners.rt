@@ -3,7 +3,7 @@ ghost use Rattle.std.specs.Prelude.{◌≡◌, ◌+◌, ◌<◌, ◌≤◌, ◌�
 ghost use Rattle.control.specs.Calling.{AsksForOne, IsKept, LetsIn, WasCalled};
 ghost use Rattle.control.specs.Counting.{AreJoined, one_if};
 
-use crate::awaiting::let_go;
+use crate::awaiting::{Held, let_go};
 use crate::callers::make_room;
 use crate::newcomers::Newcomers;
 use mio::Token;
@@ -51,7 +51,7 @@ impl Listens<UnixStream> for UnixListener {
 /// many descriptors as it may, those who call would wait until yet another one does. Who called is counted, and so is a
 /// call that failed otherwise. Where too many are waited for, who was waited for longest is refused, so there is always
 /// room for who calls. He is let go where they refuse to report him.
-pub(crate) fn let_in<S: Drop, L: Listens<S>, W: Reports<S>>(
+pub(crate) fn let_in<S: Held, L: Listens<S>, W: Reports<S>>(
     listener: &mut L,
     waits: &mut W,
     token: Token,
@@ -88,7 +88,7 @@ pub(crate) fn let_in<S: Drop, L: Listens<S>, W: Reports<S>>(
 }
 
 /// A caller who is registered is waited for, behind the others. He is let go where he isn't registered.
-fn keep<S: Drop>(callers: &mut Vec<S>, caller: S, registered: io::Result<()>)
+fn keep<S: Held>(callers: &mut Vec<S>, caller: S, registered: io::Result<()>)
     requires room { vec_len callers.old < vec_capacity callers.old }
     ensures kept { IsKept registered callers.old.items caller callers.new.items }
     ensures joined { (vec_len callers.new ≡ suc (vec_len callers.old))

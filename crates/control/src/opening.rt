@@ -4,6 +4,7 @@ ghost use Rattle.control.specs.Audiences.{HasNobody};
 ghost use Rattle.control.specs.Opening.{IsOpened, IsUnopened, WasRefused};
 
 use crate::audience::Doorway;
+use crate::awaiting::Held;
 use crate::callers::CALLERS;
 use crate::folders::{Folders, ready};
 use crate::{ControlPath, NoSocket};
@@ -23,7 +24,7 @@ pub(crate) trait Binds<L> {
 }
 
 /// Readies the folder of a control socket, and has one bound there, at which nobody has called yet.
-pub(crate) fn opened<F: Folders + Binds<L>, L: Drop, S: Drop>(
+pub(crate) fn opened<F: Folders + Binds<L>, L: Held, S: Held>(
     folders: &mut F,
     path: &ControlPath,
     alloc: Global,

@@ -6,7 +6,7 @@ ghost use Rattle.control.specs.Dialling.{IsDialled, IsLimited, IsUndialled, IsUn
 ghost use Rattle.control.specs.Saying.{Comes, IsAnswered, IsCut, IsLost, Tells, is_heard};
 ghost use Rattle.control.specs.Speaking.{IsAnsweredBy, IsTaken, IsUnanswered, IsUntaken, WasLetGo};
 
-use crate::awaiting::let_go;
+use crate::awaiting::{Held, let_go};
 use crate::lines::{Dials, Limits, Line};
 use crate::machine::{Machine, SystemLine};
 use crate::{Answer, ControlPath};
@@ -144,7 +144,7 @@ fn exchange<L: Line>(line: &mut L, word: &[u8], room: &mut [u8]) -> io::Result<u
 
 /// A line to the box whose control socket lies there; at each end 2 seconds are waited at most. One that doesn't take that
 /// is let go.
-fn connected<D: Dials<L>, L: Limits + Drop>(dials: &mut D, path: &ControlPath) -> io::Result<L>
+fn connected<D: Dials<L>, L: Limits + Held>(dials: &mut D, path: &ControlPath) -> io::Result<L>
     ensures made { IfOk result
         (λ line. IsDialled D.dials L.limits path.now dials.old dials.new line) }
     ensures unmade { OnErr result

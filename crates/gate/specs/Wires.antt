@@ -46,7 +46,7 @@ IsOwnWire (Some path) settings start wire = WasHad (tapped_wire path start.id) w
 -- A run of a gateway on a wire, by the system's clock, takes both from the first to the second: all that was asked of the wire, for how long, and
 -- handed to it is of its rounds and of the one Stop behind them; who asks hears of this box. They end once it was told to end, or had so many. By
 -- its input it is told only where that is watched, and at its end: it is asked before each round, one time after the other, and for nothing beside.
--- Who watches the input is let go behind the run, and asked nothing more. What carriers tell counted or not. Its log was told nothing of it before.
+-- Clock and input are let go behind the run as they are then, and asked nothing more. What carriers tell counted or not. Its log was told nothing of it before.
 pub record RunsOn {W : Type 0} (does : Calls W) (says : WireSays W) (who : Identity) (rounds : Option ℕ) (track until_eof : Bool)
     (g g2 : Shown) (wire wire2 : W) : Type 0
   where
@@ -58,7 +58,7 @@ pub record RunsOn {W : Type 0} (does : Calls W) (says : WireSays W) (who : Ident
     pub watched : is_some until ≡ until_eof
     pub unasked : IfSome until IsUnasked
     pub until2 : Option Asker
-    pub put_down : WasLetGo until2
+    pub put_down : WasLetGo (clock2, until2)
     pub told : List Telling
     pub untold : told ≡ []
     pub last : Box W

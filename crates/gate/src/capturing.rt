@@ -8,7 +8,7 @@ ghost use Rattle.gate.specs.Named.{IsOpened, WasAnswered, WasGiven, WasHad, WasL
 
 use crate::machine::Machine;
 use crate::running::Start;
-use crate::wires::let_go;
+use crate::wires::{Held, let_go};
 use box_words::BoxFault;
 use nat_types::GatewayId;
 use sockets::Wire;
@@ -68,7 +68,7 @@ impl<F: Read + Write + Seek + OpenFile + AsRawFd + Drop> CaptureAt<'_, F> {
     /// A wire whose packets go to a capture that is begun in the file, which loses what it has, at the moments of the system's
     /// clock; after an Err the wire was let go.
     #[tactic(auto, unfolding(crate::specs::Named::WasHad))]
-    pub(crate) fn begin<'m, W: Wire + Drop, C: Clock>(
+    pub(crate) fn begin<'m, W: Wire + Held, C: Clock>(
         self,
         alloc: Global,
         wire: W,

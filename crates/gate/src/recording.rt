@@ -13,13 +13,19 @@ ghost use Rattle.gate.specs.Wires.{IsTapped};
 ghost use Rattle.gate.specs.declared.recording.Records.{Records};
 
 use crate::running::Start;
+use crate::wires::Held;
 use box_words::BoxFault;
 use journal::{Entry, Journal, OwnLog, Pen};
 use rounds::Teller;
 use settings::Settings;
 use sockets::Wire;
 use std::io::Write;
-use tap::{Moments, Outlet, Tapped};
+use std::os::fd::AsRawFd;
+use std::rt::Clock;
+use tap::{CaptureFile, SinceFirst, Tapped};
+
+/// A box's wire, whose packets are captured in a file, at the moments of the system's clock.
+type TappedBox<'a, W, C, F> = Tapped<W, SinceFirst<'a, C>, CaptureFile<F>>;
 
 /// A log, which nobody else of a start has at hand.
 #[derive(Drop)]
@@ -38,7 +44,7 @@ pub(crate) fn records_in<L: OwnLog>(log: L) -> Records<L>
     Records { log }
 }
 
-impl<L: Drop> Records<L> {
+impl<L: Drop + OwnLog> Records<L> {
     /// Lets it go, once it was told of a start no more than it is to be told, by how that ends and what it has printed.
     #[tactic(auto, unfolding(crate::specs::Named::WasClosed))]
     pub(crate) fn close<O: Write>(
@@ -56,7 +62,7 @@ impl<L: Drop> Records<L> {
     }
 }
 
-impl<L> Records<L> {
+impl<L: OwnLog> Records<L> {
     /// Who tells it of the run for which it was lent, which begins at this moment.
     #[tactic(auto, unfolding(crate::specs::Named::IsTellerOf))]
     pub(crate) fn teller_at(&self, _run: OneRun, moment: u64) -> Teller<'_, L>
@@ -67,7 +73,7 @@ impl<L> Records<L> {
     }
 }
 
-impl<L: Journal> Records<L> {
+impl<L: Journal + OwnLog> Records<L> {
     /// Lends it to one who is to tell of a run. So each of these leaves a trace.
     #[tactic(auto, unfolding(crate::specs::Named::WasLent))]
     pub(crate) fn lend(&mut self) -> OneRun
@@ -90,18 +96,20 @@ impl<L: Journal> Records<L> {
     /// Lets a wire go whose packets were captured, and hands it how many of them the capture has left out, if it has. Where it was
     /// run from the capture's beginning on, that was run through it.
     #[tactic(auto, unfolding(crate::specs::Named::WasLeftOut, crate::specs::Named::WasLetGo, crate::specs::Named::WasTapped))]
-    pub(crate) fn told_of_left_out<W: Wire + Drop, M: Moments + Drop, O: Outlet + Drop>(
+    pub(crate) fn told_of_left_out<W: Wire + Held, C: Clock, F: Write + AsRawFd + Drop>(
         &mut self,
-        tapped: Tapped<W, M, O>,
+        tapped: TappedBox<'_, W, C, F>,
     )
         requires ended { IsEnded tapped }
         ensures told { IsToldOfLeftOut L.enables self.old.log tapped.reel.left_out }
         ensures left_out { WasLeftOut self.old tapped.reel.left_out self.new }
         ensures gone { WasLetGo tapped.wire }
         ensures tapped { IsTapped
-            (calls ⟦<Tapped<W, M, O> as Wire>⟧.does ⟦<Tapped<W, M, O> as Wire>⟧.answers)
-            (wire_says ⟦<Tapped<W, M, O> as Wire>⟧.waits ⟦<Tapped<W, M, O> as Wire>⟧.failing
-            ⟦<Tapped<W, M, O> as Wire>⟧.lost) tapped }
+            (calls ⟦<TappedBox<'static, W, C, F> as Wire>⟧.does
+            ⟦<TappedBox<'static, W, C, F> as Wire>⟧.answers)
+            (wire_says ⟦<TappedBox<'static, W, C, F> as Wire>⟧.waits
+            ⟦<TappedBox<'static, W, C, F> as Wire>⟧.failing
+            ⟦<TappedBox<'static, W, C, F> as Wire>⟧.lost) tapped }
     {
         tell_left_out(Pen::new(&self.log), tapped.left_out());
         drop(tapped);

@@ -131,7 +131,7 @@ impl<'a, R: Hosted> Seeds<'a, R> {
     }
 }
 
-impl<R: RandomSource> Draws for Seeds<'_, R> {
+impl<R: RandomSource + Hosted> Draws for Seeds<'_, R> {
     ghost drew = { WasDrawn };
 
     ghost refused = { WasUndrawn };
@@ -141,7 +141,7 @@ impl<R: RandomSource> Draws for Seeds<'_, R> {
     }
 }
 
-impl<R: RandomSource> Seeds<'_, R> {
+impl<R: RandomSource + Hosted> Seeds<'_, R> {
     /// The next 16 bytes that the system gives, as a number.
     #[tactic(auto, unfolding(crate::specs::Named::WasDrawn, crate::specs::Named::WasUndrawn))]
     fn told_to_draw(&mut self) -> io::Result<u128>

@@ -29,13 +29,13 @@ use crate::recording::{Records, put_away};
 use crate::rest::{Means, Rest, rest_of};
 use crate::starting::started;
 use crate::ways::{WayTexts, ways_of};
-use crate::wires::{let_go, unlock};
+use crate::wires::{Held, let_go, unlock};
 use boot_file::{Blocks, FileDisk, Lockable, Opened};
 use boot_store::Disk;
 use box_words::BoxFault;
 use control::{Bound, ControlPath};
 use gateway::Gateway;
-use journal::{Format, Journal};
+use journal::{Format, Journal, OwnLog};
 use nat_types::GatewayId;
 use outlets::Tells;
 use rounds::{Identity, InputEnd, Teller, serve};
@@ -458,9 +458,9 @@ fn captured<
     R: Files + Net + AllocGlobal,
     C: Clock + RandomSource + Input + AllocGlobal + Hosted,
     D: Disk,
-    W: Wire + Drop,
+    W: Wire + Held,
     O: Write,
-    L: Journal,
+    L: Journal + OwnLog,
 >(
     machine: &mut Machine<'_, R>,
     means: Means<'_, C>,
@@ -526,9 +526,9 @@ fn tapped<
     F: Read + Write + Seek + OpenFile + AsRawFd + Drop,
     C: Clock + RandomSource + Input + AllocGlobal + Hosted,
     D: Disk,
-    W: Wire + Drop,
+    W: Wire + Held,
     O: Write,
-    L: Journal,
+    L: Journal + OwnLog,
 >(
     means: Means<'_, C>,
     start: &Start<'_>,
@@ -611,9 +611,9 @@ fn tapped<
 fn tapped_rounds<
     F: Read + Write + Seek + OpenFile + AsRawFd + Drop,
     C: Clock + Input + AllocGlobal + Hosted,
-    W: Wire + Drop,
+    W: Wire + Held,
     O: Write,
-    L: Journal,
+    L: Journal + OwnLog,
 >(
     means: Means<'_, C>,
     gateway: &mut Gateway,
@@ -666,9 +666,9 @@ fn tapped_rounds<
 fn run<
     C: Clock + RandomSource + Input + AllocGlobal + Hosted,
     D: Disk,
-    W: Wire + Drop,
+    W: Wire + Held,
     O: Write,
-    L: Journal,
+    L: Journal + OwnLog,
 >(
     means: Means<'_, C>,
     start: &Start<'_>,
@@ -745,7 +745,7 @@ fn run<
 
 /// Runs a gateway until it is told to end, or has had its rounds. Its manager hears first that it is up. After an Err it was
 /// run too, and `end` isn't written.
-fn rounds_of<C: Clock + Input + AllocGlobal + Hosted, W: Wire, O: Write, L: Journal>(
+fn rounds_of<C: Clock + Input + AllocGlobal + Hosted, W: Wire, O: Write, L: Journal + OwnLog>(
     means: Means<'_, C>,
     gateway: &mut Gateway,
     wire: &mut W,
@@ -789,7 +789,7 @@ fn rounds_of<C: Clock + Input + AllocGlobal + Hosted, W: Wire, O: Write, L: Jour
         output,
         &mut teller,
     );
-    let_go(until);
+    let_go((clock, until));
     put_away(teller, start, identity.boot, moment);
     served?;
     Ok(())

@@ -19,7 +19,7 @@ use box_words::BoxFault;
 use checks::digest;
 use gateway::{Gateway, Hashers};
 use itoa::Buffer;
-use journal::Journal;
+use journal::{Journal, OwnLog};
 use nat_types::GatewayId;
 use outlets::{told_to_flush, told_to_put};
 use rounds::Identity;
@@ -31,7 +31,12 @@ use std::random::RandomSource;
 
 /// A gateway in the next boot of its disk, whose number is printed before anything is sent, and is the first record. Its
 /// seed is drawn first, so that a start without one takes no number. The answer has who the box is.
-pub(crate) fn started<R: RandomSource + AllocGlobal + Hosted, D: Disk, O: Write, L: Journal>(
+pub(crate) fn started<
+    R: RandomSource + AllocGlobal + Hosted,
+    D: Disk,
+    O: Write,
+    L: Journal + OwnLog,
+>(
     means: &Means<'_, R>,
     disk: &mut D,
     settings: &Settings,

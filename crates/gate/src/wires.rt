@@ -1,19 +1,48 @@
 //! What a start has is let go.
 ghost use Rattle.std.specs.Prelude.{OnOk};
+ghost use Rattle.boot_file.specs.declared.file_disk.FileDisk.{FileDisk};
+ghost use Rattle.boot_file.specs.declared.openings.Opened.{Opened};
 ghost use Rattle.gate.specs.Asked.{boot_file_of, path_in};
 ghost use Rattle.gate.specs.Named.{IsLeft, WasHad, WasLetGo, WasUnlocked, locked_file};
 ghost use Rattle.gate.specs.Orders.{IsUntaken};
 ghost use Rattle.gate.specs.Served.{RanLocked};
 
 use crate::running::Start;
+use boot_file::{FileDisk, Opened};
 use box_words::BoxFault;
+use rounds::{InputEnd, Stopwatch};
 use settings::Settings;
-use sockets::Ways;
+use sockets::{Sockets, Ways};
 use std::io::Write;
+use supervision::Manager;
 
-/// Lets a wire or a service manager go, as it is.
+/// Kept to this file, so that nothing else can be a `Held`.
+mod closed {
+    /// Nobody else can name it.
+    pub trait Sealed {}
+}
+
+/// What a start has: itself, and nothing that shows itself as that.
+pub(crate) trait Held: Drop + closed::Sealed {}
+
+/// The wire.
+impl closed::Sealed for Sockets {}
+
+impl Held for Sockets {}
+
+/// The service manager, where there is one.
+impl closed::Sealed for Option<Manager> {}
+
+impl Held for Option<Manager> {}
+
+/// The clock of a run, and what tells it to end.
+impl<R> closed::Sealed for (Stopwatch<'_, R>, InputEnd<'_, R>) {}
+
+impl<R> Held for (Stopwatch<'_, R>, InputEnd<'_, R>) {}
+
+/// Lets a wire, a service manager, or a clock with what tells a run to end, go, as it is.
 #[tactic(auto, unfolding(crate::specs::Named::WasLetGo))]
-pub(crate) fn let_go<A: Drop>(it: A)
+pub(crate) fn let_go<A: Held>(it: A)
     ensures { WasLetGo it }
 {
     drop(it);
@@ -22,15 +51,15 @@ pub(crate) fn let_go<A: Drop>(it: A)
 /// Lets the boot file of a start's box go: as it was when it was locked, or as its number has left it, which is taken behind the
 /// seed; and where the start was served, behind its run.
 #[tactic(auto, unfolding(crate::specs::Named::WasUnlocked))]
-pub(crate) fn unlock<D: Drop, O: Write>(
-    disk: D,
+pub(crate) fn unlock<F: Drop, O: Write>(
+    disk: FileDisk<Opened<F>>,
     _start: &Start<'_>,
     _settings: &Settings,
     _ways: &Ways,
     _output: &O,
     _ended: &Result<(), BoxFault>,
 )
-    requires left { (first : D) × (WasHad (locked_file (boot_file_of _settings.now _start.now.id))
+    requires left { (first : FileDisk (Opened F)) × (WasHad (locked_file (boot_file_of _settings.now _start.now.id))
         first × (IsLeft first disk × IsUntaken O.contents (path_in _start.now.capture)
         _settings.now _start.now.id _ended.now first disk _output.now)) }
     requires ran { OnOk _ended.now (RanLocked O.contents _start.now _settings.now _ways.now

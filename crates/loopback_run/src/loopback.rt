@@ -12,9 +12,30 @@ use settings::{GatewaySettings, Settings};
 use sockets::Place;
 use std::snapshot::Snapshot;
 
+/// Kept to this file, so that nothing else can be a `Held`.
+mod closed {
+    /// Nobody else can name it.
+    pub trait Sealed {}
+}
+
+/// What carries a port's bytes, a port, or three: itself, and nothing that shows itself as that.
+pub(crate) trait Held: Drop + closed::Sealed {}
+
+impl<R> closed::Sealed for SystemPort<'_, R> {}
+
+impl<R> Held for SystemPort<'_, R> {}
+
+impl<S: Held> closed::Sealed for Port<S> {}
+
+impl<S: Held> Held for Port<S> {}
+
+impl<S: Held> closed::Sealed for Ports<S> {}
+
+impl<S: Held> Held for Ports<S> {}
+
 /// Gives up what was had. Of what it is nothing is known here, so nothing else can be done with it.
 #[tactic(auto, unfolding(crate::specs::Binding::WasGivenUp))]
-fn give_up<X: Drop>(_had: X)
+fn give_up<X: Held>(_had: X)
     ensures { WasGivenUp _had }
 {}
 
@@ -56,7 +77,7 @@ struct Ports<S> {
     outside: Port<S>,
 }
 
-impl<S: Drop> Ports<S> {
+impl<S: Held> Ports<S> {
     /// Those of a gateway's settings, one after the other up to the first that isn't had.
     fn bind<B: Binds<S>>(system: &mut B, own: &GatewaySettings) -> Result<Ports<S>, PortFault>
         ensures numbers { IfOk result (AreOf own.now) }
@@ -107,7 +128,7 @@ struct Both<S> {
     one: Ports<S>,
 }
 
-impl<S: Drop> Both<S> {
+impl<S: Held> Both<S> {
     /// Those of both gateways' settings, gateway 0's first, up to the first that isn't had.
     fn bind<B: Binds<S>>(system: &mut B, settings: &Settings) -> Result<Both<S>, PortFault>
         ensures numbers { IfOk result (AreOfBoth settings.now) }
@@ -164,7 +185,7 @@ enum Hold<S> {
     Refused(PortFault),
 }
 
-impl<S: Drop> Hold<S> {
+impl<S: Held> Hold<S> {
     ghost use Rattle.std.specs.Prelude.{◌≡◌};
     ghost use Rattle.loopback_run.specs.Holds.{standing_of};
     ghost use Rattle.loopback_run.specs.Standings.{WasLetGo, unasked};
@@ -188,7 +209,7 @@ pub struct Holding<B, S> {
     hold: Hold<S>,
 }
 
-impl<B: Binds<S>, S: Carries + Drop> Channel for Holding<B, S> {
+impl<B: Binds<S>, S: Carries + Held> Channel for Holding<B, S> {
     ghost use Rattle.loopback_run.specs.Holds.{HoldsNoPorts, HoldsPorts, PassesOn};
 
     ghost opens = { HoldsPorts B.binds };

@@ -21,7 +21,7 @@ begun_in contents number vacant file first (Err why) cleared is begins asked = t
 
 pub unbegun_in : {V F : Type 0} (number : Numbers F) (vacant : V) (file : F) (first : Filed F) (result : Result (Reeled (Filed F)) Error)
     → WasCleared vacant (Ok file) → first.file ≡ file
-    → IfErr result (IsUnbegun (λ c has c2. FileLooks number c has c2) (λ c bytes answer c2. FileWrites c bytes answer c2) first)
+    → IfErr result (IsUnbegun (λ c has c2. FileLooks number c has c2) (λ c bytes answer c2. FileWrites c bytes answer c2) (λ c. WasLetGo c) first)
     → IfErr result (IsUnbegunIn number vacant)
 unbegun_in number vacant file first (Ok reel) cleared is unbegun = tt
 unbegun_in number vacant file first (Err why) cleared is unbegun = inr (record {

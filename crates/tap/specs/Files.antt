@@ -3,7 +3,7 @@ use Rattle.std.specs.Prelude.{◌≡◌, ◌⊎◌, ◌<◌, ℕ, ℤ, Bool, tru
 use Rattle.std.specs.declared.io.Error.{Error}
 use Rattle.polls.specs.Polls.{FileHasNoRoom, FileHasRoom}
 use Rattle.polls.specs.declared.askers.Asker.{Asker}
-use Rattle.tap.specs.Outlets.{IsAskedOnce, taken}
+use Rattle.tap.specs.Outlets.{IsAskedOnce, WasLetGo, taken}
 use Rattle.tap.specs.Reels.{Begins, Holds, IsUnbegun, Reeled}
 
 -- it, and who asks whether it has room
@@ -58,7 +58,7 @@ pub record IsClearedAlone {V F : Type 0} (number : Numbers F) (vacant : V) (why 
   pub cleared : WasCleared vacant (Ok file)
   pub first : Filed F
   pub is : first.file ≡ file
-  pub unbegun : IsUnbegun (λ c has c2. FileLooks number c has c2) (λ c bytes answer c2. FileWrites c bytes answer c2) first why
+  pub unbegun : IsUnbegun (λ c has c2. FileLooks number c has c2) (λ c bytes answer c2. FileWrites c bytes answer c2) (λ c. WasLetGo c) first why
 
 -- this is told of a capture that isn't begun: just what was answered where clearing was refused; or so it is of what was cleared
 abbrev pub IsUnbegunIn : {V F : Type 0} → Numbers F → V → Error → Type 0

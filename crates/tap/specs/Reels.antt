@@ -5,7 +5,7 @@ use Rattle.std.specs.IoError.{error_kind}
 use Rattle.std.specs.declared.io.Error.{Error}
 use Rattle.std.specs.declared.io.ErrorKind.TheVariants.{OutOfMemory}
 use Rattle.captures.specs.Captures.{Captured, capture_of, head, packet_block}
-use Rattle.tap.specs.Outlets.{Looks, Pours, PoursNone, WasLetGo, Writes, front}
+use Rattle.tap.specs.Outlets.{Looks, Pours, PoursNone, Writes, front}
 
 -- where it goes, what its last block is owed, and how many packets were left out
 pub record Reeled (O : Type 0) : Type 0 where
@@ -53,9 +53,9 @@ unfoldable pub WasRefusedRoom : ℕ → Captured → Type 0
 WasRefusedRoom left_out p = Unit {0}
 
 -- why a capture isn't begun, as it is told: memory was refused for its head; or its outlet took nothing of that. It is let go as it is then.
-abbrev pub IsUnbegun : {O : Type 0} → Looks O → Writes O → O → Error → Type 0
-IsUnbegun {O = O} looks writes outlet why = (WasRefusedHead × ((error_kind why ≡ OutOfMemory) × WasLetGo outlet))
-    ⊎ ((after : O) × (PoursNone looks writes outlet (front head) why after × WasLetGo after))
+abbrev pub IsUnbegun : {O : Type 0} → Looks O → Writes O → (O → Type 0) → O → Error → Type 0
+IsUnbegun {O = O} looks writes gone outlet why = (WasRefusedHead × ((error_kind why ≡ OutOfMemory) × gone outlet))
+    ⊎ ((after : O) × (PoursNone looks writes outlet (front head) why after × gone after))
 
 -- why a packet is left out: the outlet is full, or more than 4,096 bytes were owed, or memory was refused for its block
 abbrev pub IsLeftOut : {O : Type 0} → (O → Type 0) → Reeled O → Captured → O → Type 0

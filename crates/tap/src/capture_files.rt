@@ -30,6 +30,9 @@ pub trait Outlet {
 
     ghost writes: { Writes Self } = { λ _ _ _ _. Unit {0} };
 
+    /// What it is where it is let go. Who lets it go has it, and nobody else.
+    ghost gone: { Self → Type 0 } = { λ _. Unit {0} };
+
     /// Whether a write of at most 4,096 bytes wouldn't wait. It never waits itself.
     fn has_room(&mut self) -> bool
         ensures looked { looks self.old result self.new }
@@ -49,11 +52,16 @@ pub trait Outlet {
         ensures bound { WritesAtMost result bytes.now }
         ensures full { taken result < length bytes.now → IsFull self.new }
         ensures bytes { WriteAppends (contents self.old) (contents self.new) result bytes.now };
+
+    /// Lets it go, as it is: nothing is asked of it any more.
+    fn put_down(self)
+        ensures { gone self };
 }
 
-impl<F: Write + AsRawFd> Outlet for CaptureFile<F> {
+impl<F: Write + AsRawFd + Drop> Outlet for CaptureFile<F> {
     ghost use Rattle.std.specs.Prelude.{◌⊎◌};
     ghost use Rattle.tap.specs.Files.{FileLooks, FileWrites, IsFullFile, IsRoomyFile, IsShortFile};
+    ghost use Rattle.tap.specs.Outlets.{WasLetGo};
 
     ghost contents = { λ c. F.contents c.file };
 
@@ -65,12 +73,19 @@ impl<F: Write + AsRawFd> Outlet for CaptureFile<F> {
 
     ghost writes = { λ c bytes answer c2. FileWrites c bytes answer c2 };
 
+    ghost gone = { WasLetGo };
+
     fn has_room(&mut self) -> bool {
         self.is_roomy()
     }
 
     fn write(&mut self, bytes: &[u8]) -> io::Result<usize> {
         self.told_to_write(bytes)
+    }
+
+    #[tactic(auto, unfolding(crate::specs::Outlets::WasLetGo))]
+    fn put_down(self) {
+        drop(self);
     }
 }
 

@@ -3,7 +3,7 @@ ghost use Rattle.std.specs.Prelude.{◌≡◌, ◌⊎◌, ◌++◌, ◌<◌, ◌
 ghost use Rattle.std.specs.Io.KnownBytes.{Appends, Keeps};
 ghost use Rattle.std.specs.IoError.{error_kind};
 ghost use Rattle.captures.specs.Captures.{captured_of, head, packet_block};
-ghost use Rattle.tap.specs.Outlets.{IsAskedOnce, IsAskedTwice, Pours, PoursNone, WasLetGo, front};
+ghost use Rattle.tap.specs.Outlets.{IsAskedOnce, IsAskedTwice, Pours, PoursNone, front};
 ghost use Rattle.tap.specs.Reels.{Adds, Begins, HandsOn, IsLeftOut, IsUnbegun, LeavesOut};
 ghost use Rattle.tap.specs.Reels.{WasRefusedHead, WasRefusedRoom, whole};
 
@@ -55,7 +55,7 @@ impl<O: Outlet + Drop> Reel<O> {
         ensures some { IfOk result (λ reel. length reel.owed < length head) }
         ensures outlet { IfOk result
             (λ reel. IsAskedOnce O.looks O.writes outlet reel.outlet) }
-        ensures refused { IfErr result (IsUnbegun O.looks O.writes outlet) }
+        ensures refused { IfErr result (IsUnbegun O.looks O.writes O.gone outlet) }
     {
         let block = match head_in(alloc) {
             Ok(block) => block,
@@ -161,12 +161,11 @@ impl<O: Outlet> Reel<O> {
 }
 
 /// Lets an outlet go, as it is, and gives on why.
-#[tactic(auto, unfolding(crate::specs::Outlets::WasLetGo))]
-fn let_go<O: Drop>(outlet: O, why: io::Error) -> io::Error
-    ensures gone { WasLetGo outlet }
+fn let_go<O: Outlet>(outlet: O, why: io::Error) -> io::Error
+    ensures gone { O.gone outlet }
     ensures same { result ≡ why }
 {
-    drop(outlet);
+    outlet.put_down();
     why
 }
 
