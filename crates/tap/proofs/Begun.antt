@@ -2,7 +2,7 @@
 use Rattle.std.proofs.Common.{◌≡◌, inr, sym, subst, Result, Ok, Err, IfErr, IfOk, IsErrAnd}
 use Rattle.std.specs.declared.io.Error.{Error}
 use Rattle.tap.specs.Files.{FileLooks, FileWrites, Filed, IsBegunIn, IsUnbegunIn, Numbers, WasCleared}
-use Rattle.tap.specs.Outlets.{IsAskedOnce}
+use Rattle.tap.specs.Outlets.{IsAskedOnce, WasLetGo}
 use Rattle.tap.specs.Reels.{Begins, Holds, IsUnbegun, Reeled}
 
 pub begun_in : {V F : Type 0} (contents : Holds F) (number : Numbers F) (vacant : V) (file : F) (first : Filed F) (result : Result (Reeled (Filed F)) Error)
