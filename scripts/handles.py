@@ -119,6 +119,9 @@ ANSWERED = {
     "Draws": "gate/rest:Seeds slots/draws:SystemDraws",
     "EndLine": "rounds/ends:O",
     "Folders": "control/machine:Machine",
+    "Held": "checks/openings:Opened commands/capture_files:BufWriter commands/capture_files:Capture control/awaiting:SystemLine "
+            "control/awaiting:UnixListener control/awaiting:UnixStream gate/wires:Option gate/wires:Sockets gate/wires:Stopwatch "
+            "loopback_run/loopback:Port loopback_run/loopback:Ports loopback_run/loopback:SystemPort",
     "Host": "commands/hosts:ThisHost",
     "Hosted": "runtimes/hosted:HostRuntime runtimes/hosted:R",
     "Journal": "journal/sink:FilteredLog journal/sink:Unhindered",
@@ -137,7 +140,10 @@ ANSWERED = {
     "Reads": "checks/machine:ThisMachine faults/texts:SystemReads gate/files:FileSystem",
     "RefusalText": "frame_sim/events:WorldFault",
     "Reports": "control/machine:Waits",
-    "Sealed": "journal/sealed:FilteredLog runtimes/sealed:HostRuntime runtimes/sealed:R",
+    "Sealed": "boot_file/locks:File boot_file/locks:Opened checks/openings:Opened commands/capture_files:BufWriter "
+              "commands/capture_files:Capture control/awaiting:SystemLine control/awaiting:UnixListener control/awaiting:UnixStream "
+              "gate/wires:Option gate/wires:Sockets gate/wires:Stopwatch journal/sealed:FilteredLog loopback_run/loopback:Port "
+              "loopback_run/loopback:Ports loopback_run/loopback:SystemPort runtimes/sealed:HostRuntime runtimes/sealed:R",
     "Serves": "commands/serving:SystemServes",
     "Shows": "box_words/refusals:BoxFault checks/telling:WithPath command_line/faults:ValueFault faults/faults:Fault "
              "frame_sim/events:WorldFault loopback_run/ports:PortFault",
@@ -192,6 +198,8 @@ ANSWERS = re.compile(r"\bimpl\b\s*(?:<[^{]*?>)?\s*(?:::)?(?:\w+::)*(\w+)(?:<[^{]
                      r"(?:&\s*(?:'\w+\s+)?(?:mut\s+)?)*[(\[<]*(?:::)?(?:\w+::)*(\w+)")
 TRAIT = re.compile(r"\btrait (\w+)")
 RENAMED = re.compile(r"\b(\w+)\s+as\s+(?!_\b)(\w+)")
+MODEL = re.compile(r"\bimpl\b\s*(?:<[^{]*?>)?\s*(?:::)?(?:\w+::)*Model\s+for\s+(?:\w+::)*(\w+)")
+VALUE = re.compile(r"\bghost\s+Value\s*=\s*\{\s*(.*?)\s*\};", re.S)
 GHOST_USE = re.compile(r"\bghost use\b[^;]*;")
 GOING = re.compile(r"\bDrop\s+(?:for\s+(?:\w+::)*|as\s+)(\w+)")
 HEAD = re.compile(r"\bimpl\b[^{;]*(?=\{)")
@@ -523,10 +531,38 @@ def made_up(top, crates):
         for name in (it for it, crate in MODELS.items() if re.search(rf"\b{it}\b", code) and place.split("/")[0] != crate):
             yield f"{path}: names {name}, which only stands for a part of the system"
         for trait, word in found_in(RENAMED, without_ghost_uses(code)):
-            if trait in ANSWERED or STANDARD.fullmatch(trait):
+            if trait in ANSWERED or trait == "Model" or STANDARD.fullmatch(trait):
                 yield f"{path}: {trait} as {word}: another word for what is asked by it, so that nobody sees who answers"
         for word in found_in(WRITES_CODE, code):
             yield f"{path}: {word} writes code, and this script reads what is written"
+
+
+def values_in(code):
+    """The types of a source that show themselves to clauses as something else, each with what that is."""
+    for it in MODEL.finditer(code):
+        start = brace_from(code, it.end())
+        value = VALUE.search(code, start, closed(code, start))
+        yield it[1], " ".join(value[1].split()) if value else ""
+
+
+def lines_of(top, name):
+    """The lines of a list beside this script."""
+    return [it for it in (top / "scripts" / name).read_text(encoding="utf-8").splitlines() if it and not it.startswith("#")]
+
+
+def shown_as_others(top, crates):
+    """A type that shows itself to clauses as something else, and has no line of scripts/models.txt: it could show itself as what is
+    another's, and have the names that are given of that."""
+    left = lines_of(top, "models.txt")
+    for place, path, code in of_the_program(top, crates):
+        for name, value in values_in(code):
+            line = f"{place} {name} {value}"
+            if line in left:
+                left.remove(line)
+            else:
+                yield f"{path}: {name} shows itself as {value or 'something'}, and scripts/models.txt has no such line"
+    for line in left:
+        yield f"scripts/models.txt: {line}: nobody shows himself so"
 
 
 def is_there(code, row):
@@ -559,4 +595,4 @@ def rows_for_nothing(top, _crates):
                 yield f"crates/{place.replace('/', '/src/')}.rt: has no {word}, which scripts/handles.py names"
 
 
-LOOKS = (by_a_field, asked_otherwise, handed_to_others, had_by_others, asked_by_number, done_when_let_go, made_up, rows_for_nothing)
+LOOKS = (by_a_field, asked_otherwise, handed_to_others, had_by_others, asked_by_number, done_when_let_go, made_up, shown_as_others, rows_for_nothing)

@@ -18,7 +18,8 @@ up can be. Nothing beside functions uses one. No other type has the system by a 
 are handed it (HANDED), and nobody else does anything where he is let go (DROPS). Who asks with no handle, by `libc` or `os`, stands
 in BY_NUMBER. Nobody stands in for the system: its rights are no type's of the program, and what the program asks by a trait of its
 own is answered by those in ANSWERED alone. These tables, and who looks at them, stand in handles.py. Which function has the name
-of which call stands in names.txt.
+of which call stands in names.txt, and as what each type shows itself to clauses, where that is something else, in models.txt: one that
+showed itself as another's value would have the names that are given of that.
 
 All this reads text, and is no parser: what gets past it would have to be written to get past it.
 """
@@ -162,8 +163,7 @@ def kept(top, crates):
 
 def names_given(top):
     """The lines of scripts/names.txt: a place, a function, and the names of calls that it has."""
-    lines = (top / "scripts" / "names.txt").read_text(encoding="utf-8").splitlines()
-    return [line for line in lines if line and not line.startswith("#")]
+    return handles.lines_of(top, "names.txt")
 
 
 def untold_names(top, crates):
@@ -281,6 +281,7 @@ PLANTED = {
     "own": ("gate/src/own.rt", "trait Owned {}\nimpl Owned for Planted {}\n", "Planted answers as Owned"),
     "model": ("gate/src/models.rt", "use boot_store::ModelDisk;\n", "names ModelDisk"),
     "unfolds": ("sums/src/unfolds.rt", "#[tactic(auto, unfolding(x::Y))]\nstruct Planted;\n", "unfolds something"),
+    "shadow": ("tap/src/shadow.rt", "impl<T> Model for Shadow<T> {\n    ghost Value = { T };\n}\n", "Shadow shows itself as T"),
     "going": ("journal/src/planted.rt", "impl<R> Drop for Planted<R> {\n    fn drop(self) {}\n}\n", "Planted does something"),
 }
 
