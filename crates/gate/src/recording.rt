@@ -133,7 +133,7 @@ pub(crate) fn put_away<L: Journal>(
 }
 
 /// Tells of a boot, and of nothing else.
-fn tell_boot<L: Journal>(mut pen: Pen<'_, L>, boot: u64)
+fn tell_boot<L: Journal + OwnLog>(mut pen: Pen<'_, L>, boot: u64)
     ensures { IsAskedOnce (IsTold L.enables pen.entry 0 (Boot boot)) }
 {
     pen.tell(0, Entry::Boot(boot));
@@ -141,7 +141,7 @@ fn tell_boot<L: Journal>(mut pen: Pen<'_, L>, boot: u64)
 }
 
 /// Tells how many packets a capture has left out, if it has, and nothing else.
-fn tell_left_out<L: Journal>(mut pen: Pen<'_, L>, packets: u64)
+fn tell_left_out<L: Journal + OwnLog>(mut pen: Pen<'_, L>, packets: u64)
     ensures { IsAskedOnce (IsToldLeftOut L.enables pen.entry packets) }
 {
     pen.tell_left_out(packets);
