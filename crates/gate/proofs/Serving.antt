@@ -28,7 +28,7 @@ use Rattle.gate.specs.declared.running.Start.{Start}
 pub runs_on : {W : Type 0} (does : Calls W) (says : WireSays W) (track until_eof : Bool) (who : Identity) (rounds : Option ℕ) (g g2 : Shown) (w w2 : W) (told : List Telling)
     (clock clock2 : Watch) (source until until2 : Option Asker) (last : Box W) → told ≡ [] → WasStarted clock → clock.read ≡ 0 → until ≡ source → is_some source ≡ until_eof
     → IfSome source IsUnasked → (h : IsRun does says track who HasRead (most_rounds rounds) TellsEnd TellsNoEnd (begun g w told) clock until last clock2 until2)
-    → last.shown ≡ g2 → last.wire ≡ w2 → WasLetGo (clock2, until2) → (Holds : List ℕ → Type 0) → Holds h.all.moments → (Tells : List Telling → Type 0) → Tells last.told
+    → last.shown ≡ g2 → last.wire ≡ w2 → WasLetGo {A = Watch × Option Asker} (clock2, until2) → (Holds : List ℕ → Type 0) → Holds h.all.moments → (Tells : List Telling → Type 0) → Tells last.told
     → (run : RunsOn does says who rounds track until_eof g g2 w w2) × (Holds run.had.all.moments × Tells run.last.told)
 runs_on does says track until_eof who rounds g g2 w w2 told clock clock2 source until until2 last untold start at_start same watched unasked h shows wire_is gone Holds heard Tells tells = (
   record {

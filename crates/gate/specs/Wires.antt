@@ -58,7 +58,7 @@ pub record RunsOn {W : Type 0} (does : Calls W) (says : WireSays W) (who : Ident
     pub watched : is_some until ≡ until_eof
     pub unasked : IfSome until IsUnasked
     pub until2 : Option Asker
-    pub put_down : WasLetGo (clock2, until2)
+    pub put_down : WasLetGo {A = Watch × Option Asker} (clock2, until2)
     pub told : List Telling
     pub untold : told ≡ []
     pub last : Box W

@@ -101,15 +101,15 @@ impl<L: Journal + OwnLog> Records<L> {
         tapped: TappedBox<'_, W, C, F>,
     )
         requires ended { IsEnded tapped }
-        ensures told { IsToldOfLeftOut L.enables self.old.log tapped.reel.left_out }
-        ensures left_out { WasLeftOut self.old tapped.reel.left_out self.new }
-        ensures gone { WasLetGo tapped.wire }
+        ensures told { IsToldOfLeftOut L.enables self.old.log tapped.entry.reel.left_out }
+        ensures left_out { WasLeftOut self.old tapped.entry.reel.left_out self.new }
+        ensures gone { WasLetGo tapped.entry.wire }
         ensures tapped { IsTapped
             (calls ⟦<TappedBox<'static, W, C, F> as Wire>⟧.does
             ⟦<TappedBox<'static, W, C, F> as Wire>⟧.answers)
             (wire_says ⟦<TappedBox<'static, W, C, F> as Wire>⟧.waits
             ⟦<TappedBox<'static, W, C, F> as Wire>⟧.failing
-            ⟦<TappedBox<'static, W, C, F> as Wire>⟧.lost) tapped }
+            ⟦<TappedBox<'static, W, C, F> as Wire>⟧.lost) tapped.entry }
     {
         tell_left_out(Pen::new(&self.log), tapped.left_out());
         drop(tapped);
