@@ -282,6 +282,8 @@ PLANTED = {
     "model": ("gate/src/models.rt", "use boot_store::ModelDisk;\n", "names ModelDisk"),
     "unfolds": ("sums/src/unfolds.rt", "#[tactic(auto, unfolding(x::Y))]\nstruct Planted;\n", "unfolds something"),
     "shadow": ("tap/src/shadow.rt", "impl<T> Model for Shadow<T> {\n    ghost Value = { T };\n}\n", "Shadow shows itself as T"),
+    "edit": ("../wrong-bodies/sums/planted.edit", "It does nothing.\nfile: src/lib.rt\nold: this isn't there\nnew: nor is this\n",
+             "its old text stands 0 times in src/lib.rt"),
     "going": ("journal/src/planted.rt", "impl<R> Drop for Planted<R> {\n    fn drop(self) {}\n}\n", "Planted does something"),
 }
 
@@ -337,8 +339,10 @@ def plant(top, fault):
     """Makes a copy wrong in one way; gives the beginning of the one line that has to be said of it."""
     if fault in PLANTED:
         place, text, said = PLANTED[fault]
-        (top / "crates" / place).write_text(text)
-        return f"crates/{place}: {said}"
+        path = (top / "crates" / place).resolve()
+        path.parent.mkdir(parents=True, exist_ok=True)
+        path.write_text(text)
+        return f"{path.relative_to(top.resolve())}: {said}"
     if fault in CHANGED:
         place, old, new, said = CHANGED[fault]
         path = top / "crates" / place
@@ -348,11 +352,6 @@ def plant(top, fault):
         path = top / "docs" / "THEOREM.md"
         path.write_text(path.read_text().replace("| `told_to_draw` |", "| `drawn` |"))
         return "crates/gate/src/rest.rt: told_to_draw has WasDrawn"
-    if fault == "edit":
-        path = top / "wrong-bodies" / "sums" / "planted.edit"
-        path.parent.mkdir(parents=True)
-        path.write_text("It does nothing.\nfile: src/lib.rt\nold: this isn't there\nnew: nor is this\n")
-        return "wrong-bodies/sums/planted.edit: its old text stands 0 times in src/lib.rt"
     if fault == "dependency":
         path = top / "crates.txt"
         path.write_text(re.sub(r"(?m)^(sums:.*)$", r"\1 slab", path.read_text()))
@@ -377,7 +376,7 @@ def self_test(top):
     with tempfile.TemporaryDirectory(prefix="house-") as room:
         copy = copy_of(top, pathlib.Path(room))
         before = set(faults(copy))
-        for planted in (PLANTED, CHANGED, ["theorem"], ["edit"], ["dependency"], ["door"], ["version"], ["folder"]):
+        for planted in (PLANTED, CHANGED, ["theorem"], ["dependency"], ["door"], ["version"], ["folder"]):
             wanted = {fault: plant(copy, fault) for fault in planted}
             now = faults(copy)
             found = [line for line in now if line not in before]

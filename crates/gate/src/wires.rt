@@ -59,8 +59,9 @@ pub(crate) fn unlock<F: Drop, O: Write>(
     _output: &O,
     _ended: &Result<(), BoxFault>,
 )
-    requires left { (first : FileDisk (Opened F)) × (WasHad (locked_file (boot_file_of _settings.now _start.now.id))
-        first × (IsLeft first disk × IsUntaken O.contents (path_in _start.now.capture)
+    requires left { (first : FileDisk (Opened F))
+        × (WasHad (locked_file (boot_file_of _settings.now _start.now.id)) first
+        × (IsLeft first disk × IsUntaken O.contents (path_in _start.now.capture)
         _settings.now _start.now.id _ended.now first disk _output.now)) }
     requires ran { OnOk _ended.now (RanLocked O.contents _start.now _settings.now _ways.now
         _output.now) }
