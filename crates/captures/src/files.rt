@@ -4,6 +4,7 @@ ghost use Rattle.std.specs.Io.KnownBytes.{Consumes, IsAtEnd};
 ghost use Rattle.std.specs.IoError.{error_kind};
 ghost use Rattle.captures.specs.Files.{Empties, Held, IsForCapture, IsFound, IsLookedAt, IsNoPlace, IsOpened, IsRead, IsUnemptied, IsUnopened, Looks, ReadsFront, SystemEmpties, SystemLooks, WasAskedKind, WasCut, WasFilled, WasOpened, WasRewound, WasSought, WasToldMode, emptied, filled_in, found_in, is_free, may_begin};
 
+use runtimes::Hosted;
 use std::fs::{self, Files, OpenFile, OpenOptions};
 use std::io::{self, ErrorKind, Read, Seek, SeekFrom};
 use std::marker::Model;
@@ -258,7 +259,7 @@ pub enum Reader {
 /// # Errors
 ///
 /// Where the system refuses it; and as `Vacant::of`.
-pub fn open<R: Files>(rt: &R, path: &str, reader: Reader) -> io::Result<Vacant<R::File>>
+pub fn open<R: Files + Hosted>(rt: &R, path: &str, reader: Reader) -> io::Result<Vacant<R::File>>
     ensures opened { IfOk result (IsOpened path.now reader) }
     ensures refused { IfErr result (IsUnopened R.File path.now reader) }
 {
@@ -305,7 +306,7 @@ fn told_of_mode(options: &mut OpenOptions, mode: u32)
 }
 
 /// Whether it is to be read too, so that its opening doesn't wait, or so that its front can be looked at.
-fn is_read<R: Files>(rt: &R, path: &str, reader: Reader) -> bool
+fn is_read<R: Files + Hosted>(rt: &R, path: &str, reader: Reader) -> bool
     ensures { IsRead path.now reader result }
 {
     match reader {
@@ -316,7 +317,7 @@ fn is_read<R: Files>(rt: &R, path: &str, reader: Reader) -> bool
 
 /// Asks the system by these options for the file at a path.
 #[tactic(auto, unfolding(crate::specs::Files::WasOpened))]
-fn told_to_open<R: Files>(rt: &R, options: &OpenOptions, path: &str) -> io::Result<R::File>
+fn told_to_open<R: Files + Hosted>(rt: &R, options: &OpenOptions, path: &str) -> io::Result<R::File>
     ensures { WasOpened options.now path.now result }
 {
     options.open(rt, path)
@@ -324,7 +325,7 @@ fn told_to_open<R: Files>(rt: &R, options: &OpenOptions, path: &str) -> io::Resu
 
 /// Whether a path is that of a regular file, or of none yet.
 #[tactic(auto, unfolding(crate::specs::Files::WasSought))]
-fn may_be_regular<R: Files>(rt: &R, path: &str) -> bool
+fn may_be_regular<R: Files + Hosted>(rt: &R, path: &str) -> bool
     ensures { WasSought path.now result }
 {
     match fs::metadata(rt, path) {

@@ -54,7 +54,7 @@ fn buffer_over<W: Write + Drop>(alloc: Global, file: W) -> io::Result<BufWriter<
 /// # Errors
 ///
 /// Where that is refused, or something was refused before.
-pub(crate) fn end_of<W: Write + Drop>(mut capture: Capture<W>) -> io::Result<()>
+pub(crate) fn end_of<F: Write + Drop>(mut capture: Capture<BufWriter<F>>) -> io::Result<()>
     ensures { HasEnded capture result }
 {
     let answer = capture.end();
@@ -71,9 +71,9 @@ mod closed {
 /// A capture, or the buffer of one that wasn't begun: itself, and nothing that shows itself as that.
 trait Held: Drop + closed::Sealed {}
 
-impl<W: Write + Drop> closed::Sealed for Capture<W> {}
+impl<F: Write + Drop> closed::Sealed for Capture<BufWriter<F>> {}
 
-impl<W: Write + Drop> Held for Capture<W> {}
+impl<F: Write + Drop> Held for Capture<BufWriter<F>> {}
 
 impl<W: Write + Drop> closed::Sealed for BufWriter<W> {}
 

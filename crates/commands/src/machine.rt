@@ -111,7 +111,7 @@ impl<'a, R: Hosted> SystemCaptures<'a, R> {
     }
 }
 
-impl<R: Files> SystemCaptures<'_, R> {
+impl<R: Files + Hosted> SystemCaptures<'_, R> {
     /// Has the system open the file at a path for a capture. One that is there loses what it has, where that is a capture. The
     /// reader of a named pipe is waited for.
     ///

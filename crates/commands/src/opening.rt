@@ -2,6 +2,7 @@
 ghost use Rattle.commands.specs.Here.{WasOpened};
 
 use crate::machine::SystemCaptures;
+use runtimes::Hosted;
 use std::fs::Files;
 use std::io::{self, Write};
 
@@ -22,7 +23,7 @@ pub(crate) trait Opens {
 }
 
 /// This machine: one file is one call of it.
-impl<R: Files> Opens for SystemCaptures<'_, R> {
+impl<R: Files + Hosted> Opens for SystemCaptures<'_, R> {
     ghost opens = { WasOpened };
 
     type File = R::File;

@@ -4,6 +4,7 @@ ghost use Rattle.control.specs.Folders.{Deed, WasDone};
 ghost use Rattle.control.specs.Opening.{WasBound};
 ghost use Rattle.control.specs.Speaking.{WasDialled, WasLetGo, WasLimited, WasRead, WasWritten};
 
+use crate::awaiting::Held;
 use crate::folders::Folders;
 use crate::lines::{Dials, Limits};
 use crate::listeners::Reports;
@@ -84,7 +85,7 @@ impl<'a> Waits<'a> {
     }
 }
 
-impl<S: Source> Reports<S> for Waits<'_> {
+impl<S: Source + Held> Reports<S> for Waits<'_> {
     ghost reports = { WasReported };
 
     #[tactic(auto, unfolding(crate::specs::Calling::WasReported))]

@@ -42,7 +42,7 @@ pub(crate) fn opened<F: Folders + Binds<L>, L: Held, S: Held>(
 
 /// Room for as many callers as are waited for.
 #[tactic(auto, unfolding(crate::specs::Opening::WasRefused))]
-fn room_for_callers<S: Drop>(alloc: Global) -> Result<Vec<S>, AllocError>
+fn room_for_callers<S: Held>(alloc: Global) -> Result<Vec<S>, AllocError>
     ensures none { IfOk result (λ callers. vec_len callers ≡ 0) }
     ensures room { IfOk result (λ callers. 8 ≤ vec_capacity callers) }
     ensures refused { OnErr result (WasRefused 8) }

@@ -11,6 +11,7 @@ use crate::running::Start;
 use crate::wires::{Held, let_go};
 use box_words::BoxFault;
 use nat_types::GatewayId;
+use runtimes::Hosted;
 use sockets::Wire;
 use std::alloc::Global;
 use std::fs::{Files, OpenFile};
@@ -28,7 +29,7 @@ pub(crate) struct CaptureAt<'a, F> {
 }
 
 /// The file of a start's capture, opened, where there is to be one. It has what it had.
-pub(crate) fn capture_at<'a, R: Files + Net + AllocGlobal>(
+pub(crate) fn capture_at<'a, R: Files + Net + AllocGlobal + Hosted>(
     machine: &mut Machine<'_, R>,
     start: &Start<'a>,
 ) -> Result<Option<CaptureAt<'a, R::File>>, BoxFault>

@@ -67,7 +67,7 @@ impl<R: Files + AllocGlobal> FileSystem<'_, R> {
     }
 }
 
-impl<R: Files> FileSystem<'_, R> {
+impl<R: Files + Hosted> FileSystem<'_, R> {
     /// Has it open the file at a path for a capture.
     #[tactic(auto, unfolding(crate::specs::Named::WasTried))]
     pub(crate) fn told_to_open(&mut self, path: &str) -> io::Result<Vacant<R::File>>

@@ -68,7 +68,7 @@ impl<R> Machine<'_, R> {
     }
 }
 
-impl<R: Files + AllocGlobal> Machine<'_, R> {
+impl<R: Files + AllocGlobal + Hosted> Machine<'_, R> {
     /// Has it read the text of the file at a path.
     #[tactic(auto, unfolding(crate::specs::Asking::WasAsked))]
     pub(crate) fn told_to_read(&mut self, path: &str) -> Result<String, Fault>

@@ -15,6 +15,7 @@ use crate::machine::Machine;
 use box_words::BoxFault;
 use faults::Fault;
 use nat_types::GatewayId;
+use runtimes::Hosted;
 use settings::Settings;
 use settings_file::{OnLoopback, SettingFault, port_clash};
 use sockets::{Way, Ways};
@@ -24,7 +25,7 @@ use std::net::Net;
 use supervision::Manager;
 
 /// The settings in the file at a path.
-pub(crate) fn settings_at<R: Files + Net + AllocGlobal>(
+pub(crate) fn settings_at<R: Files + Net + AllocGlobal + Hosted>(
     machine: &mut Machine<'_, R>,
     alloc: Global,
     path: &str,
@@ -48,7 +49,7 @@ fn settings_in(alloc: Global, text: &str) -> Result<Settings, Fault>
 }
 
 /// The service manager whose descriptor a text writes, if there is one.
-pub(crate) fn manager_of<R: Files + Net + AllocGlobal>(
+pub(crate) fn manager_of<R: Files + Net + AllocGlobal + Hosted>(
     machine: &mut Machine<'_, R>,
     text: Option<&str>,
 ) -> Result<Option<Manager>, BoxFault>

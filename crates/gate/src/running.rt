@@ -121,7 +121,7 @@ where
 /// hashers, the boot number, the head of the capture. So a start that is refused for one of those before takes no number, one
 /// on a box that runs already touches none of its sockets, and only where all else is had a file loses what it has.
 fn served<
-    R: Files + Net + AllocGlobal,
+    R: Files + Net + AllocGlobal + Hosted,
     C: Clock + RandomSource + Eprint + Env + Input + AllocGlobal + Hosted,
     O: Write,
 >(
@@ -148,7 +148,7 @@ where
 
 /// Reads the ways of the places, and takes over their descriptors.
 fn reached<
-    R: Files + Net + AllocGlobal,
+    R: Files + Net + AllocGlobal + Hosted,
     C: Clock + RandomSource + Eprint + Env + Input + AllocGlobal + Hosted,
     O: Write,
 >(
@@ -177,7 +177,7 @@ where
 
 /// Takes over the service manager's descriptor, and lets the manager go once all is done.
 fn watched<
-    R: Files + Net + AllocGlobal,
+    R: Files + Net + AllocGlobal + Hosted,
     C: Clock + RandomSource + Eprint + Env + Input + AllocGlobal + Hosted,
     O: Write,
 >(
@@ -209,7 +209,7 @@ where
 
 /// Looks whether the ports of the places on loopback can be had together. The control socket's path is made.
 fn apart<
-    R: Files + Net + AllocGlobal,
+    R: Files + Net + AllocGlobal + Hosted,
     C: Clock + RandomSource + Eprint + Env + Input + AllocGlobal + Hosted,
     O: Write,
 >(
@@ -244,7 +244,7 @@ where
 
 /// Opens and locks the boot file, for as long as the gateway runs.
 fn locked<
-    R: Files + Net + AllocGlobal,
+    R: Files + Net + AllocGlobal + Hosted,
     C: Clock + RandomSource + Eprint + Env + Input + AllocGlobal + Hosted,
     O: Write,
 >(
@@ -289,7 +289,7 @@ where
 
 /// Opens the control socket, while the boot file is locked: no other box listens there.
 fn connected<
-    R: Files + Net + AllocGlobal,
+    R: Files + Net + AllocGlobal + Hosted,
     C: Clock + RandomSource + Eprint + Env + Input + AllocGlobal + Hosted,
     O: Write,
 >(
@@ -341,7 +341,7 @@ where
 
 /// Opens the sockets that the ways need. Nothing is asked of the disk before all is had that comes before its number.
 fn wired<
-    R: Files + Net + AllocGlobal,
+    R: Files + Net + AllocGlobal + Hosted,
     C: Clock + RandomSource + Eprint + Env + Input + AllocGlobal + Hosted,
     D: Disk,
     O: Write,
@@ -388,7 +388,7 @@ where
 
 /// Reads the filter of the records.
 fn logged<
-    R: Files + Net + AllocGlobal,
+    R: Files + Net + AllocGlobal + Hosted,
     C: Clock + RandomSource + Eprint + Env + Input + AllocGlobal + Hosted,
     D: Disk,
     O: Write,
@@ -455,7 +455,7 @@ where
 
 /// Opens the file of a capture, where there is to be one, and runs the gateway.
 fn captured<
-    R: Files + Net + AllocGlobal,
+    R: Files + Net + AllocGlobal + Hosted,
     C: Clock + RandomSource + Input + AllocGlobal + Hosted,
     D: Disk,
     W: Wire + Held,

@@ -14,6 +14,23 @@ use log::kv::{Error, Source, ToValue, VisitSource};
 use outlets::{told_to_show, told_to_show_number};
 use std::fmt::{self, Display, Formatter};
 
+/// Kept to this file, so that nothing else can be a `Loggable`.
+mod closed {
+    /// Nobody else can name it.
+    pub trait Sealed {}
+}
+
+/// What a record says: itself, and nothing that shows itself as that and says something else.
+pub(crate) trait Loggable: Display + Source + Copy + closed::Sealed {}
+
+impl closed::Sealed for Note {}
+
+impl Loggable for Note {}
+
+impl closed::Sealed for LeftOutPackets {}
+
+impl Loggable for LeftOutPackets {}
+
 /// What a record tells, and when: in centiseconds since the box's start. Its text is for people; its keys and values say
 /// the same to programs.
 #[derive(Clone, Copy, Debug, PartialEq, Eq)]

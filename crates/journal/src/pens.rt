@@ -4,10 +4,9 @@ ghost use Rattle.log.specs.Record.{metadata_level, metadata_target};
 ghost use Rattle.journal.specs.Handed.{IsFlushed, IsHanded, IsUnhanded};
 ghost use Rattle.journal.specs.Handed.{WasAskedLines, WasPutDown, log_of};
 
+use crate::notes::Loggable;
 use crate::sink::Journal;
-use log::kv::Source;
 use log::{Metadata, Record};
-use std::fmt::Display;
 use std::snapshot::Snapshot;
 
 /// A log, which is handed records by this alone, as long as it is there. So what is known of the pen, before a call and after,
@@ -50,7 +49,7 @@ impl<L: Journal> Pen<'_, L> {
 
     /// Hands the log a record.
     #[tactic(auto, unfolding(crate::specs::Handed::WasHanded))]
-    pub(crate) fn hand<N: Display + Source + Copy>(&mut self, metadata: Metadata<'_>, note: N)
+    pub(crate) fn hand<N: Loggable>(&mut self, metadata: Metadata<'_>, note: N)
         ensures { IsHanded self.old (metadata_level metadata.entry)
             (metadata_target metadata.entry) note self.new }
     {

@@ -8,14 +8,12 @@ ghost use Rattle.journal.specs.Tally.{ended, noted, turned};
 
 use crate::causes::CAUSES;
 use crate::entries::Entry;
-use crate::notes::{LeftOutPackets, Note};
+use crate::notes::{LeftOutPackets, Loggable, Note};
 use crate::origins::ORIGINS;
 use crate::pens::Pen;
 use crate::sink::Journal;
 use crate::{Cause, Origin, Tally};
-use log::kv::Source;
 use log::{Level, Metadata};
-use std::fmt::Display;
 
 impl<L: Journal> Pen<'_, L> {
     /// Writes one record, if it passes.
@@ -112,7 +110,7 @@ impl<L: Journal> Pen<'_, L> {
     }
 
     /// Hands the log a record, if it says that it passes.
-    fn offer<N: Display + Source + Copy>(&mut self, metadata: Metadata<'_>, note: N)
+    fn offer<N: Loggable>(&mut self, metadata: Metadata<'_>, note: N)
         ensures log { log_of self.new ≡ log_of self.old }
         ensures told { IsRecord L.enables self.old (metadata_level metadata.entry)
             (metadata_target metadata.entry) note self.new }

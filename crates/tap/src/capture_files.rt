@@ -9,6 +9,7 @@ ghost use Rattle.tap.specs.Outlets.{Looks, Writes, taken};
 
 use crate::{CaptureFile, Reel};
 use captures::{Reader, Vacant};
+use runtimes::Hosted;
 use std::alloc::Global;
 use std::fs::{Files, OpenFile};
 use std::io::{self, Read, Seek, Write};
@@ -95,7 +96,7 @@ impl<F: Write + AsRawFd + Drop> Outlet for CaptureFile<F> {
 /// # Errors
 ///
 /// `AlreadyExists` where it is a regular file that has something, and no capture; where the system refuses it.
-pub fn open<R: Files>(rt: &R, path: &str) -> io::Result<Vacant<R::File>>
+pub fn open<R: Files + Hosted>(rt: &R, path: &str) -> io::Result<Vacant<R::File>>
     ensures opened { IfOk result (IsOpened path.now NotAwaited) }
     ensures refused { IfErr result (IsUnopened R.File path.now NotAwaited) }
 {

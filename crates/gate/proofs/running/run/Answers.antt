@@ -1,4 +1,4 @@
-use Rattle.std.proofs.Common.{inl, inr, refl, sym}
+use Rattle.std.proofs.Common.{inl, refl, sym}
 use Rattle.rounds.specs.Rounds.{calls, wire_says}
 use Rattle.gate.proofs.Heard.{unheard_behind}
 use Rattle.gate.proofs.Recorded.{new_again, of_run_bare, own_again, own_like, recorded_to_end, told_bare, told_unbooted}
