@@ -126,6 +126,7 @@ ANSWERED = {
     "Hosted": "runtimes/hosted:HostRuntime runtimes/hosted:R",
     "Journal": "journal/sink:FilteredLog journal/sink:Unhindered",
     "Limits": "control/machine:SystemLine",
+    "Loggable": "journal/notes:LeftOutPackets journal/notes:Note",
     "Line": "control/lines:S",
     "Listens": "control/listeners:UnixListener",
     "Lockable": "boot_file/locks:File boot_file/openings:Opened",
@@ -142,8 +143,8 @@ ANSWERED = {
     "Reports": "control/machine:Waits",
     "Sealed": "boot_file/locks:File boot_file/locks:Opened checks/openings:Opened commands/capture_files:BufWriter "
               "commands/capture_files:Capture control/awaiting:SystemLine control/awaiting:UnixListener control/awaiting:UnixStream "
-              "gate/wires:Option gate/wires:Sockets gate/wires:Stopwatch journal/sealed:FilteredLog loopback_run/loopback:Port "
-              "loopback_run/loopback:Ports loopback_run/loopback:SystemPort runtimes/sealed:HostRuntime runtimes/sealed:R",
+              "gate/wires:Option gate/wires:Sockets gate/wires:Stopwatch journal/notes:LeftOutPackets journal/notes:Note "
+              "journal/sealed:FilteredLog loopback_run/loopback:Port loopback_run/loopback:Ports loopback_run/loopback:SystemPort runtimes/sealed:HostRuntime runtimes/sealed:R",
     "Serves": "commands/serving:SystemServes",
     "Shows": "box_words/refusals:BoxFault checks/telling:WithPath command_line/faults:ValueFault faults/faults:Fault "
              "frame_sim/events:WorldFault loopback_run/ports:PortFault",
@@ -198,8 +199,18 @@ ANSWERS = re.compile(r"\bimpl\b\s*(?:<[^{]*?>)?\s*(?:::)?(?:\w+::)*(\w+)(?:<[^{]
                      r"(?:&\s*(?:'\w+\s+)?(?:mut\s+)?)*[(\[<]*(?:::)?(?:\w+::)*(\w+)")
 TRAIT = re.compile(r"\btrait (\w+)")
 RENAMED = re.compile(r"\b(\w+)\s+as\s+(?!_\b)(\w+)")
+# By what a file, a socket, a wait or a folder may be asked by a shared reference, and so with no trace in a clause. How often each stands
+# where is in asked.txt.
+BY_REFERENCE = re.compile(r"(?:\.|::)\s*(accept|create_dir(?:_with_mode|_all)?|deregister|hard_link|(?:join|leave)_multicast_v4|metadata|open"
+                          r"|peek(?:_from)?|poll|read_at|read_dir|read_exact_at|read_vectored|recv(?:_from)?|register|remove_dir(?:_all)?"
+                          r"|remove_file|rename|reregister|send(?:_to)?|set_broadcast|set_len|set_linger|set_modified|set_nodelay"
+                          r"|set_nonblocking|set_permissions|set_read_timeout|set_times|set_ttl|set_write_timeout|shutdown"
+                          r"|symlink(?:_metadata)?|sync_all|sync_data|take_error|try_clone|try_io|try_lock|unlock|write_all_at|write_at"
+                          r"|write_vectored)\s*(?:::\s*<[^;(){}]*>\s*)?\(")
+ANY_USE = re.compile(r"\b(?:ghost )?use\b[^;]*;")
+MODEL_WORD = re.compile(r"\bModel\b")
 MODEL = re.compile(r"\bimpl\b\s*(?:<[^{]*?>)?\s*(?:::)?(?:\w+::)*Model\s+for\s+(?:\w+::)*(\w+)")
-VALUE = re.compile(r"\bghost\s+Value\s*=\s*\{\s*(.*?)\s*\};", re.S)
+SHOWN = re.compile(r"\bghost\s+(Value|view|invariant)\s*=\s*\{\s*(.*?)\s*\};", re.S)
 GHOST_USE = re.compile(r"\bghost use\b[^;]*;")
 GOING = re.compile(r"\bDrop\s+(?:for\s+(?:\w+::)*|as\s+)(\w+)")
 HEAD = re.compile(r"\bimpl\b[^{;]*(?=\{)")
@@ -538,11 +549,13 @@ def made_up(top, crates):
 
 
 def values_in(code):
-    """The types of a source that show themselves to clauses as something else, each with what that is."""
+    """The types of a source that show themselves to clauses as something else, each with what that is, by which view, and what holds
+    of it."""
     for it in MODEL.finditer(code):
         start = brace_from(code, it.end())
-        value = VALUE.search(code, start, closed(code, start))
-        yield it[1], " ".join(value[1].split()) if value else ""
+        shown = {word: " ".join(said.split()) for word, said in SHOWN.findall(code, start, closed(code, start))}
+        more = "".join(f" | {shown[word]}" for word in ("view", "invariant") if word in shown)
+        yield it[1], shown.get("Value", "") + more
 
 
 def lines_of(top, name):
@@ -550,19 +563,51 @@ def lines_of(top, name):
     return [it for it in (top / "scripts" / name).read_text(encoding="utf-8").splitlines() if it and not it.startswith("#")]
 
 
+def not_listed(top, name, found, said):
+    """What is found, as the beginning of a line and its end, and doesn't stand so in a list beside this script; and what stands there, and
+    isn't found. What stands there otherwise is told once."""
+    left = lines_of(top, name)
+    for path, begin, end in found:
+        same = [line for line in left if line.startswith(f"{begin} ")]
+        if f"{begin} {end}" not in same:
+            yield f"{path}: {said.format(begin.split()[1], end or 'nothing')}, and scripts/{name} has no such line"
+        left = [line for line in left if line not in same]
+    for line in left:
+        yield f"scripts/{name}: {line}: it isn't so"
+
+
 def shown_as_others(top, crates):
     """A type that shows itself to clauses as something else, and has no line of scripts/models.txt: it could show itself as what is
     another's, and have the names that are given of that."""
-    left = lines_of(top, "models.txt")
+    found = []
     for place, path, code in of_the_program(top, crates):
-        for name, value in values_in(code):
-            line = f"{place} {name} {value}"
-            if line in left:
-                left.remove(line)
-            else:
-                yield f"{path}: {name} shows itself as {value or 'something'}, and scripts/models.txt has no such line"
-    for line in left:
-        yield f"scripts/models.txt: {line}: nobody shows himself so"
+        values = list(values_in(code))
+        found += [(path, f"{place} {name}", value) for name, value in values]
+        if len(MODEL_WORD.findall(ANY_USE.sub("", code))) > len(values):
+            yield f"{path}: names Model in a way that this script doesn't read"
+    yield from not_listed(top, "models.txt", found, "{} shows itself as {}")
+
+
+def asked_by_reference(top, crates):
+    """What may be asked with no trace in a clause, where scripts/asked.txt doesn't have it so often."""
+    found = [(path, f"{place} {word}", str(count)) for place, path, code in of_the_program(top, crates)
+             for word, count in sorted(collections.Counter(BY_REFERENCE.findall(code)).items())]
+    yield from not_listed(top, "asked.txt", found, "has {} {} times")
+
+
+def read_otherwise(top, crates):
+    """What this script would read otherwise than the compiler: a comment in a block, which may hold another, and a brace in what an
+    impl is told for. And a crate of the program that stands on cases or benches, which nobody reads here."""
+    for _, path, code in of_the_program(top, crates):
+        if "/*" in (top / path).read_text(encoding="utf-8"):
+            yield f"{path}: has a comment in a block: only lines of comment are read here"
+        for head in found_in(HEAD, code):
+            if head.replace("->", "").count("<") != head.replace("->", "").count(">"):
+                yield f"{path}: has a brace in what an impl is told for, which isn't read here"
+    for crate, below in crates.items():
+        for low in below if crate != "bench" and not crate.startswith("cases_") else ():
+            if low == "bench" or low.startswith("cases_"):
+                yield f"crates.txt: {crate} is of the program, and stands on {low}"
 
 
 def is_there(code, row):
@@ -595,4 +640,5 @@ def rows_for_nothing(top, _crates):
                 yield f"crates/{place.replace('/', '/src/')}.rt: has no {word}, which scripts/handles.py names"
 
 
-LOOKS = (by_a_field, asked_otherwise, handed_to_others, had_by_others, asked_by_number, done_when_let_go, made_up, shown_as_others, rows_for_nothing)
+LOOKS = (by_a_field, asked_otherwise, handed_to_others, had_by_others, asked_by_number, done_when_let_go, made_up, shown_as_others, asked_by_reference, read_otherwise,
+         rows_for_nothing)

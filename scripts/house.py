@@ -18,8 +18,9 @@ up can be. Nothing beside functions uses one. No other type has the system by a 
 are handed it (HANDED), and nobody else does anything where he is let go (DROPS). Who asks with no handle, by `libc` or `os`, stands
 in BY_NUMBER. Nobody stands in for the system: its rights are no type's of the program, and what the program asks by a trait of its
 own is answered by those in ANSWERED alone. These tables, and who looks at them, stand in handles.py. Which function has the name
-of which call stands in names.txt, and as what each type shows itself to clauses, where that is something else, in models.txt: one that
-showed itself as another's value would have the names that are given of that.
+of which call stands in names.txt; as what each type shows itself to clauses, where that is something else, in models.txt: one that
+showed itself as another's value would have the names that are given of that; how often a file, a socket or a folder is asked by what
+leaves no trace in a clause, and where, in asked.txt.
 
 All this reads text, and is no parser: what gets past it would have to be written to get past it.
 """
@@ -289,7 +290,7 @@ PLANTED = {
 
 MORE, WORDS, OPENINGS = "sums/src/more.rt", "box_words/src/machine.rt", "boot_file/src/openings.rt"
 CLOCK, REST = "impl<R: Clock> System<'_, R> {\n", "told_to_rest(&mut self, milliseconds: u64)\n"
-BY_HAND = "impl<F: OpenFile> Opened<F> {\n    fn cut(&self) {\n        self.file.set_len(0);\n    }\n"
+BY_HAND = "impl<F: OpenFile> Opened<F> {\n    fn cut(&self) {\n        self.file.len();\n    }\n"
 
 # A fault that is a line more, or another: where, what stands there, what is planted in its place, and the beginning of what is
 # said of it. A file that isn't there is empty.
@@ -303,6 +304,14 @@ CHANGED = {
                          "new makes somebody who asks"),
     "twin": ("inputs/src/standard_input.rt", "#[derive(Drop)]", "#[derive(Clone, Drop)]",
              "StandardInput has the system at hand, and may"),
+    "cut file": ("captures/src/files.rt", "        match told_of_kind(self) {\n            Ok(true) => front_of(self, room),",
+                 "        let _cut = self.set_len(0);\n        match told_of_kind(self) {\n            Ok(true) => front_of(self, room),",
+                 "has set_len 2 times"),
+    "view": ("captures/src/files.rt", "ghost view = { λ vacant. vacant.file };", "ghost view = { λ vacant. vacant.shown.value };",
+             "Vacant shows itself as F | λ vacant. vacant.shown.value"),
+    "hidden": ("waiting/src/hidden.rt", "", "impl<T> Model for (Hidden<T>) {}\n", "names Model in a way"),
+    "block": ("sums/src/block.rt", "", "/* /* */ */\n", "has a comment in a block"),
+    "brace": ("sums/src/brace.rt", "", "impl<T: Fixed<{ 1 }>> Write for Odd<T> {}\n", "has a brace in what an impl"),
     "row": ("commands/src/meters.rt", "Drop for Meter", "Lets for Meter", "has no Drop for Meter, which"),
     "shown": ("control/src/machine.rt", "    rt: &'a R,\n", "    pub rt: &'a R,\n", "Machine has the system at hand by a field"),
     "of itself": (WORDS, CLOCK, CLOCK + "    fn of_itself(machine: &Self) -> &R {\n        machine.0\n    }\n", "of_itself uses the system"),
@@ -317,7 +326,7 @@ CHANGED = {
              "asked_now(&mut self) -> Option<Instant>\n        ensures same { self.new ≡ self.old }\n", "asked_now says that who asks"),
     "cut": (OPENINGS, "impl<F: Blocks> Blocks for", BY_HAND + "}\n\nimpl<F: Blocks> Blocks for", "cut uses the system"),
     "otherwise": (OPENINGS, "self.file.sync()", "self.file.drop_cache()", "sync uses the system"),
-    "lock": ("checks/src/machine.rt", "self.file.try_lock()", "self.file.set_len(0);\n        self.file.try_lock()", "lock uses the system"),
+    "lock": ("checks/src/machine.rt", "self.file.try_lock()", "self.file.len();\n        self.file.try_lock()", "lock uses the system"),
     "twice": ("sockets/src/machine.rt", "impl Waiting {\n", "impl Waiting {\n    fn send(&self) {\n        go(&self.0);\n    }\n",
               "has send twice"),
     "number": (MORE, "", "fn number() {\n    libc::ftruncate(4, 0);\n}\n", "libc::ftruncate asks the system"),
