@@ -109,6 +109,7 @@ ANSWERED = {
     "Binds": "control/machine:Machine loopback_run/binding:SystemBinds",
     "Blocks": "boot_file/blocks:File boot_file/openings:Opened",
     "Builder": "command_line/builders:Command",
+    "Calls": "captures/calls:F",
     "Carries": "loopback_run/carrying:SystemPort",
     "Channel": "loopback_run/loopback:Holding",
     "Clockwork": "rounds/clocks:Stopwatch",

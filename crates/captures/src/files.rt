@@ -1,12 +1,12 @@
 //! The files in which captures are begun.
 ghost use Rattle.std.specs.Prelude.{◌≡◌, ◌≤◌, ◌<◌, ◌↔◌, None, true, Ok, take, length, option_map, IfErr, IfOk, IfSome, IsOk, OnErr, OnOk};
-ghost use Rattle.std.specs.Io.KnownBytes.{Consumes, IsAtEnd};
 ghost use Rattle.std.specs.IoError.{error_kind};
-ghost use Rattle.captures.specs.Files.{Empties, Held, IsForCapture, IsFound, IsLookedAt, IsNoPlace, IsOpened, IsRead, IsUnemptied, IsUnopened, Looks, ReadsFront, SystemEmpties, SystemLooks, WasAskedKind, WasCut, WasFilled, WasOpened, WasRewound, WasSought, WasToldMode, emptied, filled_in, found_in, is_free, may_begin};
+ghost use Rattle.captures.specs.Files.{Empties, Held, IsForCapture, IsFound, IsLookedAt, IsNoPlace, IsOpened, IsRead, IsUnemptied, IsUnopened, Looks, ReadsFront, SystemEmpties, SystemLooks, WasOpened, WasSought, WasToldMode, emptied, found_in, is_free, may_begin};
 
+use crate::calls::Calls;
 use runtimes::Hosted;
-use std::fs::{self, Files, OpenFile, OpenOptions};
-use std::io::{self, ErrorKind, Read, Seek, SeekFrom};
+use std::fs::{self, Files, OpenOptions};
+use std::io::{self, ErrorKind};
 use std::marker::Model;
 use std::os::unix::fs::OpenOptionsExt;
 
@@ -14,7 +14,7 @@ use std::os::unix::fs::OpenOptionsExt;
 const MODE: u32 = 0o600;
 
 /// How many bytes of a file say whether it is a capture.
-const FRONT: usize = 4;
+pub const FRONT: usize = 4;
 
 /// A file that is open. What is said of its bytes is said of an honest one alone; a file may claim that it isn't such.
 pub trait Opened {
@@ -57,7 +57,7 @@ pub trait Opened {
 }
 
 /// No clause can say what the system's files do, so they claim nothing. Each call that is made of them, and its answer, has a name.
-impl<F: Read + Seek + OpenFile> Opened for F {
+impl<F: Calls> Opened for F {
     ghost held = { λ _. None };
 
     ghost readable = { λ _. ⊥ };
@@ -69,7 +69,7 @@ impl<F: Read + Seek + OpenFile> Opened for F {
     ghost empties = { SystemEmpties };
 
     fn front(&mut self, room: &mut [u8; FRONT]) -> io::Result<Option<usize>> {
-        match told_of_kind(self) {
+        match self.told_of_kind() {
             Ok(true) => front_of(self, room),
             Ok(false) => Ok(None),
             Err(error) => Err(error),
@@ -77,77 +77,26 @@ impl<F: Read + Seek + OpenFile> Opened for F {
     }
 
     fn empty(&mut self) -> io::Result<()> {
-        match told_of_kind(self) {
-            Ok(true) => told_to_cut(self),
+        match self.told_of_kind() {
+            Ok(true) => self.told_to_cut(),
             Ok(false) => Ok(()),
             Err(error) => Err(error),
         }
     }
 }
 
-/// Asks the system whether a file is a regular one.
-#[tactic(auto, unfolding(crate::specs::Files::WasAskedKind))]
-fn told_of_kind<F: OpenFile>(file: &mut F) -> io::Result<bool>
-    ensures { WasAskedKind file.old result file.new }
-{
-    Ok(file.metadata()?.is_file())
-}
-
-/// Has it let go of all that a file has.
-#[tactic(auto, unfolding(crate::specs::Files::WasCut))]
-fn told_to_cut<F: OpenFile>(file: &mut F) -> io::Result<()>
-    ensures { WasCut file.old result file.new }
-{
-    file.set_len(0)
-}
-
-/// Has a file be read and written from its front on.
-#[tactic(auto, unfolding(crate::specs::Files::WasRewound))]
-fn told_to_rewind<F: Seek>(file: &mut F) -> io::Result<()>
-    ensures { WasRewound file.old result file.new }
-{
-    file.seek(SeekFrom::Start(0))?;
-    Ok(())
-}
-
-/// Reads a file's first bytes, as far as there is room, and says how many there were.
-#[tactic(auto, unfolding(crate::specs::Files::WasFilled))]
-fn told_to_fill<F: Read>(file: &mut F, room: &mut [u8; FRONT]) -> io::Result<usize>
-    ensures within { IfOk result (λ count. count ≤ 4) }
-    ensures filled { WasFilled file.old (filled_in room.new result) file.new }
-{
-    fill(file, room)
-}
-
-/// The same, and then it is rewound.
-fn front_of<F: Read + Seek>(file: &mut F, room: &mut [u8; FRONT]) -> io::Result<Option<usize>>
+/// The first bytes of a regular file, which is rewound then.
+fn front_of<F: Calls>(file: &mut F, room: &mut [u8; FRONT]) -> io::Result<Option<usize>>
     ensures within { IfOk result (λ found. IfSome found (λ count. count ≤ 4)) }
     ensures read { ReadsFront file.old (found_in room.new result) file.new }
 {
-    match told_to_fill(file, room) {
-        Ok(count) => match told_to_rewind(file) {
+    match file.told_to_fill(room) {
+        Ok(count) => match file.told_to_rewind() {
             Ok(()) => Ok(Some(count)),
             Err(error) => Err(error),
         },
         Err(error) => Err(error),
     }
-}
-
-/// Fills the room as far as a file goes, and says how far.
-fn fill<F: Read>(file: &mut F, room: &mut [u8; FRONT]) -> io::Result<usize>
-    ensures within { IfOk result (λ count. count ≤ 4) }
-    ensures bytes { IfOk result (λ count. Consumes (F.remaining file.old) (F.remaining file.new)
-        (take count room.new)) }
-    ensures end { IfOk result (λ count. count < 4 → IsAtEnd (F.remaining file.new)) }
-{
-    let mut filled = 0;
-    while filled < FRONT {
-        match file.read(&mut room[filled..])? {
-            0 => return Ok(filled),
-            count => filled += count,
-        }
-    }
-    Ok(filled)
 }
 
 /// Whether a capture may be begun in a file. The file has what it had.

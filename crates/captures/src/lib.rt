@@ -2,6 +2,7 @@
 //! interface and its moment.
 #![tactic(auto)]
 
+mod calls;
 mod fields;
 mod files;
 mod heads;

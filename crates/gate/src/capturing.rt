@@ -14,8 +14,8 @@ use nat_types::GatewayId;
 use runtimes::Hosted;
 use sockets::Wire;
 use std::alloc::Global;
-use std::fs::{Files, OpenFile};
-use std::io::{self, Read, Seek, Write};
+use std::fs::Files;
+use std::io::{self, Write};
 use std::net::Net;
 use std::os::fd::AsRawFd;
 use std::rt::Clock;
@@ -65,7 +65,7 @@ impl<F: Drop> CaptureAt<'_, F> {
     }
 }
 
-impl<F: Read + Write + Seek + OpenFile + AsRawFd + Drop> CaptureAt<'_, F> {
+impl<F: captures::Opened + Write + AsRawFd + Drop> CaptureAt<'_, F> {
     /// A wire whose packets go to a capture that is begun in the file, which loses what it has, at the moments of the system's
     /// clock; after an Err the wire was let go.
     #[tactic(auto, unfolding(crate::specs::Named::WasHad))]
@@ -101,7 +101,7 @@ impl<F: Read + Write + Seek + OpenFile + AsRawFd + Drop> CaptureAt<'_, F> {
 
 /// A capture that is begun in the file at a path, or what was answered.
 #[tactic(auto, unfolding(crate::specs::Named::WasGiven, crate::specs::Named::WasAnswered))]
-fn begun<F: Read + Write + Seek + OpenFile + AsRawFd + Drop>(
+fn begun<F: captures::Opened + Write + AsRawFd + Drop>(
     alloc: Global,
     _path: &str,
     file: Vacant<F>,

@@ -42,8 +42,8 @@ use rounds::{Identity, InputEnd, Teller, serve};
 use runtimes::Hosted;
 use settings::Settings;
 use sockets::{Sockets, Ways, Wire};
-use std::fs::{Files, OpenFile};
-use std::io::{Read, Seek, Write};
+use std::fs::Files;
+use std::io::Write;
 use std::net::Net;
 use std::os::fd::AsRawFd;
 use std::random::RandomSource;
@@ -523,7 +523,7 @@ where
 /// Starts the gateway and runs its rounds, on a wire whose packets are captured in a file. The
 /// capture is begun once the boot number is taken.
 fn tapped<
-    F: Read + Write + Seek + OpenFile + AsRawFd + Drop,
+    F: captures::Opened + Write + AsRawFd + Drop,
     C: Clock + RandomSource + Input + AllocGlobal + Hosted,
     D: Disk,
     W: Wire + Held,
@@ -609,7 +609,7 @@ fn tapped<
 /// Begins a capture in its file, and runs a gateway as `rounds_of` does. At the end a record says how many packets were left
 /// out.
 fn tapped_rounds<
-    F: Read + Write + Seek + OpenFile + AsRawFd + Drop,
+    F: captures::Opened + Write + AsRawFd + Drop,
     C: Clock + Input + AllocGlobal + Hosted,
     W: Wire + Held,
     O: Write,

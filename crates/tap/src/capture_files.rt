@@ -11,8 +11,8 @@ use crate::{CaptureFile, Reel};
 use captures::{Reader, Vacant};
 use runtimes::Hosted;
 use std::alloc::Global;
-use std::fs::{Files, OpenFile};
-use std::io::{self, Read, Seek, Write};
+use std::fs::Files;
+use std::io::{self, Write};
 use std::os::fd::AsRawFd;
 
 /// Where a capture goes; and only while it has room.
@@ -110,7 +110,7 @@ pub fn open<R: Files + Hosted>(rt: &R, path: &str) -> io::Result<Vacant<R::File>
 /// What the system answers where it refuses that; and as `Reel::begin`.
 pub fn begin<F>(alloc: Global, file: Vacant<F>) -> io::Result<Reel<CaptureFile<F>>>
 where
-    F: Read + Write + Seek + OpenFile + AsRawFd + Drop,
+    F: captures::Opened + Write + AsRawFd + Drop,
     ensures begun { IfOk result (λ reel. IsBegunIn F.contents F.raw_fd file reel) }
     ensures refused { IfErr result (IsUnbegunIn F.raw_fd file) }
 {
@@ -124,7 +124,7 @@ where
 ///
 /// Where the system refuses that.
 #[tactic(auto, unfolding(crate::specs::Files::WasCleared))]
-fn cleared<F: Read + Seek + OpenFile + Drop>(file: Vacant<F>) -> io::Result<F>
+fn cleared<F: captures::Opened + Drop>(file: Vacant<F>) -> io::Result<F>
     ensures { WasCleared file result }
 {
     file.clear()

@@ -1,6 +1,6 @@
 use Rattle.std.proofs.Common.{◌-◌, ◌∙◌, arith, rules}
 use Rattle.captures.proofs.Rooms.{filled-more}
-use Rattle.captures.proofs.files.fill.Goals as goal
+use Rattle.captures.proofs.calls.fill.Goals as goal
 use borrow.Rule.Slice.PartMut.{mid_len, same_len_mid}
 
 pub loop-filled-preserved : goal.loop-filled-preserved
