@@ -1,7 +1,7 @@
 -- Who was told an answer.
 use Rattle.std.proofs.Common.{◌≡◌, ℕ, List, Option, Some, None, Result, is_some, refl, sym, true, true≢false}
 use Rattle.std.specs.declared.io.Error.{Error}
-use Rattle.mio.specs.declared.net.uds.stream.UnixStream.{UnixStream}
+use Rattle.control.specs.declared.machine.SystemCaller.{SystemCaller}
 use Rattle.outlets.specs.Outputs.{WasTaken}
 use Rattle.outlets.specs.Writes.{Asks}
 use Rattle.control.specs.Telling.{IsAnsweredIf, IsAnsweredOnce}
@@ -19,9 +19,9 @@ named asks asks2 caller bytes count count2 names is = record {
 }
 
 -- where somebody awaited one, it was he who was told it
-pub told_so : (asks : Asks UnixStream) (speaker : Option UnixStream) (bytes : List ℕ) (count count2 : ℕ)
-    → ((before : UnixStream) (words : List ℕ) (answer : Result ℕ Error) (after : UnixStream) → asks before words answer after → WasTaken before words answer after)
+pub told_so : (asks : Asks SystemCaller) (speaker : Option SystemCaller) (bytes : List ℕ) (count count2 : ℕ)
+    → ((before : SystemCaller) (words : List ℕ) (answer : Result ℕ Error) (after : SystemCaller) → asks before words answer after → WasTaken before words answer after)
     → is_some speaker ≡ true → IsAnsweredIf asks speaker bytes count count2
-    → (caller : UnixStream) × ((speaker ≡ Some caller) × IsAnsweredOnce WasTaken caller bytes count count2)
+    → (caller : SystemCaller) × ((speaker ≡ Some caller) × IsAnsweredOnce WasTaken caller bytes count count2)
 told_so asks (Some caller) bytes count count2 names some is = (caller, (refl, named asks WasTaken caller bytes count count2 names is))
 told_so asks None bytes count count2 names some is = absurd (true≢false (sym some))

@@ -1,8 +1,8 @@
 -- Whom a box attends to at its control socket.
 use Rattle.std.specs.Prelude.{ℕ, Bool, true, false, not, ◌&&◌, ◌≡◌, ◌+◌, List, [], length, take, Option, Some, None, Result, Ok, Err}
 use Rattle.std.specs.declared.io.Error.{Error}
-use Rattle.mio.specs.declared.net.uds.listener.UnixListener.{UnixListener}
-use Rattle.mio.specs.declared.net.uds.stream.UnixStream.{UnixStream}
+use Rattle.control.specs.declared.machine.SystemListener.{SystemListener}
+use Rattle.control.specs.declared.machine.SystemCaller.{SystemCaller}
 use Rattle.mio.specs.declared.token.Token.{Token}
 use Rattle.control.specs.Asking.{AreLeft, IsSpeaker}
 use Rattle.control.specs.Calling.{Calls, LetsIn, Reporting, WasCalled, WasReported}
@@ -33,7 +33,7 @@ pub record Attended (L S : Type 0) : Type 0 where
 
 -- at the system's sockets
 abbrev pub Attending : Type 0
-Attending = Attended UnixListener UnixStream
+Attending = Attended SystemListener SystemCaller
 
 -- once waits report this listener under this token nobody has called that is known of, and somebody may have
 abbrev pub nobody_yet : {L S : Type 0} → L → Token → Attended L S
@@ -53,9 +53,9 @@ nobody_yet listener token = record {
 }
 
 -- waits were to report this listener under this token, once, and it is attended to as it is then; or they refused to; they were asked for nothing else
-abbrev pub WasListenedTo : {W : Type 0} → UnixListener → Token → Result Attending Error → W → W → Type 0
+abbrev pub WasListenedTo : {W : Type 0} → SystemListener → Token → Result Attending Error → W → W → Type 0
 WasListenedTo listener token (Ok attending) before after = WasReported before listener token (Ok tt) attending.listener after
-WasListenedTo listener token (Err error) before after = (told : UnixListener) × (WasReported before listener token (Err error) told after × WasLetGo told)
+WasListenedTo listener token (Err error) before after = (told : SystemListener) × (WasReported before listener token (Err error) told after × WasLetGo told)
 
 -- somebody may have called, or said something; all else stays
 abbrev pub woken : {L S : Type 0} → Attended L S → Attended L S

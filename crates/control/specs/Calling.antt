@@ -3,7 +3,7 @@ use Rattle.std.specs.Prelude.{ℕ, Bool, true, false, ◌≡◌, ◌≢◌, ◌�
 use Rattle.std.specs.IoError.{error_kind}
 use Rattle.std.specs.declared.io.Error.{Error}
 use Rattle.std.specs.declared.io.ErrorKind.TheVariants.{WouldBlock}
-use Rattle.mio.specs.declared.net.uds.stream.UnixStream.{UnixStream}
+use Rattle.control.specs.declared.machine.SystemCaller.{SystemCaller}
 use Rattle.mio.specs.declared.token.Token.{Token}
 use Rattle.control.specs.Counting.{with_room}
 use Rattle.control.specs.Speaking.{WasLetGo}
@@ -37,7 +37,7 @@ AsksFor reports token None before after = (after ≡ before) ⊎ AsksForOne repo
 
 -- so the system's waits were, of the system's streams
 abbrev pub WereAskedFor : {W T : Type 0} → Token → Option T → W → W → Type 0
-WereAskedFor token word before after = AsksFor {S = UnixStream} WasReported token word before after
+WereAskedFor token word before after = AsksFor {S = SystemCaller} WasReported token word before after
 
 -- once he is registered he is waited for, behind the others; one who can't be registered is let go
 abbrev pub IsKept : {S : Type 0} → Result (Unit {0}) Error → List S → S → List S → Type 0

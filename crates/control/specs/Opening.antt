@@ -1,7 +1,7 @@
 -- How a control socket is opened.
 use Rattle.std.specs.Prelude.{ℕ, ◌≡◌, ◌⊎◌, List, Result, Ok, Err}
 use Rattle.std.specs.declared.io.Error.{Error}
-use Rattle.mio.specs.declared.net.uds.listener.UnixListener.{UnixListener}
+use Rattle.control.specs.declared.machine.SystemListener.{SystemListener}
 use Rattle.control.specs.Folders.{Does, IsReady, IsRefused, WasDone}
 use Rattle.control.specs.Paths.{Paths}
 
@@ -38,9 +38,9 @@ IsUnopened does binds path before after =
     (WasRefused 8 × (after ≡ before)) ⊎ (IsRefused does path before after ⊎ IsUnbound does binds path before after)
 
 -- so this listener was by this machine
-abbrev pub WasOpened : {M : Type 0} → Paths → M → UnixListener → M → Type 0
+abbrev pub WasOpened : {M : Type 0} → Paths → M → SystemListener → M → Type 0
 WasOpened path before listener after = IsOpened WasDone WasBound path before listener after
 
 -- or wasn't
 abbrev pub WasNotOpened : {M : Type 0} → Paths → M → M → Type 0
-WasNotOpened path before after = IsUnopened {L = UnixListener} WasDone WasBound path before after
+WasNotOpened path before after = IsUnopened {L = SystemListener} WasDone WasBound path before after

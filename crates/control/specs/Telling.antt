@@ -2,7 +2,7 @@
 use Rattle.std.specs.Prelude.{ℕ, ◌≡◌, List, length, Option, Some, None, Result}
 use Rattle.std.specs.Io.KnownBytes.{WriteAppends}
 use Rattle.std.specs.declared.io.Error.{Error}
-use Rattle.mio.specs.declared.net.uds.stream.UnixStream.{UnixStream}
+use Rattle.control.specs.declared.machine.SystemCaller.{SystemCaller}
 use Rattle.outlets.specs.Outputs.{WasTaken}
 use Rattle.outlets.specs.Writes.{Asks}
 use Rattle.control.specs.Attending.{Attending}
@@ -28,4 +28,4 @@ IsAnsweredIf asks None bytes count count2 = count2 ≡ count
 
 -- who awaited an answer was told just these bytes, once, by the names of the calls, and so many went unanswered then
 abbrev pub IsTold : List ℕ → Attending → Attending → Type 0
-IsTold bytes c c2 = (caller : UnixStream) × ((c.speaker ≡ Some caller) × IsAnsweredOnce WasTaken caller bytes c.unanswered c2.unanswered)
+IsTold bytes c c2 = (caller : SystemCaller) × ((c.speaker ≡ Some caller) × IsAnsweredOnce WasTaken caller bytes c.unanswered c2.unanswered)

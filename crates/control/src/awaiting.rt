@@ -1,8 +1,7 @@
 //! Who waits, or is waited for, is let go.
 ghost use Rattle.control.specs.Speaking.{WasLetGo};
 
-use crate::machine::SystemLine;
-use mio::net::{UnixListener, UnixStream};
+use crate::machine::{SystemCaller, SystemLine, SystemListener};
 
 /// Kept to this file, so that nothing else can be a `Held`.
 mod closed {
@@ -17,13 +16,13 @@ impl closed::Sealed for SystemLine {}
 
 impl Held for SystemLine {}
 
-impl closed::Sealed for UnixStream {}
+impl closed::Sealed for SystemCaller {}
 
-impl Held for UnixStream {}
+impl Held for SystemCaller {}
 
-impl closed::Sealed for UnixListener {}
+impl closed::Sealed for SystemListener {}
 
-impl Held for UnixListener {}
+impl Held for SystemListener {}
 
 /// Lets somebody go, or a line, or a listener: no more passes there, and nothing is heard. Of what it is nothing is known here, so
 /// nothing else can be done with it.

@@ -8,11 +8,10 @@ ghost use Rattle.control.specs.Opening.{WasNotOpened, WasOpened};
 ghost use Rattle.control.specs.Telling.{IsTold};
 
 use crate::audience::{Audience, Doorway};
-use crate::machine::{Machine, Waits};
+use crate::machine::{Machine, SystemCaller, SystemListener, Waits};
 use crate::opening::opened;
 use crate::{ControlPath, NoSocket};
 use mio::Token;
-use mio::net::{UnixListener, UnixStream};
 use std::alloc::Global;
 use std::fs::Files;
 use std::io;
@@ -23,13 +22,13 @@ use std::net::Net;
 /// there: nobody is let in, and nobody heard.
 #[derive(Drop)]
 pub struct Bound {
-    doorway: Doorway<UnixListener, UnixStream>,
+    doorway: Doorway<SystemListener, SystemCaller>,
 }
 
 impl Model for Bound {
-    ghost use Rattle.mio.specs.declared.net.uds.listener.UnixListener.{UnixListener};
+    ghost use Rattle.control.specs.declared.machine.SystemListener.{SystemListener};
 
-    ghost Value = { UnixListener };
+    ghost Value = { SystemListener };
 
     ghost use Rattle.control.specs.Audiences.{HasNobody};
 
@@ -74,7 +73,7 @@ impl Bound {
 /// The control socket of a box: waits report who calls there, and who says something.
 #[derive(Drop)]
 pub struct Control {
-    audience: Audience<UnixListener, UnixStream>,
+    audience: Audience<SystemListener, SystemCaller>,
 }
 
 impl Model for Control {

@@ -1,13 +1,12 @@
 //! Who calls, and is let in.
 ghost use Rattle.std.specs.Prelude.{◌≡◌, ◌+◌, ◌<◌, ◌≤◌, ◌⊎◌, suc, vec_len, vec_capacity};
-ghost use Rattle.control.specs.Calling.{AsksForOne, IsKept, LetsIn, WasCalled};
+ghost use Rattle.control.specs.Calling.{AsksForOne, IsKept, LetsIn};
 ghost use Rattle.control.specs.Counting.{AreJoined, one_if};
 
 use crate::awaiting::{Held, let_go};
 use crate::callers::make_room;
 use crate::newcomers::Newcomers;
 use mio::Token;
-use mio::net::{UnixListener, UnixStream};
 use std::io::{self, ErrorKind};
 
 /// Waits, which report who calls, or says something.
@@ -33,17 +32,6 @@ pub(crate) trait Listens<S> {
     /// Who calls next.
     fn call(&mut self) -> io::Result<S>
         ensures { calls self.old result self.new };
-}
-
-/// The system's was asked who calls next, and answered so: more isn't known of it.
-impl Listens<UnixStream> for UnixListener {
-    ghost calls = { WasCalled };
-
-    #[tactic(auto, unfolding(crate::specs::Calling::WasCalled))]
-    fn call(&mut self) -> io::Result<UnixStream> {
-        let (caller, _) = self.accept()?;
-        Ok(caller)
-    }
 }
 
 /// Lets in who calls next, has waits report him under a token, and says whether there may be more: just not where the call

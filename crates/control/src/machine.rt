@@ -1,17 +1,16 @@
 //! This machine, the lines that it makes, and what waits. What they are asked has names, and no more is known of them.
-ghost use Rattle.control.specs.Calling.{WasReported};
+ghost use Rattle.control.specs.Calling.{WasCalled, WasReported};
 ghost use Rattle.control.specs.Folders.{Deed, WasDone};
 ghost use Rattle.control.specs.Opening.{WasBound};
+ghost use Rattle.control.specs.Reads.{WasHeard};
 ghost use Rattle.control.specs.Speaking.{WasDialled, WasLetGo, WasLimited, WasRead, WasWritten};
 
-use crate::awaiting::Held;
 use crate::folders::Folders;
 use crate::lines::{Dials, Limits};
-use crate::listeners::Reports;
+use crate::listeners::{Listens, Reports};
 use crate::opening::Binds;
 use crate::speakers::Speaks;
-use mio::event::Source;
-use mio::net::UnixListener;
+use mio::net::{UnixListener, UnixStream as Stream};
 use mio::{Interest, Registry, Token};
 use outlets::Takes;
 use runtimes::Hosted;
@@ -55,12 +54,13 @@ impl<R: Files> Folders for Machine<'_, R> {
     }
 }
 
-impl<R: Files + Net> Binds<UnixListener> for Machine<'_, R> {
+impl<R: Files + Net> Binds<SystemListener> for Machine<'_, R> {
     ghost binds = { WasBound };
 
     #[tactic(auto, unfolding(crate::specs::Opening::WasBound))]
-    fn bind(&mut self, socket: &str) -> io::Result<UnixListener> {
-        UnixListener::bind(self.rt, socket)
+    fn bind(&mut self, socket: &str) -> io::Result<SystemListener> {
+        let listener = UnixListener::bind(self.rt, socket)?;
+        Ok(SystemListener { listener })
     }
 }
 
@@ -85,12 +85,73 @@ impl<'a> Waits<'a> {
     }
 }
 
-impl<S: Source + Held> Reports<S> for Waits<'_> {
+impl Reports<SystemListener> for Waits<'_> {
     ghost reports = { WasReported };
 
     #[tactic(auto, unfolding(crate::specs::Calling::WasReported))]
-    fn report(&mut self, source: &mut S, token: Token) -> io::Result<()> {
-        self.0.register(source, token, Interest::READABLE)
+    fn report(&mut self, source: &mut SystemListener, token: Token) -> io::Result<()> {
+        self.0
+            .register(&mut source.listener, token, Interest::READABLE)
+    }
+}
+
+impl Reports<SystemCaller> for Waits<'_> {
+    ghost reports = { WasReported };
+
+    #[tactic(auto, unfolding(crate::specs::Calling::WasReported))]
+    fn report(&mut self, source: &mut SystemCaller, token: Token) -> io::Result<()> {
+        self.0
+            .register(&mut source.caller, token, Interest::READABLE)
+    }
+}
+
+/// Where callers of this machine's call. It can be asked who calls next, and for nothing else.
+#[derive(Drop)]
+pub struct SystemListener {
+    listener: UnixListener,
+}
+
+/// It was asked who calls next, and answered so: more isn't known of it.
+impl Listens<SystemCaller> for SystemListener {
+    ghost calls = { WasCalled };
+
+    #[tactic(auto, unfolding(crate::specs::Calling::WasCalled))]
+    fn call(&mut self) -> io::Result<SystemCaller> {
+        let (caller, _) = self.listener.accept()?;
+        Ok(SystemCaller { caller })
+    }
+}
+
+/// Who called there. He can be read, and answered, and asked for nothing else.
+#[derive(Drop)]
+pub struct SystemCaller {
+    caller: Stream,
+}
+
+impl Speaks for SystemCaller {
+    ghost use Rattle.std.specs.Prelude.{None};
+
+    ghost rest = { λ _. None };
+
+    ghost answers = { WasHeard };
+
+    #[tactic(auto, unfolding(crate::specs::Reads::WasHeard))]
+    fn hear(&mut self, room: &mut [u8]) -> io::Result<usize> {
+        self.caller.read(room)
+    }
+}
+
+impl Takes for SystemCaller {
+    ghost use Rattle.std.specs.Prelude.{None};
+    ghost use Rattle.outlets.specs.Outputs.{WasTaken};
+
+    ghost held = { λ _. None };
+
+    ghost answers = { WasTaken };
+
+    #[tactic(auto, unfolding(outlets::specs::Outputs::WasTaken))]
+    fn take(&mut self, bytes: &[u8]) -> io::Result<usize> {
+        self.caller.write(bytes)
     }
 }
 

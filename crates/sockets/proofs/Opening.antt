@@ -6,7 +6,7 @@ use Rattle.std.specs.declared.io.Error.{Error}
 use Rattle.std.specs.declared.net.socket_addr.SocketAddr.{SocketAddr}
 use Rattle.control.specs.Attending.{Attending}
 use Rattle.mio.specs.declared.event.events.Events.{Events}
-use Rattle.mio.specs.declared.net.uds.listener.UnixListener.{UnixListener}
+use Rattle.control.specs.declared.machine.SystemListener.{SystemListener}
 use Rattle.sockets.specs.declared.machine.Waiting.{Waiting}
 use Rattle.sockets.specs.Asking.{WasControlRegistered, WasRegistered}
 use Rattle.sockets.specs.Boards.{HasRoom, IsHad, IsRefused, OpensPlaces, control_token}
@@ -89,7 +89,7 @@ polled : {M : Type 0} (before after : M) (answer : Result Waiting Error) (poll :
 polled before after answer poll made is = subst (λ (a : Result Waiting Error). WasPollMade before a after) is made
 
 -- a place is refused
-pub place_refused : {M : Type 0} (before between after : M) (ways : Ways) (ports : Ports) (handed_in : UnixListener) (answer : Result Waiting Error)
+pub place_refused : {M : Type 0} (before between after : M) (ways : Ways) (ports : Ports) (handed_in : SystemListener) (answer : Result Waiting Error)
     (poll : Waiting) (error : Error) → WasPollMade before answer between → answer ≡ Ok poll → RefusesOne between (places_of ways ports) error after
     → IsRefused before ways ports handed_in NoSocket after
 place_refused before between after ways ports handed_in answer poll error made is one =
@@ -112,7 +112,7 @@ still_had before after ways ports poll2 poll p2 p is had =
     subst (λ (x : Waiting × Places). IsHad before ways ports x.0 x.1 after) (sym is) had
 
 -- memory for events isn't
-pub room_refused : {M : Type 0} (before between after : M) (ways : Ways) (ports : Ports) (handed_in : UnixListener) (poll : Waiting) (p : Places)
+pub room_refused : {M : Type 0} (before between after : M) (ways : Ways) (ports : Ports) (handed_in : SystemListener) (poll : Waiting) (p : Places)
     (answer : Result (Events Global) AllocError) (error : AllocError) → IsHad before ways ports poll p between → WasGivenRoom between 8 answer after
     → answer ≡ Err error → IsRefused before ways ports handed_in NoMemory after
 room_refused before between after ways ports handed_in poll p answer error had given is =
@@ -147,15 +147,15 @@ pub made_still : {A C : Type 0} (size : C → ℕ) (h h2 : A) (c c2 : C) (n : �
 made_still {A} {C} size h h2 c c2 n is holds = ap (λ (x : A × C). size x.1) is ∙ holds
 
 -- what was bound for the control socket, and handed in, was to be reported
-pub asked : {M : Type 0} (before after : M) (handed_in held : UnixListener) (answer answer2 : Result Attending Error) → held ≡ handed_in
+pub asked : {M : Type 0} (before after : M) (handed_in held : SystemListener) (answer answer2 : Result Attending Error) → held ≡ handed_in
     → WasControlRegistered before held control_token.0 answer after → answer ≡ answer2
     → WasControlRegistered before handed_in control_token.0 answer2 after
 asked before after handed_in held answer answer2 same had is =
     subst (λ (a : Result Attending Error). WasControlRegistered before handed_in control_token.0 a after) is
-    (subst (λ (h : UnixListener). WasControlRegistered before h control_token.0 answer after) same had)
+    (subst (λ (h : SystemListener). WasControlRegistered before h control_token.0 answer after) same had)
 
 -- it can't be
-pub control_refused : {M : Type 0} (before between after : M) (ways : Ways) (ports : Ports) (handed_in held : UnixListener) (poll : Waiting) (p : Places)
+pub control_refused : {M : Type 0} (before between after : M) (ways : Ways) (ports : Ports) (handed_in held : SystemListener) (poll : Waiting) (p : Places)
     (events : Events Global) (answer : Result Attending Error) (error : Error) → HasRoom before ways ports poll p events between → held ≡ handed_in
     → WasControlRegistered between held control_token.0 answer after → answer ≡ Err error → IsRefused before ways ports handed_in NoSocket after
 control_refused before between after ways ports handed_in held poll p events answer error had same heard is =

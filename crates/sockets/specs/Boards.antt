@@ -1,7 +1,7 @@
 -- What is told of each place of a box: what its own attachment has heard.
 use Rattle.std.specs.Prelude.{ℕ, Bool, true, false, ◌≡◌, List, [], ◌∷◌, ◌++◌, ◌⊎◌, take, Option, Some, None, Result, Ok, Err, is_err}
 use Rattle.control.specs.Attending.{nobody_yet}
-use Rattle.mio.specs.declared.net.uds.listener.UnixListener.{UnixListener}
+use Rattle.control.specs.declared.machine.SystemListener.{SystemListener}
 use Rattle.std.specs.declared.alloc.AllocError.{AllocError}
 use Rattle.std.specs.declared.alloc.Global.{Global}
 use Rattle.std.specs.declared.io.Error.{Error}
@@ -161,7 +161,7 @@ pub record HandsOut {M : Type 0} (before : M) (ways : Ways) (ports : Ports) (p :
 
 -- So a box has them: last of all waits were to report the control socket under its token, and who calls there is heard from then on; nobody has
 -- called yet. The link is asked first; there is room for eight events.
-pub record Opens {M : Type 0} (before : M) (ways : Ways) (ports : Ports) (handed_in : UnixListener) (b : Board) (after : M) : Type 0 where
+pub record Opens {M : Type 0} (before : M) (ways : Ways) (ports : Ports) (handed_in : SystemListener) (b : Board) (after : M) : Type 0 where
   pub places : Places
   pub between : M
   pub behind : M
@@ -178,7 +178,7 @@ RefusesPlaces {M} before ways ports error after = WasPollMade before (Err error)
     ⊎ ((poll : Waiting) × ((between : M) × (WasPollMade before (Ok poll) between × RefusesOne between (places_of ways ports) error after)))
 
 -- none is, and then waits can't report the control socket
-abbrev pub RefusesControl : {M : Type 0} → M → Ways → Ports → UnixListener → Error → M → Type 0
+abbrev pub RefusesControl : {M : Type 0} → M → Ways → Ports → SystemListener → Error → M → Type 0
 RefusesControl {M} before ways ports handed_in error after =
     (poll : Waiting) × ((p : Places) × ((events : Events Global) × ((between : M) × (HasRoom before ways ports poll p events between
     × WasControlRegistered between handed_in control_token.0 (Err error) after))))
@@ -190,7 +190,7 @@ RefusesRoom {M} before ways ports after = (poll : Waiting) × ((p : Places) × (
 
 -- A box's sockets aren't had: the system refused what it was asked, and wasn't asked for more behind that. Or it refused memory for events, and
 -- nothing before: then it wasn't asked to report the control socket. Nobody was heard there in any case.
-abbrev pub IsRefused : {M : Type 0} → M → Ways → Ports → UnixListener → SocketFault → M → Type 0
+abbrev pub IsRefused : {M : Type 0} → M → Ways → Ports → SystemListener → SocketFault → M → Type 0
 IsRefused before ways ports handed_in NoSocket after =
     (error : Error) × (RefusesPlaces before ways ports error after ⊎ RefusesControl before ways ports handed_in error after)
 IsRefused before ways ports handed_in NoMemory after = RefusesRoom before ways ports after

@@ -1,6 +1,6 @@
 use Rattle.std.proofs.Common.{◌∙◌, ap, refl}
 use Rattle.mio.specs.Events.{capacity}
-use Rattle.mio.specs.declared.net.uds.listener.UnixListener.{UnixListener}
+use Rattle.control.specs.declared.machine.SystemListener.{SystemListener}
 use Rattle.sockets.specs.declared.machine.Waiting.{Waiting}
 use Rattle.sockets.proofs.Opening.{all_had, asked, at_err, at_ok, control_refused, had_room, handed_on, held_last, held_of, made_still, place_refused, room_refused, still_had, still_room}
 use Rattle.sockets.specs.declared.sockets.SocketFault.TheVariants.{NoMemory, NoSocket}
@@ -22,7 +22,7 @@ returns-in_err-held-2-clause-refused g c =
 
 pub returns-in_err-poll-clause-refused : goal.returns-in_err-poll-clause-refused
 returns-in_err-poll-clause-refused g c =
-    let whole = c.in_ok-held-2.ensures.held ∙ ap (λ (h : UnixListener × Waiting). (h, c.in_ok-held.places)) c.in_ok-held.ensures.held in
+    let whole = c.in_ok-held-2.ensures.held ∙ ap (λ (h : SystemListener × Waiting). (h, c.in_ok-held.places)) c.in_ok-held.ensures.held in
     let same = held_of _ _ _ _ _ whole ∙ c.in_ok-control.ensures.held in
     handed_on c.from_residual-in_err-poll.result _ NoSocket c.from_residual-in_err-poll.ensures.1
     (control_refused _ _ _ c.args.ways.now c.args.ports c.args.control _ _ _ _ c.told_to_register_control-control.result _
@@ -35,7 +35,7 @@ returns-in_err-poll-clause-refused g c =
 
 pub returns-clause-opened : goal.returns-clause-opened
 returns-clause-opened g c =
-    let whole = c.in_ok-held-2.ensures.held ∙ ap (λ (h : UnixListener × Waiting). (h, c.in_ok-held.places)) c.in_ok-held.ensures.held in
+    let whole = c.in_ok-held-2.ensures.held ∙ ap (λ (h : SystemListener × Waiting). (h, c.in_ok-held.places)) c.in_ok-held.ensures.held in
     let same = held_of _ _ _ _ _ whole ∙ c.in_ok-control.ensures.held in
     record {
       places = c.in_ok-poll.places;
