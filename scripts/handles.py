@@ -16,7 +16,7 @@ AT_HAND = {
     "box_words/machine": {"System": "0"},
     "checks/machine": {"ThisMachine": "0", "Opened": "file"},
     "commands/machine": {"SystemCaptures": "rt", "SystemServes": "rt"},
-    "control/machine": {"Machine": "rt", "Waits": "0", "SystemLine": "stream"},
+    "control/machine": {"Machine": "rt", "Waits": "0", "SystemLine": "stream", "SystemListener": "listener", "SystemCaller": "caller"},
     "faults/texts": {"SystemReads": "0"},
     "gate/files": {"FileSystem": "rt"},
     "gate/recording": {"Records": "log"},
@@ -121,7 +121,7 @@ ANSWERED = {
     "EndLine": "rounds/ends:O",
     "Folders": "control/machine:Machine",
     "Held": "checks/openings:Opened commands/capture_files:BufWriter commands/capture_files:Capture control/awaiting:SystemLine "
-            "control/awaiting:UnixListener control/awaiting:UnixStream gate/wires:Option gate/wires:Sockets gate/wires:Stopwatch "
+            "control/awaiting:SystemListener control/awaiting:SystemCaller gate/wires:Option gate/wires:Sockets gate/wires:Stopwatch "
             "loopback_run/loopback:Port loopback_run/loopback:Ports loopback_run/loopback:SystemPort",
     "Host": "commands/hosts:ThisHost",
     "Hosted": "runtimes/hosted:HostRuntime runtimes/hosted:R",
@@ -129,7 +129,7 @@ ANSWERED = {
     "Limits": "control/machine:SystemLine",
     "Loggable": "journal/notes:LeftOutPackets journal/notes:Note",
     "Line": "control/lines:S",
-    "Listens": "control/listeners:UnixListener",
+    "Listens": "control/machine:SystemListener",
     "Lockable": "boot_file/locks:File boot_file/openings:Opened",
     "Moments": "tap/moments:SinceFirst",
     "Opened": "captures/files:F",
@@ -143,7 +143,7 @@ ANSWERED = {
     "RefusalText": "frame_sim/events:WorldFault",
     "Reports": "control/machine:Waits",
     "Sealed": "boot_file/locks:File boot_file/locks:Opened checks/openings:Opened commands/capture_files:BufWriter "
-              "commands/capture_files:Capture control/awaiting:SystemLine control/awaiting:UnixListener control/awaiting:UnixStream "
+              "commands/capture_files:Capture control/awaiting:SystemLine control/awaiting:SystemListener control/awaiting:SystemCaller "
               "gate/wires:Option gate/wires:Sockets gate/wires:Stopwatch journal/notes:LeftOutPackets journal/notes:Note "
               "journal/sealed:FilteredLog loopback_run/loopback:Port loopback_run/loopback:Ports loopback_run/loopback:SystemPort runtimes/sealed:HostRuntime runtimes/sealed:R",
     "Serves": "commands/serving:SystemServes",
@@ -151,10 +151,10 @@ ANSWERED = {
              "frame_sim/events:WorldFault loopback_run/ports:PortFault",
     "Site": "box_words/sites:Machine",
     "Slots": "timers/links:Vec timers/packed:PackedSlots",
-    "Speaks": "control/machine:SystemLine control/speakers:S",
+    "Speaks": "control/machine:SystemCaller control/machine:SystemLine control/speakers:S",
     "Supervisor": "supervision/managers:Manager supervision/supervisors:Option supervision/supervisors:Unsupervised",
     "Surroundings": "checks/surroundings:ThisMachine",
-    "Takes": "control/machine:SystemLine outlets/puts:O",
+    "Takes": "control/machine:SystemCaller control/machine:SystemLine outlets/puts:O",
     "Tape": "frame_sim/tapes:Untaped simulation/tapes:Capture",
     "Tells": "outlets/tells:P",
     "Told": "inputs/told:InputEnd",

@@ -10,7 +10,7 @@ use crate::lines::{Dials, Limits};
 use crate::listeners::{Listens, Reports};
 use crate::opening::Binds;
 use crate::speakers::Speaks;
-use mio::net::{UnixListener, UnixStream as Stream};
+use mio::net::UnixListener;
 use mio::{Interest, Registry, Token};
 use outlets::Takes;
 use runtimes::Hosted;
@@ -125,7 +125,7 @@ impl Listens<SystemCaller> for SystemListener {
 /// Who called there. He can be read, and answered, and asked for nothing else.
 #[derive(Drop)]
 pub struct SystemCaller {
-    caller: Stream,
+    caller: mio::net::UnixStream,
 }
 
 impl Speaks for SystemCaller {
