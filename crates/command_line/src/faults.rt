@@ -150,9 +150,9 @@ impl LineFault {
 }
 
 /// Tells a text as it is; where there is no memory for it, of that.
-fn tell_as_is<T: Display, E: Tells>(alloc: Global, what: &T, errors: &mut E)
+fn tell_as_is<E: Tells>(alloc: Global, what: &clap::Error, errors: &mut E)
     ensures spelled { IsSpelledTold E.tells errors.old what.now errors.new }
-    ensures text { (text : List ℕ) → T.output what.now ≡ Some text
+    ensures text { (text : List ℕ) → ⟦<clap::Error as Display>⟧.output what.now ≡ Some text
         → IsTextTold E.tells errors.old text errors.new }
 {
     match spelled(alloc, what) {
@@ -163,10 +163,10 @@ fn tell_as_is<T: Display, E: Tells>(alloc: Global, what: &T, errors: &mut E)
 
 /// Has the text written.
 #[tactic(auto, unfolding(crate::specs::Faults::WasSpelled, crate::specs::Faults::WasUnspelled))]
-fn spelled<T: Display>(alloc: Global, what: &T) -> Result<String, AllocError>
+fn spelled(alloc: Global, what: &clap::Error) -> Result<String, AllocError>
     ensures spelled { IfOk result (λ text. WasSpelled what.now (string_bytes text)) }
     ensures unspelled { OnErr result (WasUnspelled what.now) }
-    ensures text { (text : List ℕ) → T.output what.now ≡ Some text
+    ensures text { (text : List ℕ) → ⟦<clap::Error as Display>⟧.output what.now ≡ Some text
         → IfOk result (λ all. string_bytes all ≡ text) }
 {
     format!(in alloc; "{what}")
