@@ -145,7 +145,8 @@ ANSWERED = {
     "Sealed": "boot_file/locks:File boot_file/locks:Opened checks/openings:Opened commands/capture_files:BufWriter "
               "commands/capture_files:Capture control/awaiting:SystemLine control/awaiting:SystemListener control/awaiting:SystemCaller "
               "gate/wires:Option gate/wires:Sockets gate/wires:Stopwatch journal/notes:LeftOutPackets journal/notes:Note "
-              "journal/sealed:FilteredLog loopback_run/loopback:Port loopback_run/loopback:Ports loopback_run/loopback:SystemPort runtimes/sealed:HostRuntime runtimes/sealed:R",
+              "journal/sealed:FilteredLog loopback_run/loopback:Port loopback_run/loopback:Ports loopback_run/loopback:SystemPort "
+              "runtimes/sealed:HostRuntime runtimes/sealed:R",
     "Serves": "commands/serving:SystemServes",
     "Shows": "box_words/refusals:BoxFault checks/telling:WithPath command_line/faults:ValueFault faults/faults:Fault "
              "frame_sim/events:WorldFault loopback_run/ports:PortFault",
@@ -641,5 +642,5 @@ def rows_for_nothing(top, _crates):
                 yield f"crates/{place.replace('/', '/src/')}.rt: has no {word}, which scripts/handles.py names"
 
 
-LOOKS = (by_a_field, asked_otherwise, handed_to_others, had_by_others, asked_by_number, done_when_let_go, made_up, shown_as_others, asked_by_reference, read_otherwise,
-         rows_for_nothing)
+LOOKS = (by_a_field, asked_otherwise, handed_to_others, had_by_others, asked_by_number, done_when_let_go, made_up, shown_as_others,
+         asked_by_reference, read_otherwise, rows_for_nothing)
