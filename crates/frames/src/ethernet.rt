@@ -16,6 +16,7 @@
 ghost use Rattle.std.specs.Prelude.{◌≡◌, ◌++◌, ◌↔◌, length, take, drop, IsOk, IfOk, IfErr};
 ghost use Rattle.byteorder.specs.Endian.{big_bytes};
 ghost use Rattle.std.specs.Borrow.{sem};
+ghost use Rattle.frames.specs.declared.ethernet.TheConstants.{LONGEST};
 ghost use Rattle.frames.specs.Bytes.{Puts};
 ghost use Rattle.frames.specs.Frame.{IsFrame, frame_of, header_bytes};
 ghost use Rattle.frames.specs.Lending.{LendsParts};
@@ -49,6 +50,15 @@ impl EtherType {
     pub const IPV4: EtherType = EtherType(0x0800);
 
     pub const ARP: EtherType = EtherType(0x0806);
+}
+
+/// The numbers that IEEE 802 gives: the bytes of the longest frame, and what an IPv4 packet's
+/// EtherType is, and an ARP packet's.
+pub fn numbers_law() -> (EtherType, EtherType)
+    ensures longest { LONGEST ≡ 1514 }
+    ensures ethertypes { result.0.0 ≡ 0x0800 × result.1.0 ≡ 0x0806 }
+{
+    (EtherType::IPV4, EtherType::ARP)
 }
 
 /// Why bytes are no frame.

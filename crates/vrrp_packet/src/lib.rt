@@ -205,6 +205,13 @@ pub fn limits_law()
     ensures frame { ADVERT_FRAME ≡ 46 }
 {}
 
+/// The group of advertisements is 224.0.0.18 (RFC 9568, section 5.1.1.2).
+pub fn group_law() -> Ip
+    ensures group { result.0 ≡ 0xe0000012 }
+{
+    GROUP
+}
+
 /// What is written is read again, from any packet with TTL 255 that carries it.
 pub fn written_is_read()
     ensures { (packet : List ℕ) (advert : Sent) → IsWritable advert
