@@ -11,35 +11,39 @@ from sources import FIELD, code_of, found_in, names_of_calls
 # Who has the system at hand, or a thing of the system's: in each module the types that have it, and the fields by which. A
 # function of such a module that uses one of them has the name of a call. Logs and captured files are had likewise.
 AT_HAND = {
-    "boot_file/machine": {"Machine": "rt"},
+    "boot_file/machine": {"Machine": "hand"},
     "boot_file/openings": {"Opened": "file"},
     "box_words/machine": {"System": "0"},
+    "captures/machine": {"Machine": "hand", "OpenedFile": "file"},
     "checks/machine": {"ThisMachine": "0", "Opened": "file"},
-    "commands/machine": {"SystemCaptures": "rt", "SystemServes": "rt"},
-    "control/machine": {"Machine": "rt", "Waits": "0", "SystemLine": "stream", "SystemListener": "listener", "SystemCaller": "caller"},
-    "faults/texts": {"SystemReads": "0"},
-    "gate/files": {"FileSystem": "rt"},
+    "commands/machine": {"SystemCaptures": "captures", "SystemServes": "hands"},
+    "control/machine": {"Machine": "hand", "Waits": "0", "SystemLine": "stream", "SystemListener": "listener", "SystemCaller": "caller"},
+    "gate/files": {"FileSystem": "hand"},
     "gate/recording": {"Records": "log"},
-    "gate/rest": {"Rest": "rt", "Means": "rt", "Seeds": "rt"},
-    "inputs/standard_input": {"StandardInput": "rt"},
-    "journal/machine": {"Machine": "rt"},
+    "gate/seeds": {"Seeds": "hand"},
+    "inputs/standard_input": {"StandardInput": "hand"},
+    "journal/machine": {"Machine": "hand"},
     "journal/pens": {"Pen": "log"},
-    "journal/standard_error": {"StandardError": "rt"},
-    "loopback_run/machine": {"Socket": "0", "Waits": "0", "SystemPort": "socket waits clock", "SystemBinds": "system"},
-    "rounds/asked_clock": {"SystemClock": "rt"},
+    "journal/standard_error": {"StandardError": "hand"},
+    "loopback_run/machine": {"Socket": "0", "Waits": "0", "SystemPort": "socket waits", "SystemBinds": "hand"},
+    "rounds/asked_clock": {"SystemClock": "hand"},
+    "runtimes/hand": {"Hand": "rt"},
     "slots/draws": {"SystemDraws": "0"},
-    "sockets/machine": {"Machine": "0", "Waiting": "0", "Inherited": "0", "Udp": "0", "Socket": "0"},
-    "supervision/machine": {"Machine": "_net"},
-    "tap/asked_clock": {"SystemClock": "rt"},
+    "sockets/machine": {"Machine": "hand", "Waiting": "0", "Inherited": "0", "Udp": "0", "Socket": "0"},
+    "supervision/machine": {"Machine": "hand"},
+    "tap/asked_clock": {"SystemClock": "hand"},
     "tap/asked_files": {"CaptureFile": "file"},
 }
 
 # Who has one of those, or what is made of it, by which fields: he asks by calls that have names, and no field more is his.
 THROUGH = {
     "box_words/sites": {"Machine": "system boot_files lines"},
+    "commands/hands": {"Hands": "system boot_files lines captures around gate passage clock"},
     "commands/hosts": {"ThisHost": "captures around"},
     "control/hearing": {"Bound": "doorway", "Control": "audience"},
-    "gate/machine": {"Machine": "files boot_files descriptors listeners places ends"},
+    "gate/hands": {"Hands": "files boot_files captures descriptors listeners places ends environment errors seeds moments clock input"},
+    "gate/machine": {"Machine": "files boot_files captures descriptors listeners places ends"},
+    "gate/rest": {"Rest": "environment errors means", "Means": "seeds moments pace", "Pace": "clock input"},
     "inputs/told": {"InputEnd": "watched"},
     "journal/lines": {"Shown": "logged"},  # A record of a log, which can be asked for nothing.
     "rounds/clocks": {"Stopwatch": "clock"},
@@ -49,12 +53,16 @@ THROUGH = {
 
 # Functions of a module of AT_HAND that use such a field in another way, and why they may.
 OTHERWISE = {
-    ("faults/texts", "text_of"): "it is handed the system itself, and its line is trusted",
+    ("box_words/machine", "told_to_read"): "the name is that of `faults`, of who reads by a hand",
+    ("captures/machine", "as_raw_fd"): "it gives a number, and asks nothing",
+    ("captures/machine", "flush"): "it hands on what a buffer over it is told, and its line is trusted",
+    ("captures/machine", "write"): "it hands on what a buffer over it is told, and its line is trusted",
+    ("commands/machine", "act"): "it makes each who asks by his own hand",
     ("gate/recording", "teller_at"): "the teller that it gives is the name's",
-    ("gate/rest", "drawn"): "what draws is new, is asked by a name, and goes with it",
-    ("gate/rest", "moments"): "the clock that it gives was asked for nothing yet",
-    ("gate/rest", "stopwatch"): "the clock that it gives is started by a name",
+    ("inputs/standard_input", "is_reported"): "the name is that of `polls`, of who asks",
     ("journal/pens", "passes"): "it asks whether a record passes, and a log isn't told that",
+    ("runtimes/hand", "lend"): "it lends the system for an ask, and says nothing of what it is then",
+    ("runtimes/hand", "lent"): "it lends itself, and says nothing of what it is then",
     ("slots/draws", "draw"): "nobody in the program draws by it",
     ("sockets/machine", "receive"): "private, and of `told_to_receive` alone",
     ("sockets/machine", "register"): "private, and of `told_to_register` alone",
@@ -74,15 +82,18 @@ HANDS_ON = {
 # A module of AT_HAND that only hands on: what it is asked has the names of whom it asks, and none of its own.
 NAMELESS = ("boot_file/openings",)
 
+# The one function that gives the system to who asks: for one ask, and nothing says what the hand is then.
+LENDS = ("runtimes/hand", "lend")
+
 # What has to be known of that of which a type of AT_HAND is made, by its module: nothing, or the one trait that is named here. Elsewhere it
 # is `Hosted`, so that nobody can be made up for the system.
 MADE_OF = {"boot_file/openings": "", "gate/recording": "OwnLog", "journal/pens": "", "tap/asked_files": ""}
 
 # Types of AT_HAND whose field is public, and the one crate of the program that names each.
-OPEN = {"SystemReads": "faults", "SystemDraws": "slots"}
+OPEN = {"SystemDraws": "slots"}
 
 # Where a reference to what a type is told for is an argument of a type: a box's log, and an item that is looked at.
-ARGUMENTS = ("gate/rest", "slots/port_slots")
+ARGUMENTS = ("slots/port_slots",)
 
 # Who does something as he is let go, and what a clause says that he leaves.
 DROPS = {
@@ -92,14 +103,7 @@ DROPS = {
 
 # Functions that are handed the system itself, beside those that make a type of AT_HAND of it: their lines are trusted.
 HANDED = {
-    "captures/files": "open is_read told_to_open may_be_regular",
-    "commands/machine": "act",
-    "faults/texts": "text_of",
-    "gate/rest": "filter_by as_environment_says said_by_environment",
-    "gate/running": "gate",
     "natpair/main": "start main",
-    "rounds/clocks": "start",
-    "tap/capture_files": "open",
 }
 
 # By which traits of its own the program asks, and who answers by each. The name of a call is given of whoever answers by
@@ -109,19 +113,21 @@ ANSWERED = {
     "Binds": "control/machine:Machine loopback_run/binding:SystemBinds",
     "Blocks": "boot_file/blocks:File boot_file/openings:Opened",
     "Builder": "command_line/builders:Command",
-    "Calls": "captures/calls:F",
-    "Carries": "loopback_run/carrying:SystemPort",
+    "Calls": "captures/machine:OpenedFile",
+    "Carries": "loopback_run/carrying:SystemBinds",
     "Channel": "loopback_run/loopback:Holding",
     "Clockwork": "rounds/clocks:Stopwatch",
     "Conduit": "sockets/channels:Channel",
     "Descriptors": "sockets/ways:Machine",
     "Dials": "control/machine:Machine",
     "Disk": "boot_file/file_disk:FileDisk boot_store/model:ModelDisk",
-    "Draws": "gate/rest:Seeds slots/draws:SystemDraws",
+    "Draws": "gate/seeds:Seeds slots/draws:SystemDraws",
     "EndLine": "rounds/ends:O",
     "Folders": "control/machine:Machine",
-    "Held": "checks/openings:Opened commands/capture_files:BufWriter commands/capture_files:Capture control/awaiting:SystemLine "
-            "control/awaiting:SystemListener control/awaiting:SystemCaller gate/wires:Option gate/wires:Sockets gate/wires:Stopwatch "
+    "Held": "checks/openings:Opened commands/letting_go:BufWriter commands/letting_go:Capture commands/letting_go:Loopback "
+            "commands/letting_go:Machine commands/letting_go:Stopwatch commands/letting_go:ThisHost control/awaiting:SystemLine "
+            "control/awaiting:SystemListener control/awaiting:SystemCaller gate/wires:Hand gate/wires:Machine gate/wires:Option "
+            "gate/wires:Rest gate/wires:Sockets gate/wires:Stopwatch "
             "loopback_run/loopback:Port loopback_run/loopback:Ports loopback_run/loopback:SystemPort",
     "Host": "commands/hosts:ThisHost",
     "Hosted": "runtimes/hosted:HostRuntime runtimes/hosted:R",
@@ -137,16 +143,20 @@ ANSWERED = {
     "Opens": "commands/opening:SystemCaptures",
     "Outlet": "journal/destinations:StandardError tap/capture_files:CaptureFile",
     "Progress": "commands/meters:Meter simulation/progress:Unwatched",
+    "Output": "outlets/outputs:BufWriter outlets/outputs:Vec",
+    "OwnDisk": "gate/wires:FileDisk",
     "OwnLog": "journal/own_logs:FilteredLog",
     "Puts": "outlets/puts:T",
-    "Reads": "checks/machine:ThisMachine faults/texts:SystemReads gate/files:FileSystem",
+    "Reads": "checks/machine:ThisMachine faults/texts:Hand gate/files:FileSystem",
     "RefusalText": "frame_sim/events:WorldFault",
     "Reports": "control/machine:Waits",
-    "Sealed": "boot_file/locks:File boot_file/locks:Opened checks/openings:Opened commands/capture_files:BufWriter "
-              "commands/capture_files:Capture control/awaiting:SystemLine control/awaiting:SystemListener control/awaiting:SystemCaller "
-              "gate/wires:Option gate/wires:Sockets gate/wires:Stopwatch journal/notes:LeftOutPackets journal/notes:Note "
+    "Sealed": "boot_file/locks:File boot_file/locks:Opened checks/openings:Opened commands/letting_go:BufWriter "
+              "commands/letting_go:Capture commands/letting_go:Loopback commands/letting_go:Machine commands/letting_go:Stopwatch "
+              "commands/letting_go:ThisHost control/awaiting:SystemLine control/awaiting:SystemListener control/awaiting:SystemCaller "
+              "gate/wires:FileDisk gate/wires:Hand gate/wires:Machine gate/wires:Option gate/wires:Rest gate/wires:Sockets "
+              "gate/wires:Stopwatch journal/notes:LeftOutPackets journal/notes:Note "
               "journal/sealed:FilteredLog loopback_run/loopback:Port loopback_run/loopback:Ports loopback_run/loopback:SystemPort "
-              "runtimes/sealed:HostRuntime runtimes/sealed:R",
+              "outlets/sealed:BufWriter outlets/sealed:Vec runtimes/sealed:HostRuntime runtimes/sealed:R",
     "Serves": "commands/serving:SystemServes",
     "Shows": "box_words/refusals:BoxFault checks/telling:WithPath command_line/faults:ValueFault faults/faults:Fault "
              "frame_sim/events:WorldFault loopback_run/ports:PortFault",
@@ -160,6 +170,7 @@ ANSWERED = {
     "Tells": "outlets/tells:P",
     "Told": "inputs/told:InputEnd",
     "Wire": "sockets/sockets:Sockets sockets/wire:Failing tap/taps:Tapped",
+    "Write": "captures/machine:OpenedFile",
     "WriteBytes": "forwarder/outgoing:ArpReply forwarder/outgoing:OwnAnswer forwarder/outgoing:OwnComplaint "
                   "forwarder/outgoing:PassedFrame forwarder/outgoing:Request forwarder/outgoing:SentFrame "
                   "gateway/ends:NextDatagram gateway/routers:AdvertFrame gateway/routers:GratuitousFrame",
@@ -226,6 +237,7 @@ GHOST = re.compile(r"\bghost\b")
 NO_BODY = re.compile(r"\s*;")
 GIVES_MORE = re.compile(r"\s*=\s*(?=\{)")
 MAKING = re.compile(r"\(\s*\w+: (?:&(?:'\w+ )?)?(\w+),?\s*\)")
+BY_HAND = re.compile(r"\(\s*(hands?): (?:\w+::)?Hands?<'\w+, \w+>,?\s*\)")
 CHANGING = re.compile(r"\(\s*(?:&mut |mut )?self\b")
 USED_UP = re.compile(r"\(\s*(?:mut )?self\s*(?:,[^&()]*)?\)")
 MEMORY = re.compile(r"\{\s*self\.\w+\.alloc\(\)\s*\}")
@@ -403,6 +415,8 @@ def may_use(place, function, calls):
     is; as who makes that of the system, of which nothing is known but that it is no made-up one, or of what had it and is used
     up; to hand on one call; or to give the memory."""
     made = makes_of(place, function)
+    if by_hand := BY_HAND.fullmatch(function.taken):
+        return not bounds_of(function) and re.fullmatch(rf"\{{ result ≡ {by_hand[1]}\.entry \}}\s*", function.clauses) is not None
     if function.name in re.findall(r"(\w+)=", HANDS_ON.get(place, ("", ""))[1]):
         return hands_on(place, function)
     if opened_by(function) & calls and CHANGING.match(function.taken) and place not in NAMELESS:
@@ -460,7 +474,7 @@ def asked_otherwise(top, crates):
                 yield f"{path}: {name} uses the system at hand, and is no call that has a name and is of `&mut self`"
             elif is_used and SAME.search(function.clauses):
                 yield f"{path}: {name} says that who asks is as he was: then whoever makes that call isn't seen"
-            elif "self" in function.taken and gives_system(function):
+            elif "self" in function.taken and (place, name) != LENDS and gives_system(function):
                 yield f"{path}: {name} gives the system at hand to others, who may ask it for anything"
         if types and uses.search(outside(code)):
             yield f"{path}: something that is no function uses the system at hand"
@@ -539,7 +553,7 @@ def made_up(top, crates):
     for place, path, code in of_the_program(top, crates):
         for trait, name in found_in(ANSWERS, code):
             is_ours = trait in own or trait in ANSWERED
-            if STANDARD.fullmatch(trait) or is_ours and f"{place}:{name}" not in ANSWERED.get(trait, "").split():
+            if (STANDARD.fullmatch(trait) or is_ours) and f"{place}:{name}" not in ANSWERED.get(trait, "").split():
                 yield f"{path}: {name} answers as {trait}, and who asks it has asked nobody"
         for name in (it for it, crate in MODELS.items() if re.search(rf"\b{it}\b", code) and place.split("/")[0] != crate):
             yield f"{path}: names {name}, which only stands for a part of the system"

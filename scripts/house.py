@@ -13,8 +13,8 @@ wrong-bodies/, edits a text that is there.
 The system is at hand in few modules (AT_HAND), by types whose fields nobody else sees and who can't be copied. There a function
 that uses such a field has the name of a call, changes whose field it is (`&mut self`), gives the system to nobody, and doesn't say
 that who asks is as he was; but for those that make the type of what they know nothing of, hand on one call (HANDS_ON), give its
-memory, or stand in OTHERWISE. Who makes such a type knows of the system just that it is `Hosted` (MADE_OF), which nothing that is made
-up can be. Nothing beside functions uses one. No other type has the system by a field (THROUGH), few functions
+memory, or stand in OTHERWISE. Who makes such a type of a hand of the system knows nothing of that, and says that it is that hand; hands are made
+of what is `Hosted`, which nothing that is made up can be (MADE_OF). Nothing beside functions uses one. No other type has the system by a field (THROUGH), few functions
 are handed it (HANDED), and nobody else does anything where he is let go (DROPS). Who asks with no handle, by `libc` or `os`, stands
 in BY_NUMBER. Nobody stands in for the system: its rights are no type's of the program, and what the program asks by a trait of its
 own is answered by those in ANSWERED alone. These tables, and who looks at them, stand in handles.py. Which function has the name
@@ -295,16 +295,17 @@ BY_HAND = "impl<F: OpenFile> Opened<F> {\n    fn cut(&self) {\n        self.file
 # A fault that is a line more, or another: where, what stands there, what is planted in its place, and the beginning of what is
 # said of it. A file that isn't there is empty.
 CHANGED = {
-    "again": ("box_words/src/machine.rt", "impl<'a, R: Hosted> System<'a, R> {\n",
-              "impl<'a, R: Hosted> System<'a, R> {\n    fn again(&self) -> System<'a, R> {\n        System(self.0)\n    }\n",
+    "again": ("box_words/src/machine.rt", "impl<'a, R> System<'a, R> {\n",
+              "impl<'a, R> System<'a, R> {\n    fn again(&mut self) -> System<'_, R> {\n        System(self.0.lent())\n    }\n",
               "again uses the system at hand"),
-    "unhosted": ("rounds/src/asked_clock.rt", "impl<'a, R: Hosted> SystemClock", "impl<'a, R> SystemClock", "new makes somebody who asks"),
+    "of another": ("rounds/src/asked_clock.rt", "ensures { result ≡ hand.entry }", "ensures { result ≡ result }", "new uses the system at hand"),
     "any log": ("gate/src/recording.rt", "records_in<L: OwnLog>", "records_in<L: Journal>", "records_in makes somebody who asks"),
-    "more than hosted": ("commands/src/machine.rt", "impl<'a, R: Hosted> SystemCaptures", "impl<'a, R: Hosted + Sized> SystemCaptures",
-                         "new makes somebody who asks"),
+    "more than a hand": ("gate/src/seeds.rt", "impl<'a, R> Seeds<'a, R> {", "impl<'a, R: RandomSource> Seeds<'a, R> {",
+                         "new uses the system at hand"),
     "twin": ("inputs/src/standard_input.rt", "#[derive(Drop)]", "#[derive(Clone, Drop)]",
              "StandardInput has the system at hand, and may"),
-    "cut file": ("captures/src/calls.rt", "        self.seek(SeekFrom::Start(0))?;", "        self.set_len(0)?;\n        self.seek(SeekFrom::Start(0))?;",
+    "cut file": ("captures/src/machine.rt", "        self.file.seek(SeekFrom::Start(0))?;",
+                 "        self.file.set_len(0)?;\n        self.file.seek(SeekFrom::Start(0))?;",
                  "has set_len 2 times"),
     "view": ("captures/src/files.rt", "ghost view = { λ vacant. vacant.file };", "ghost view = { λ vacant. vacant.shown.value };",
              "Vacant shows itself as F | λ vacant. vacant.shown.value"),
@@ -312,7 +313,7 @@ CHANGED = {
     "block": ("sums/src/block.rt", "", "/* /* */ */\n", "has a comment in a block"),
     "brace": ("sums/src/brace.rt", "", "impl<T: Fixed<{ 1 }>> Write for Odd<T> {}\n", "has a brace in what an impl"),
     "row": ("commands/src/meters.rt", "Drop for Meter", "Lets for Meter", "has no Drop for Meter, which"),
-    "shown": ("control/src/machine.rt", "    rt: &'a R,\n", "    pub rt: &'a R,\n", "Machine has the system at hand by a field"),
+    "shown": ("control/src/machine.rt", "    hand: Hand<'a, R>,\n", "    pub hand: Hand<'a, R>,\n", "Machine has the system at hand by a field"),
     "of itself": (WORDS, CLOCK, CLOCK + "    fn of_itself(machine: &Self) -> &R {\n        machine.0\n    }\n", "of_itself uses the system"),
     "used up": (WORDS, CLOCK, CLOCK + "    fn used_up(self) -> u8 {\n        go(self.0)\n    }\n", "used_up uses the system"),
     "generics": (WORDS, CLOCK, CLOCK + "    fn generics<F: Fn(u8)>(&self) {\n        go(self.0);\n    }\n", "generics uses the system"),
@@ -359,7 +360,7 @@ def plant(top, fault):
     if fault == "theorem":
         path = top / "docs" / "THEOREM.md"
         path.write_text(path.read_text().replace("| `told_to_draw` |", "| `drawn` |"))
-        return "crates/gate/src/rest.rt: told_to_draw has WasDrawn"
+        return "crates/gate/src/seeds.rt: told_to_draw has WasDrawn"
     if fault == "dependency":
         path = top / "crates.txt"
         path.write_text(re.sub(r"(?m)^(sums:.*)$", r"\1 slab", path.read_text()))

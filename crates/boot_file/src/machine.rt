@@ -1,29 +1,41 @@
 // This machine, as who opens files and gives them names. What it is asked has names, and no more is known of it.
-ghost use Rattle.std.specs.Prelude.{IfErr, IfOk, OnOk};
+ghost use Rattle.std.specs.Prelude.{◌≡◌, IfErr, IfOk, OnOk};
 ghost use Rattle.boot_file.specs.Deeds.{WasLinked, WasLookedFor, WasOpened, WasRemoved, WasUnlinked, WasUnopened};
 
 use crate::{FileDisk, Opened};
-use runtimes::Hosted;
+use runtimes::Hand;
 use std::alloc::Global;
 use std::fs::{Files, OpenOptions};
 use std::io;
+use std::marker::Model;
 
 /// This machine, as who opens files, and gives them names. Nobody else has its files at hand here.
 #[derive(Drop)]
 pub struct Machine<'a, R> {
-    rt: &'a R,
+    hand: Hand<'a, R>,
 }
 
-impl<'a, R: Hosted> Machine<'a, R> {
-    pub fn new(rt: &'a R) -> Machine<'a, R> {
-        Machine { rt }
+impl<'a, R> Model for Machine<'a, R> {
+    ghost use Rattle.polls.specs.declared.askers.Asker.{Asker};
+
+    ghost Value = { Asker };
+
+    ghost view = { λ machine. machine.hand };
+}
+
+impl<'a, R> Machine<'a, R> {
+    /// It asks by this hand.
+    pub fn new(hand: Hand<'a, R>) -> Machine<'a, R>
+        ensures { result ≡ hand.entry }
+    {
+        Machine { hand }
     }
 }
 
 impl<R: AllocGlobal> Machine<'_, R> {
     /// Who has its memory.
     pub(crate) fn alloc(&self) -> Global {
-        self.rt.alloc()
+        self.hand.alloc()
     }
 }
 
@@ -40,7 +52,7 @@ impl<R: Files> Machine<'_, R> {
         ensures unopened { IfErr result
             (λ error. WasUnopened self.old options.now path.now error self.new) }
     {
-        Ok(Opened::new(options.open(self.rt, path)?))
+        Ok(Opened::new(options.open(self.hand.lend(), path)?))
     }
 
     /// Looks whether there is anything of a name.
@@ -48,7 +60,7 @@ impl<R: Files> Machine<'_, R> {
     pub(crate) fn told_to_look(&mut self, path: &str) -> bool
         ensures { WasLookedFor self.old path.now result self.new }
     {
-        self.rt.symlink_metadata(path).is_ok()
+        self.hand.lend().symlink_metadata(path).is_ok()
     }
 
     /// Gives the file of a disk, which it has under one name, another one, too.
@@ -64,7 +76,7 @@ impl<R: Files> Machine<'_, R> {
         ensures unlinked { IfErr result
             (λ error. WasUnlinked self.old other.now path.now error self.new) }
     {
-        self.rt.hard_link(other, path)
+        self.hand.lend().hard_link(other, path)
     }
 
     /// Removes a name, where it is there.
@@ -72,6 +84,6 @@ impl<R: Files> Machine<'_, R> {
     pub(crate) fn told_to_remove(&mut self, path: &str)
         ensures { WasRemoved self.old path.now self.new }
     {
-        let _is_gone = self.rt.remove_file(path);
+        let _is_gone = self.hand.lend().remove_file(path);
     }
 }

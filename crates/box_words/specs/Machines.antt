@@ -4,6 +4,7 @@ use Rattle.std.specs.Duration.{as_nanos}
 use Rattle.std.specs.declared.time.Duration.{Duration}
 use Rattle.std.specs.declared.time.Instant.{Instant}
 use Rattle.std.specs.declared.io.ErrorKind.TheVariants as kinds
+use Rattle.polls.specs.declared.askers.Asker.{Asker}
 use Rattle.faults.specs.Faults.{TellsUnread}
 use Rattle.faults.specs.Files.{WasRead}
 use Rattle.faults.specs.declared.faults.Fault.{Fault}
@@ -15,13 +16,10 @@ use Rattle.control.specs.declared.words.Word.{Word}
 use Rattle.box_words.specs.Deeds.{Deed, asked, awaits, made, past, read, rested, said, unmade, unread, unsaid}
 use Rattle.box_words.specs.Making.{Makes}
 use Rattle.box_words.specs.Memory.{WasShort}
+use Rattle.box_words.specs.declared.sites.Machine.{Machine}
 
--- It was asked for nothing yet. It is no more than a name for what it is made as, and so is the one below it for a call.
-unfoldable pub IsUntouched : {M : Type 0} → M → Type 0
-IsUntouched machine = Unit {0}
-
--- Just this was done by the system that a machine has, by what it was before and is then: it was asked for it, and answered so. Who makes the call has it,
--- and nobody else; whoever makes another beside it has a system that is another.
+-- Just this was done by the system that a machine has, by what who asks was before and is then: it was asked for it, and answered so. It is no more than
+-- a name for the call: who makes it has the name, and nobody else.
 unfoldable pub WasDone : {S : Type 0} → S → Deed → S → Type 0
 WasDone before deed after = Unit {0}
 
@@ -50,9 +48,11 @@ ComesOf lines (asked path word answer) lines2 =
 ComesOf lines (unsaid path word) lines2 =
     IsSpelled word (λ bytes. IsUntaken path bytes lines lines2 ⊎ ((room : ℕ) × ((4096 ≤ room) × IsUnanswered path bytes room lines lines2)))
 
--- this fault tells of what the system answered of the file at a path: want of memory only where it answered that, or memory to tell it was refused
-abbrev pub IsOfReading : List ℕ → Fault → Type 0
-IsOfReading path why = TellsUnread (WasRead path) path why × (why ≡ NoMemory → WasRead path (Err kinds.OutOfMemory) ⊎ WasShort path)
+-- this fault tells of what the system answered of the file at a path, for which it was asked: want of memory only where it answered that, or memory to
+-- tell it was refused
+abbrev pub IsOfReading : {S : Type 0} → S → List ℕ → Fault → S → Type 0
+IsOfReading before path why after =
+    TellsUnread (λ answer. WasRead before path answer after) path why × (why ≡ NoMemory → WasRead before path (Err kinds.OutOfMemory) after ⊎ WasShort path)
 
 -- ---- its clock
 
@@ -89,8 +89,8 @@ abbrev pub AsksOf : {S : Type 0} → S → Waiting → Deed → S → Waiting �
 AsksOf system wait (awaits seconds) system2 wait2 = WasNow system wait2.since system2 × (wait2.limit ≡ seconds * 1_000_000_000)
 AsksOf system wait (past answer) system2 wait2 =
     ((passed : Option Duration) × (HasBeen system wait.since passed system2 × (answer ≡ is_past passed wait.limit))) × (wait2 ≡ wait)
-AsksOf system wait (read path text) system2 wait2 = (WasDone system (read path text) system2 × WasRead path (Ok text)) × (wait2 ≡ wait)
-AsksOf system wait (unread path why) system2 wait2 = (WasDone system (unread path why) system2 × IsOfReading path why) × (wait2 ≡ wait)
+AsksOf system wait (read path text) system2 wait2 = WasRead system path (Ok text) system2 × (wait2 ≡ wait)
+AsksOf system wait (unread path why) system2 wait2 = IsOfReading system path why system2 × (wait2 ≡ wait)
 AsksOf system wait (made path) system2 wait2 = (system2 ≡ system) × (wait2 ≡ wait)
 AsksOf system wait (unmade path why) system2 wait2 = (system2 ≡ system) × (wait2 ≡ wait)
 AsksOf system wait (rested milliseconds) system2 wait2 = WasDone system (rested milliseconds) system2 × (wait2 ≡ wait)
@@ -126,3 +126,11 @@ pub record MachineDoes {S B L : Type 0} (makes : Makes B) (before : Parts S B L)
   pub asks : AsksOf before.system before.wait deed after.system after.wait
   pub files : MakesOf makes before.boot_files deed after.boot_files
   pub comes : ComesOf before.lines deed after.lines
+
+-- a machine asks by these, each for its own, and waits for nothing yet
+pub record IsMadeOf {R : Type 0} (system boot_files lines : Asker) (machine : Machine R) : Type 0 where
+  pub asks : machine.system ≡ system
+  pub makes : machine.boot_files ≡ boot_files
+  pub says : machine.lines ≡ lines
+  pub unawaited : machine.since ≡ None
+  pub limitless : as_nanos machine.limit ≡ 0

@@ -20,11 +20,11 @@ use crate::saying::{Line, line_to};
 use crate::sites::Site;
 use control::{Answer, spelled_pairs, spelled_pairs_after, spelled_status};
 use nat_types::{GatewayId, Key, NoMemory};
-use outlets::{Tells, told_to_flush, told_to_put};
+use outlets::{Output, Tells, told_to_flush, told_to_put};
 use report_texts::{Filter, write_json, write_metrics, write_pairs, write_people};
 use reports::{Page, Report};
 use std::alloc::Global;
-use std::io::{self, Write};
+use std::io;
 
 /// The bytes of the longest answer.
 const ROOM: usize = 4_096;
@@ -40,7 +40,7 @@ pub enum Form {
 }
 
 /// Writes a running box's report. The answer is the exit status: 0, or 1 for a fault, which is told on `errors`.
-pub fn status<S: Site, O: Write, E: Tells>(
+pub fn status<S: Site, O: Output, E: Tells>(
     alloc: Global,
     site: &mut S,
     settings: &str,
@@ -64,7 +64,7 @@ pub fn status<S: Site, O: Write, E: Tells>(
     }
 }
 
-fn written<S: Site, O: Write>(
+fn written<S: Site, O: Output>(
     alloc: Global,
     site: &mut S,
     settings: &str,
@@ -84,7 +84,7 @@ fn written<S: Site, O: Write>(
 }
 
 /// Prints a report in a form, to the text's end. All of the text is there before any of it is written.
-fn print_report<O: Write>(
+fn print_report<O: Output>(
     alloc: Global,
     form: Form,
     report: &Report,
@@ -116,7 +116,7 @@ fn report_text(alloc: Global, form: Form, report: &Report) -> Result<Vec<u8>, No
 }
 
 /// Writes a report in a form.
-fn write_report<O: Write>(output: &mut O, form: Form, report: &Report) -> io::Result<()>
+fn write_report<O: Output>(output: &mut O, form: Form, report: &Report) -> io::Result<()>
     ensures { IsWrittenTo O.contents output.old (text_of form report.now) result output.new }
 {
     match form {
@@ -244,7 +244,7 @@ fn synced<S: Site>(alloc: Global, site: &mut S, line: &Line) -> Result<(), BoxFa
 
 /// Lists the pairs of a running box that pass a filter, in the order of its table. The answer is the exit status: 0, or 1
 /// for a fault, which is told on `errors`. A pair that stays in the table meanwhile is listed once.
-pub fn pairs<S: Site, O: Write, E: Tells>(
+pub fn pairs<S: Site, O: Output, E: Tells>(
     alloc: Global,
     site: &mut S,
     settings: &str,
@@ -268,7 +268,7 @@ pub fn pairs<S: Site, O: Write, E: Tells>(
     }
 }
 
-fn listed<S: Site, O: Write>(
+fn listed<S: Site, O: Output>(
     alloc: Global,
     site: &mut S,
     settings: &str,
@@ -289,7 +289,7 @@ fn listed<S: Site, O: Write>(
 }
 
 /// Writes the pairs of the box at a line's end, page after page.
-fn listed_at<S: Site, O: Write>(
+fn listed_at<S: Site, O: Output>(
     alloc: Global,
     site: &mut S,
     line: &Line,
@@ -313,7 +313,7 @@ fn listed_at<S: Site, O: Write>(
 }
 
 /// Writes the pairs of the page behind a key, or of the first one. The answer is the key behind which the next begins.
-fn written_page<S: Site, O: Write>(
+fn written_page<S: Site, O: Output>(
     alloc: Global,
     site: &mut S,
     line: &Line,
@@ -333,7 +333,7 @@ fn written_page<S: Site, O: Write>(
 }
 
 /// Prints the lines of a page's pairs that pass a filter. All of them are there before any of them is written.
-fn print_page<O: Write>(
+fn print_page<O: Output>(
     alloc: Global,
     page: &Page,
     filter: &Filter,

@@ -2,15 +2,16 @@
 ghost use Rattle.std.specs.Prelude.{◌≡◌, IfErr, IfOk, Ok, string_bytes};
 ghost use Rattle.faults.specs.Faults.{IsUnread, status_of};
 ghost use Rattle.faults.specs.Files.{WasRead};
-ghost use Rattle.box_words.specs.Deeds.{read, rested, unread};
+ghost use Rattle.box_words.specs.Deeds.{rested};
 ghost use Rattle.box_words.specs.Ends.{WasAsked, WasAskedBy};
 ghost use Rattle.box_words.specs.Machines.{IsOfReading, WasDone, WasNow, WasSince};
 ghost use Rattle.box_words.specs.Making.{WasLetGo};
 
 use boot_file::{FileDisk, Opened};
 use faults::{Fault, text_of};
-use runtimes::Hosted;
+use runtimes::Hand;
 use std::fs::Files;
+use std::marker::Model;
 use std::net::{Net, SocketAddr, UdpSocket};
 use std::rt::Clock;
 use std::thread;
@@ -19,28 +20,35 @@ use std::time::{Duration, Instant};
 /// The system: of its files nothing is known but that it was asked for them, and what it answered; and it is waited by its
 /// clock. Each function below is a call by itself, and nobody else has it at hand.
 #[derive(Drop)]
-pub struct System<'a, R>(&'a R);
+pub struct System<'a, R>(Hand<'a, R>);
 
-impl<'a, R: Hosted> System<'a, R> {
-    /// The system at hand. It can't be asked for anything here.
-    pub fn new(rt: &'a R) -> System<'a, R> {
-        System(rt)
+impl<'a, R> Model for System<'a, R> {
+    ghost use Rattle.polls.specs.declared.askers.Asker.{Asker};
+
+    ghost Value = { Asker };
+
+    ghost view = { λ system. system.0 };
+}
+
+impl<'a, R> System<'a, R> {
+    /// It is asked by this hand.
+    pub fn new(hand: Hand<'a, R>) -> System<'a, R>
+        ensures { result ≡ hand.entry }
+    {
+        System(hand)
     }
 }
 
-impl<R: Files + AllocGlobal + Hosted> System<'_, R> {
+impl<R: Files + AllocGlobal> System<'_, R> {
     /// Asks it for the text of a file.
-    #[tactic(auto, unfolding(crate::specs::Machines::WasDone))]
     pub(crate) fn told_to_read(&mut self, path: &str) -> Result<String, Fault>
         ensures read { IfOk result
-            (λ text. WasDone self.old (read path.now (string_bytes text)) self.new) }
-        ensures text { IfOk result (λ text. WasRead path.now (Ok (string_bytes text))) }
-        ensures unread { IfErr result (λ why. WasDone self.old (unread path.now why) self.new) }
-        ensures answered { IfErr result (IsOfReading path.now) }
+            (λ text. WasRead self.old path.now (Ok (string_bytes text)) self.new) }
+        ensures unread { IfErr result (λ why. IsOfReading self.old path.now why self.new) }
         ensures told { IfErr result (IsUnread path.now) }
         ensures status { IfErr result (λ why. status_of why ≡ 1) }
     {
-        text_of(self.0, path)
+        text_of(&mut self.0, path)
     }
 }
 
@@ -50,7 +58,7 @@ impl<R: Clock> System<'_, R> {
     pub(crate) fn asked_now(&mut self) -> Option<Instant>
         ensures { WasNow self.old result self.new }
     {
-        Instant::now(self.0).ok()
+        Instant::now(self.0.lend()).ok()
     }
 
     /// Asks it how much time has passed since a moment.
@@ -58,7 +66,7 @@ impl<R: Clock> System<'_, R> {
     pub(crate) fn asked_since(&mut self, since: Instant) -> Option<Duration>
         ensures { WasSince self.old since result self.new }
     {
-        since.elapsed(self.0).ok()
+        since.elapsed(self.0.lend()).ok()
     }
 
     /// Has it rest for so many milliseconds.
@@ -66,7 +74,7 @@ impl<R: Clock> System<'_, R> {
     pub(crate) fn told_to_rest(&mut self, milliseconds: u64)
         ensures { WasDone self.old (rested milliseconds) self.new }
     {
-        thread::sleep(self.0, Duration::from_millis(milliseconds));
+        thread::sleep(self.0.lend(), Duration::from_millis(milliseconds));
     }
 }
 
@@ -77,7 +85,7 @@ impl<R: Net> System<'_, R> {
         ensures asked { WasAsked address result }
         ensures alone { WasAskedBy self.old address result self.new }
     {
-        UdpSocket::bind(self.0, address).is_err()
+        UdpSocket::bind(self.0.lend(), address).is_err()
     }
 }
 

@@ -6,7 +6,7 @@ ghost use Rattle.control.specs.Answers.{answer_of};
 ghost use Rattle.control.specs.Words.{word_of};
 ghost use Rattle.faults.specs.Faults.{IsUnread, status_of};
 ghost use Rattle.box_words.specs.Deeds.{Deed, asked, awaits, made, past, read, rested, said, unmade, unread, unsaid};
-ghost use Rattle.box_words.specs.Machines.{HasBeen, IsUntouched, MachineDoes, is_past, parts, waiting};
+ghost use Rattle.box_words.specs.Machines.{HasBeen, IsMadeOf, MachineDoes, is_past, parts, waiting};
 ghost use Rattle.box_words.specs.Making.{MakesBootFile};
 
 use crate::machine::{System, let_go};
@@ -14,7 +14,7 @@ use boot_file::{Blocks, FileDisk, FileFault, Opened, create};
 use boot_store::Disk;
 use control::{ControlPath, NoSocket};
 use faults::Fault;
-use runtimes::Hosted;
+use runtimes::Hand;
 use std::fs::Files;
 use std::net::Net;
 use std::rt::Clock;
@@ -85,16 +85,15 @@ pub struct Machine<'a, R> {
     limit: Duration,
 }
 
-impl<'a, R: Hosted> Machine<'a, R> {
-    /// It was asked for nothing yet.
-    #[tactic(auto, unfolding(crate::specs::Machines::IsUntouched))]
-    pub fn new(rt: &'a R) -> Machine<'a, R>
-        ensures { IsUntouched result }
+impl<'a, R> Machine<'a, R> {
+    /// It asks by these hands, each for its own, and waits for nothing yet.
+    pub fn new(system: Hand<'a, R>, boot_files: Hand<'a, R>, lines: Hand<'a, R>) -> Machine<'a, R>
+        ensures { IsMadeOf system.entry boot_files.entry lines.entry result }
     {
         Machine {
-            system: System::new(rt),
-            boot_files: boot_file::Machine::new(rt),
-            lines: control::Machine::new(rt),
+            system: System::new(system),
+            boot_files: boot_file::Machine::new(boot_files),
+            lines: control::Machine::new(lines),
             since: None,
             limit: Duration::ZERO,
         }
@@ -102,7 +101,7 @@ impl<'a, R: Hosted> Machine<'a, R> {
 }
 
 /// Each deed is one call of its system's, a boot file that is made, or one line to a box. All else that it has stays.
-impl<R: Files + Net + Clock + AllocGlobal + Hosted> Site for Machine<'_, R>
+impl<R: Files + Net + Clock + AllocGlobal> Site for Machine<'_, R>
 where
     R::File: Blocks,
 {

@@ -2,3 +2,4 @@ mod Writing
 mod Lengths
 mod Splits
 mod Rooms
+mod Opening

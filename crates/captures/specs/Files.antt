@@ -51,6 +51,10 @@ WasRewound before answer after = Unit {0}
 unfoldable pub WasCut : {F : Type 0} → F → Result (Unit {0}) Error → F → Type 0
 WasCut before answer after = Unit {0}
 
+-- A file was this when it was let go: it was asked for nothing behind that. It is a name of the same kind.
+unfoldable pub WasLetGo : {F : Type 0} → F → Type 0
+WasLetGo file = Unit {0}
+
 -- these bytes are at the front of a room, or it is told why none are
 abbrev pub filled_in : List ℕ → Result ℕ Error → Result (List ℕ) Error
 filled_in room (Ok count) = Ok (take count room)
@@ -96,9 +100,13 @@ abbrev pub IsNoPlace : {F : Type 0} → Looks F → F → Error → F → Type 0
 IsNoPlace looks before error after =
     looks before (Err error) after ⊎ (IsFound looks before false after × (error_kind error ≡ AlreadyExists))
 
--- it was to let go of all that it has, and this was answered
-abbrev pub IsUnemptied : {F : Type 0} → Empties F → F → Error → Type 0
-IsUnemptied {F = F} empties before error = (after : F) × empties before (Err error) after
+-- so it is, and then it is let go
+abbrev pub IsTurnedAway : {F : Type 0} → Looks F → (F → Type 0) → F → Error → Type 0
+IsTurnedAway {F = F} looks gone before error = (after : F) × (IsNoPlace looks before error after × gone after)
+
+-- it was to let go of all that it has, and this was answered, and it was let go itself
+abbrev pub IsUnemptied : {F : Type 0} → Empties F → (F → Type 0) → F → Error → Type 0
+IsUnemptied {F = F} empties gone before error = (after : F) × (empties before (Err error) after × gone after)
 
 -- ---- how it is opened
 
@@ -114,48 +122,50 @@ pub record IsForCapture (reads : Bool) (options : OpenOptions) : Type 0 where
   pub mode : WasToldMode before 0o600 told
   pub since : options ≡ record told { read = reads; write = true; append = false; truncate = false; create = true; create_new = false }
 
--- Of this path it was looked whether a regular file, or none, is there. This name, and the one below it, is of a call too.
-unfoldable pub WasSought : List ℕ → Bool → Type 0
-WasSought path regular = Unit {0}
+-- Of this path a machine looked whether a regular file, or none, is there, by what it was before and is then. This name, and the one below it, is of a
+-- call too.
+unfoldable pub WasSought : {M : Type 0} → M → List ℕ → Bool → M → Type 0
+WasSought before path regular after = Unit {0}
 
--- the system was asked by these options for the file at this path, and answered this
-unfoldable pub WasOpened : {F : Type 0} → OpenOptions → List ℕ → Result F Error → Type 0
-WasOpened options path answer = Unit {0}
+-- it was asked by these options for the file at this path, and answered this
+unfoldable pub WasOpened : {M F : Type 0} → M → OpenOptions → List ℕ → Result F Error → M → Type 0
+WasOpened before options path answer after = Unit {0}
 
 -- it is to be read, too, where the reader of a pipe isn't to be waited for; else where it may be a regular file
-abbrev pub IsRead : List ℕ → Reader → Bool → Type 0
-IsRead path Awaited reads = WasSought path reads
-IsRead path NotAwaited reads = reads ≡ true
+abbrev pub IsRead : {M : Type 0} → M → List ℕ → Reader → Bool → M → Type 0
+IsRead before path Awaited reads after = WasSought before path reads after
+IsRead before path NotAwaited reads after = (reads ≡ true) × (after ≡ before)
 
 -- so the file at this path was asked for, and this was answered
-pub record IsAsked {F : Type 0} (path : List ℕ) (reader : Reader) (answer : Result F Error) : Type 0 where
+pub record IsAsked {M F : Type 0} (before : M) (path : List ℕ) (reader : Reader) (answer : Result F Error) (after : M) : Type 0 where
   pub reads : Bool
-  pub sought : IsRead path reader reads
+  pub between : M
+  pub sought : IsRead before path reader reads between
   pub options : OpenOptions
   pub how : IsForCapture reads options
-  pub asked : WasOpened options path answer
+  pub asked : WasOpened between options path answer after
 
 -- that was looked at then, and a capture may be begun in it
-pub record IsOpened {F : Type 0} (path : List ℕ) (reader : Reader) (vacant : F) : Type 0 where
+pub record IsOpened {M F : Type 0} (before : M) (path : List ℕ) (reader : Reader) (vacant : F) (after : M) : Type 0 where
   pub file : F
-  pub opened : IsAsked path reader (Ok file)
+  pub opened : IsAsked before path reader (Ok file) after
   pub free : IsFound SystemLooks file true vacant
 
--- or it couldn't be looked at, or none may, for which this is told
-pub record IsUnfit (F : Type 0) (path : List ℕ) (reader : Reader) (why : Error) : Type 0 where
+-- or it couldn't be looked at, or none may, for which this is told; just that file was let go, as it was behind the look
+pub record IsUnfit (F : Type 0) {M : Type 0} (before : M) (path : List ℕ) (reader : Reader) (why : Error) (after : M) : Type 0 where
   pub file : F
-  pub after : F
-  pub opened : IsAsked path reader (Ok file)
-  pub refused : IsNoPlace SystemLooks file why after
+  pub opened : IsAsked before path reader (Ok file) after
+  pub refused : IsTurnedAway SystemLooks WasLetGo file why
 
--- no file is had at this path for a capture: the system answered so; or it gave one in which none may be begun
-abbrev pub IsUnopened : Type 0 → List ℕ → Reader → Error → Type 0
-IsUnopened F path reader why = IsAsked {F = F} path reader (Err why) ⊎ IsUnfit F path reader why
+-- no file is had at this path for a capture: the machine answered so; or it gave one in which none may be begun
+abbrev pub IsUnopened : (F : Type 0) → {M : Type 0} → M → List ℕ → Reader → Error → M → Type 0
+IsUnopened F before path reader why after = IsAsked {F = F} before path reader (Err why) after ⊎ IsUnfit F before path reader why after
 
 -- what was opened so had to let go of all that it had, and is this file since
-abbrev pub IsCleared : {F : Type 0} → List ℕ → Reader → F → Type 0
-IsCleared {F = F} path reader file = (vacant : F) × (IsOpened path reader vacant × SystemEmpties vacant (Ok tt) file)
+abbrev pub IsCleared : {M F : Type 0} → M → List ℕ → Reader → F → M → Type 0
+IsCleared {F = F} before path reader file after = (vacant : F) × (IsOpened before path reader vacant after × SystemEmpties vacant (Ok tt) file)
 
--- or it wasn't opened, or refused that
-abbrev pub IsUncleared : Type 0 → List ℕ → Reader → Error → Type 0
-IsUncleared F path reader why = IsUnopened F path reader why ⊎ ((vacant : F) × (IsOpened path reader vacant × IsUnemptied SystemEmpties vacant why))
+-- or it wasn't opened, or refused that, and was let go as it was then
+abbrev pub IsUncleared : (F : Type 0) → {M : Type 0} → M → List ℕ → Reader → Error → M → Type 0
+IsUncleared F before path reader why after = IsUnopened F before path reader why after
+    ⊎ ((vacant : F) × (IsOpened before path reader vacant after × IsUnemptied SystemEmpties WasLetGo vacant why))

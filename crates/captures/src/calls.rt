@@ -1,17 +1,15 @@
 //! A file of the system's, as single calls. What each is has a name, and no more is known of it.
-ghost use Rattle.std.specs.Prelude.{◌≤◌, ◌<◌, Ok, take, IfOk};
+ghost use Rattle.std.specs.Prelude.{◌≤◌, ◌<◌, take, IfOk};
 ghost use Rattle.std.specs.Io.KnownBytes.{Consumes, IsAtEnd};
-ghost use Rattle.captures.specs.Files.{WasAskedKind, WasCut, WasFilled, WasRewound, filled_in};
 
 use crate::files::FRONT;
-use std::fs::OpenFile;
-use std::io::{self, Read, Seek, SeekFrom};
+use std::io::{self, Read};
 
 /// A file that may be asked for these, and for nothing else. What else a file of the system's may be asked for, by a shared reference
 /// too, it can't be asked for where it is known as this alone.
 pub trait Calls {
     ghost use Rattle.std.specs.Prelude.{◌≤◌, IfOk};
-    ghost use Rattle.captures.specs.Files.{WasAskedKind, WasCut, WasFilled, WasRewound, filled_in};
+    ghost use Rattle.captures.specs.Files.{WasAskedKind, WasCut, WasFilled, WasLetGo, WasRewound, filled_in};
 
     /// Asks the system whether it is a regular one.
     fn told_of_kind(&mut self) -> io::Result<bool>
@@ -29,33 +27,14 @@ pub trait Calls {
     fn told_to_fill(&mut self, room: &mut [u8; FRONT]) -> io::Result<usize>
         ensures within { IfOk result (λ count. count ≤ 4) }
         ensures filled { WasFilled self.old (filled_in room.new result) self.new };
-}
 
-impl<F: Read + Seek + OpenFile> Calls for F {
-    #[tactic(auto, unfolding(crate::specs::Files::WasAskedKind))]
-    fn told_of_kind(&mut self) -> io::Result<bool> {
-        Ok(self.metadata()?.is_file())
-    }
-
-    #[tactic(auto, unfolding(crate::specs::Files::WasCut))]
-    fn told_to_cut(&mut self) -> io::Result<()> {
-        self.set_len(0)
-    }
-
-    #[tactic(auto, unfolding(crate::specs::Files::WasRewound))]
-    fn told_to_rewind(&mut self) -> io::Result<()> {
-        self.seek(SeekFrom::Start(0))?;
-        Ok(())
-    }
-
-    #[tactic(auto, unfolding(crate::specs::Files::WasFilled))]
-    fn told_to_fill(&mut self, room: &mut [u8; FRONT]) -> io::Result<usize> {
-        fill(self, room)
-    }
+    /// Lets it go, as it is: nothing is asked of it any more.
+    fn put_down(self)
+        ensures { WasLetGo self };
 }
 
 /// Fills the room as far as a file goes, and says how far.
-fn fill<F: Read>(file: &mut F, room: &mut [u8; FRONT]) -> io::Result<usize>
+pub(crate) fn fill<F: Read>(file: &mut F, room: &mut [u8; FRONT]) -> io::Result<usize>
     ensures within { IfOk result (λ count. count ≤ 4) }
     ensures bytes { IfOk result (λ count. Consumes (F.remaining file.old) (F.remaining file.new)
         (take count room.new)) }

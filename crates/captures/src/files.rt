@@ -1,11 +1,12 @@
 //! The files in which captures are begun.
 ghost use Rattle.std.specs.Prelude.{◌≡◌, ◌≤◌, ◌<◌, ◌↔◌, None, true, Ok, take, length, option_map, IfErr, IfOk, IfSome, IsOk, OnErr, OnOk};
 ghost use Rattle.std.specs.IoError.{error_kind};
-ghost use Rattle.captures.specs.Files.{Empties, Held, IsForCapture, IsFound, IsLookedAt, IsNoPlace, IsOpened, IsRead, IsUnemptied, IsUnopened, Looks, ReadsFront, SystemEmpties, SystemLooks, WasOpened, WasSought, WasToldMode, emptied, found_in, is_free, may_begin};
+ghost use Rattle.captures.specs.declared.machine.OpenedFile.{OpenedFile};
+ghost use Rattle.captures.specs.Files.{Empties, Held, IsForCapture, IsFound, IsLookedAt, IsNoPlace, IsOpened, IsRead, IsTurnedAway, IsUnemptied, IsUnopened, Looks, ReadsFront, SystemEmpties, SystemLooks, WasLetGo, WasToldMode, emptied, found_in, is_free, may_begin};
 
 use crate::calls::Calls;
-use runtimes::Hosted;
-use std::fs::{self, Files, OpenOptions};
+use crate::{Machine, OpenedFile};
+use std::fs::{Files, OpenOptions};
 use std::io::{self, ErrorKind};
 use std::marker::Model;
 use std::os::unix::fs::OpenOptionsExt;
@@ -33,6 +34,9 @@ pub trait Opened {
     /// What may come of an emptying, and what it is then.
     ghost empties: { Empties Self };
 
+    /// What it is where it is let go. Who lets it go has it, and nobody else.
+    ghost gone: { Self → Type 0 };
+
     /// Reads the first four bytes of a regular file, or as many as it has, and says how many; nothing of what is none. The
     /// next write is at the file's front.
     fn front(&mut self, room: &mut [u8; FRONT]) -> io::Result<Option<usize>>
@@ -54,6 +58,10 @@ pub trait Opened {
         ensures err { honest self.old → OnErr result (held self.new ≡ held self.old) }
         ensures asked { empties self.old result self.new }
         ensures honesty { honest self.old ↔ honest self.new };
+
+    /// Lets it go, as it is: nothing is asked of it any more.
+    fn put_down(self)
+        ensures { gone self };
 }
 
 /// No clause can say what the system's files do, so they claim nothing. Each call that is made of them, and its answer, has a name.
@@ -67,6 +75,8 @@ impl<F: Calls> Opened for F {
     ghost looks = { SystemLooks };
 
     ghost empties = { SystemEmpties };
+
+    ghost gone = { WasLetGo };
 
     fn front(&mut self, room: &mut [u8; FRONT]) -> io::Result<Option<usize>> {
         match self.told_of_kind() {
@@ -82,6 +92,10 @@ impl<F: Calls> Opened for F {
             Ok(false) => Ok(()),
             Err(error) => Err(error),
         }
+    }
+
+    fn put_down(self) {
+        Calls::put_down(self)
     }
 }
 
@@ -182,16 +196,18 @@ impl<F: Opened + Drop> Vacant<F> {
     ///
     /// # Errors
     ///
-    /// Where that is refused.
+    /// Where that is refused: the file is let go.
     pub fn clear(self) -> io::Result<F>
         ensures emptied { F.honest self
             → IfOk result (λ file. F.held file ≡ emptied (F.held self)) }
         ensures asked { IfOk result (λ file. F.empties self (Ok tt) file) }
-        ensures refused { IfErr result (λ error. IsUnemptied F.empties self error) }
+        ensures refused { IfErr result (λ error. IsUnemptied F.empties F.gone self error) }
     {
         let Vacant { mut file } = self;
-        file.empty()?;
-        Ok(file)
+        match file.empty() {
+            Ok(()) => Ok(file),
+            Err(error) => Err(let_go(file, error)),
+        }
     }
 }
 
@@ -207,27 +223,42 @@ pub enum Reader {
 ///
 /// # Errors
 ///
-/// Where the system refuses it; and as `Vacant::of`.
-pub fn open<R: Files + Hosted>(rt: &R, path: &str, reader: Reader) -> io::Result<Vacant<R::File>>
-    ensures opened { IfOk result (IsOpened path.now reader) }
-    ensures refused { IfErr result (IsUnopened R.File path.now reader) }
+/// Where the system refuses it; and as `Vacant::of`: the file is let go.
+pub fn open<R: Files>(
+    machine: &mut Machine<'_, R>,
+    path: &str,
+    reader: Reader,
+) -> io::Result<Vacant<OpenedFile<R::File>>>
+    ensures opened { IfOk result
+        (λ vacant. IsOpened machine.old path.now reader vacant machine.new) }
+    ensures refused { IfErr result
+        (λ why. IsUnopened (OpenedFile R.File) machine.old path.now reader why machine.new) }
 {
-    let options = for_capture(is_read(rt, path, reader));
-    match told_to_open(rt, &options, path) {
+    let options = for_capture(is_read(machine, path, reader));
+    match machine.told_to_open(&options, path) {
         Ok(file) => place_in(file),
         Err(error) => Err(error),
     }
 }
 
-/// The file, where a capture may be begun in it, or why none may.
+/// The file, where a capture may be begun in it, or why none may: then it is let go.
 fn place_in<F: Opened + Drop>(file: F) -> io::Result<Vacant<F>>
     ensures free { IfOk result (IsFound F.looks file true) }
-    ensures refused { IfErr result (λ error. (after : F) × IsNoPlace F.looks file error after) }
+    ensures refused { IfErr result (IsTurnedAway F.looks F.gone file) }
 {
     match Vacant::of(file) {
         Ok(vacant) => Ok(vacant),
-        Err(refused) => Err(refused.error),
+        Err(refused) => Err(let_go(refused.file, refused.error)),
     }
+}
+
+/// Lets a file go, as it is, and gives on why.
+fn let_go<F: Opened>(file: F, why: io::Error) -> io::Error
+    ensures gone { F.gone file }
+    ensures same { result ≡ why }
+{
+    file.put_down();
+    why
 }
 
 /// How the file of a capture is opened, to be read too or not.
@@ -255,30 +286,11 @@ fn told_of_mode(options: &mut OpenOptions, mode: u32)
 }
 
 /// Whether it is to be read too, so that its opening doesn't wait, or so that its front can be looked at.
-fn is_read<R: Files + Hosted>(rt: &R, path: &str, reader: Reader) -> bool
-    ensures { IsRead path.now reader result }
+fn is_read<R: Files>(machine: &mut Machine<'_, R>, path: &str, reader: Reader) -> bool
+    ensures { IsRead machine.old path.now reader result machine.new }
 {
     match reader {
-        Reader::Awaited => may_be_regular(rt, path),
+        Reader::Awaited => machine.told_to_seek(path),
         Reader::NotAwaited => true,
-    }
-}
-
-/// Asks the system by these options for the file at a path.
-#[tactic(auto, unfolding(crate::specs::Files::WasOpened))]
-fn told_to_open<R: Files + Hosted>(rt: &R, options: &OpenOptions, path: &str) -> io::Result<R::File>
-    ensures { WasOpened options.now path.now result }
-{
-    options.open(rt, path)
-}
-
-/// Whether a path is that of a regular file, or of none yet.
-#[tactic(auto, unfolding(crate::specs::Files::WasSought))]
-fn may_be_regular<R: Files + Hosted>(rt: &R, path: &str) -> bool
-    ensures { WasSought path.now result }
-{
-    match fs::metadata(rt, path) {
-        Ok(found) => found.is_file(),
-        Err(_) => true,
     }
 }

@@ -7,15 +7,15 @@ ghost use Rattle.captures.specs.Captures.{head, interface_block, section_block};
 use crate::Interface;
 use crate::fields::{half, padding, word, zeros};
 use nat_types::{GatewayId, Side};
-use outlets::put_parts;
-use std::io::{self, Write};
+use outlets::{Output, put_parts};
+use std::io;
 
 /// Writes the head of a capture: what the format is, and the six interfaces. Packets follow it.
 ///
 /// # Errors
 ///
 /// Where output is refused; part of the head may be written.
-pub fn write_head<W: Write>(output: &mut W) -> io::Result<()>
+pub fn write_head<W: Output>(output: &mut W) -> io::Result<()>
     ensures written { OnOk result
         (Appends (W.contents output.old) (W.contents output.new) head) }
     ensures put { IsWritten output.old head result output.new }
@@ -35,7 +35,7 @@ pub fn write_head<W: Write>(output: &mut W) -> io::Result<()>
 }
 
 /// Writes the block with which a file begins.
-fn write_section<W: Write>(output: &mut W) -> io::Result<()>
+fn write_section<W: Output>(output: &mut W) -> io::Result<()>
     ensures { IsWrittenTo W.contents output.old section_block result output.new }
 {
     put_parts(
@@ -54,7 +54,7 @@ fn write_section<W: Write>(output: &mut W) -> io::Result<()>
 }
 
 /// Writes the descriptions of interfaces.
-fn write_interfaces<W: Write>(output: &mut W, interfaces: &[Interface]) -> io::Result<()>
+fn write_interfaces<W: Output>(output: &mut W, interfaces: &[Interface]) -> io::Result<()>
     ensures { IsWrittenTo W.contents output.old (flat_map interface_block interfaces.now) result
         output.new }
 {
@@ -65,7 +65,7 @@ fn write_interfaces<W: Write>(output: &mut W, interfaces: &[Interface]) -> io::R
 }
 
 /// Writes the description of an interface.
-fn write_interface<W: Write>(output: &mut W, interface: Interface) -> io::Result<()>
+fn write_interface<W: Output>(output: &mut W, interface: Interface) -> io::Result<()>
     ensures { IsWrittenTo W.contents output.old (interface_block interface) result output.new }
 {
     let name = interface.name();

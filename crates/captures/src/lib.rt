@@ -7,9 +7,11 @@ mod fields;
 mod files;
 mod heads;
 mod interfaces;
+mod machine;
 mod packets;
 
 pub use files::{Opened, Reader, Vacant, open};
 pub use heads::write_head;
 pub use interfaces::{Direction, Interface};
+pub use machine::{Machine, OpenedFile};
 pub use packets::{Packet, write_packet};

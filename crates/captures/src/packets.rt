@@ -7,8 +7,8 @@ ghost use Rattle.captures.specs.Fields.{padded};
 
 use crate::fields::{half, padding, word, zeros};
 use crate::{Direction, Interface};
-use outlets::{put, put_parts};
-use std::io::{self, Write};
+use outlets::{Output, put, put_parts};
+use std::io;
 
 /// A packet as it was seen at an interface.
 #[derive(Clone, Copy, Debug, PartialEq, Eq)]
@@ -30,7 +30,7 @@ const SNAP_LENGTH: usize = 65_521;
 /// # Errors
 ///
 /// Where output is refused; part of the packet may be written.
-pub fn write_packet<W: Write>(output: &mut W, packet: &Packet<'_>) -> io::Result<()>
+pub fn write_packet<W: Output>(output: &mut W, packet: &Packet<'_>) -> io::Result<()>
     ensures written { OnOk result (Appends (W.contents output.old) (W.contents output.new)
         (packet_block (captured_of packet.now))) }
     ensures put { IsWritten output.old (packet_block (captured_of packet.now)) result output.new }
@@ -39,7 +39,7 @@ pub fn write_packet<W: Write>(output: &mut W, packet: &Packet<'_>) -> io::Result
 }
 
 /// Writes the block of a packet.
-fn write_block<W: Write>(output: &mut W, packet: &Packet<'_>) -> io::Result<()>
+fn write_block<W: Output>(output: &mut W, packet: &Packet<'_>) -> io::Result<()>
     ensures { IsWrittenTo W.contents output.old (packet_block (captured_of packet.now)) result
         output.new }
 {
@@ -76,7 +76,7 @@ fn write_block<W: Write>(output: &mut W, packet: &Packet<'_>) -> io::Result<()>
 }
 
 /// Writes bytes in two parts, filled up.
-fn write_padded<W: Write>(output: &mut W, front: &[u8], bytes: &[u8]) -> io::Result<()>
+fn write_padded<W: Output>(output: &mut W, front: &[u8], bytes: &[u8]) -> io::Result<()>
     requires { length front.now ≤ 14 }
     ensures { IsWrittenTo W.contents output.old (padded (front.now ++ bytes.now)) result
         output.new }

@@ -2,7 +2,7 @@
 
 use crate::gates::Gate;
 use crate::stations::{Orders, Station};
-use cases_words::Case;
+use cases_words::{Case, unbuffered};
 use nat_types::{GatewayId, Side};
 use settings::Settings;
 use sockets::Place;
@@ -96,7 +96,8 @@ fn run_untold<G: Gate>(station: &mut Station<G>, case: &mut Case) {
 /// The rounds, where `end` can't be written. All else is done before.
 fn run_endless<G: Gate>(station: &mut Station<G>, case: &mut Case) {
     let lines = RefCell::new(Vec::new(case.alloc));
-    let ended = station.serve_into(ORDERS, &lines, false, &mut Shut);
+    let mut shut = unbuffered(case.alloc, Shut);
+    let ended = station.serve_into(ORDERS, &lines, false, &mut shut);
     station.wire.count(case);
     case.text(lines.into_inner().as_slice());
     if ended.is_err() {

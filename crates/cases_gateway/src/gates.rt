@@ -11,12 +11,13 @@ use cases_words::Case;
 use gateway::{Event, Gateway, Hashers, NoMemory, Out, Outcome};
 use journal::Journal;
 use nat_types::{GatewayId, Key};
+use outlets::Output;
 use reports::{Counters, GatewayReport, Page, Sides};
 use rounds::{Identity, Teller, run_rounds};
 use settings::Settings;
 use sockets::Wire;
 use std::alloc::Global;
-use std::io::{self, Write};
+use std::io;
 
 /// What is done with a gateway, and said of it. Nothing is known of either: a function that knew the gateway's type would
 /// have to show of each of its parts where it lies.
@@ -71,7 +72,7 @@ pub(crate) trait Gate: Sized {
     );
 
     /// It runs to its end.
-    fn serve<W: Wire, O: Write, L: Journal>(
+    fn serve<W: Wire, O: Output, L: Journal>(
         &mut self,
         alloc: Global,
         wire: &mut W,
@@ -177,7 +178,7 @@ impl Gate for Gateway {
         );
     }
 
-    fn serve<W: Wire, O: Write, L: Journal>(
+    fn serve<W: Wire, O: Output, L: Journal>(
         &mut self,
         alloc: Global,
         wire: &mut W,

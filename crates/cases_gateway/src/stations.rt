@@ -8,12 +8,13 @@ use cases_words::Case;
 use gateway::Hashers;
 use journal::{Format, Unhindered};
 use nat_types::{GatewayId, Side};
+use outlets::Output;
 use rounds::Identity;
 use settings::Settings;
 use sockets::{Failing, Place};
 use std::alloc::Global;
 use std::cell::RefCell;
-use std::io::{self, Write};
+use std::io;
 
 /// Of the settings, as far as a box in memory is asked.
 const DIGEST: u64 = 7;
@@ -163,7 +164,7 @@ impl<G: Gate> Station<G> {
     }
 
     /// Runs the box to its end, with a writer for the output, and lines for the operator, which may have no room.
-    pub(crate) fn serve_into<O: Write>(
+    pub(crate) fn serve_into<O: Output>(
         &mut self,
         orders: Orders,
         lines: &RefCell<Vec<u8>>,

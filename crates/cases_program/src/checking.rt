@@ -1,11 +1,12 @@
 //! Cases of `check` and `compare`.
 use crate::edits::edited;
 use crate::full::Full;
-use cases_words::{Actor, Case};
+use cases_words::{Actor, Case, unbuffered};
 use checks::{Request, Source, ThisMachine, check, compare, tell_of};
 use faults::text_of;
 use nat_types::GatewayId;
-use std::io::Write;
+use outlets::Output;
+use runtimes::Hand;
 use std::{fs, mem};
 
 /// Where an edited text lies while it is checked.
@@ -52,7 +53,7 @@ fn all_edited(sample: &str, case: &mut Case) -> String {
 
 /// The text of a file; why there is none is told on `errors`.
 fn text_at(rt: &HostRuntime, path: &str, errors: &mut Vec<u8>) -> Option<String> {
-    match text_of(rt, path) {
+    match text_of(&mut Hand::new(rt), path) {
         Ok(text) => Some(text),
         Err(fault) => {
             tell_of(rt.alloc(), &fault, path, errors);
@@ -62,7 +63,7 @@ fn text_at(rt: &HostRuntime, path: &str, errors: &mut Vec<u8>) -> Option<String>
 }
 
 /// What `check` says of the edited sample.
-fn say_checked<O: Write>(
+fn say_checked<O: Output>(
     rt: &HostRuntime,
     request: &Request<'_>,
     output: &mut O,
@@ -70,7 +71,7 @@ fn say_checked<O: Write>(
 ) -> u8 {
     match text_at(rt, EDITED, errors) {
         Some(text) => {
-            let mut around = ThisMachine::new(rt);
+            let mut around = ThisMachine::new(Hand::new(rt));
             check(
                 rt.alloc(),
                 &mut around,
@@ -85,7 +86,7 @@ fn say_checked<O: Write>(
 }
 
 /// What `compare` says of another file beside the sample.
-fn say_compared<O: Write>(
+fn say_compared<O: Output>(
     rt: &HostRuntime,
     path: &str,
     output: &mut O,
@@ -109,7 +110,7 @@ fn say_compared<O: Write>(
 
 /// What `check` says of the edited sample; with `compare` what `compare` says of it beside the sample, and with `other=PATH`
 /// of the file there.
-fn say<O: Write>(rt: &HostRuntime, options: &str, output: &mut O, errors: &mut Vec<u8>) -> u8 {
+fn say<O: Output>(rt: &HostRuntime, options: &str, output: &mut O, errors: &mut Vec<u8>) -> u8 {
     match (option(options, "compare"), option(options, "other=")) {
         (Some(_), _) => say_compared(rt, EDITED, output, errors),
         (None, Some(other)) => say_compared(rt, other, output, errors),
@@ -121,7 +122,7 @@ fn say<O: Write>(rt: &HostRuntime, options: &str, output: &mut O, errors: &mut V
 fn tell(rt: &HostRuntime, options: &str, case: &mut Case) {
     let mut errors = Vec::new(case.alloc);
     let status = match option(options, "full") {
-        Some(_) => say(rt, options, &mut Full, &mut errors),
+        Some(_) => say(rt, options, &mut unbuffered(rt.alloc(), Full), &mut errors),
         None => say(rt, options, &mut case.out, &mut errors),
     };
     case.text(errors.as_slice());

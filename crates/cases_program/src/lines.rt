@@ -6,6 +6,7 @@ use crate::rows::status_of;
 use anyhow::Result;
 use cases_words::{Actor, Case};
 use loopback_run::{Channel, Loopback, run_loop};
+use runtimes::Hand;
 use std::alloc::Global;
 
 #[derive(Drop)]
@@ -25,7 +26,12 @@ impl Actor for Lines {
         case.title("== ", "\n");
         match case.word() {
             "every" => every(&self.rt, case),
-            "ports" => passed(&self.rt, "loops", &mut Loopback::new(&self.rt), case),
+            "ports" => passed(
+                &self.rt,
+                "loops",
+                &mut Loopback::new(Hand::new(&self.rt)),
+                case,
+            ),
             "with" => with(&self.rt, case),
             _ => case.fault(),
         }
@@ -39,7 +45,12 @@ fn every(rt: &HostRuntime, case: &mut Case) {
 
 fn with(rt: &HostRuntime, case: &mut Case) {
     let settings = case.name();
-    passed(rt, settings.as_str(), &mut Loopback::new(rt), case);
+    passed(
+        rt,
+        settings.as_str(),
+        &mut Loopback::new(Hand::new(rt)),
+        case,
+    );
 }
 
 /// Output, faults and status of a script's run through a passage, and whether the output is that of one without.

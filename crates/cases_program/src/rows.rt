@@ -3,11 +3,12 @@
 use crate::audits;
 use crate::files::text_at;
 use crate::narrow::Narrow;
-use cases_words::{Actor, Case};
+use cases_words::{Actor, Case, unbuffered};
 use faults::text_of;
+use outlets::Output;
+use runtimes::Hand;
 use simulation::simulate;
 use std::alloc::{AllocError, Global};
-use std::io::Write;
 
 #[derive(Drop)]
 pub(crate) struct Rows {
@@ -71,7 +72,7 @@ fn scripted(rt: &HostRuntime, case: &mut Case) {
 }
 
 /// The status of a script. What a caller has to show stays small where this says nothing of it.
-pub(crate) fn status_of<O: Write>(
+pub(crate) fn status_of<O: Output>(
     alloc: Global,
     settings: &str,
     script: &str,
@@ -115,7 +116,7 @@ fn lines_of(alloc: Global, line: &str, count: u32) -> Result<String, AllocError>
 
 /// A script whose output is refused once so many bytes are written.
 fn crowded(rt: &HostRuntime, case: &mut Case) {
-    let mut narrow = Narrow::new(case.count());
+    let mut narrow = unbuffered(case.alloc, Narrow::new(case.count()));
     let script = case.rest();
     let settings = sample(rt, case);
     let mut errors = Vec::new(case.alloc);
@@ -131,7 +132,7 @@ fn crowded(rt: &HostRuntime, case: &mut Case) {
 
 /// A script's file that may not be one.
 fn opened(rt: &HostRuntime, case: &mut Case) {
-    match text_of(rt, case.word()) {
+    match text_of(&mut Hand::new(rt), case.word()) {
         Ok(text) => {
             case.put(text.len());
             case.put(" bytes\n");

@@ -5,10 +5,11 @@ use crate::tasks::words_of;
 use crate::{files, listening};
 use anyhow::{Context, Result};
 use cases_words::{Actor, Case};
-use commands::act;
+use commands::{Hands, act};
 use mio::net::UdpSocket;
+use outlets::Output;
+use runtimes::Hand;
 use std::alloc::Global;
-use std::io::Write;
 use std::os::fd::AsRawFd;
 
 #[derive(Drop)]
@@ -45,13 +46,13 @@ impl Actor for Words {
 }
 
 /// The status of words. What a caller has to show stays small where this says nothing of it.
-fn status_of<O: Write>(
+fn status_of<O: Output>(
     rt: &HostRuntime,
     words: &[String],
     output: &mut O,
     errors: &mut Vec<u8>,
 ) -> u8 {
-    act(rt, words, false, output, errors)
+    act(Hands::new(rt), words, false, output, errors)
 }
 
 /// Output, faults and status of the words that are left.
@@ -84,7 +85,7 @@ fn heard(rt: &HostRuntime, case: &mut Case) {
 
 /// The same, while a box runs on a boot file.
 fn held(rt: &HostRuntime, case: &mut Case) {
-    match boot_file::open(&mut boot_file::Machine::new(rt), case.word()) {
+    match boot_file::open(&mut boot_file::Machine::new(Hand::new(rt)), case.word()) {
         Ok(disk) => {
             acted(rt, case);
             drop(disk);

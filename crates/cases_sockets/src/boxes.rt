@@ -4,6 +4,7 @@ use crate::callers::Callers;
 use anyhow::{Context, Result};
 use cases_words::Case;
 use control::{Bound, ControlPath};
+use runtimes::Hand;
 use sockets::{Machine, Ports, Sockets, Way, Ways};
 use std::net::UdpSocket;
 use std::os::fd::AsRawFd;
@@ -68,7 +69,7 @@ impl Boxes {
     }
 
     fn add(&mut self, rt: &HostRuntime, ways: &Ways) -> Result<()> {
-        ways.inherit(&mut Machine::new(rt))?;
+        ways.inherit(&mut Machine::new(Hand::new(rt)))?;
         self.sockets.push(opened(rt, 3, "other", ways)?)?;
         Ok(())
     }
@@ -138,12 +139,12 @@ pub(crate) fn on_loopback(rt: &HostRuntime, number: usize, control: &str) -> Res
 fn opened(rt: &HostRuntime, number: usize, control: &str, ways: &Ways) -> Result<Sockets> {
     let ports = *PORTS.get(number).context("no box of that name")?;
     let control = controlled(rt, control)?;
-    let mut machine = Machine::new(rt);
+    let mut machine = Machine::new(Hand::new(rt));
     Ok(Sockets::open(&mut machine, rt.alloc(), ways, ports, control)?)
 }
 
 pub(crate) fn controlled(rt: &HostRuntime, name: &str) -> Result<Bound> {
     let path = ControlPath::beside(rt.alloc(), name)?;
-    let mut machine = control::Machine::new(rt);
+    let mut machine = control::Machine::new(Hand::new(rt));
     Ok(Bound::open(&mut machine, &path, rt.alloc())?)
 }

@@ -4,12 +4,13 @@ use crate::words::bytes_of;
 use captures::{Direction, Interface, Packet};
 use cases_words::Case;
 use nat_types::{GatewayId, Side};
+use runtimes::Hand;
 use std::alloc::Global;
 use std::fs::{self, Permissions};
 use std::io::{self, ErrorKind, Read};
 use std::os::unix::fs::PermissionsExt;
 use std::os::unix::net::UnixStream;
-use tap::{CaptureFile, Reel, begin, open};
+use tap::{CaptureFile, Machine, Reel, begin, open};
 
 /// A frame of 60 bytes that came to the outside of gateway 1 two seconds after its start.
 const FRAME: Packet<'static> = Packet {
@@ -39,7 +40,7 @@ fn written(rt: &HostRuntime, path: &str, bytes: &[u8]) -> io::Result<()> {
 /// Opens the file of a capture and lets it go, and prints what it has then.
 pub(crate) fn look_at_file(rt: &HostRuntime, case: &mut Case) {
     let path = case.name();
-    if let Err(error) = open(rt, path.as_str()) {
+    if let Err(error) = open(&mut Machine::new(Hand::new(rt)), path.as_str()) {
         case.say("  refused: ", error);
         case.end();
     }
@@ -58,7 +59,8 @@ pub(crate) fn capture_to_file(rt: &HostRuntime, case: &mut Case) {
 }
 
 fn captured(rt: &HostRuntime, path: &str) -> io::Result<bool> {
-    let mut reel = begin(rt.alloc(), open(rt, path)?)?;
+    let file = open(&mut Machine::new(Hand::new(rt)), path)?;
+    let mut reel = begin(rt.alloc(), file)?;
     Ok(reel.keep(&FRAME))
 }
 

@@ -1,6 +1,7 @@
 //! A service manager at the other end of a stream.
 
 use cases_words::Case;
+use runtimes::Hand;
 use std::io::{self, ErrorKind, Read};
 use std::net::Shutdown;
 use std::os::fd::AsRawFd;
@@ -97,7 +98,7 @@ fn tell_by(rt: &HostRuntime, own: &UnixStream, news: News) -> io::Result<()> {
 }
 
 fn tell_at(rt: &HostRuntime, descriptor: u16, news: News) -> io::Result<()> {
-    match Manager::inherit(&mut Machine::new(rt), descriptor) {
+    match Manager::inherit(&mut Machine::new(Hand::new(rt)), descriptor) {
         Ok(manager) => {
             tell(&mut Some(manager), news);
             Ok(())

@@ -8,6 +8,7 @@ use crate::words::place_of;
 use anyhow::Result;
 use cases_words::{Actor, Case};
 use control::{ControlPath, spelled_status};
+use runtimes::Hand;
 use sockets::{LONGEST, Sockets, Wire, WireFault};
 use std::alloc::Global;
 use std::fs;
@@ -218,7 +219,7 @@ fn say(rt: &HostRuntime, case: &mut Case) {
 
 fn said(rt: &HostRuntime, name: &str) -> Result<()> {
     let path = ControlPath::beside(rt.alloc(), name)?;
-    let mut machine = control::Machine::new(rt);
+    let mut machine = control::Machine::new(Hand::new(rt));
     control::say(&mut machine, &path, b"NO\0\0\0\0\0\0\0\x07")?;
     Ok(())
 }
@@ -236,7 +237,7 @@ fn ask(rt: &HostRuntime, case: &mut Case) {
 fn asked(rt: &HostRuntime, name: &str) -> Result<usize> {
     let path = ControlPath::beside(rt.alloc(), name)?;
     let mut room = [0; LONGEST];
-    let mut machine = control::Machine::new(rt);
+    let mut machine = control::Machine::new(Hand::new(rt));
     let count = control::ask(&mut machine, &path, &spelled_status(), &mut room)?;
     Ok(count)
 }

@@ -7,6 +7,7 @@ use control::{
     Answer, ControlPath, PathFault, PeerOffRefusal, spelled_known_off, spelled_off, spelled_pairs,
     spelled_pairs_after, spelled_refusal, spelled_side, spelled_status, word_of,
 };
+use runtimes::Hand;
 use sockets::{End, Ends, Machine, Way};
 use std::alloc::Global;
 
@@ -68,7 +69,7 @@ fn tell_end(case: &mut Case, text: &str, end: End) {
 }
 
 fn inherit(rt: &HostRuntime, case: &mut Case) {
-    let inherited = ways_in(case, None).inherit(&mut Machine::new(rt));
+    let inherited = ways_in(case, None).inherit(&mut Machine::new(Hand::new(rt)));
     case.done(inherited, "inherited");
 }
 

@@ -8,6 +8,8 @@ mod printing;
 mod reading;
 mod records;
 mod tables;
+mod writers;
 
 pub use case::Case;
 pub use playing::{Actor, beside, play};
+pub use writers::unbuffered;

@@ -15,16 +15,15 @@ use crate::saying::{fault_count, say_faults, say_total, say_warnings};
 use crate::sights::sights_for;
 use crate::tallies::{NOTHING, Tally};
 use crate::{Request, Sights, Surroundings};
-use outlets::Tells;
+use outlets::{Output, Tells};
 use settings::Settings;
 use settings_file::{Look, look};
 use std::alloc::{AllocError, Global};
-use std::io::Write;
 
 /// Says every fault and every warning of a text of settings on `output`, each on a line with its key, and at the end how
 /// many they are. The answer is the exit status: 0, or 1 where there is a fault (or, where it is strict, a warning), or
 /// `output` can't be written, or memory is refused; the last two are told on `errors`.
-pub fn check<P: Surroundings, O: Write, E: Tells>(
+pub fn check<P: Surroundings, O: Output, E: Tells>(
     alloc: Global,
     around: &mut P,
     text: &str,

@@ -12,16 +12,15 @@ use crate::ends::{refuse, say};
 use crate::pieces::{Piece, put};
 use crate::{Source, differing_keys, may_differ, tell_of};
 use faults::Fault;
-use outlets::Tells;
+use outlets::{Output, Tells};
 use settings::Settings;
 use settings_file::{Key, read};
 use std::alloc::{AllocError, Global};
-use std::io::Write;
 
 /// Says on `output` each key in which the settings of two texts differ, and whether it may, and at the end how many they
 /// are. The answer is the exit status: 0, or 1 where one differs that must not, a text holds no settings, `output` can't
 /// be written, or memory is refused; the last three are told on `errors`.
-pub fn compare<O: Write, E: Tells>(
+pub fn compare<O: Output, E: Tells>(
     alloc: Global,
     one: Source<'_>,
     other: Source<'_>,
@@ -52,7 +51,7 @@ fn settings_in<E: Tells>(alloc: Global, source: Source<'_>, errors: &mut E) -> O
 }
 
 /// Says in which keys two settings differ, where there are two.
-fn compare_if<O: Write, E: Tells>(
+fn compare_if<O: Output, E: Tells>(
     alloc: Global,
     one: Option<Settings>,
     other: Option<Settings>,
@@ -71,7 +70,7 @@ fn compare_if<O: Write, E: Tells>(
 }
 
 /// Says in which keys two settings differ.
-fn compare_settings<O: Write, E: Tells>(
+fn compare_settings<O: Output, E: Tells>(
     alloc: Global,
     one: &Settings,
     other: &Settings,

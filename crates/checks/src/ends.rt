@@ -5,11 +5,11 @@ ghost use Rattle.outlets.specs.Outputs.{IsPrinted, IsUnput, WasPut};
 ghost use Rattle.outlets.specs.Printed.{Prints};
 ghost use Rattle.outlets.specs.Telling.{HasTold, no_memory_line};
 
-use outlets::{Tells, told_to_flush, told_to_put};
-use std::io::{self, Write};
+use outlets::{Output, Tells, told_to_flush, told_to_put};
+use std::io;
 
 /// Writes a text, to its end.
-fn print<O: Write>(output: &mut O, text: &str) -> io::Result<()>
+fn print<O: Output>(output: &mut O, text: &str) -> io::Result<()>
     ensures text { Prints (O.contents output.old) result (O.contents output.new) text.now }
     ensures put { OnOk result (IsPrinted output.old text.now output.new) }
     ensures unput { OnErr result (IsUnput output.old text.now output.new) }
@@ -19,7 +19,7 @@ fn print<O: Write>(output: &mut O, text: &str) -> io::Result<()>
 }
 
 /// Has an output take a text, all of it.
-fn put_text<O: Write>(output: &mut O, text: &str) -> io::Result<()>
+fn put_text<O: Output>(output: &mut O, text: &str) -> io::Result<()>
     ensures text { Prints (O.contents output.old) result (O.contents output.new) text.now }
     ensures put { WasPut output.old text.now result output.new }
 {
@@ -27,7 +27,7 @@ fn put_text<O: Write>(output: &mut O, text: &str) -> io::Result<()>
 }
 
 /// Writes a text, to its end. The answer is its status; or 1 where output is refused, which is told on `errors`.
-pub(crate) fn say<O: Write, E: Tells>(text: &str, status: u8, output: &mut O, errors: &mut E) -> u8
+pub(crate) fn say<O: Output, E: Tells>(text: &str, status: u8, output: &mut O, errors: &mut E) -> u8
     ensures status { (result ≡ status) ⊎ (result ≡ 1) }
     ensures said { IsSaid O.contents E.tells text.now status output.old output.new
         errors.old errors.new result }

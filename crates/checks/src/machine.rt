@@ -1,24 +1,36 @@
 //! The system, as who is asked for files. Each thing it is asked has a name, and no more is known of it.
+ghost use Rattle.std.specs.Prelude.{◌≡◌};
 ghost use Rattle.checks.specs.Openings.{WasOpened};
 
 use crate::openings::Opening;
 use boot_file::Lockable;
 use faults::Reads;
-use runtimes::Hosted;
+use runtimes::Hand;
 use std::alloc::Global;
 use std::fs::{self, OpenFile, OpenOptions, TryLockError};
 use std::io::{self, Read};
+use std::marker::Model;
 use std::os::unix::fs::PermissionsExt;
 use std::rt::Files;
 
 /// This machine. Who has it asks by the calls that have names, and by no others.
 #[derive(Drop)]
-pub struct ThisMachine<'a, R>(&'a R);
+pub struct ThisMachine<'a, R>(Hand<'a, R>);
 
-impl<'a, R: Hosted> ThisMachine<'a, R> {
-    /// The system at hand.
-    pub fn new(rt: &'a R) -> ThisMachine<'a, R> {
-        ThisMachine(rt)
+impl<'a, R> Model for ThisMachine<'a, R> {
+    ghost use Rattle.polls.specs.declared.askers.Asker.{Asker};
+
+    ghost Value = { Asker };
+
+    ghost view = { λ machine. machine.0 };
+}
+
+impl<'a, R> ThisMachine<'a, R> {
+    /// It asks by this hand.
+    pub fn new(hand: Hand<'a, R>) -> ThisMachine<'a, R>
+        ensures { result ≡ hand.entry }
+    {
+        ThisMachine(hand)
     }
 }
 
@@ -40,11 +52,11 @@ impl<R: Files> ThisMachine<'_, R> {
     ) -> io::Result<Option<Opened<R::File>>>
         ensures { WasOpened self.old options.now path.now result self.new }
     {
-        if !fs::metadata(self.0, path)?.is_file() {
+        if !fs::metadata(self.0.lend(), path)?.is_file() {
             return Ok(None);
         }
         Ok(Some(Opened {
-            file: options.open(self.0, path)?,
+            file: options.open(self.0.lend(), path)?,
         }))
     }
 }
@@ -98,6 +110,6 @@ impl<R: Files + AllocGlobal> Reads for ThisMachine<'_, R> {
 
     #[tactic(auto, unfolding(crate::specs::Openings::WasRead))]
     fn read(&mut self, path: &str) -> io::Result<Vec<u8>> {
-        fs::read(self.0, path)
+        fs::read(self.0.lend(), path)
     }
 }

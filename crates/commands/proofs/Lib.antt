@@ -2,6 +2,7 @@ mod Statuses
 mod Asked
 mod Refusing
 mod Telling
+mod Cleared
 mod Passing
 mod Taping
 mod Recording

@@ -17,13 +17,18 @@ use Rattle.checks.specs.declared.requests.Source.{Source}
 use Rattle.box_words.specs.Faults.{fault_text}
 use Rattle.box_words.specs.declared.refusals.BoxFault.{BoxFault}
 use Rattle.gate.specs.Asked.{path_in}
+use Rattle.gate.specs.Asking.{IsAskedFrom}
+use Rattle.gate.specs.Named.{AreLentToStart}
 use Rattle.gate.specs.Orders.{IsBehind}
 use Rattle.gate.specs.Served.{HasServed}
 use Rattle.gate.specs.Sparing.{IsRefusal}
+use Rattle.gate.specs.declared.hands.Hands.{Hands}
 use Rattle.gate.specs.declared.running.Start.{Start}
+use Rattle.polls.specs.declared.askers.Asker.{Asker}
 use Rattle.simulation.specs.Captures.{IsHandedOn}
 use Rattle.simulation.specs.Clocks.{Moments, founding_moments}
 use Rattle.simulation.specs.declared.tapes.Capture.{Capture}
+use Rattle.commands.specs.declared.hosts.ThisHost.{ThisHost}
 use Rattle.commands.specs.Hosts.{Work, Works, Written, compared, looked, plan_in, scope_in, served, text_in}
 
 -- a list of lines, which is told one more
@@ -45,6 +50,10 @@ ServesHere before start printed lines status after = (status ≡ 0 → (lines �
 -- than a name for the call, as are those below it: who makes the call has it, and nobody else.
 unfoldable pub WasServed : {G : Type 0} → G → Start → ℕ → G → Type 0
 WasServed before start status after = Unit {0}
+
+-- hands were lent to a start, once, and by these the system was asked for just what that needs
+abbrev pub AsksByLent : {R : Type 0} → Hands R → Start → Hands R → Type 0
+AsksByLent {R = R} before start after = (lent : Hands R) × (AreLentToStart before lent after × IsAskedFrom lent start)
 
 abbrev pub HasServedHere : {G : Type 0} → Works Start G
 HasServedHere before start printed lines status after = WasServed before start status after × ServesHere before start printed lines status after
@@ -72,13 +81,17 @@ Opens C F = C → List ℕ → Result F Error → C → Type 0
 unfoldable pub WasOpened : {C F : Type 0} → Opens C F
 WasOpened before path answer after = Unit {0}
 
+-- this host opens captures, looks around and runs gateways by these hands
+abbrev pub IsHostOf : {R : Type 0} → Asker → Asker → Hands R → ThisHost Asker Asker (Hands R) → Type 0
+IsHostOf captures around gate host = (host.captures ≡ captures) × ((host.around ≡ around) × (host.gateways ≡ gate))
+
 -- memory for a buffer over this file was asked for, and refused
 unfoldable pub WasUnbuffered : {F : Type 0} → F → Type 0
 WasUnbuffered file = Unit {0}
 
--- what takes a capture was let go: nothing more is written there
+-- a capture, what takes one, or who asks the system was let go, as it is: nothing more is written there, or asked
 unfoldable pub WasLetGo : {T : Type 0} → T → Type 0
-WasLetGo capture = Unit {0}
+WasLetGo it = Unit {0}
 
 -- A capture is as it is begun: its clocks are those of a beginning, and nothing was refused yet
 abbrev pub IsFresh : Moments → Bool → Type 0

@@ -6,6 +6,7 @@ use Rattle.command_line.specs.declared.faults.LineFault.{LineFault}
 use Rattle.command_line.specs.declared.tasks.Task.{Task}
 use Rattle.outlets.specs.Telling.{Telling}
 use Rattle.commands.specs.Acts.{IsIdle, IsSpared, IsUncaptured, IsUnprinted}
+use Rattle.commands.specs.Here.{WasLetGo}
 use Rattle.commands.specs.Hosts.{Scene, scene}
 
 -- the words are refused, and not for want of memory
@@ -38,8 +39,8 @@ HasActed tells acts first last clock clock2 words status before after =
     ((asked : Task) × (IsAnswer words asked × (IsSpared asked first last × (IsIdle asked clock clock2 × acts first last asked status before after))))
     ⊎ ((last ≡ first) × ((clock2 ≡ clock) × IsRefusal tells words status before after))
 
--- the same at some site, by some host and through some passage, each of them new, where who watches hears by some clock
-pub record HasActedSomewhere {S H P C O E : Type 0} (tells : Telling E) (is_new_site : S → Type 0) (is_new_host : H → Type 0) (is_new : P → Type 0) (acts : C → C → ActsBy S H P O E) (words : List (List ℕ)) (status : ℕ)
+-- The same at such a site, by such a host and through such a passage, where who watches hears by such a clock. Each is let go behind that, as it is then.
+pub record HasActedSomewhere {S H P C O E : Type 0} (tells : Telling E) (is_new_site : S → Type 0) (is_new_host : H → Type 0) (is_new : P → Type 0) (is_started : C → Type 0) (acts : C → C → ActsBy S H P O E) (words : List (List ℕ)) (status : ℕ)
     (output printed : O) (before after : E) : Type 0 where
   pub site : S
   pub left : S
@@ -52,4 +53,9 @@ pub record HasActedSomewhere {S H P C O E : Type 0} (tells : Telling E) (is_new_
   pub first_is : is_new first
   pub clock : C
   pub clock2 : C
+  pub clock_is : is_started clock
+  pub site_gone : WasLetGo left
+  pub host_gone : WasLetGo behind
+  pub passage_gone : WasLetGo last
+  pub clock_gone : WasLetGo clock2
   pub acted : HasActed tells (acts clock clock2) first last clock clock2 words status (scene site host output before) (scene left behind printed after)

@@ -13,16 +13,15 @@ use crate::hosts::Host;
 use box_words::{Site, await_synced, pairs, status};
 use checks::{Request, Source, tell_of};
 use command_line::{CheckWords, PairsWords, StatusWords};
-use outlets::Tells;
+use outlets::{Output, Tells};
 use report_texts::Filter;
 use std::alloc::Global;
-use std::io::Write;
 
 /// How long a gateway is waited for, in seconds, where the words don't say.
 const PATIENCE: u32 = 60;
 
 /// Looks at settings, or in what they differ from others.
-pub(crate) fn look_at<S: Site, H: Host, O: Write, E: Tells>(
+pub(crate) fn look_at<S: Site, H: Host, O: Output, E: Tells>(
     alloc: Global,
     site: &mut S,
     host: &mut H,
@@ -52,7 +51,7 @@ pub(crate) fn look_at<S: Site, H: Host, O: Write, E: Tells>(
 }
 
 /// Looks at the settings in a file.
-fn look_at_one<S: Site, H: Host, O: Write, E: Tells>(
+fn look_at_one<S: Site, H: Host, O: Output, E: Tells>(
     alloc: Global,
     site: &mut S,
     host: &mut H,
@@ -74,7 +73,7 @@ fn look_at_one<S: Site, H: Host, O: Write, E: Tells>(
 }
 
 /// Looks in what the settings in two files differ.
-fn look_at_both<S: Site, H: Host, O: Write, E: Tells>(
+fn look_at_both<S: Site, H: Host, O: Output, E: Tells>(
     alloc: Global,
     site: &mut S,
     host: &H,
@@ -144,7 +143,7 @@ fn request_of(words: &CheckWords) -> Request<'_>
 }
 
 /// Writes a running gateway's report, or waits until it is synced.
-pub(crate) fn state_of<S: Site, O: Write, E: Tells>(
+pub(crate) fn state_of<S: Site, O: Output, E: Tells>(
     alloc: Global,
     site: &mut S,
     words: &StatusWords,
@@ -189,7 +188,7 @@ fn form_of(form: command_line::Form) -> box_words::Form
 }
 
 /// Lists pairs of a running gateway.
-pub(crate) fn pairs_of<S: Site, O: Write, E: Tells>(
+pub(crate) fn pairs_of<S: Site, O: Output, E: Tells>(
     alloc: Global,
     site: &mut S,
     words: &PairsWords,

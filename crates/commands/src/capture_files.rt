@@ -7,8 +7,9 @@ ghost use Rattle.faults.specs.Faults.{status_of};
 ghost use Rattle.faults.specs.Texts.{fault_text};
 ghost use Rattle.outlets.specs.Telling.{IsToldOf};
 ghost use Rattle.commands.specs.Captures.{IsOfCapture, IsOfEnd};
-ghost use Rattle.commands.specs.Here.{HasEnded, IsBegunIn, IsUnbegunIn, WasLetGo, WasUnbuffered};
+ghost use Rattle.commands.specs.Here.{HasEnded, IsBegunIn, IsUnbegunIn, WasUnbuffered};
 
+use crate::letting_go::let_go;
 use faults::Fault;
 use outlets::Tells;
 use simulation::Capture;
@@ -61,29 +62,6 @@ pub(crate) fn end_of<F: Write + Drop>(mut capture: Capture<BufWriter<F>>) -> io:
     let_go(capture);
     answer
 }
-
-/// Kept to this file, so that nothing else can be a `Held`.
-mod closed {
-    /// Nobody else can name it.
-    pub trait Sealed {}
-}
-
-/// A capture, or the buffer of one that wasn't begun: itself, and nothing that shows itself as that.
-trait Held: Drop + closed::Sealed {}
-
-impl<F: Write + Drop> closed::Sealed for Capture<BufWriter<F>> {}
-
-impl<F: Write + Drop> Held for Capture<BufWriter<F>> {}
-
-impl<W: Write + Drop> closed::Sealed for BufWriter<W> {}
-
-impl<W: Write + Drop> Held for BufWriter<W> {}
-
-/// Lets a capture go: nothing more is written there. Of what it is nothing is known here, so nothing else can be done with it.
-#[tactic(auto, unfolding(crate::specs::Here::WasLetGo))]
-fn let_go<T: Held>(_capture: T)
-    ensures { WasLetGo _capture }
-{}
 
 /// Tells why a capture couldn't be begun or written, and gives the exit status.
 pub(crate) fn unmade<E: Tells>(alloc: Global, error: &io::Error, path: &str, errors: &mut E) -> u8

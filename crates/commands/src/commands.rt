@@ -18,14 +18,13 @@ use command_line::{GateWords, Task, WayWords, command};
 use gate::{Start, WayTexts, init};
 use journal::Format;
 use loopback_run::Channel;
-use outlets::Tells;
+use outlets::{Output, Tells};
 use rounds::Clockwork;
 use std::alloc::Global;
-use std::io::Write;
 
 /// All that is done for the words at a site, by a host and through a passage, where who watches a script hears by a clock how
 /// far it is: the task of the words is done; or just why they ask for none is told.
-pub(crate) fn act_at<S: Site, H: Host, P: Channel, C: Clockwork, O: Write, E: Tells>(
+pub(crate) fn act_at<S: Site, H: Host, P: Channel, C: Clockwork, O: Output, E: Tells>(
     alloc: Global,
     site: &mut S,
     host: &mut H,
@@ -67,7 +66,7 @@ pub(crate) fn act_at<S: Site, H: Host, P: Channel, C: Clockwork, O: Write, E: Te
 /// Does a task: files are read, boxes are spoken to, and boot files made, at a site; a host looks at settings and runs
 /// gateways; what a script of `loop` hands in goes through a passage; and who watches a script of `sim` hears by a clock how
 /// far it is.
-fn done<S: Site, H: Host, P: Channel, C: Clockwork, O: Write, E: Tells>(
+fn done<S: Site, H: Host, P: Channel, C: Clockwork, O: Output, E: Tells>(
     alloc: Global,
     site: &mut S,
     host: &mut H,

@@ -1,10 +1,9 @@
 //! Who looks at settings, runs gateways and takes runs down.
 ghost use Rattle.std.specs.Prelude.{◌≡◌, ◌⊎◌, IsTrue, true};
 ghost use Rattle.nat_types.specs.declared.gateways.GatewayId.TheVariants.{Zero};
-ghost use Rattle.box_words.specs.Machines.{IsUntouched};
 ghost use Rattle.checks.specs.Counts.{AreAlike, IsCleanText, IsGoodText};
 ghost use Rattle.gate.specs.Served.{HasServed};
-ghost use Rattle.commands.specs.Here.{HasEnded, IsBegunAt, WorksHere};
+ghost use Rattle.commands.specs.Here.{HasEnded, IsBegunAt, IsHostOf, WorksHere};
 ghost use Rattle.commands.specs.Hosts.{HasWorked, compared, looked, plan_in, scope_in, served, text_in, written};
 
 use crate::capture_files::{begun_in, end_of};
@@ -15,11 +14,11 @@ use checks::{Request, Source, Surroundings, ThisMachine, check, compare};
 use faults::Job;
 use frame_sim::Tape;
 use gate::Start;
-use outlets::Tells;
-use runtimes::Hosted;
+use outlets::{Output, Tells};
+use runtimes::Hand;
 use simulation::Capture;
 use std::alloc::Global;
-use std::io::{self, BufWriter, Write};
+use std::io::{self, BufWriter};
 
 /// Who looks at settings, runs gateways, and takes runs down in files.
 pub(crate) trait Host {
@@ -48,7 +47,7 @@ pub(crate) trait Host {
         ensures { ends self.now tape result };
 
     /// Looks at a text of settings, and around.
-    fn look<O: Write, E: Tells>(
+    fn look<O: Output, E: Tells>(
         &mut self,
         text: &str,
         request: &Request<'_>,
@@ -64,7 +63,7 @@ pub(crate) trait Host {
         ensures strict { request.now.strict ≡ true → result ≡ 0 → IsCleanText text.now };
 
     /// Compares two texts of settings.
-    fn compare<O: Write, E: Tells>(
+    fn compare<O: Output, E: Tells>(
         &self,
         one: Source<'_>,
         other: Source<'_>,
@@ -80,7 +79,12 @@ pub(crate) trait Host {
         ensures alike { result ≡ 0 → AreAlike one.entry.text.now other.entry.text.now };
 
     /// Runs a gateway.
-    fn serve<O: Write, E: Tells>(&mut self, start: &Start<'_>, output: &mut O, errors: &mut E) -> u8
+    fn serve<O: Output, E: Tells>(
+        &mut self,
+        start: &Start<'_>,
+        output: &mut O,
+        errors: &mut E,
+    ) -> u8
         requires found { IsTrue start.now.found → start.now.id ≡ Zero }
         ensures works { HasWorked E.tells works (served (plan_in start.now))
             (written O.contents output.old output.new) result self.old self.new
@@ -105,21 +109,21 @@ pub(crate) struct ThisHost<C, A, G> {
     alloc: Global,
 }
 
-impl<'a, R: AllocGlobal + Hosted> ThisHost<
-    SystemCaptures<'a, R>,
-    ThisMachine<'a, R>,
-    SystemServes<'a, R>,
-> {
-    /// It was asked for nothing yet.
-    #[tactic(auto, unfolding(box_words::specs::Machines::IsUntouched))]
-    pub(crate) fn new(rt: &'a R) -> Self
-        ensures { IsUntouched result }
+impl<'a, R> ThisHost<SystemCaptures<'a, R>, ThisMachine<'a, R>, SystemServes<'a, R>> {
+    /// By these hands.
+    pub(crate) fn new(
+        alloc: Global,
+        captures: Hand<'a, R>,
+        around: Hand<'a, R>,
+        gate: gate::Hands<'a, R>,
+    ) -> Self
+        ensures { IsHostOf captures.entry around.entry gate.entry result }
     {
         ThisHost {
-            captures: SystemCaptures::new(rt),
-            around: ThisMachine::new(rt),
-            gateways: SystemServes::new(rt),
-            alloc: rt.alloc(),
+            captures: SystemCaptures::new(captures),
+            around: ThisMachine::new(around),
+            gateways: SystemServes::new(gate),
+            alloc,
         }
     }
 }
@@ -147,7 +151,7 @@ impl<C: Opens, A: Surroundings, G: Serves> Host for ThisHost<C, A, G> {
         end_of(tape)
     }
 
-    fn look<O: Write, E: Tells>(
+    fn look<O: Output, E: Tells>(
         &mut self,
         text: &str,
         request: &Request<'_>,
@@ -157,7 +161,7 @@ impl<C: Opens, A: Surroundings, G: Serves> Host for ThisHost<C, A, G> {
         check(self.alloc, &mut self.around, text, request, output, errors)
     }
 
-    fn compare<O: Write, E: Tells>(
+    fn compare<O: Output, E: Tells>(
         &self,
         one: Source<'_>,
         other: Source<'_>,
@@ -167,7 +171,7 @@ impl<C: Opens, A: Surroundings, G: Serves> Host for ThisHost<C, A, G> {
         compare(self.alloc, one, other, output, errors)
     }
 
-    fn serve<O: Write, E: Tells>(
+    fn serve<O: Output, E: Tells>(
         &mut self,
         start: &Start<'_>,
         output: &mut O,

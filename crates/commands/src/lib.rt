@@ -4,7 +4,9 @@
 mod asking;
 mod capture_files;
 mod commands;
+mod hands;
 mod hosts;
+mod letting_go;
 mod machine;
 mod meters;
 mod opening;
@@ -12,4 +14,5 @@ mod runs;
 mod serving;
 mod versions;
 
+pub use hands::Hands;
 pub use machine::act;

@@ -3,33 +3,38 @@
 ghost use Rattle.std.specs.Prelude.{◌≡◌, ◌⊎◌, ◌≤◌, IfErr, IfOk, IsTrue, false, map, string_bytes};
 ghost use Rattle.nat_types.specs.declared.gateways.GatewayId.TheVariants.{Zero};
 ghost use Rattle.command_line.specs.Line.{AskVersion, MayAskVersion};
-ghost use Rattle.box_words.specs.Machines.{IsUntouched};
+ghost use Rattle.box_words.specs.Machines.{IsMadeOf};
 ghost use Rattle.gate.specs.Served.{HasServed};
-ghost use Rattle.loopback_run.specs.Holds.{IsUnasked};
+ghost use Rattle.loopback_run.specs.Holds.{IsPassageOf};
+ghost use Rattle.rounds.specs.Clocks.{WasStarted};
 ghost use Rattle.captures.specs.Files.{IsCleared, IsUncleared};
+ghost use Rattle.captures.specs.declared.machine.OpenedFile.{OpenedFile};
 ghost use Rattle.captures.specs.declared.files.Reader.TheVariants.{Awaited};
 ghost use Rattle.commands.specs.Acts.{Acts};
 ghost use Rattle.commands.specs.Ends.{AreDoneAnew};
-ghost use Rattle.commands.specs.Here.{ServesHere, WasOpened, WasServed};
+ghost use Rattle.commands.specs.Here.{AsksByLent, IsHostOf, ServesHere, WasOpened, WasServed};
 ghost use Rattle.commands.specs.Hosts.{HasWorked, written};
 ghost use Rattle.commands.specs.Meters.{Overhears, Watches};
 ghost use Rattle.commands.specs.Words.{AreRefused, HasActedSomewhere, IsRefusalTold};
 
+use crate::Hands;
 use crate::commands::act_at;
 use crate::hosts::{Host, ThisHost};
+use crate::letting_go::let_go;
 use boot_file::{Blocks, Lockable};
 use box_words::{Machine, Site};
-use captures::{Reader, open};
+use captures::{Machine as Captures, OpenedFile, Reader, open};
 use checks::ThisMachine;
 use frame_sim::Tape;
 use gate::{Start, gate};
 use loopback_run::{Channel, Loopback};
-use outlets::Tells;
+use outlets::{Output, Tells};
 use rounds::{Clockwork, Stopwatch};
-use runtimes::Hosted;
+use runtimes::Hand;
 use simulation::Capture;
 use std::fs::Files;
-use std::io::{self, BufWriter, Write};
+use std::io::{self, BufWriter};
+use std::marker::Model;
 use std::net::Net;
 use std::os::fd::AsRawFd;
 use std::random::RandomSource;
@@ -46,10 +51,10 @@ use std::rt::{Clock, Env};
 /// | 3 | an event of the script was refused |
 pub fn act<
     'r,
-    R: Files + Net + Clock + RandomSource + Eprint + Env + Input + AllocGlobal + Hosted,
-    O: Write,
+    R: Files + Net + Clock + RandomSource + Eprint + Env + Input + AllocGlobal,
+    O: Output,
     E: Tells,
->(rt: &'r R, words: &[String], is_watched: bool, output: &mut O, errors: &mut E) -> u8
+>(hands: Hands<'r, R>, words: &[String], is_watched: bool, output: &mut O, errors: &mut E) -> u8
 where
     R::File: Blocks + Lockable + AsRawFd,
     ensures usage { result ≡ 2 → AreRefused (map string_bytes words.now) }
@@ -60,16 +65,20 @@ where
         → ¬ (MayAskVersion (map string_bytes words.now)) → (result ≡ 1) ⊎ (result ≡ 2) }
     ensures version { AskVersion (map string_bytes words.now)
         → (result ≡ 0) ⊎ (result ≡ 1) }
-    ensures done { (result ≡ 0) ⊎ (result ≡ 3) → AreDoneAnew IsUnasked
+    ensures done { (result ≡ 0) ⊎ (result ≡ 3) → AreDoneAnew
+        (IsPassageOf hands.entry.passage)
         ⟦<Loopback<'r, R> as Channel>⟧.opens ⟦<Loopback<'r, R> as Channel>⟧.passes
         (map string_bytes words.now) (written O.contents output.old output.new) result }
     ensures quiet { is_watched ≡ false → (result ≡ 0) ⊎ (result ≡ 3) → errors.new ≡ errors.old }
     ensures most { result ≤ 3 }
-    ensures acts { HasActedSomewhere E.tells IsUntouched IsUntouched IsUnasked
+    ensures acts { HasActedSomewhere E.tells
+        (IsMadeOf hands.entry.system hands.entry.boot_files hands.entry.lines)
+        (IsHostOf hands.entry.captures hands.entry.around hands.entry.gate)
+        (IsPassageOf hands.entry.passage) (WasStarted hands.entry.clock)
         (λ clock clock2. Acts ⟦<Machine<'static, R> as Site>⟧.does
         ⟦<Here<'static, R> as Host>⟧.works
-        ⟦<Capture<BufWriter<R::File>> as Tape>⟧.takes
-        ⟦<Capture<BufWriter<R::File>> as Tape>⟧.refuses
+        ⟦<Capture<BufWriter<OpenedFile<R::File>>> as Tape>⟧.takes
+        ⟦<Capture<BufWriter<OpenedFile<R::File>>> as Tape>⟧.refuses
         ⟦<Here<'static, R> as Host>⟧.begins
         ⟦<Here<'static, R> as Host>⟧.ends
         ⟦<Loopback<'r, R> as Channel>⟧.opens ⟦<Loopback<'r, R> as Channel>⟧.refuses
@@ -79,12 +88,13 @@ where
         clock2) (clock2 ≡ clock))
         (map string_bytes words.now) result output.old output.new errors.old errors.new }
 {
-    let mut site = Machine::new(rt);
-    let mut host = ThisHost::new(rt);
-    let mut passage = Loopback::new(rt);
-    let mut clock = Stopwatch::start(rt);
-    act_at(
-        rt.alloc(),
+    let alloc = hands.alloc();
+    let mut site = Machine::new(hands.system, hands.boot_files, hands.lines);
+    let mut host = ThisHost::new(alloc, hands.captures, hands.around, hands.gate);
+    let mut passage = Loopback::new(hands.passage);
+    let mut clock = Stopwatch::start(hands.clock);
+    let status = act_at(
+        alloc,
         &mut site,
         &mut host,
         &mut passage,
@@ -93,7 +103,12 @@ where
         is_watched,
         output,
         errors,
-    )
+    );
+    let_go(site);
+    let_go(host);
+    let_go(passage);
+    let_go(clock);
+    status
 }
 
 /// This machine as a host.
@@ -102,16 +117,29 @@ type Here<'a, R> = ThisHost<SystemCaptures<'a, R>, ThisMachine<'a, R>, SystemSer
 /// Who opens the files of captures on this machine.
 #[derive(Drop)]
 pub(crate) struct SystemCaptures<'a, R> {
-    rt: &'a R,
+    captures: Captures<'a, R>,
 }
 
-impl<'a, R: Hosted> SystemCaptures<'a, R> {
-    pub(crate) fn new(rt: &'a R) -> Self {
-        SystemCaptures { rt }
+impl<'a, R> Model for SystemCaptures<'a, R> {
+    ghost use Rattle.polls.specs.declared.askers.Asker.{Asker};
+
+    ghost Value = { Asker };
+
+    ghost view = { λ s. s.captures };
+}
+
+impl<'a, R> SystemCaptures<'a, R> {
+    /// By this hand.
+    pub(crate) fn new(hand: Hand<'a, R>) -> Self
+        ensures { result ≡ hand.entry }
+    {
+        SystemCaptures {
+            captures: Captures::new(hand),
+        }
     }
 }
 
-impl<R: Files + Hosted> SystemCaptures<'_, R> {
+impl<R: Files> SystemCaptures<'_, R> {
     /// Has the system open the file at a path for a capture. One that is there loses what it has, where that is a capture. The
     /// reader of a named pipe is waited for.
     ///
@@ -119,12 +147,14 @@ impl<R: Files + Hosted> SystemCaptures<'_, R> {
     ///
     /// `AlreadyExists` where it is a regular file that has something else, and keeps it; where it can't be made or emptied.
     #[tactic(auto, unfolding(crate::specs::Here::WasOpened))]
-    pub(crate) fn told_to_open(&mut self, path: &str) -> io::Result<R::File>
+    pub(crate) fn told_to_open(&mut self, path: &str) -> io::Result<OpenedFile<R::File>>
         ensures opened { WasOpened self.old path.now result self.new }
-        ensures cleared { IfOk result (IsCleared path.now Awaited) }
-        ensures refused { IfErr result (IsUncleared R.File path.now Awaited) }
+        ensures cleared { IfOk result
+            (λ file. IsCleared self.old path.now Awaited file self.new) }
+        ensures refused { IfErr result
+            (λ why. IsUncleared (OpenedFile R.File) self.old path.now Awaited why self.new) }
     {
-        match open(self.rt, path, Reader::Awaited) {
+        match open(&mut self.captures, path, Reader::Awaited) {
             Ok(vacant) => vacant.clear(),
             Err(error) => Err(error),
         }
@@ -134,24 +164,33 @@ impl<R: Files + Hosted> SystemCaptures<'_, R> {
 /// Who runs gateways on this machine.
 #[derive(Drop)]
 pub(crate) struct SystemServes<'a, R> {
-    rt: &'a R,
+    hands: gate::Hands<'a, R>,
 }
 
-impl<'a, R: Hosted> SystemServes<'a, R> {
-    pub(crate) fn new(rt: &'a R) -> Self {
-        SystemServes { rt }
+impl<'a, R> Model for SystemServes<'a, R> {
+    ghost use Rattle.gate.specs.declared.hands.Hands.{Hands};
+
+    ghost Value = { Hands R };
+
+    ghost view = { λ s. s.hands };
+}
+
+impl<'a, R> SystemServes<'a, R> {
+    /// By these hands.
+    pub(crate) fn new(hands: gate::Hands<'a, R>) -> Self
+        ensures { result ≡ hands.entry }
+    {
+        SystemServes { hands }
     }
 }
 
-impl<
-    R: Files + Net + Clock + RandomSource + Eprint + Env + Input + AllocGlobal + Hosted,
-> SystemServes<'_, R>
+impl<R: Files + Net + Clock + RandomSource + Eprint + Env + Input + AllocGlobal> SystemServes<'_, R>
 where
     R::File: Blocks + Lockable + AsRawFd,
 {
     /// Runs a gateway.
     #[tactic(auto, unfolding(crate::specs::Here::WasServed))]
-    pub(crate) fn told_to_serve<O: Write, E: Tells>(
+    pub(crate) fn told_to_serve<O: Output, E: Tells>(
         &mut self,
         start: &Start<'_>,
         output: &mut O,
@@ -159,6 +198,7 @@ where
     ) -> u8
         requires found { IsTrue start.now.found → start.now.id ≡ Zero }
         ensures asked { WasServed self.old start.now result self.new }
+        ensures asks { AsksByLent self.old start.now self.new }
         ensures tells { HasWorked E.tells ServesHere start.now
             (written O.contents output.old output.new) result self.old self.new
             errors.old errors.new }
@@ -167,6 +207,6 @@ where
         ensures served { result ≡ 0
             → HasServed O.contents start.now output.old output.new }
     {
-        gate(self.rt, start, output, errors)
+        gate(self.hands.lent(), start, output, errors)
     }
 }

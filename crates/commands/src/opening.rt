@@ -2,7 +2,7 @@
 ghost use Rattle.commands.specs.Here.{WasOpened};
 
 use crate::machine::SystemCaptures;
-use runtimes::Hosted;
+use captures::OpenedFile;
 use std::fs::Files;
 use std::io::{self, Write};
 
@@ -23,12 +23,12 @@ pub(crate) trait Opens {
 }
 
 /// This machine: one file is one call of it.
-impl<R: Files + Hosted> Opens for SystemCaptures<'_, R> {
+impl<R: Files> Opens for SystemCaptures<'_, R> {
     ghost opens = { WasOpened };
 
-    type File = R::File;
+    type File = OpenedFile<R::File>;
 
-    fn open(&mut self, path: &str) -> io::Result<R::File> {
+    fn open(&mut self, path: &str) -> io::Result<OpenedFile<R::File>> {
         self.told_to_open(path)
     }
 }

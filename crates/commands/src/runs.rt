@@ -27,16 +27,15 @@ use command_line::RunWords;
 use faults::{Fault, Job};
 use frame_sim::{Tape, read_job};
 use loopback_run::{Channel, PortFault, run_loop};
-use outlets::Tells;
+use outlets::{Output, Tells};
 use rounds::Clockwork;
 use settings::Settings;
 use settings_file::{SettingFault, port_clash_of_both};
 use simulation::{Unwatched, simulate, simulate_watched};
 use std::alloc::Global;
-use std::io::Write;
 
 /// Runs the script of one file with the settings of another, and says how far it is by a clock where somebody watches.
-pub(crate) fn sim<S: Site, H: Host, C: Clockwork, O: Write, E: Tells>(
+pub(crate) fn sim<S: Site, H: Host, C: Clockwork, O: Output, E: Tells>(
     alloc: Global,
     site: &mut S,
     host: &mut H,
@@ -75,7 +74,7 @@ pub(crate) fn sim<S: Site, H: Host, C: Clockwork, O: Write, E: Tells>(
 }
 
 /// Runs a script, and says how far it is by a clock where somebody watches.
-fn simulated<C: Clockwork, O: Write, E: Tells>(
+fn simulated<C: Clockwork, O: Output, E: Tells>(
     alloc: Global,
     clock: &mut C,
     settings: &str,
@@ -105,7 +104,7 @@ fn simulated<C: Clockwork, O: Write, E: Tells>(
 }
 
 /// Runs a script, and says how far it is by a clock.
-fn watched<C: Clockwork, O: Write, E: Tells>(
+fn watched<C: Clockwork, O: Output, E: Tells>(
     alloc: Global,
     clock: &mut C,
     settings: &str,
@@ -131,7 +130,7 @@ fn watched<C: Clockwork, O: Write, E: Tells>(
 }
 
 /// Runs a script, and has a meter say how far it is.
-fn metered<C: Clockwork, O: Write, E: Tells>(
+fn metered<C: Clockwork, O: Output, E: Tells>(
     alloc: Global,
     settings: &str,
     script: &str,
@@ -159,7 +158,7 @@ fn metered<C: Clockwork, O: Write, E: Tells>(
 }
 
 /// Runs a script, with its capture in a file, which is begun once both texts are read.
-fn sim_captured<H: Host, C: Clockwork, O: Write, E: Tells>(
+fn sim_captured<H: Host, C: Clockwork, O: Output, E: Tells>(
     alloc: Global,
     host: &mut H,
     clock: &mut C,
@@ -199,7 +198,7 @@ fn sim_captured<H: Host, C: Clockwork, O: Write, E: Tells>(
 }
 
 /// Runs a job, has a tape take it down, and says how far it is by a clock where somebody watches.
-fn taped<C: Clockwork, T: Tape, O: Write, E: Tells>(
+fn taped<C: Clockwork, T: Tape, O: Output, E: Tells>(
     alloc: Global,
     clock: &mut C,
     job: &Job,
@@ -232,7 +231,7 @@ fn taped<C: Clockwork, T: Tape, O: Write, E: Tells>(
 }
 
 /// Runs a job, has a tape take it down, and a meter say how far it is.
-fn taped_metered<C: Clockwork, T: Tape, O: Write, E: Tells>(
+fn taped_metered<C: Clockwork, T: Tape, O: Output, E: Tells>(
     alloc: Global,
     job: &Job,
     meter: &mut Meter<'_, C, E>,
@@ -264,7 +263,7 @@ fn taped_metered<C: Clockwork, T: Tape, O: Write, E: Tells>(
 }
 
 /// Runs the script of one file with the settings of another, through a passage.
-pub(crate) fn repeat<S: Site, H: Host, P: Channel, O: Write, E: Tells>(
+pub(crate) fn repeat<S: Site, H: Host, P: Channel, O: Output, E: Tells>(
     alloc: Global,
     site: &mut S,
     host: &mut H,
@@ -295,7 +294,7 @@ pub(crate) fn repeat<S: Site, H: Host, P: Channel, O: Write, E: Tells>(
 }
 
 /// Runs a script through a passage, with its capture in a file, which is begun once both texts are read and the ports are had.
-fn repeat_captured<H: Host, P: Channel, O: Write, E: Tells>(
+fn repeat_captured<H: Host, P: Channel, O: Output, E: Tells>(
     alloc: Global,
     host: &mut H,
     passage: &mut P,
@@ -373,7 +372,7 @@ fn take_ports<P: Channel>(passage: &mut P, settings: &Settings) -> Result<(), Fa
 }
 
 /// Runs a job over a passage that has its ports, and has a tape take it down.
-fn looped<P: Channel, T: Tape, O: Write>(
+fn looped<P: Channel, T: Tape, O: Output>(
     alloc: Global,
     job: &Job,
     passage: &mut P,

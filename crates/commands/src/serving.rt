@@ -8,10 +8,8 @@ ghost use Rattle.commands.specs.Hosts.{HasWorked, written};
 use crate::machine::SystemServes;
 use boot_file::{Blocks, Lockable};
 use gate::Start;
-use outlets::Tells;
-use runtimes::Hosted;
+use outlets::{Output, Tells};
 use std::fs::Files;
-use std::io::Write;
 use std::net::Net;
 use std::os::fd::AsRawFd;
 use std::random::RandomSource;
@@ -27,7 +25,12 @@ pub(crate) trait Serves {
     ghost serves: { Self → Given → Written → List (List ℕ) → ℕ → Self → Type 0 };
 
     /// Runs a gateway.
-    fn serve<O: Write, E: Tells>(&mut self, start: &Start<'_>, output: &mut O, errors: &mut E) -> u8
+    fn serve<O: Output, E: Tells>(
+        &mut self,
+        start: &Start<'_>,
+        output: &mut O,
+        errors: &mut E,
+    ) -> u8
         requires found { IsTrue start.now.found → start.now.id ≡ Zero }
         ensures serves { HasWorked E.tells serves start.now
             (written O.contents output.old output.new) result self.old self.new
@@ -39,14 +42,14 @@ pub(crate) trait Serves {
 }
 
 /// This machine: one start is one call of it.
-impl<R: Files + Net + Clock + RandomSource + Eprint + Env + Input + AllocGlobal + Hosted> Serves
+impl<R: Files + Net + Clock + RandomSource + Eprint + Env + Input + AllocGlobal> Serves
     for SystemServes<'_, R>
 where
     R::File: Blocks + Lockable + AsRawFd,
 {
     ghost serves = { HasServedHere };
 
-    fn serve<O: Write, E: Tells>(
+    fn serve<O: Output, E: Tells>(
         &mut self,
         start: &Start<'_>,
         output: &mut O,

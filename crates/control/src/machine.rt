@@ -1,4 +1,5 @@
 //! This machine, the lines that it makes, and what waits. What they are asked has names, and no more is known of them.
+ghost use Rattle.std.specs.Prelude.{◌≡◌};
 ghost use Rattle.control.specs.Calling.{WasCalled, WasReported};
 ghost use Rattle.control.specs.Folders.{Deed, WasDone};
 ghost use Rattle.control.specs.Opening.{WasBound};
@@ -13,9 +14,10 @@ use crate::speakers::Speaks;
 use mio::net::UnixListener;
 use mio::{Interest, Registry, Token};
 use outlets::Takes;
-use runtimes::Hosted;
+use runtimes::{Hand, Kept};
 use std::fs::{Files, Permissions};
 use std::io::{self, Read, Write};
+use std::marker::Model;
 use std::net::Net;
 use std::os::unix::fs::PermissionsExt;
 use std::os::unix::net::UnixStream;
@@ -25,12 +27,23 @@ use std::time::Duration;
 /// system at hand.
 #[derive(Drop)]
 pub struct Machine<'a, R> {
-    rt: &'a R,
+    hand: Hand<'a, R>,
 }
 
-impl<'a, R: Hosted> Machine<'a, R> {
-    pub fn new(rt: &'a R) -> Machine<'a, R> {
-        Machine { rt }
+impl<'a, R> Model for Machine<'a, R> {
+    ghost use Rattle.polls.specs.declared.askers.Asker.{Asker};
+
+    ghost Value = { Asker };
+
+    ghost view = { λ machine. machine.hand };
+}
+
+impl<'a, R> Machine<'a, R> {
+    /// It asks by this hand.
+    pub fn new(hand: Hand<'a, R>) -> Machine<'a, R>
+        ensures { result ≡ hand.entry }
+    {
+        Machine { hand }
     }
 }
 
@@ -39,18 +52,19 @@ impl<R: Files> Folders for Machine<'_, R> {
 
     #[tactic(auto, unfolding(crate::specs::Folders::WasDone))]
     fn make(&mut self, folder: &str, mode: u32) {
-        let _is_there = self.rt.create_dir_with_mode(folder, mode);
+        let _is_there = self.hand.lend().create_dir_with_mode(folder, mode);
     }
 
     #[tactic(auto, unfolding(crate::specs::Folders::WasDone))]
     fn close(&mut self, folder: &str, mode: u32) -> io::Result<()> {
-        self.rt
+        self.hand
+            .lend()
             .set_permissions(folder, Permissions::from_mode(mode))
     }
 
     #[tactic(auto, unfolding(crate::specs::Folders::WasDone))]
     fn remove(&mut self, socket: &str) {
-        let _missing = self.rt.remove_file(socket);
+        let _missing = self.hand.lend().remove_file(socket);
     }
 }
 
@@ -59,8 +73,10 @@ impl<R: Files + Net> Binds<SystemListener> for Machine<'_, R> {
 
     #[tactic(auto, unfolding(crate::specs::Opening::WasBound))]
     fn bind(&mut self, socket: &str) -> io::Result<SystemListener> {
-        let listener = UnixListener::bind(self.rt, socket)?;
-        Ok(SystemListener { listener })
+        let listener = UnixListener::bind(self.hand.lend(), socket)?;
+        Ok(SystemListener {
+            listener: Kept::new(listener),
+        })
     }
 }
 
@@ -69,8 +85,10 @@ impl<R: Net> Dials<SystemLine> for Machine<'_, R> {
 
     #[tactic(auto, unfolding(crate::specs::Speaking::WasDialled))]
     fn dial(&mut self, socket: &str) -> io::Result<SystemLine> {
-        let stream = UnixStream::connect(self.rt, socket)?;
-        Ok(SystemLine { stream })
+        let stream = UnixStream::connect(self.hand.lend(), socket)?;
+        Ok(SystemLine {
+            stream: Kept::new(stream),
+        })
     }
 }
 
@@ -91,7 +109,7 @@ impl Reports<SystemListener> for Waits<'_> {
     #[tactic(auto, unfolding(crate::specs::Calling::WasReported))]
     fn report(&mut self, source: &mut SystemListener, token: Token) -> io::Result<()> {
         self.0
-            .register(&mut source.listener, token, Interest::READABLE)
+            .register(source.listener.lend(), token, Interest::READABLE)
     }
 }
 
@@ -101,14 +119,14 @@ impl Reports<SystemCaller> for Waits<'_> {
     #[tactic(auto, unfolding(crate::specs::Calling::WasReported))]
     fn report(&mut self, source: &mut SystemCaller, token: Token) -> io::Result<()> {
         self.0
-            .register(&mut source.caller, token, Interest::READABLE)
+            .register(source.caller.lend(), token, Interest::READABLE)
     }
 }
 
 /// Where callers of this machine's call. It can be asked who calls next, and for nothing else.
 #[derive(Drop)]
 pub struct SystemListener {
-    listener: UnixListener,
+    listener: Kept<UnixListener>,
 }
 
 /// It was asked who calls next, and answered so: more isn't known of it.
@@ -117,15 +135,17 @@ impl Listens<SystemCaller> for SystemListener {
 
     #[tactic(auto, unfolding(crate::specs::Calling::WasCalled))]
     fn call(&mut self) -> io::Result<SystemCaller> {
-        let (caller, _) = self.listener.accept()?;
-        Ok(SystemCaller { caller })
+        let (caller, _) = self.listener.lend().accept()?;
+        Ok(SystemCaller {
+            caller: Kept::new(caller),
+        })
     }
 }
 
 /// Who called there. He can be read, and answered, and asked for nothing else.
 #[derive(Drop)]
 pub struct SystemCaller {
-    caller: mio::net::UnixStream,
+    caller: Kept<mio::net::UnixStream>,
 }
 
 impl Speaks for SystemCaller {
@@ -137,7 +157,7 @@ impl Speaks for SystemCaller {
 
     #[tactic(auto, unfolding(crate::specs::Reads::WasHeard))]
     fn hear(&mut self, room: &mut [u8]) -> io::Result<usize> {
-        self.caller.read(room)
+        self.caller.lend().read(room)
     }
 }
 
@@ -151,14 +171,14 @@ impl Takes for SystemCaller {
 
     #[tactic(auto, unfolding(outlets::specs::Outputs::WasTaken))]
     fn take(&mut self, bytes: &[u8]) -> io::Result<usize> {
-        self.caller.write(bytes)
+        self.caller.lend().write(bytes)
     }
 }
 
 /// A line of this machine's to a box.
 #[derive(Drop)]
 pub(crate) struct SystemLine {
-    stream: UnixStream,
+    stream: Kept<UnixStream>,
 }
 
 impl Limits for SystemLine {
@@ -166,12 +186,12 @@ impl Limits for SystemLine {
 
     #[tactic(auto, unfolding(crate::specs::Speaking::WasLimited))]
     fn limit_hearing(&mut self, limit: Duration) -> io::Result<()> {
-        self.stream.set_read_timeout(Some(limit))
+        self.stream.lend().set_read_timeout(Some(limit))
     }
 
     #[tactic(auto, unfolding(crate::specs::Speaking::WasLimited))]
     fn limit_saying(&mut self, limit: Duration) -> io::Result<()> {
-        self.stream.set_write_timeout(Some(limit))
+        self.stream.lend().set_write_timeout(Some(limit))
     }
 }
 
@@ -184,7 +204,7 @@ impl Takes for SystemLine {
 
     #[tactic(auto, unfolding(crate::specs::Speaking::WasWritten))]
     fn take(&mut self, bytes: &[u8]) -> io::Result<usize> {
-        self.stream.write(bytes)
+        self.stream.lend().write(bytes)
     }
 }
 
@@ -197,6 +217,6 @@ impl Speaks for SystemLine {
 
     #[tactic(auto, unfolding(crate::specs::Speaking::WasRead))]
     fn hear(&mut self, room: &mut [u8]) -> io::Result<usize> {
-        self.stream.read(room)
+        self.stream.lend().read(room)
     }
 }

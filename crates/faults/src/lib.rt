@@ -12,4 +12,4 @@ pub use faults::Fault;
 pub use files::{FileFault, Refusal};
 pub use jobs::{Job, job_of};
 pub use prints::PrintFault;
-pub use texts::{Reads, SystemReads, text_by, text_of};
+pub use texts::{Reads, text_by, text_of};

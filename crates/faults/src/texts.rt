@@ -7,7 +7,7 @@ ghost use Rattle.faults.specs.Memory.{WasShort};
 ghost use Rattle.faults.specs.declared.faults.Fault.TheVariants as faults;
 
 use crate::Fault;
-use runtimes::Hosted;
+use runtimes::Hand;
 use std::alloc::Global;
 use std::rt::Files;
 use std::{fs, io};
@@ -28,18 +28,15 @@ pub trait Reads {
             (λ error. answers self.old path.now (Err (error_kind error)) self.new) };
 }
 
-/// The system. Each of its answers has a name, and no more is known of it.
-#[derive(Drop)]
-pub struct SystemReads<'a, R>(pub &'a R);
-
-impl<R: Files + AllocGlobal + Hosted> Reads for SystemReads<'_, R> {
+/// The system, by a hand of it. Each of its answers has a name, and no more is known of it.
+impl<R: Files + AllocGlobal> Reads for Hand<'_, R> {
     ghost use Rattle.faults.specs.Files.{WasRead};
 
-    ghost answers = { λ _ path answer _. WasRead path answer };
+    ghost answers = { WasRead };
 
     #[tactic(auto, unfolding(crate::specs::Files::WasRead))]
     fn read(&mut self, path: &str) -> io::Result<Vec<u8>> {
-        fs::read(self.0, path)
+        fs::read(self.lend(), path)
     }
 }
 
@@ -48,15 +45,17 @@ impl<R: Files + AllocGlobal + Hosted> Reads for SystemReads<'_, R> {
 /// # Errors
 ///
 /// `File` where it can't be read, `NotText` where it isn't UTF-8, `NoMemory`.
-pub fn text_of<R: Files + AllocGlobal + Hosted>(rt: &R, path: &str) -> Result<String, Fault>
-    ensures text { IfOk result (λ text. WasRead path.now (Ok (string_bytes text))) }
+pub fn text_of<R: Files + AllocGlobal>(hand: &mut Hand<'_, R>, path: &str) -> Result<String, Fault>
+    ensures text { IfOk result
+        (λ text. WasRead hand.old path.now (Ok (string_bytes text)) hand.new) }
     ensures told { IfErr result (IsUnread path.now) }
-    ensures unread { IfErr result (TellsUnread (WasRead path.now) path.now) }
+    ensures unread { IfErr result
+        (TellsUnread (λ answer. WasRead hand.old path.now answer hand.new) path.now) }
     ensures status { IfErr result (λ fault. status_of fault ≡ 1) }
     ensures short { IfErr result (λ fault. fault ≡ faults.NoMemory
-        → WasRead path.now (Err kinds.OutOfMemory) ⊎ WasShort path.now) }
+        → WasRead hand.old path.now (Err kinds.OutOfMemory) hand.new ⊎ WasShort path.now) }
 {
-    text_by(rt.alloc(), &mut SystemReads(rt), path)
+    text_by(hand.alloc(), hand, path)
 }
 
 /// The text of the file at a path, by who reads it.

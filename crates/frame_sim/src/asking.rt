@@ -10,9 +10,8 @@ ghost use Rattle.frame_sim.specs.Texts.{world_lines};
 
 use crate::World;
 use faults::{Fault, Job, PrintFault, job_of};
-use outlets::told_to_flush;
+use outlets::{Output, told_to_flush};
 use std::alloc::Global;
-use std::io::Write;
 
 /// The job of two texts, as `job_of` of `faults` gives it.
 ///
@@ -50,7 +49,7 @@ fn told_to_read(alloc: Global, settings: &str, script: &str) -> Result<Job, Faul
 /// # Errors
 ///
 /// Where output is refused, or memory is: a beginning of the tables is written, or all of them.
-pub fn put_end<O: Write>(world: &World<'_>, output: &mut O) -> Result<(), PrintFault>
+pub fn put_end<O: Output>(world: &World<'_>, output: &mut O) -> Result<(), PrintFault>
     ensures printed { Prints (O.contents output.old) result (O.contents output.new)
         (world_lines world.now) }
     ensures put { OnOk result (IsEndPut world.now output.old output.new) }

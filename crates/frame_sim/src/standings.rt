@@ -12,8 +12,8 @@ use crate::World;
 use addresses::Port;
 use faults::PrintFault;
 use nat_types::{GatewayId, NoMemory, Pair};
+use outlets::Output;
 use printing::{Standing, table};
-use std::io::Write;
 
 impl World<'_> {
     /// Prints how both gateways stand, the ports that each owns, and the pairs that it holds.
@@ -21,7 +21,7 @@ impl World<'_> {
     /// # Errors
     ///
     /// Where output is refused, or memory is: a beginning of the lines is written.
-    pub fn tables<O: Write>(&self, output: &mut O) -> Result<(), PrintFault>
+    pub fn tables<O: Output>(&self, output: &mut O) -> Result<(), PrintFault>
         ensures printed { Prints (O.contents output.old) result (O.contents output.new)
             (world_lines self.now) }
         ensures put { OnOk result (AreTabled self.now output.old output.new) }
@@ -33,7 +33,7 @@ impl World<'_> {
     }
 
     /// Prints how a gateway stands.
-    fn print_table<O: Write>(&self, output: &mut O, id: GatewayId) -> Result<(), PrintFault>
+    fn print_table<O: Output>(&self, output: &mut O, id: GatewayId) -> Result<(), PrintFault>
         ensures printed { Prints (O.contents output.old) result (O.contents output.new)
             (gateway_lines self.now id) }
         ensures put { OnOk result

@@ -248,12 +248,10 @@ runs_below : {T W : Type 0} (f : T → W) (up : Calls T) (does : Calls W) (above
 runs_below f up does above says who rounds track until_eof g g2 t t2 r Holds held Tells tells = (
   record {
     clock = r.clock;
-    start = r.start;
     at_start = r.at_start;
     clock2 = r.clock2;
     until = r.until;
-    watched = r.watched;
-    unasked = r.unasked;
+    paced = r.paced;
     until2 = r.until2;
     put_down = r.put_down;
     told = r.told;

@@ -1,12 +1,12 @@
 -- A start that is served.
-use Rattle.std.proofs.Common.{◌≡◌, ◌⊎◌, inl, inr, ap, sym, ◌∙◌, ℕ, Bool, false, is_some, List, [], Option, Some, None, IfSome, Result, Ok, Err, OnOk, IfErr, subst, true≢false}
+use Rattle.std.proofs.Common.{◌≡◌, ◌⊎◌, inl, inr, refl, sym, ◌∙◌, ℕ, Bool, true, false, is_some, List, [], Option, Some, None, IfSome, Result, Ok, Err, OnOk, IfErr, subst, true≢false}
 use Rattle.std.specs.Borrow.{Bor}
 use Rattle.polls.specs.declared.askers.Asker.{Asker}
-use Rattle.inputs.specs.Inputs.{IsUnasked, TellsEnd, TellsNoEnd}
+use Rattle.inputs.specs.Inputs.{TellsEnd, TellsNoEnd}
 use Rattle.settings.specs.declared.whole.Settings.{Settings}
 use Rattle.spec_step.specs.Shown.{Shown}
 use Rattle.box_words.specs.declared.refusals.BoxFault.{BoxFault}
-use Rattle.rounds.specs.Clocks.{HasRead, Watch, WasStarted}
+use Rattle.rounds.specs.Clocks.{HasRead, Watch}
 use Rattle.rounds.specs.Rounds.{Box, Calls, IsRun, WireSays, begun, most_rounds}
 use Rattle.rounds.specs.declared.desk.Identity.{Identity}
 use Rattle.rounds.specs.declared.teller.Telling.{Telling}
@@ -21,24 +21,21 @@ use Rattle.gate.specs.Printing.{HasEnded, HasPrinted, Holds}
 use Rattle.gate.specs.Logs.{WasToldRun}
 use Rattle.gate.specs.Starts.{CanOpen}
 use Rattle.gate.specs.Told.{HearsAll}
-use Rattle.gate.specs.Wires.{IsLetGo, IsOfSockets, IsOwnWire, IsSpared, RanOn, RunsOn}
+use Rattle.gate.specs.Wires.{IsInput, IsLetGo, IsPaced, IsOfSockets, IsOwnWire, IsSpared, RanOn, RunsOn}
 use Rattle.gate.specs.declared.running.Start.{Start}
 
 -- a run by the clock of a start, which may be told to end by the input that is watched, with what holds of its moments, and of what its log was told
 pub runs_on : {W : Type 0} (does : Calls W) (says : WireSays W) (track until_eof : Bool) (who : Identity) (rounds : Option ℕ) (g g2 : Shown) (w w2 : W) (told : List Telling)
-    (clock clock2 : Watch) (source until until2 : Option Asker) (last : Box W) → told ≡ [] → WasStarted clock → clock.read ≡ 0 → until ≡ source → is_some source ≡ until_eof
-    → IfSome source IsUnasked → (h : IsRun does says track who HasRead (most_rounds rounds) TellsEnd TellsNoEnd (begun g w told) clock until last clock2 until2)
+    (clock clock2 : Watch) (until until2 : Option Asker) (last : Box W) → told ≡ [] → IsPaced until_eof clock until → clock.read ≡ 0 → (h : IsRun does says track who HasRead (most_rounds rounds) TellsEnd TellsNoEnd (begun g w told) clock until last clock2 until2)
     → last.shown ≡ g2 → last.wire ≡ w2 → WasLetGo {A = Watch × Option Asker} (clock2, until2) → (Holds : List ℕ → Type 0) → Holds h.all.moments → (Tells : List Telling → Type 0) → Tells last.told
     → (run : RunsOn does says who rounds track until_eof g g2 w w2) × (Holds run.had.all.moments × Tells run.last.told)
-runs_on does says track until_eof who rounds g g2 w w2 told clock clock2 source until until2 last untold start at_start same watched unasked h shows wire_is gone Holds heard Tells tells = (
+runs_on does says track until_eof who rounds g g2 w w2 told clock clock2 until until2 last untold paced at_start h shows wire_is gone Holds heard Tells tells = (
   record {
     clock = clock;
-    start = start;
     at_start = at_start;
     clock2 = clock2;
     until = until;
-    watched = ap is_some same ∙ watched;
-    unasked = subst (λ u. IfSome u IsUnasked) (sym same) unasked;
+    paced = paced;
     until2 = until2;
     put_down = gone;
     told = told;
@@ -50,6 +47,12 @@ runs_on does says track until_eof who rounds g g2 w w2 told clock clock2 source 
   },
   (heard, tells),
 )
+
+-- the input that may tell a run to end: where it is watched, and where it isn't and was let go
+pub input_of : (until_eof : Bool) (input : Asker) (source until : Option Asker) → until ≡ source → (until_eof ≡ true → source ≡ Some input)
+    → (until_eof ≡ false → source ≡ None) → (until_eof ≡ false → WasLetGo input) → IsInput until_eof input until
+input_of true input source until same watched unwatched gone = same ∙ watched refl
+input_of false input source until same watched unwatched gone = (same ∙ unwatched refl, gone refl)
 
 -- ---- the wire
 

@@ -12,19 +12,18 @@ use Rattle.supervision.specs.declared.managers.Manager.{Manager}
 use Rattle.box_words.specs.declared.refusals.BoxFault.{BoxFault}
 use Rattle.box_words.specs.declared.refusals.BoxFault.TheVariants as fault
 use Rattle.gate.specs.Asked.{IsFilter, IsWatched, boot_file_of, box_ports, on_loopback, path_in}
-use Rattle.gate.specs.Named.{IsFresh, Need, WasGiven, capture_file, control_socket, descriptors, locked_file, own_sockets, path_beside, service_manager, settings_text}
+use Rattle.gate.specs.Named.{Need, WasGiven, WasLetGo, capture_file, control_socket, descriptors, locked_file, own_sockets, path_beside, service_manager, settings_text}
+use Rattle.gate.specs.Rests.{AsksRest, IsRestOf}
 use Rattle.gate.specs.Starts.{AreHeld, AreWays}
+use Rattle.gate.specs.declared.hands.Hands.{Hands}
 use Rattle.gate.specs.declared.machine.Machine.{Machine}
+use Rattle.gate.specs.declared.rest.Rest.{Rest}
 use Rattle.gate.specs.declared.running.Start.{Start}
 
 -- The system, which was this, was asked for this, once, and is this since. It says nothing of such a call, so this is no more than a name for it:
 -- only what `Machine` does looks what stands here.
 unfoldable pub WasAsked : {M : Type 0} → M → Need → M → Type 0
 WasAsked before _ after = Unit {0}
-
--- This machine was let go that was asked for just what this start needs, as far as it came (`AsksFor`), and for nothing else.
-unfoldable pub WasAskedFor : Start → Type 0
-WasAskedFor start = Unit {0}
 
 -- its descriptors, its listeners, its places and who tells of ends are as they were: they were asked for nothing
 abbrev pub LeavesNet : {R : Type 0} → Machine R → Machine R → Type 0
@@ -102,6 +101,14 @@ abbrev pub AsksFor : {M : Type 0} → M → Start → M → Type 0
 AsksFor {M = M} m start m2 = (between : M) × (WasAsked m (settings_text start.settings.now) between
     × ((m2 ≡ between) ⊎ ((settings : Settings) × (AreHeld start.settings.now settings × AsksBy between start settings m2))))
 
--- it was asked for nothing before, and for just that since
-abbrev pub IsAskedSo : {M : Type 0} → Start → M → Type 0
-IsAskedSo {M = M} start m2 = (m : M) × (IsFresh m × AsksFor m start m2)
+-- it asks by these hands
+abbrev pub IsOfHands : {R : Type 0} → Hands R → Machine R → Type 0
+IsOfHands hands m = (m.files ≡ hands.files) × ((m.boot_files ≡ hands.boot_files) × ((m.captures ≡ hands.captures)
+    × ((m.descriptors ≡ hands.descriptors) × ((m.listeners ≡ hands.listeners) × ((m.places ≡ hands.places) × (m.ends ≡ hands.ends))))))
+
+-- By these hands the system was asked for just what a start needs, as far as it came, and for nothing else, also of the rest of it; and both were let go
+-- as they were then.
+abbrev pub IsAskedFrom : {R : Type 0} → Hands R → Start → Type 0
+IsAskedFrom {R = R} hands start =
+    ((m : Machine R) × ((m2 : Machine R) × (IsOfHands hands m × (AsksFor m start m2 × WasLetGo m2))))
+    × ((r : Rest R) × ((r2 : Rest R) × (IsRestOf hands r × (AsksRest start r r2 × WasLetGo r2))))

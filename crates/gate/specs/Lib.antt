@@ -11,3 +11,4 @@ pub mod Starts
 pub mod Told
 pub mod Wires
 pub mod Printing
+pub mod Rests

@@ -11,7 +11,7 @@ use Rattle.box_words.specs.declared.refusals.BoxFault.{BoxFault}
 
 -- what a start asks the system for: the text of a file of settings, the descriptors of ways, the service manager whose descriptor a text writes, memory for the path beside a boot file, a locked boot file, a control socket, the sockets of the places, all that it needs,
 -- the file of a capture, that a capture begins in it, a wire whose packets go there, at the interfaces of a gateway, a seed, a boot number, that
--- of the boot file at a path, memory for a gateway
+-- of the boot file at a path, that a boot's line is printed, memory for a gateway
 pub data Need : Type 0 where
   settings_text : List ℕ → Need
   descriptors : Ways → Need
@@ -26,6 +26,7 @@ pub data Need : Type 0 where
   tapped_wire : List ℕ → GatewayId → Need
   seed : Need
   boot_number : Need
+  announced_boot : Need
   number_of : List ℕ → Need
   new_gateway : Need
 
@@ -50,10 +51,6 @@ WasAnswered _ reason = Unit {0}
 unfoldable pub WasGot : Asker → List ℕ → Result (List ℕ) ErrorKind → Asker → Type 0
 WasGot before path answer after = Unit {0}
 
--- he had the file at this path opened for a capture, once, was answered so, and is this since
-unfoldable pub WasTried : {V : Type 0} → Asker → List ℕ → Result V Error → Asker → Type 0
-WasTried before path answer after = Unit {0}
-
 -- it gave this text of the file at this path
 abbrev pub WasRead : List ℕ → List ℕ → Type 0
 WasRead path text = (before : Asker) × ((after : Asker) × WasGot before path (Ok text) after)
@@ -73,6 +70,44 @@ IsUntold log = Unit {0}
 -- a log that was this was lent to one who is to tell of a run, once, and is this since
 unfoldable pub WasLent : {L : Type 0} → L → L → Type 0
 WasLent before after = Unit {0}
+
+-- who asks the clock for a run, and who asks the standard input
+pub record Pacing : Type 0 where
+  pub clock : Asker
+  pub input : Asker
+
+abbrev pub pacing : Asker → Asker → Pacing
+pacing clock input = record { clock = clock; input = input }
+
+-- who has the standard error at hand was this, was asked for it for a box's records, once, and is this since
+unfoldable pub WasLentToRecords : Asker → Asker → Type 0
+WasLentToRecords before after = Unit {0}
+
+-- who has a clock at hand was this, was asked for it for the moments of a capture, once, gave this one, who was asked for nothing, and is this since
+unfoldable pub WasLentToCapture : Asker → Asker → Asker → Type 0
+WasLentToCapture before it after = Unit {0}
+
+-- the same of clock and input of a run
+unfoldable pub WasLentToRun : Pacing → Pacing → Pacing → Type 0
+WasLentToRun before it after = Unit {0}
+
+-- the same of all the hands of a start
+unfoldable pub AreLentToStart : {H : Type 0} → H → H → H → Type 0
+AreLentToStart before them after = Unit {0}
+
+-- so they were given, once
+abbrev pub LendsCapture : Asker → Asker → Type 0
+LendsCapture before after = (it : Asker) × WasLentToCapture before it after
+
+abbrev pub LendsPace : Pacing → Pacing → Type 0
+LendsPace before after = (it : Pacing) × WasLentToRun before it after
+
+-- it is one that was given so, as it was then
+abbrev pub IsLentToCapture : Asker → Type 0
+IsLentToCapture it = (before : Asker) × ((after : Asker) × WasLentToCapture before it after)
+
+abbrev pub IsLentToRun : Pacing → Type 0
+IsLentToRun it = (before : Pacing) × ((after : Pacing) × WasLentToRun before it after)
 
 -- this tells a run to a log that is this, to which it was lent
 unfoldable pub IsTellerOf : {L T : Type 0} → L → T → Type 0
@@ -95,10 +130,6 @@ WasUnlocked path ended output = Unit {0}
 -- the file at a path that was opened for a capture was let go as it was: no capture was begun there
 unfoldable pub WasSpared : List ℕ → Type 0
 WasSpared path = Unit {0}
-
--- the system was asked for nothing yet
-unfoldable pub IsFresh : {M : Type 0} → M → Type 0
-IsFresh system = Unit {0}
 
 -- a wire or a service manager was this when it was let go: nothing was asked of it, or told it, behind that
 unfoldable pub WasLetGo : {A : Type 0} → A → Type 0

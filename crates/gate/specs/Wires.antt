@@ -1,7 +1,7 @@
 -- The wire that a box is run on.
-use Rattle.std.specs.Prelude.{◌≡◌, ◌⊎◌, ℕ, Bool, List, [], Option, Some, None, IfSome, is_some}
+use Rattle.std.specs.Prelude.{◌≡◌, ◌⊎◌, ℕ, Bool, true, false, List, [], Option, Some, None}
 use Rattle.polls.specs.declared.askers.Asker.{Asker}
-use Rattle.inputs.specs.Inputs.{IsUnasked, TellsEnd, TellsNoEnd}
+use Rattle.inputs.specs.Inputs.{TellsEnd, TellsNoEnd}
 use Rattle.settings.specs.declared.whole.Settings.{Settings}
 use Rattle.spec_step.specs.Shown.{Shown}
 use Rattle.box_words.specs.declared.refusals.BoxFault.{BoxFault}
@@ -19,7 +19,7 @@ use Rattle.tap.specs.Taps.{Tapping}
 use Rattle.gate.specs.Asked.{box_ports, path_in}
 use Rattle.gate.specs.Boots.{IsIdentity}
 use Rattle.gate.specs.Logs.{WasToldRun}
-use Rattle.gate.specs.Named.{WasHad, WasLetGo, WasTapped, own_sockets, tapped_wire}
+use Rattle.gate.specs.Named.{IsLentToRun, Pacing, WasHad, WasLetGo, WasTapped, own_sockets, tapped_wire}
 use Rattle.gate.specs.Orders.{EndIsRefused}
 use Rattle.gate.specs.Printing.{Holds}
 use Rattle.gate.specs.Starts.{AreWays}
@@ -43,20 +43,28 @@ abbrev pub IsOwnWire : {W : Type 0} → Option (List ℕ) → Settings → Start
 IsOwnWire None settings start wire = IsOfSockets settings start wire
 IsOwnWire (Some path) settings start wire = WasHad (tapped_wire path start.id) wire
 
+-- this input tells a run to end, where it is watched; else nothing does, and it was let go as it was
+abbrev pub IsInput : Bool → Asker → Option Asker → Type 0
+IsInput true input until = until ≡ Some input
+IsInput false input until = (until ≡ None) × WasLetGo input
+
+-- so a run's clock and what tells it to end begin, by those that were lent for it
+abbrev pub IsPaced : Bool → Watch → Option Asker → Type 0
+IsPaced until_eof clock until = (lent : Pacing) × (IsLentToRun lent × (WasStarted lent.clock clock × IsInput until_eof lent.input until))
+
 -- A run of a gateway on a wire, by the system's clock, takes both from the first to the second: all that was asked of the wire, for how long, and
 -- handed to it is of its rounds and of the one Stop behind them; who asks hears of this box. They end once it was told to end, or had so many. By
 -- its input it is told only where that is watched, and at its end: it is asked before each round, one time after the other, and for nothing beside.
+-- Both were lent for it, and asked for nothing before.
 -- Clock and input are let go behind the run as they are then, and asked nothing more. What carriers tell counted or not. Its log was told nothing of it before.
 pub record RunsOn {W : Type 0} (does : Calls W) (says : WireSays W) (who : Identity) (rounds : Option ℕ) (track until_eof : Bool)
     (g g2 : Shown) (wire wire2 : W) : Type 0
   where
     pub clock : Watch
-    pub start : WasStarted clock
     pub at_start : clock.read ≡ 0
     pub clock2 : Watch
     pub until : Option Asker
-    pub watched : is_some until ≡ until_eof
-    pub unasked : IfSome until IsUnasked
+    pub paced : IsPaced until_eof clock until
     pub until2 : Option Asker
     pub put_down : WasLetGo {A = Watch × Option Asker} (clock2, until2)
     pub told : List Telling

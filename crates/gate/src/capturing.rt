@@ -4,14 +4,14 @@ ghost use Rattle.tap.specs.Files.{IsBegunIn, IsUnbegunIn};
 ghost use Rattle.gate.specs.Asked.{IsFilter, path_in};
 ghost use Rattle.gate.specs.Asking.{AsksUpTo, captures};
 ghost use Rattle.gate.specs.Failing.{IsUnbegun, LacksCapture};
-ghost use Rattle.gate.specs.Named.{IsOpened, WasAnswered, WasGiven, WasHad, WasLetGo, WasSpared, all_sockets, begun_capture, boot_number, capture_file, tapped_wire};
+ghost use Rattle.gate.specs.Named.{IsLentToCapture, IsOpened, WasAnswered, WasGiven, WasHad, WasLetGo, WasSpared, all_sockets, begun_capture, boot_number, capture_file, tapped_wire};
 
 use crate::machine::Machine;
 use crate::running::Start;
 use crate::wires::{Held, let_go};
 use box_words::BoxFault;
+use captures::OpenedFile;
 use nat_types::GatewayId;
-use runtimes::Hosted;
 use sockets::Wire;
 use std::alloc::Global;
 use std::fs::Files;
@@ -29,10 +29,10 @@ pub(crate) struct CaptureAt<'a, F> {
 }
 
 /// The file of a start's capture, opened, where there is to be one. It has what it had.
-pub(crate) fn capture_at<'a, R: Files + Net + AllocGlobal + Hosted>(
+pub(crate) fn capture_at<'a, R: Files + Net + AllocGlobal>(
     machine: &mut Machine<'_, R>,
     start: &Start<'a>,
-) -> Result<Option<CaptureAt<'a, R::File>>, BoxFault>
+) -> Result<Option<CaptureAt<'a, OpenedFile<R::File>>>, BoxFault>
     requires wired { WasGiven all_sockets }
     requires valid { IsFilter start.now.log }
     ensures asks { AsksUpTo machine.old start.now (captures (path_in start.now.capture))
@@ -78,6 +78,7 @@ impl<F: captures::Opened + Write + AsRawFd + Drop> CaptureAt<'_, F> {
     ) -> Result<Tapped<W, SinceFirst<'m, C>, CaptureFile<F>>, BoxFault>
         requires had { WasHad (capture_file self.path.now) self.file }
         requires numbered { WasGiven boot_number }
+        requires lent { IsLentToCapture moments.asker }
         requires unasked { moments.start ≡ None }
         ensures begun { OnOk result (WasGiven (begun_capture self.entry.path.now)) }
         ensures had { IfOk result (WasHad (tapped_wire self.entry.path.now id)) }

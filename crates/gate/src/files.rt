@@ -1,24 +1,19 @@
-//! The system's files, and its memory. What it is asked has names, and no more is known of it. No socket can be asked for here.
-ghost use Rattle.std.specs.Prelude.{IfErr, IfOk, Err, Ok};
+//! The system's files, as who reads the text of the settings. What it is asked has names, and no more is known of it.
+ghost use Rattle.std.specs.Prelude.{◌≡◌, IfErr, IfOk, Err, Ok};
 ghost use Rattle.std.specs.IoError.{error_kind};
-ghost use Rattle.captures.specs.Files.{IsOpened, IsUnopened};
-ghost use Rattle.captures.specs.declared.files.Reader.TheVariants.{NotAwaited};
-ghost use Rattle.gate.specs.Named.{WasGot, WasTried};
+ghost use Rattle.gate.specs.Named.{WasGot};
 
 use faults::Reads;
-use polls::Asker;
-use runtimes::Hosted;
+use runtimes::Hand;
 use std::alloc::Global;
 use std::fs::{self, Files};
 use std::io;
 use std::marker::Model;
-use tap::Vacant;
 
-/// The system, as who reads files, and opens those of captures. For clauses it is who asks.
+/// The system, as who reads files. For clauses it is who asks.
 #[derive(Drop)]
 pub(crate) struct FileSystem<'a, R> {
-    rt: &'a R,
-    asker: Asker,
+    hand: Hand<'a, R>,
 }
 
 impl<'a, R> Model for FileSystem<'a, R> {
@@ -26,23 +21,22 @@ impl<'a, R> Model for FileSystem<'a, R> {
 
     ghost Value = { Asker };
 
-    ghost view = { λ f. f.asker };
+    ghost view = { λ f. f.hand };
 }
 
-impl<'a, R: Hosted> FileSystem<'a, R> {
-    /// It was asked for nothing yet, and can't be here.
-    pub(crate) fn new(rt: &'a R) -> FileSystem<'a, R> {
-        FileSystem {
-            rt,
-            asker: Asker::new(),
-        }
+impl<'a, R> FileSystem<'a, R> {
+    /// It asks by this hand.
+    pub(crate) fn new(hand: Hand<'a, R>) -> FileSystem<'a, R>
+        ensures { result ≡ hand.entry }
+    {
+        FileSystem { hand }
     }
 }
 
 impl<R: AllocGlobal> FileSystem<'_, R> {
     /// Who has its memory.
     pub(crate) fn alloc(&self) -> Global {
-        self.rt.alloc()
+        self.hand.alloc()
     }
 }
 
@@ -63,18 +57,6 @@ impl<R: Files + AllocGlobal> FileSystem<'_, R> {
         ensures cause { IfErr result
             (λ error. WasGot self.old path.now (Err (error_kind error)) self.new) }
     {
-        fs::read(self.rt, path)
-    }
-}
-
-impl<R: Files + Hosted> FileSystem<'_, R> {
-    /// Has it open the file at a path for a capture.
-    #[tactic(auto, unfolding(crate::specs::Named::WasTried))]
-    pub(crate) fn told_to_open(&mut self, path: &str) -> io::Result<Vacant<R::File>>
-        ensures tried { WasTried self.old path.now result self.new }
-        ensures opened { IfOk result (IsOpened path.now NotAwaited) }
-        ensures refused { IfErr result (IsUnopened R.File path.now NotAwaited) }
-    {
-        tap::open(self.rt, path)
+        fs::read(self.hand.lend(), path)
     }
 }

@@ -3,16 +3,19 @@
 
 mod capturing;
 mod files;
+mod hands;
 mod machine;
 mod making;
 mod reading;
 mod recording;
 mod rest;
 mod running;
+mod seeds;
 mod starting;
 mod ways;
 mod wires;
 
+pub use hands::Hands;
 pub use making::init;
 pub use running::{Start, gate};
 pub use ways::WayTexts;

@@ -10,21 +10,30 @@ ghost use Rattle.sockets.specs.Inheriting.{AreUnblocked, AreUnblockedBy};
 ghost use Rattle.sockets.specs.declared.sockets.SocketFault.{SocketFault as Reason};
 ghost use Rattle.box_words.specs.Ends.{AsksSystem, IsFirstOf, IsFirstRefused, own_ends};
 ghost use Rattle.gate.specs.Asked.{IsFilter, IsNotified, boot_file_of, box_ports};
-ghost use Rattle.gate.specs.Asking.{IsAskedSo, LeavesNet, SetsManager, SetsNone, WasAsked, WasAskedFor};
+ghost use Rattle.gate.specs.Asking.{IsOfHands, LeavesNet, SetsManager, SetsNone, WasAsked};
 ghost use Rattle.gate.specs.Failing.{AreUnread, AsksEnds, LacksBootFile, LacksCapture, LacksControl, LacksDescriptor, LacksManager, LacksPath, LacksPlace, TellsPlaces};
-ghost use Rattle.gate.specs.Named.{IsFresh, WasAnswered, WasGiven, WasGot, WasHad, WasRead, WasTried, all_sockets, capture_file, control_socket, descriptors, locked_file, own_sockets, path_beside, service_manager, settings_text};
+ghost use Rattle.gate.specs.Named.{WasAnswered, WasGiven, WasGot, WasHad, WasRead, all_sockets, capture_file, control_socket, descriptors, locked_file, own_sockets, path_beside, service_manager, settings_text};
+ghost use Rattle.gate.specs.Rests.{IsRestOf};
 ghost use Rattle.gate.specs.Starts.{CanOpen};
+ghost use Rattle.captures.specs.Files.{IsOpened, IsUnopened as IsUnfit};
+ghost use Rattle.captures.specs.declared.files.Reader.TheVariants.{NotAwaited};
+ghost use Rattle.captures.specs.declared.machine.OpenedFile.{OpenedFile};
 
+use crate::Hands;
 use crate::files::FileSystem;
+use crate::rest::{Means, Pace, Rest};
 use crate::running::Start;
+use crate::seeds::Seeds;
 use boot_file::{Blocks, FileDisk, FileFault, Lockable, Machine as BootFiles, Opened};
 use box_words::{BoxFault, Refused, System as Ends, refused_end};
+use captures::{Machine as Captures, OpenedFile};
 use control::{Bound, ControlPath, Machine as Listeners};
 use faults::{Fault, text_by};
+use journal::Machine as Environment;
 use nat_types::{GatewayId, NoMemory};
-use runtimes::Hosted;
 use settings::Settings;
 use sockets::{Machine as Places, Ports, SocketFault, Sockets, Ways, ports_of};
+use std::alloc::Global;
 use std::fs::Files;
 use std::io;
 use std::net::Net;
@@ -36,45 +45,58 @@ use tap::Vacant;
 pub(crate) struct Machine<'a, R> {
     files: FileSystem<'a, R>,
     boot_files: BootFiles<'a, R>,
+    captures: Captures<'a, R>,
     descriptors: Descriptors<'a, R>,
     listeners: Listeners<'a, R>,
     places: Places<'a, R>,
     ends: Ends<'a, R>,
 }
 
-/// This system. It was asked for nothing yet, and can't be here.
-#[tactic(auto, unfolding(crate::specs::Named::IsFresh))]
-pub(crate) fn machine_of<R: Hosted>(rt: &R) -> Machine<'_, R>
-    ensures { IsFresh result }
+/// What a start asks, each by its own of these hands: the system, for what is opened, and the rest of it.
+pub(crate) fn parts_of<R>(hands: Hands<'_, R>) -> (Machine<'_, R>, Rest<'_, R>)
+    ensures machine { IsOfHands hands.entry result.0 }
+    ensures rest { IsRestOf hands.entry result.1 }
 {
-    Machine {
-        files: FileSystem::new(rt),
-        boot_files: BootFiles::new(rt),
-        descriptors: Descriptors::new(rt),
-        listeners: Listeners::new(rt),
-        places: Places::new(rt),
-        ends: Ends::new(rt),
+    let machine = Machine {
+        files: FileSystem::new(hands.files),
+        boot_files: BootFiles::new(hands.boot_files),
+        captures: Captures::new(hands.captures),
+        descriptors: Descriptors::new(hands.descriptors),
+        listeners: Listeners::new(hands.listeners),
+        places: Places::new(hands.places),
+        ends: Ends::new(hands.ends),
+    };
+    let means = Means {
+        seeds: Seeds::new(hands.seeds),
+        moments: hands.moments,
+        pace: Pace {
+            clock: hands.clock,
+            input: hands.input,
+        },
+    };
+    let rest = Rest {
+        environment: Environment::new(hands.environment),
+        errors: hands.errors,
+        means,
+    };
+    (machine, rest)
+}
+
+impl<R: AllocGlobal> Machine<'_, R> {
+    /// Who has its memory.
+    pub(crate) fn alloc(&self) -> Global {
+        self.files.alloc()
     }
 }
 
-impl<R> Machine<'_, R> {
-    /// Lets it go, once it was asked for no more than a start is to ask for.
-    #[tactic(auto, unfolding(crate::specs::Asking::WasAskedFor))]
-    pub(crate) fn let_go(self, _start: &Start<'_>)
-        requires asked { IsAskedSo _start.now self }
-        ensures { WasAskedFor _start.now }
-    {
-        drop(self);
-    }
-}
-
-impl<R: Files + AllocGlobal + Hosted> Machine<'_, R> {
+impl<R: Files + AllocGlobal> Machine<'_, R> {
     /// Has it read the text of the file at a path.
     #[tactic(auto, unfolding(crate::specs::Asking::WasAsked))]
     pub(crate) fn told_to_read(&mut self, path: &str) -> Result<String, Fault>
         ensures asked { WasAsked self.old (settings_text path.now) self.new }
         ensures net { LeavesNet self.old self.new }
-        ensures boot_files { self.new.boot_files ≡ self.old.boot_files }
+        ensures others { (self.new.boot_files ≡ self.old.boot_files)
+            × (self.new.captures ≡ self.old.captures) }
         ensures got { IfOk result (λ text. WasGot self.old.files path.now
             (Ok (string_bytes text)) self.new.files) }
         ensures read { IfOk result (λ text. WasRead path.now (string_bytes text)) }
@@ -126,7 +148,8 @@ impl<R: Files + AllocGlobal + Hosted> Machine<'_, R> {
         requires own { path.now ≡ boot_file_of _settings.now _start.now.id }
         ensures asked { WasAsked self.old (locked_file path.now) self.new }
         ensures net { LeavesNet self.old self.new }
-        ensures files { self.new.files ≡ self.old.files }
+        ensures others { (self.new.files ≡ self.old.files)
+            × (self.new.captures ≡ self.old.captures) }
         ensures opened { IfOk result (λ disk. AreOpened ⟦<Opened<R::File> as Lockable>⟧.locks
             self.old.boot_files path.now disk.file disk.folder self.new.boot_files) }
         ensures unopened { IfErr result (λ why. IsUnopened ⟦<Opened<R::File> as Lockable>⟧.locks
@@ -146,7 +169,7 @@ impl<R: Files + AllocGlobal + Hosted> Machine<'_, R> {
         &mut self,
         start: &Start<'_>,
         path: &str,
-    ) -> Result<Vacant<R::File>, BoxFault>
+    ) -> Result<Vacant<OpenedFile<R::File>>, BoxFault>
         requires wired { WasGiven all_sockets }
         requires valid { IsFilter start.now.log }
         ensures asked { WasAsked self.old (capture_file path.now) self.new }
@@ -162,18 +185,26 @@ impl<R: Files + AllocGlobal + Hosted> Machine<'_, R> {
 
     /// The file at that path, opened, or its answer.
     #[tactic(auto, unfolding(crate::specs::Asking::WasAsked, crate::specs::Named::WasGiven, crate::specs::Named::WasHad, crate::specs::Named::WasAnswered))]
-    fn asked_to_make(&mut self, _start: &Start<'_>, path: &str) -> io::Result<Vacant<R::File>>
+    fn asked_to_make(
+        &mut self,
+        _start: &Start<'_>,
+        path: &str,
+    ) -> io::Result<Vacant<OpenedFile<R::File>>>
         requires wired { WasGiven all_sockets }
         requires valid { IsFilter _start.now.log }
         ensures asked { WasAsked self.old (capture_file path.now) self.new }
         ensures net { LeavesNet self.old self.new }
-        ensures boot_files { self.new.boot_files ≡ self.old.boot_files }
-        ensures tried { WasTried self.old.files path.now result self.new.files }
+        ensures others { (self.new.files ≡ self.old.files)
+            × (self.new.boot_files ≡ self.old.boot_files) }
+        ensures opened { IfOk result (λ vacant. IsOpened self.old.captures path.now NotAwaited vacant
+            self.new.captures) }
+        ensures unopened { IfErr result
+            (λ why. IsUnfit (OpenedFile R.File) self.old.captures path.now NotAwaited why self.new.captures) }
         ensures given { OnOk result (WasGiven (capture_file path.now)) }
         ensures had { IfOk result (WasHad (capture_file path.now)) }
         ensures answered { IfErr result (WasAnswered (capture_file path.now)) }
     {
-        self.files.told_to_open(path)
+        tap::open(&mut self.captures, path)
     }
 }
 
@@ -200,8 +231,9 @@ impl<R: Files + Net + AllocGlobal> Machine<'_, R> {
             (WasNotOpened path.now self.old.listeners self.new.listeners) }
         ensures rest { (self.new.descriptors ≡ self.old.descriptors)
             × ((self.new.places ≡ self.old.places) × (self.new.ends ≡ self.old.ends)) }
-        ensures files { (self.new.files ≡ self.old.files)
-            × (self.new.boot_files ≡ self.old.boot_files) }
+        ensures others { (self.new.files ≡ self.old.files)
+            × ((self.new.boot_files ≡ self.old.boot_files)
+            × (self.new.captures ≡ self.old.captures)) }
         ensures err { IfErr result (LacksControl (boot_file_of settings.now id)) }
     {
         match Bound::open(&mut self.listeners, path, self.files.alloc()) {
@@ -223,6 +255,9 @@ impl<R: Net + AllocGlobal> Machine<'_, R> {
             × AreUnblockedBy ways.now named self.old.places self.new.places }
         ensures rest { (self.new.descriptors ≡ self.old.descriptors)
             × ((self.new.listeners ≡ self.old.listeners) × (self.new.ends ≡ self.old.ends)) }
+        ensures others { (self.new.files ≡ self.old.files)
+            × ((self.new.boot_files ≡ self.old.boot_files)
+            × (self.new.captures ≡ self.old.captures)) }
         ensures ok { OnOk result (AreUnblocked ways.now None) }
         ensures err { IfErr result (LacksDescriptor ways.now) }
     {
@@ -240,6 +275,9 @@ impl<R: Net + AllocGlobal> Machine<'_, R> {
             (SetsNone text.now self.old.descriptors self.new.descriptors) }
         ensures rest { (self.new.listeners ≡ self.old.listeners)
             × ((self.new.places ≡ self.old.places) × (self.new.ends ≡ self.old.ends)) }
+        ensures others { (self.new.files ≡ self.old.files)
+            × ((self.new.boot_files ≡ self.old.boot_files)
+            × (self.new.captures ≡ self.old.captures)) }
         ensures ok { IfOk result (λ manager. IsNotified (Some text.entry) (Some manager)) }
         ensures err { IfErr result (LacksManager (Some text.entry)) }
     {
@@ -275,6 +313,9 @@ impl<R: Net + AllocGlobal> Machine<'_, R> {
             × TellsPlaces why fault)) }
         ensures rest { (self.new.descriptors ≡ self.old.descriptors)
             × (self.new.listeners ≡ self.old.listeners) }
+        ensures others { (self.new.files ≡ self.old.files)
+            × ((self.new.boot_files ≡ self.old.boot_files)
+            × (self.new.captures ≡ self.old.captures)) }
         ensures ends { OnOk result (self.new.ends ≡ self.old.ends) }
         ensures ends_told { IfErr result (AsksEnds ways.now (box_ports settings.now id)
             self.old.ends self.new.ends) }
@@ -296,6 +337,9 @@ impl<R: Net + AllocGlobal> Machine<'_, R> {
         ensures first { IsFirstOf ways.now ports result.0 }
         ensures asked { IsFirstRefused AsksSystem (own_ends ways.now ports) self.old.ends result.0
             self.new.ends }
+        ensures others { (self.new.files ≡ self.old.files)
+            × ((self.new.boot_files ≡ self.old.boot_files)
+            × (self.new.captures ≡ self.old.captures)) }
         ensures rest { (self.new.descriptors ≡ self.old.descriptors)
             × ((self.new.listeners ≡ self.old.listeners)
             × (self.new.places ≡ self.old.places)) }
@@ -314,6 +358,9 @@ impl<R: AllocGlobal> Machine<'_, R> {
     ) -> Result<ControlPath, BoxFault>
         ensures asked { WasAsked self.old (path_beside (boot_file_of settings.now id)) self.new }
         ensures net { LeavesNet self.old self.new }
+        ensures others { (self.new.files ≡ self.old.files)
+            × ((self.new.boot_files ≡ self.old.boot_files)
+            × (self.new.captures ≡ self.old.captures)) }
         ensures given { OnOk result (WasGiven (path_beside (boot_file_of settings.now id))) }
         ensures beside { IfOk result (IsBeside (boot_file_of settings.now id)) }
         ensures short { OnOk result (length (socket_of (boot_file_of settings.now id)) ≤ 107) }

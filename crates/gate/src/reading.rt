@@ -15,7 +15,6 @@ use crate::machine::Machine;
 use box_words::BoxFault;
 use faults::Fault;
 use nat_types::GatewayId;
-use runtimes::Hosted;
 use settings::Settings;
 use settings_file::{OnLoopback, SettingFault, port_clash};
 use sockets::{Way, Ways};
@@ -25,9 +24,8 @@ use std::net::Net;
 use supervision::Manager;
 
 /// The settings in the file at a path.
-pub(crate) fn settings_at<R: Files + Net + AllocGlobal + Hosted>(
+pub(crate) fn settings_at<R: Files + Net + AllocGlobal>(
     machine: &mut Machine<'_, R>,
-    alloc: Global,
     path: &str,
 ) -> Result<Settings, BoxFault>
     ensures asked { WasAsked machine.old (settings_text path.now) machine.new }
@@ -35,7 +33,7 @@ pub(crate) fn settings_at<R: Files + Net + AllocGlobal + Hosted>(
     ensures err { IfErr result (LacksSettings path.now) }
 {
     let text = machine.told_to_read(path)?;
-    let settings = settings_in(alloc, text.as_str())?;
+    let settings = settings_in(machine.alloc(), text.as_str())?;
     Ok(settings)
 }
 
@@ -49,7 +47,7 @@ fn settings_in(alloc: Global, text: &str) -> Result<Settings, Fault>
 }
 
 /// The service manager whose descriptor a text writes, if there is one.
-pub(crate) fn manager_of<R: Files + Net + AllocGlobal + Hosted>(
+pub(crate) fn manager_of<R: Files + Net + AllocGlobal>(
     machine: &mut Machine<'_, R>,
     text: Option<&str>,
 ) -> Result<Option<Manager>, BoxFault>

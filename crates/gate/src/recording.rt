@@ -16,6 +16,7 @@ use crate::running::Start;
 use crate::wires::Held;
 use box_words::BoxFault;
 use journal::{Entry, Journal, OwnLog, Pen};
+use outlets::Output;
 use rounds::Teller;
 use settings::Settings;
 use sockets::Wire;
@@ -47,7 +48,7 @@ pub(crate) fn records_in<L: OwnLog>(log: L) -> Records<L>
 impl<L: Drop + OwnLog> Records<L> {
     /// Lets it go, once it was told of a start no more than it is to be told, by how that ends and what it has printed.
     #[tactic(auto, unfolding(crate::specs::Named::WasClosed))]
-    pub(crate) fn close<O: Write>(
+    pub(crate) fn close<O: Output>(
         self,
         _start: &Start<'_>,
         _settings: &Settings,

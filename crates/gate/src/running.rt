@@ -1,5 +1,5 @@
 //! How a box is run.
-ghost use Rattle.std.specs.Prelude.{◌≡◌, ◌⊎◌, ◌<◌, IfErr, IsTrue, Ok, OnOk, Some, false, is_some};
+ghost use Rattle.std.specs.Prelude.{◌≡◌, ◌⊎◌, ◌<◌, IfErr, IsTrue, None, Ok, OnOk, Some, false, is_some};
 ghost use Rattle.nat_types.specs.declared.gateways.GatewayId.TheVariants.{Zero};
 ghost use Rattle.control.specs.Paths.{IsBeside, socket_of};
 ghost use Rattle.sockets.specs.Inheriting.{AreUnblocked};
@@ -7,14 +7,15 @@ ghost use Rattle.rounds.specs.Rounds.{calls, wire_says};
 ghost use Rattle.rounds.specs.Tellings.{IsNewTeller};
 ghost use Rattle.box_words.specs.Faults.{fault_text};
 ghost use Rattle.outlets.specs.Telling.{IsToldOf};
-ghost use Rattle.gate.specs.Asking.{AsksApart, AsksBy, AsksFor, AsksUpTo, AsksWatched, WasAskedFor, captures, listeners, openings, places};
+ghost use Rattle.gate.specs.Asking.{AsksApart, AsksBy, AsksFor, AsksUpTo, AsksWatched, IsAskedFrom, captures, listeners, openings, places};
 ghost use Rattle.gate.specs.Asked.{IsFilter, IsNotified, boot_file_of, path_in};
 ghost use Rattle.gate.specs.Boots.{IsIdentity};
 ghost use Rattle.gate.specs.Failing.{IsUnbegun, LacksEnd};
 ghost use Rattle.gate.specs.Logs.{IsOwnLog, IsOwnTeller, IsRecordedToEnd, IsToldAtRefusal, IsToldOfRun, IsToldOfThis, WasToldRun};
-ghost use Rattle.gate.specs.Named.{IsLeft, IsUntold, WasClosed, WasGiven, WasHad, WasLetGo, all_sockets, begun_capture, boot_number, capture_file, control_socket, locked_file};
+ghost use Rattle.gate.specs.Named.{IsLeft, IsUntold, LendsPace, WasClosed, WasGiven, WasHad, WasLetGo, all_sockets, begun_capture, boot_number, capture_file, control_socket, locked_file};
 ghost use Rattle.gate.specs.Orders.{IsInOrder, IsInSomeOrder, IsNumbered, IsSilentOrTaken, IsSparing, IsUnrun, IsUnstarted};
 ghost use Rattle.gate.specs.Printing.{HasEnded};
+ghost use Rattle.gate.specs.Rests.{AsksRest, LendsRun, UsesMeans, UsesRest, UsesSeed};
 ghost use Rattle.gate.specs.Served.{HasRun, HasServed, RunsLocked, RunsOpened, RunsWired};
 ghost use Rattle.gate.specs.Sparing.{FailsHeard, FailsHeld, FailsInherited, FailsLocked, FailsLogged, FailsOpening, FailsWatched, FailsWired, IsRefusal};
 ghost use Rattle.gate.specs.Starts.{AreHeld, AreRead, AreWatched, AreWays, CanOpen};
@@ -22,14 +23,15 @@ ghost use Rattle.gate.specs.Told.{HearsAll, IsUnheard};
 ghost use Rattle.gate.specs.declared.recording.Records.{Records};
 ghost use Rattle.gate.specs.Wires.{IsOfSockets, IsOwnWire, IsSpared, RanOn, RunsOn, does_at, says_at};
 
+use crate::Hands;
 use crate::capturing::{CaptureAt, capture_at};
-use crate::machine::{Machine, machine_of};
+use crate::machine::{Machine, parts_of};
 use crate::reading::{manager_of, settings_at, without_clash};
 use crate::recording::{Records, put_away};
-use crate::rest::{Means, Rest, rest_of};
+use crate::rest::{Means, Pace, Rest, filter_by, timed, told_to_record};
 use crate::starting::started;
 use crate::ways::{WayTexts, ways_of};
-use crate::wires::{Held, let_go, unlock};
+use crate::wires::{Held, OwnDisk, let_go, put_down, unlock};
 use boot_file::{Blocks, FileDisk, Lockable, Opened};
 use boot_store::Disk;
 use box_words::BoxFault;
@@ -37,11 +39,11 @@ use control::{Bound, ControlPath};
 use gateway::Gateway;
 use journal::{Format, Journal, OwnLog};
 use nat_types::GatewayId;
-use outlets::Tells;
-use rounds::{Identity, InputEnd, Teller, serve};
-use runtimes::Hosted;
+use outlets::{Output, Tells};
+use rounds::{Identity, Teller, serve};
 use settings::Settings;
 use sockets::{Sockets, Ways, Wire};
+use std::alloc::Global;
 use std::fs::Files;
 use std::io::Write;
 use std::net::Net;
@@ -79,13 +81,13 @@ pub struct Start<'a> {
 }
 
 /// Runs one gateway until it is told to end, or has had its rounds; only gateway 0 founds a pair. The boot number is
-/// printed first. The answer is the exit status: 0, or 1 for a fault, which is told on `errors`. Its records go to the
-/// standard error of `rt`, and wait for nobody.
+/// printed first. The answer is the exit status: 0, or 1 for a fault, which is told on `errors`. By these hands
+/// alone the system is asked; its records go to the standard error, and wait for nobody.
 pub fn gate<
-    R: Files + Net + Clock + RandomSource + Eprint + Env + Input + AllocGlobal + Hosted,
-    O: Write,
+    R: Files + Net + Clock + RandomSource + Eprint + Env + Input + AllocGlobal,
+    O: Output,
     E: Tells,
->(rt: &R, start: &Start<'_>, output: &mut O, errors: &mut E) -> u8
+>(hands: Hands<'_, R>, start: &Start<'_>, output: &mut O, errors: &mut E) -> u8
 where
     R::File: Blocks + Lockable + AsRawFd,
     requires found { IsTrue start.now.found → start.now.id ≡ Zero }
@@ -94,7 +96,7 @@ where
     ensures order { result ≡ 1 → IsSilentOrTaken
         ⟦<FileDisk<Opened<R::File>> as Disk>⟧.honest ⟦<FileDisk<Opened<R::File>> as Disk>⟧.now
         start.now.found output.old output.new }
-    ensures asks { WasAskedFor start.now }
+    ensures asks { IsAskedFrom hands.entry start.now }
     ensures quiet { result ≡ 0 → errors.new ≡ errors.old }
     ensures failed { result ≡ 1 → IsToldOf E.tells fault_text (λ why. IsRefusal O.contents
         start.now output.old output.new why
@@ -102,15 +104,16 @@ where
         ⟦<FileDisk<Opened<R::File>> as Disk>⟧.honest ⟦<FileDisk<Opened<R::File>> as Disk>⟧.now
         start.now.found why output.old output.new) errors.old errors.new }
 {
-    let mut machine = machine_of(rt);
-    match served(&mut machine, rest_of(rt), start, output) {
+    let alloc = hands.alloc();
+    let (mut machine, mut rest) = parts_of(hands);
+    match served(&mut machine, &mut rest, start, output) {
         Ok(()) => {
-            machine.let_go(start);
+            put_down(machine, rest);
             0
         }
         Err(fault) => {
-            machine.let_go(start);
-            fault.tell(rt.alloc(), errors)
+            put_down(machine, rest);
+            fault.tell(alloc, errors)
         }
     }
 }
@@ -121,12 +124,12 @@ where
 /// hashers, the boot number, the head of the capture. So a start that is refused for one of those before takes no number, one
 /// on a box that runs already touches none of its sockets, and only where all else is had a file loses what it has.
 fn served<
-    R: Files + Net + AllocGlobal + Hosted,
-    C: Clock + RandomSource + Eprint + Env + Input + AllocGlobal + Hosted,
-    O: Write,
+    R: Files + Net + AllocGlobal,
+    C: Clock + RandomSource + Eprint + Env + Input + AllocGlobal,
+    O: Output,
 >(
     machine: &mut Machine<'_, R>,
-    rest: Rest<'_, C>,
+    rest: &mut Rest<'_, C>,
     start: &Start<'_>,
     output: &mut O,
 ) -> Result<(), BoxFault>
@@ -134,13 +137,14 @@ where
     R::File: Blocks + Lockable + AsRawFd,
     requires found { IsTrue start.now.found → start.now.id ≡ Zero }
     ensures asks { AsksFor machine.old start.now machine.new }
+    ensures rest { AsksRest start.now rest.old rest.new }
     ensures ok { OnOk result (HasServed O.contents start.now output.old output.new) }
     ensures err { IfErr result (IsRefusal O.contents start.now output.old output.new) }
     ensures order { IfErr result (λ why. IsInSomeOrder O.contents (path_in start.now.capture)
         ⟦<FileDisk<Opened<R::File>> as Disk>⟧.honest ⟦<FileDisk<Opened<R::File>> as Disk>⟧.now
         start.now.found why output.old output.new) }
 {
-    let settings = settings_at(machine, rest.alloc(), start.settings)?;
+    let settings = settings_at(machine, start.settings)?;
     let ended = reached(machine, rest, start, &settings, output);
     drop(settings);
     ended
@@ -148,12 +152,12 @@ where
 
 /// Reads the ways of the places, and takes over their descriptors.
 fn reached<
-    R: Files + Net + AllocGlobal + Hosted,
-    C: Clock + RandomSource + Eprint + Env + Input + AllocGlobal + Hosted,
-    O: Write,
+    R: Files + Net + AllocGlobal,
+    C: Clock + RandomSource + Eprint + Env + Input + AllocGlobal,
+    O: Output,
 >(
     machine: &mut Machine<'_, R>,
-    rest: Rest<'_, C>,
+    rest: &mut Rest<'_, C>,
     start: &Start<'_>,
     settings: &Settings,
     output: &mut O,
@@ -163,6 +167,7 @@ where
     requires found { IsTrue start.now.found → start.now.id ≡ Zero }
     requires held { AreHeld start.now.settings.now settings.now }
     ensures asks { AsksBy machine.old start.now settings.now machine.new }
+    ensures rest { AsksRest start.now rest.old rest.new }
     ensures ok { OnOk result (HasServed O.contents start.now output.old output.new) }
     ensures err { IfErr result (FailsHeld O.contents start.now settings.now
         output.old output.new) }
@@ -177,12 +182,12 @@ where
 
 /// Takes over the service manager's descriptor, and lets the manager go once all is done.
 fn watched<
-    R: Files + Net + AllocGlobal + Hosted,
-    C: Clock + RandomSource + Eprint + Env + Input + AllocGlobal + Hosted,
-    O: Write,
+    R: Files + Net + AllocGlobal,
+    C: Clock + RandomSource + Eprint + Env + Input + AllocGlobal,
+    O: Output,
 >(
     machine: &mut Machine<'_, R>,
-    rest: Rest<'_, C>,
+    rest: &mut Rest<'_, C>,
     start: &Start<'_>,
     settings: &Settings,
     ways: &Ways,
@@ -194,6 +199,7 @@ where
     requires read { AreRead start.now settings.now ways.now }
     requires inherited { AreUnblocked ways.now None }
     ensures asks { AsksWatched machine.old start.now settings.now ways.now machine.new }
+    ensures rest { AsksRest start.now rest.old rest.new }
     ensures ok { OnOk result (HasServed O.contents start.now output.old output.new) }
     ensures err { IfErr result (FailsInherited O.contents start.now settings.now ways.now
         output.old output.new) }
@@ -209,12 +215,12 @@ where
 
 /// Looks whether the ports of the places on loopback can be had together. The control socket's path is made.
 fn apart<
-    R: Files + Net + AllocGlobal + Hosted,
-    C: Clock + RandomSource + Eprint + Env + Input + AllocGlobal + Hosted,
-    O: Write,
+    R: Files + Net + AllocGlobal,
+    C: Clock + RandomSource + Eprint + Env + Input + AllocGlobal,
+    O: Output,
 >(
     machine: &mut Machine<'_, R>,
-    rest: Rest<'_, C>,
+    rest: &mut Rest<'_, C>,
     start: &Start<'_>,
     settings: &Settings,
     ways: &Ways,
@@ -227,6 +233,7 @@ where
     requires watched { AreWatched start.now settings.now ways.now }
     requires notified { IsNotified start.now.notify manager.old }
     ensures asks { AsksApart machine.old start.now settings.now ways.now machine.new }
+    ensures rest { AsksRest start.now rest.old rest.new }
     ensures ok { OnOk result (CanOpen start.now settings.now ways.now × RunsOpened O.contents
         start.now settings.now ways.now manager.old manager.new output.old output.new) }
     ensures err { IfErr result (FailsWatched O.contents start.now settings.now ways.now
@@ -244,12 +251,12 @@ where
 
 /// Opens and locks the boot file, for as long as the gateway runs.
 fn locked<
-    R: Files + Net + AllocGlobal + Hosted,
-    C: Clock + RandomSource + Eprint + Env + Input + AllocGlobal + Hosted,
-    O: Write,
+    R: Files + Net + AllocGlobal,
+    C: Clock + RandomSource + Eprint + Env + Input + AllocGlobal,
+    O: Output,
 >(
     machine: &mut Machine<'_, R>,
-    rest: Rest<'_, C>,
+    rest: &mut Rest<'_, C>,
     start: &Start<'_>,
     settings: &Settings,
     ways: &Ways,
@@ -265,6 +272,7 @@ where
     requires beside { IsBeside (boot_file_of settings.now start.now.id) path.now }
     ensures asks { AsksUpTo machine.old start.now
         (openings start.now settings.now ways.now) machine.new }
+    ensures rest { AsksRest start.now rest.old rest.new }
     ensures ok { OnOk result (RunsOpened O.contents start.now settings.now ways.now
         manager.old manager.new output.old output.new) }
     ensures err { IfErr result (FailsOpening O.contents start.now settings.now ways.now
@@ -289,12 +297,12 @@ where
 
 /// Opens the control socket, while the boot file is locked: no other box listens there.
 fn connected<
-    R: Files + Net + AllocGlobal + Hosted,
-    C: Clock + RandomSource + Eprint + Env + Input + AllocGlobal + Hosted,
-    O: Write,
+    R: Files + Net + AllocGlobal,
+    C: Clock + RandomSource + Eprint + Env + Input + AllocGlobal,
+    O: Output,
 >(
     machine: &mut Machine<'_, R>,
-    rest: Rest<'_, C>,
+    rest: &mut Rest<'_, C>,
     start: &Start<'_>,
     settings: &Settings,
     ways: &Ways,
@@ -314,6 +322,7 @@ where
     requires beside { IsBeside (boot_file_of settings.now start.now.id) path.now }
     ensures asks { AsksUpTo machine.old start.now
         (listeners start.now settings.now ways.now) machine.new }
+    ensures rest { AsksRest start.now rest.old rest.new }
     ensures ok { OnOk result (RunsLocked O.contents start.now settings.now ways.now
         manager.old manager.new output.old output.new) }
     ensures err { IfErr result (FailsLocked O.contents start.now settings.now ways.now
@@ -341,13 +350,13 @@ where
 
 /// Opens the sockets that the ways need. Nothing is asked of the disk before all is had that comes before its number.
 fn wired<
-    R: Files + Net + AllocGlobal + Hosted,
-    C: Clock + RandomSource + Eprint + Env + Input + AllocGlobal + Hosted,
-    D: Disk,
-    O: Write,
+    R: Files + Net + AllocGlobal,
+    C: Clock + RandomSource + Eprint + Env + Input + AllocGlobal,
+    D: OwnDisk,
+    O: Output,
 >(
     machine: &mut Machine<'_, R>,
-    rest: Rest<'_, C>,
+    rest: &mut Rest<'_, C>,
     start: &Start<'_>,
     settings: &Settings,
     ways: &Ways,
@@ -366,6 +375,7 @@ where
     requires written { AreWays start.now.ways ways.now }
     ensures asks { AsksUpTo machine.old start.now
         (places start.now settings.now ways.now) machine.new }
+    ensures rest { AsksRest start.now rest.old rest.new }
     ensures ok { OnOk result (RunsWired O.contents start.now settings.now ways.now
         manager.old manager.new output.old output.new) }
     ensures err { IfErr result (FailsHeard O.contents start.now settings.now ways.now
@@ -388,13 +398,13 @@ where
 
 /// Reads the filter of the records.
 fn logged<
-    R: Files + Net + AllocGlobal + Hosted,
-    C: Clock + RandomSource + Eprint + Env + Input + AllocGlobal + Hosted,
-    D: Disk,
-    O: Write,
+    R: Files + Net + AllocGlobal,
+    C: Clock + RandomSource + Eprint + Env + Input + AllocGlobal,
+    D: OwnDisk,
+    O: Output,
 >(
     machine: &mut Machine<'_, R>,
-    rest: Rest<'_, C>,
+    rest: &mut Rest<'_, C>,
     start: &Start<'_>,
     settings: &Settings,
     manager: &mut Option<Manager>,
@@ -411,6 +421,7 @@ where
     requires own { IsOfSockets settings.now start.now wire }
     ensures asks { AsksUpTo machine.old start.now (captures (path_in start.now.capture))
         machine.new }
+    ensures rest { UsesRest start.now rest.old rest.new }
     ensures ok { OnOk result (HasRun O.contents does_at says_at settings.now start.now wire
         manager.old manager.new output.old output.new) }
     ensures closed { OnOk result (WasClosed (path_in start.now.capture) (Ok tt) output.new) }
@@ -430,11 +441,12 @@ where
         (D.honest disk.old) start.now.found (D.now disk.old) (D.now disk.new)
         why output.old output.new) }
 {
-    match rest.records(start.log, start.format) {
-        Ok((mut records, means)) => {
+    match filter_by(&mut rest.environment, machine.alloc(), start.log) {
+        Ok(filter) => {
+            let mut records = told_to_record(&mut rest.errors, filter, start.format);
             let ended = captured(
                 machine,
-                means,
+                &mut rest.means,
                 start,
                 settings,
                 manager,
@@ -455,15 +467,15 @@ where
 
 /// Opens the file of a capture, where there is to be one, and runs the gateway.
 fn captured<
-    R: Files + Net + AllocGlobal + Hosted,
-    C: Clock + RandomSource + Input + AllocGlobal + Hosted,
-    D: Disk,
+    R: Files + Net + AllocGlobal,
+    C: Clock + RandomSource + Input + AllocGlobal,
+    D: OwnDisk,
     W: Wire + Held,
-    O: Write,
+    O: Output,
     L: Journal + OwnLog,
 >(
     machine: &mut Machine<'_, R>,
-    means: Means<'_, C>,
+    means: &mut Means<'_, C>,
     start: &Start<'_>,
     settings: &Settings,
     manager: &mut Option<Manager>,
@@ -484,6 +496,7 @@ where
     requires untold { IsUntold records.old }
     ensures asks { AsksUpTo machine.old start.now (captures (path_in start.now.capture))
         machine.new }
+    ensures means { UsesMeans (path_in start.now.capture) means.old means.new }
     ensures ok { OnOk result (HasRun O.contents (calls W.does W.answers)
         (wire_says W.waits W.failing W.lost) settings.now start.now wire
         manager.old manager.new output.old output.new) }
@@ -510,9 +523,28 @@ where
 {
     match capture_at(machine, start) {
         Ok(Some(capture)) => tapped(
-            means, start, settings, manager, disk, capture, wire, output, records,
+            machine.alloc(),
+            means,
+            start,
+            settings,
+            manager,
+            disk,
+            capture,
+            wire,
+            output,
+            records,
         ),
-        Ok(None) => run(means, start, settings, manager, disk, wire, output, records),
+        Ok(None) => run(
+            machine.alloc(),
+            means,
+            start,
+            settings,
+            manager,
+            disk,
+            wire,
+            output,
+            records,
+        ),
         Err(fault) => {
             let_go(wire);
             Err(fault)
@@ -524,13 +556,14 @@ where
 /// capture is begun once the boot number is taken.
 fn tapped<
     F: captures::Opened + Write + AsRawFd + Drop,
-    C: Clock + RandomSource + Input + AllocGlobal + Hosted,
-    D: Disk,
+    C: Clock + RandomSource + Input + AllocGlobal,
+    D: OwnDisk,
     W: Wire + Held,
-    O: Write,
+    O: Output,
     L: Journal + OwnLog,
 >(
-    means: Means<'_, C>,
+    alloc: Global,
+    means: &mut Means<'_, C>,
     start: &Start<'_>,
     settings: &Settings,
     manager: &mut Option<Manager>,
@@ -549,6 +582,7 @@ fn tapped<
     requires file { WasHad (capture_file capture.path.now) capture.file }
     requires log { IsOwnLog L.passes L.writes start.now records.old.log }
     requires untold { IsUntold records.old }
+    ensures means { UsesSeed (Some capture.entry.path.now) means.old means.new }
     ensures ok { OnOk result (HasRun O.contents (calls W.does W.answers)
         (wire_says W.waits W.failing W.lost) settings.now start.now wire
         manager.old manager.new output.old output.new) }
@@ -574,7 +608,8 @@ fn tapped<
         why output.old output.new) }
 {
     match started(
-        &means,
+        alloc,
+        &mut means.seeds,
         disk,
         settings,
         start.id,
@@ -584,6 +619,7 @@ fn tapped<
     ) {
         Ok((identity, mut gateway)) => {
             let ended = tapped_rounds(
+                alloc,
                 means,
                 &mut gateway,
                 wire,
@@ -610,12 +646,13 @@ fn tapped<
 /// out.
 fn tapped_rounds<
     F: captures::Opened + Write + AsRawFd + Drop,
-    C: Clock + Input + AllocGlobal + Hosted,
+    C: Clock + Input + AllocGlobal,
     W: Wire + Held,
-    O: Write,
+    O: Output,
     L: Journal + OwnLog,
 >(
-    means: Means<'_, C>,
+    alloc: Global,
+    means: &mut Means<'_, C>,
     gateway: &mut Gateway,
     wire: W,
     capture: CaptureAt<'_, F>,
@@ -633,6 +670,8 @@ fn tapped_rounds<
     requires had { WasHad (capture_file capture.path.now) capture.file }
     requires log { IsOwnLog L.passes L.writes start.now records.old.log }
     requires begun { IsToldOfThis identity.boot records.old }
+    ensures seeds { means.new.seeds ≡ means.old.seeds }
+    ensures means { LendsRun (Some capture.entry.path.now) means.old means.new }
     ensures ran { OnOk result (RanOn (calls W.does W.answers) (wire_says W.waits W.failing W.lost)
         identity start.now gateway.old gateway.new wire manager.old manager.new) }
     ensures ended { OnOk result (HasEnded O.contents gateway.new output.old output.new) }
@@ -651,11 +690,20 @@ fn tapped_rounds<
         × ((output.new ≡ output.old)
         × ((manager.new ≡ manager.old) × (gateway.new ≡ gateway.old))))) }
 {
-    let mut wire = capture.begin(means.alloc(), wire, start.id, means.moments())?;
+    let mut wire = capture.begin(alloc, wire, start.id, timed(&mut means.moments))?;
     let run = records.lend();
     let teller = records.teller_at(run, gateway.moment());
     let ended = rounds_of(
-        means, gateway, &mut wire, start, settings, identity, manager, output, teller,
+        alloc,
+        &mut means.pace,
+        gateway,
+        &mut wire,
+        start,
+        settings,
+        identity,
+        manager,
+        output,
+        teller,
     );
     wire.end();
     records.told_of_left_out(wire);
@@ -664,13 +712,14 @@ fn tapped_rounds<
 
 /// Starts the gateway and runs its rounds, on a wire.
 fn run<
-    C: Clock + RandomSource + Input + AllocGlobal + Hosted,
-    D: Disk,
+    C: Clock + RandomSource + Input + AllocGlobal,
+    D: OwnDisk,
     W: Wire + Held,
-    O: Write,
+    O: Output,
     L: Journal + OwnLog,
 >(
-    means: Means<'_, C>,
+    alloc: Global,
+    means: &mut Means<'_, C>,
     start: &Start<'_>,
     settings: &Settings,
     manager: &mut Option<Manager>,
@@ -687,6 +736,7 @@ fn run<
     requires own { IsOfSockets settings.now start.now wire }
     requires log { IsOwnLog L.passes L.writes start.now records.old.log }
     requires untold { IsUntold records.old }
+    ensures means { UsesSeed None means.old means.new }
     ensures ok { OnOk result (HasRun O.contents (calls W.does W.answers)
         (wire_says W.waits W.failing W.lost) settings.now start.now wire
         manager.old manager.new output.old output.new) }
@@ -710,7 +760,8 @@ fn run<
         why output.old output.new) }
 {
     match started(
-        &means,
+        alloc,
+        &mut means.seeds,
         disk,
         settings,
         start.id,
@@ -722,7 +773,8 @@ fn run<
             let run = records.lend();
             let teller = records.teller_at(run, gateway.moment());
             let ended = rounds_of(
-                means,
+                alloc,
+                &mut means.pace,
                 &mut gateway,
                 &mut wire,
                 start,
@@ -745,8 +797,9 @@ fn run<
 
 /// Runs a gateway until it is told to end, or has had its rounds. Its manager hears first that it is up. After an Err it was
 /// run too, and `end` isn't written.
-fn rounds_of<C: Clock + Input + AllocGlobal + Hosted, W: Wire, O: Write, L: Journal + OwnLog>(
-    means: Means<'_, C>,
+fn rounds_of<C: Clock + Input + AllocGlobal, W: Wire, O: Output, L: Journal + OwnLog>(
+    alloc: Global,
+    pace: &mut Pace<'_, C>,
     gateway: &mut Gateway,
     wire: &mut W,
     start: &Start<'_>,
@@ -762,6 +815,7 @@ fn rounds_of<C: Clock + Input + AllocGlobal + Hosted, W: Wire, O: Write, L: Jour
     requires log { IsOwnLog L.passes L.writes start.now teller.log }
     requires fresh { IsNewTeller teller.log gateway.old.moment teller }
     requires teller { IsOwnTeller (Records L) identity.boot teller }
+    ensures pace { LendsPace pace.old pace.new }
     ensures runs { (run : RunsOn (calls W.does W.answers)
         (wire_says W.waits W.failing W.lost) identity
         start.now.rounds start.now.track start.now.until_eof
@@ -771,11 +825,9 @@ fn rounds_of<C: Clock + Input + AllocGlobal + Hosted, W: Wire, O: Write, L: Jour
     ensures ended { OnOk result (HasEnded O.contents gateway.new output.old output.new) }
     ensures err { IfErr result (LacksEnd O.contents output.old output.new) }
 {
-    let alloc = means.alloc();
     let moment = gateway.moment();
     manager.ready(identity.boot);
-    let mut clock = means.stopwatch();
-    let mut until = InputEnd::new(means.input(start.until_eof));
+    let (mut clock, mut until) = pace.begun(start.until_eof);
     let served = serve(
         alloc,
         gateway,

@@ -8,12 +8,14 @@ ghost use Rattle.gate.specs.Boots.{HasBoot, HasStarted, IsIdentity, IsStart, Tel
 ghost use Rattle.gate.specs.Asked.{boot_file_of};
 ghost use Rattle.gate.specs.Failing.{LacksGateway, LacksLine, LacksNumberOf};
 ghost use Rattle.gate.specs.Logs.{IsLikeLog, IsToldOfBoot};
-ghost use Rattle.gate.specs.Named.{IsLeft, IsNumberOf, WasGiven, WasHad, WasNumbered, WasRecorded, boot_number, locked_file, seed};
+ghost use Rattle.gate.specs.Named.{IsLeft, IsNumberOf, WasGiven, WasHad, WasNumbered, WasRecorded, announced_boot, boot_number, locked_file, seed};
 ghost use Rattle.gate.specs.Orders.{IsInOrder, IsUnbooted};
+ghost use Rattle.gate.specs.Rests.{AsksSeed};
 ghost use Rattle.gate.specs.Printing.{HasLine, HasNumber, HasPrinted, IsLinePrinted, IsLineRefused, boot_line, boot_text};
 
 use crate::recording::Records;
-use crate::rest::Means;
+use crate::seeds::Seeds;
+use crate::wires::OwnDisk;
 use boot_store::{Disk, next_boot};
 use box_words::BoxFault;
 use checks::digest;
@@ -21,23 +23,18 @@ use gateway::{Gateway, Hashers};
 use itoa::Buffer;
 use journal::{Journal, OwnLog};
 use nat_types::GatewayId;
-use outlets::{told_to_flush, told_to_put};
+use outlets::{Output, told_to_flush, told_to_put};
 use rounds::Identity;
-use runtimes::Hosted;
 use settings::Settings;
 use std::alloc::Global;
-use std::io::{self, Write};
+use std::io;
 use std::random::RandomSource;
 
 /// A gateway in the next boot of its disk, whose number is printed before anything is sent, and is the first record. Its
 /// seed is drawn first, so that a start without one takes no number. The answer has who the box is.
-pub(crate) fn started<
-    R: RandomSource + AllocGlobal + Hosted,
-    D: Disk,
-    O: Write,
-    L: Journal + OwnLog,
->(
-    means: &Means<'_, R>,
+pub(crate) fn started<R: RandomSource, D: OwnDisk, O: Output, L: Journal + OwnLog>(
+    alloc: Global,
+    seeds: &mut Seeds<'_, R>,
     disk: &mut D,
     settings: &Settings,
     id: GatewayId,
@@ -47,6 +44,7 @@ pub(crate) fn started<
 ) -> Result<(Identity, Gateway), BoxFault>
     requires found { IsTrue found → id ≡ Zero }
     requires had { WasHad (locked_file (boot_file_of settings.now id)) disk.old }
+    ensures seed { AsksSeed seeds.old seeds.new }
     ensures start { IfOk result (λ begun. HasStarted O.contents settings.now id found
         output.old output.new begun.1) }
     ensures identity { IfOk result (λ begun. IsIdentity settings.now id begun.0 begun.1) }
@@ -60,6 +58,7 @@ pub(crate) fn started<
     ensures like { OnOk result (IsLikeLog L.passes L.writes records.old.log records.new.log) }
     ensures seeded { OnOk result (WasGiven seed) }
     ensures given { OnOk result (WasGiven boot_number) }
+    ensures announced { OnOk result (WasGiven announced_boot) }
     ensures own_number { OnOk result (IsNumberOf disk.old) }
     ensures err { IfErr result (IsUnbooted O.contents settings.now id (disk.new ≡ disk.old)
         output.old output.new) }
@@ -70,8 +69,8 @@ pub(crate) fn started<
         (D.now disk.old) (D.now disk.new) why output.old output.new) }
 {
     let digest = digest(settings);
-    let hashers = means.drawn()?;
-    let (boot, gateway) = booted(means.alloc(), disk, settings, id, found, hashers)?;
+    let hashers = seeds.drawn()?;
+    let (boot, gateway) = booted(alloc, disk, settings, id, found, hashers)?;
     match announced(output, boot) {
         Ok(()) => {
             records.told_of_boot(boot);
@@ -85,8 +84,10 @@ pub(crate) fn started<
 }
 
 /// Prints the number of a boot.
-fn announced<O: Write>(output: &mut O, boot: u64) -> Result<(), BoxFault>
+#[tactic(auto, unfolding(crate::specs::Named::WasGiven))]
+fn announced<O: Output>(output: &mut O, boot: u64) -> Result<(), BoxFault>
     ensures printed { OnOk result (HasPrinted O.contents output.old boot output.new) }
+    ensures given { OnOk result (WasGiven announced_boot) }
     ensures err { IfErr result (LacksLine O.contents boot output.old output.new) }
 {
     print_boot(output, boot)?;
@@ -94,7 +95,7 @@ fn announced<O: Write>(output: &mut O, boot: u64) -> Result<(), BoxFault>
 }
 
 /// Writes the line of a boot, to its end, and has output hand on what it keeps.
-fn print_boot<O: Write>(output: &mut O, boot: u64) -> io::Result<()>
+fn print_boot<O: Output>(output: &mut O, boot: u64) -> io::Result<()>
     ensures prints { Prints (O.contents output.old) result (O.contents output.new)
         (boot_line boot) }
     ensures line { OnOk result (IsLinePrinted output.old boot output.new) }
@@ -105,7 +106,7 @@ fn print_boot<O: Write>(output: &mut O, boot: u64) -> io::Result<()>
 }
 
 /// Writes the line of a boot.
-fn put_line<O: Write>(output: &mut O, boot: u64) -> io::Result<()>
+fn put_line<O: Output>(output: &mut O, boot: u64) -> io::Result<()>
     ensures prints { Prints (O.contents output.old) result (O.contents output.new)
         (boot_line boot) }
     ensures line { OnOk result (HasLine output.old boot output.new) }
@@ -116,7 +117,7 @@ fn put_line<O: Write>(output: &mut O, boot: u64) -> io::Result<()>
 }
 
 /// Writes what stands in that line.
-fn put_number<O: Write>(output: &mut O, boot: u64) -> io::Result<()>
+fn put_number<O: Output>(output: &mut O, boot: u64) -> io::Result<()>
     ensures prints { Prints (O.contents output.old) result (O.contents output.new)
         (boot_text boot) }
     ensures number { OnOk result (HasNumber output.old boot output.new) }
@@ -129,7 +130,7 @@ fn put_number<O: Write>(output: &mut O, boot: u64) -> io::Result<()>
 
 /// The next boot number of a disk, and a gateway in just that boot. Once it is answered, the number
 /// is on the disk.
-fn booted<D: Disk>(
+fn booted<D: OwnDisk>(
     alloc: Global,
     disk: &mut D,
     settings: &Settings,
@@ -161,7 +162,7 @@ fn booted<D: Disk>(
 
 /// The next boot number of a disk.
 #[tactic(auto, unfolding(crate::specs::Named::WasGiven, crate::specs::Named::WasDenied, crate::specs::Named::WasNumbered))]
-fn numbered<D: Disk>(disk: &mut D, found: bool) -> Result<u64, BoxFault>
+fn numbered<D: OwnDisk>(disk: &mut D, found: bool) -> Result<u64, BoxFault>
     ensures given { OnOk result (WasGiven boot_number) }
     ensures own_number { OnOk result (IsNumberOf disk.old) }
     ensures above_zero { IfOk result (λ boot. 0 < boot) }

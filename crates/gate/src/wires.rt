@@ -7,13 +7,17 @@ ghost use Rattle.gate.specs.Named.{IsLeft, WasHad, WasLetGo, WasUnlocked, locked
 ghost use Rattle.gate.specs.Orders.{IsUntaken};
 ghost use Rattle.gate.specs.Served.{RanLocked};
 
+use crate::machine::Machine;
+use crate::rest::Rest;
 use crate::running::Start;
-use boot_file::{FileDisk, Opened};
+use boot_file::{Blocks, FileDisk, Opened};
+use boot_store::Disk;
 use box_words::BoxFault;
+use outlets::Output;
 use rounds::{InputEnd, Stopwatch};
+use runtimes::Hand;
 use settings::Settings;
 use sockets::{Sockets, Ways};
-use std::io::Write;
 use supervision::Manager;
 
 /// Kept to this file, so that nothing else can be a `Held`.
@@ -40,7 +44,27 @@ impl<R> closed::Sealed for (Stopwatch<'_, R>, InputEnd<'_, R>) {}
 
 impl<R> Held for (Stopwatch<'_, R>, InputEnd<'_, R>) {}
 
-/// Lets a wire, a service manager, or a clock with what tells a run to end, go, as it is.
+/// What asks the system for a start.
+impl<R> closed::Sealed for Machine<'_, R> {}
+
+impl<R> Held for Machine<'_, R> {}
+
+impl<R> closed::Sealed for Rest<'_, R> {}
+
+impl<R> Held for Rest<'_, R> {}
+
+impl<R> closed::Sealed for Hand<'_, R> {}
+
+impl<R> Held for Hand<'_, R> {}
+
+/// The disk of a start's box: its boot file, and nothing that shows itself as that.
+pub(crate) trait OwnDisk: Disk + closed::Sealed {}
+
+impl<F: Drop> closed::Sealed for FileDisk<Opened<F>> {}
+
+impl<F: Blocks + Drop> OwnDisk for FileDisk<Opened<F>> {}
+
+/// Lets a wire, a service manager, what asks the system, or a clock with what tells a run to end, go, as it is.
 #[tactic(auto, unfolding(crate::specs::Named::WasLetGo))]
 pub(crate) fn let_go<A: Held>(it: A)
     ensures { WasLetGo it }
@@ -48,10 +72,19 @@ pub(crate) fn let_go<A: Held>(it: A)
     drop(it);
 }
 
+/// Lets what asked the system for a start go, as it is.
+pub(crate) fn put_down<R>(machine: Machine<'_, R>, rest: Rest<'_, R>)
+    ensures machine { WasLetGo machine.entry }
+    ensures rest { WasLetGo rest.entry }
+{
+    let_go(machine);
+    let_go(rest);
+}
+
 /// Lets the boot file of a start's box go: as it was when it was locked, or as its number has left it, which is taken behind the
 /// seed; and where the start was served, behind its run.
 #[tactic(auto, unfolding(crate::specs::Named::WasUnlocked))]
-pub(crate) fn unlock<F: Drop, O: Write>(
+pub(crate) fn unlock<F: Drop, O: Output>(
     disk: FileDisk<Opened<F>>,
     _start: &Start<'_>,
     _settings: &Settings,

@@ -7,13 +7,9 @@ use Rattle.polls.specs.Polls.{HasNoReport, HasReport}
 
 -- ---- what the system is asked
 
--- Who watches the standard input asked it for nothing yet. It is no more than a name for what he is made as, and so is the one below it for a
--- call: who makes the call has it, and nobody else. What he asks by a poll has a name of the crate `polls`.
-unfoldable pub IsUnasked : {I : Type 0} → I → Type 0
-IsUnasked input = Unit {0}
-
--- By what he was before and is then: the system was asked for what stands on the standard input, for at most so many bytes, and answered so: how
--- many there were, or why it gave none.
+-- By what who asks was before and is then: the system was asked for what stands on the standard input, for at most so many bytes, and answered so: how
+-- many there were, or why it gave none. It is no more than a name for the call: who makes it has the name, and nobody else. What he asks by a poll has a
+-- name of the crate `polls`.
 unfoldable pub WasRead : {I : Type 0} → I → ℕ → Result ℕ Error → I → Type 0
 WasRead before room answer after = Unit {0}
 

@@ -1,18 +1,17 @@
 //! The system's standard input. Only here it is at hand, and what it is asked has names.
 ghost use Rattle.std.specs.Prelude.{◌≡◌, false, true, length};
 ghost use Rattle.polls.specs.Polls.{HasNoReport, HasReport};
-ghost use Rattle.inputs.specs.Inputs.{IsReported, IsUnasked, WasRead};
+ghost use Rattle.inputs.specs.Inputs.{IsReported, WasRead};
 
-use polls::{Asker, standard_input_is_reported};
-use runtimes::Hosted;
+use polls::standard_input_is_reported;
+use runtimes::Hand;
 use std::io::{self, Read};
 use std::marker::Model;
 
 /// The standard input, and who watches it: for clauses it is who asks.
 #[derive(Drop)]
 pub struct StandardInput<'a, R> {
-    rt: &'a R,
-    asker: Asker,
+    hand: Hand<'a, R>,
 }
 
 impl<'a, R> Model for StandardInput<'a, R> {
@@ -20,19 +19,15 @@ impl<'a, R> Model for StandardInput<'a, R> {
 
     ghost Value = { Asker };
 
-    ghost view = { λ s. s.asker };
+    ghost view = { λ s. s.hand };
 }
 
-impl<'a, R: Hosted> StandardInput<'a, R> {
-    /// It was asked for nothing yet.
-    #[tactic(auto, unfolding(crate::specs::Inputs::IsUnasked))]
-    pub fn new(rt: &'a R) -> StandardInput<'a, R>
-        ensures unasked { IsUnasked result }
+impl<'a, R> StandardInput<'a, R> {
+    /// It is asked by this hand.
+    pub fn new(hand: Hand<'a, R>) -> StandardInput<'a, R>
+        ensures unasked { result ≡ hand.entry }
     {
-        StandardInput {
-            rt,
-            asker: Asker::new(),
-        }
+        StandardInput { hand }
     }
 }
 
@@ -42,7 +37,7 @@ impl<R> StandardInput<'_, R> {
         ensures reported { result ≡ true → HasReport self.old self.new }
         ensures none { result ≡ false → HasNoReport self.old self.new }
     {
-        standard_input_is_reported(&mut self.asker)
+        standard_input_is_reported(&mut self.hand)
     }
 }
 
@@ -54,6 +49,6 @@ impl<R: Input> StandardInput<'_, R> {
         requires reported { IsReported self.old }
         ensures read { WasRead self.old (length room.old) result self.new }
     {
-        self.rt.reader().read(room)
+        self.hand.lend().reader().read(room)
     }
 }

@@ -42,7 +42,7 @@ pub trait Outlet {
             → AddsCut (contents self.old) (contents self.new) (D.output line) };
 }
 
-impl<R: Eprint> Outlet for StandardError<R> {
+impl<R: Eprint> Outlet for StandardError<'_, R> {
     ghost IsRoomy = { IsSeenRoomy };
 
     ghost looks = { WasSeen };

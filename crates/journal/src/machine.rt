@@ -1,21 +1,33 @@
 // This process, as who has an environment. What it is asked has a name, and no more is known of it.
-ghost use Rattle.std.specs.Prelude.{Err, IfErr, IfOk, Ok, string_bytes};
+ghost use Rattle.std.specs.Prelude.{◌≡◌, Err, IfErr, IfOk, Ok, string_bytes};
 ghost use Rattle.journal.specs.Filters.{WasAsked, WasSaidOf};
 
-use runtimes::Hosted;
+use runtimes::Hand;
 use std::alloc::Global;
 use std::env::{self, VarError};
+use std::marker::Model;
 use std::rt::Env;
 
 /// This process, as who has an environment. Nobody else of this crate asks for its variables.
 #[derive(Drop)]
 pub struct Machine<'a, R> {
-    rt: &'a R,
+    hand: Hand<'a, R>,
 }
 
-impl<'a, R: Hosted> Machine<'a, R> {
-    pub fn new(rt: &'a R) -> Machine<'a, R> {
-        Machine { rt }
+impl<'a, R> Model for Machine<'a, R> {
+    ghost use Rattle.polls.specs.declared.askers.Asker.{Asker};
+
+    ghost Value = { Asker };
+
+    ghost view = { λ machine. machine.hand };
+}
+
+impl<'a, R> Machine<'a, R> {
+    /// It asks by this hand.
+    pub fn new(hand: Hand<'a, R>) -> Machine<'a, R>
+        ensures { result ≡ hand.entry }
+    {
+        Machine { hand }
     }
 }
 
@@ -30,6 +42,6 @@ impl<R: Env + Alloc<A = Global>> Machine<'_, R> {
         ensures said { IfOk result (λ text. WasSaidOf variable.now (Ok (string_bytes text))) }
         ensures unsaid { IfErr result (λ why. WasSaidOf variable.now (Err why)) }
     {
-        env::var(self.rt, variable)
+        env::var(self.hand.lend(), variable)
     }
 }

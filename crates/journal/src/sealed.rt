@@ -3,10 +3,9 @@
 use crate::sink::Unhindered;
 use crate::standard_error::StandardError;
 use log::filter::FilteredLog;
-use runtimes::Hosted;
 use std::alloc::Allocator;
 
 /// Nobody outside this crate can name it.
 pub trait Sealed {}
 
-impl<R: Hosted, A: Allocator> Sealed for FilteredLog<Unhindered<StandardError<R>>, A> {}
+impl<R, A: Allocator> Sealed for FilteredLog<Unhindered<StandardError<'_, R>>, A> {}

@@ -1,4 +1,4 @@
--- The ports that a passage through sockets holds, and what they are asked to send.
+-- The ports that a passage through sockets holds, and what is sent through them.
 use Rattle.std.specs.Prelude.{◌≡◌, ℕ, List}
 use Rattle.nat_types.specs.declared.gateways.GatewayId.{GatewayId}
 use Rattle.nat_types.specs.declared.gateways.GatewayId.TheVariants.{Zero, One}
@@ -7,6 +7,7 @@ use Rattle.settings.specs.declared.gateway_settings.GatewaySettings.{GatewaySett
 use Rattle.settings.specs.declared.whole.Settings.{Settings}
 use Rattle.sockets.specs.declared.places.Place.{Place}
 use Rattle.sockets.specs.declared.places.Place.TheVariants.{Link, Side, Operator}
+use Rattle.loopback_run.specs.Reaches.{Reach, reach}
 use Rattle.loopback_run.specs.declared.loopback.Port.{Port}
 use Rattle.loopback_run.specs.declared.loopback.Ports.{Ports}
 use Rattle.loopback_run.specs.declared.loopback.Both.{Both}
@@ -24,26 +25,29 @@ pub record AreOfBoth {S : Type 0} (settings : Settings) (both : Both S) : Type 0
   pub zero : AreOf settings.zero both.zero
   pub one : AreOf settings.one both.one
 
--- what may become of bytes that a carrier is asked, once, to send to the port of a number, and what it is then
-abbrev pub Asks : Type 0 → Type 1
-Asks S = S → ℕ → List ℕ → Passed → S → Type 0
+-- what may become of bytes that who carries them is asked, once, to send through a port to the port of a number, and what both are then
+abbrev pub Asks : Type 0 → Type 0 → Type 1
+Asks B S = Reach B S → ℕ → List ℕ → Passed → Reach B S → Type 0
 
--- a port was asked once to send these bytes, which go to its own number
-abbrev pub AsksPort : {S : Type 0} → Asks S → List ℕ → Passed → Port S → Port S → Type 0
-AsksPort asks bytes fate old new = asks old.carrier old.number bytes fate new.carrier × (new.number ≡ old.number)
+-- he was asked once to send these bytes through a port, and they go to its own number
+abbrev pub AsksPort : {B S : Type 0} → Asks B S → List ℕ → Passed → Reach B (Port S) → Reach B (Port S) → Type 0
+AsksPort asks bytes fate old new = asks (reach old.system old.port.carrier) old.port.number bytes fate (reach new.system new.port.carrier)
+    × (new.port.number ≡ old.port.number)
 
--- of a gateway's ports just that of this place was, and each other is what it was; for the operator's place none is asked, and
+-- of a gateway's ports just that of this place was sent through, and each other is what it was; for the operator's place nothing is asked, and
 -- the bytes are lost
-abbrev pub AsksOne : {S : Type 0} → Asks S → Place → List ℕ → Passed → Ports S → Ports S → Type 0
-AsksOne asks Link bytes fate old new =
-    AsksPort asks bytes fate old.link new.link × ((new.inside ≡ old.inside) × (new.outside ≡ old.outside))
-AsksOne asks (Side Inside) bytes fate old new =
-    AsksPort asks bytes fate old.inside new.inside × ((new.link ≡ old.link) × (new.outside ≡ old.outside))
-AsksOne asks (Side Outside) bytes fate old new =
-    AsksPort asks bytes fate old.outside new.outside × ((new.link ≡ old.link) × (new.inside ≡ old.inside))
+abbrev pub AsksOne : {B S : Type 0} → Asks B S → Place → List ℕ → Passed → Reach B (Ports S) → Reach B (Ports S) → Type 0
+AsksOne asks Link bytes fate old new = AsksPort asks bytes fate (reach old.system old.port.link) (reach new.system new.port.link)
+    × ((new.port.inside ≡ old.port.inside) × (new.port.outside ≡ old.port.outside))
+AsksOne asks (Side Inside) bytes fate old new = AsksPort asks bytes fate (reach old.system old.port.inside) (reach new.system new.port.inside)
+    × ((new.port.link ≡ old.port.link) × (new.port.outside ≡ old.port.outside))
+AsksOne asks (Side Outside) bytes fate old new = AsksPort asks bytes fate (reach old.system old.port.outside) (reach new.system new.port.outside)
+    × ((new.port.link ≡ old.port.link) × (new.port.inside ≡ old.port.inside))
 AsksOne asks Operator bytes fate old new = (fate ≡ Lost) × (new ≡ old)
 
 -- of both gateways just that of this gateway and place was
-abbrev pub AsksOneOf : {S : Type 0} → Asks S → GatewayId → Place → List ℕ → Passed → Both S → Both S → Type 0
-AsksOneOf asks Zero place bytes fate old new = AsksOne asks place bytes fate old.zero new.zero × (new.one ≡ old.one)
-AsksOneOf asks One place bytes fate old new = AsksOne asks place bytes fate old.one new.one × (new.zero ≡ old.zero)
+abbrev pub AsksOneOf : {B S : Type 0} → Asks B S → GatewayId → Place → List ℕ → Passed → Reach B (Both S) → Reach B (Both S) → Type 0
+AsksOneOf asks Zero place bytes fate old new =
+    AsksOne asks place bytes fate (reach old.system old.port.zero) (reach new.system new.port.zero) × (new.port.one ≡ old.port.one)
+AsksOneOf asks One place bytes fate old new =
+    AsksOne asks place bytes fate (reach old.system old.port.one) (reach new.system new.port.one) × (new.port.zero ≡ old.port.zero)

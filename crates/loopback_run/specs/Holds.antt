@@ -20,9 +20,9 @@ standing_of (Refused fault) = refused fault
 abbrev pub passage_of : {B S : Type 0} → Holding B S → Passage B S
 passage_of h = record { system = h.system; standing = standing_of h.hold }
 
--- it was never asked for ports
-abbrev pub IsUnasked : {B S : Type 0} → Holding B S → Type 0
-IsUnasked h = standing_of h.hold ≡ unasked
+-- it is who binds ports, as he is here, and was never asked for its own
+abbrev pub IsPassageOf : {B S : Type 0} → B → Holding B S → Type 0
+IsPassageOf system h = h ≡ record { system = system; hold = Unasked }
 
 -- of all that it has just who binds its ports, and what it holds, may be another
 abbrev pub KeepsElse : {B S : Type 0} → Holding B S → Holding B S → Type 0
@@ -37,5 +37,5 @@ abbrev pub HoldsNoPorts : {B S : Type 0} → Binds B S → Holding B S → Setti
 HoldsNoPorts binds before settings why after = KeepsElse before after × LacksPorts binds (passage_of before) settings why (passage_of after)
 
 -- this became of a parcel
-abbrev pub PassesOn : {B S : Type 0} → Asks S → Holding B S → Message → Passed → Holding B S → Type 0
+abbrev pub PassesOn : {B S : Type 0} → Asks B S → Holding B S → Message → Passed → Holding B S → Type 0
 PassesOn asks before parcel fate after = KeepsElse before after × HasPassed asks (passage_of before) parcel fate (passage_of after)

@@ -8,6 +8,7 @@ pub mod Tapes
 pub mod Fails
 pub mod Parcels
 pub mod Carrying
+pub mod Reaches
 pub mod Held
 pub mod Binding
 pub mod Standings

@@ -4,6 +4,7 @@ use Rattle.settings.specs.declared.whole.Settings.{Settings}
 use Rattle.loopback_run.specs.Binding.{Binds, BindsBoth}
 use Rattle.loopback_run.specs.Held.{AreOfBoth, Asks, AsksOneOf}
 use Rattle.loopback_run.specs.Parcels.{Message}
+use Rattle.loopback_run.specs.Reaches.{reach}
 use Rattle.loopback_run.specs.declared.loopback.Both.{Both}
 use Rattle.loopback_run.specs.declared.ports.PortFault.{PortFault}
 use Rattle.loopback_run.specs.declared.passage.Passed.{Passed}
@@ -35,15 +36,13 @@ abbrev pub LacksPorts : {B S : Type 0} → Binds B S → Passage B S → Setting
 LacksPorts {B = B} binds before settings why after = (freed : B) × (WasLetGo before.system before.standing freed
     × ((after.standing ≡ refused why) × BindsBoth binds settings freed (Err why) after.system))
 
--- What becomes of a parcel: just the port of its gateway and place, which has the number of those settings, is asked once to send it, and
--- each other port is what it was; without ports it is lost.
-abbrev pub Carries : {S : Type 0} → Asks S → Standing S → Message → Passed → Standing S → Type 0
-Carries asks unasked parcel fate after = (fate ≡ Lost) × (after ≡ unasked)
-Carries {S = S} asks (bound settings both) parcel fate after = AreOfBoth settings both
-    × ((both2 : Both S) × ((after ≡ bound settings both2) × AsksOneOf asks parcel.id parcel.place parcel.bytes fate both both2))
-Carries asks (refused why) parcel fate after = (fate ≡ Lost) × (after ≡ refused why)
+-- What becomes of a parcel: who binds the ports is asked once to send it through just the port of its gateway and place, which has the number of
+-- those settings, and each other port is what it was; without ports it is lost, and nothing is asked.
+abbrev pub Carries : {B S : Type 0} → Asks B S → Message → Passed → B → Standing S → B → Standing S → Type 0
+Carries asks parcel fate system unasked system2 after = (fate ≡ Lost) × ((after ≡ unasked) × (system2 ≡ system))
+Carries {S = S} asks parcel fate system (bound settings both) system2 after = AreOfBoth settings both × ((both2 : Both S) × ((after ≡ bound settings both2)
+    × AsksOneOf asks parcel.id parcel.place parcel.bytes fate (reach system both) (reach system2 both2)))
+Carries asks parcel fate system (refused why) system2 after = (fate ≡ Lost) × ((after ≡ refused why) × (system2 ≡ system))
 
--- and no port is bound meanwhile
-abbrev pub HasPassed : {B S : Type 0} → Asks S → Passage B S → Message → Passed → Passage B S → Type 0
-HasPassed asks before parcel fate after =
-    (after.system ≡ before.system) × Carries asks before.standing parcel fate after.standing
+abbrev pub HasPassed : {B S : Type 0} → Asks B S → Passage B S → Message → Passed → Passage B S → Type 0
+HasPassed asks before parcel fate after = Carries asks parcel fate before.system before.standing after.system after.standing

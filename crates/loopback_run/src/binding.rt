@@ -8,12 +8,12 @@ use std::alloc::Global;
 use std::net::Net;
 
 /// Which ports are had is the system's answer.
-impl<'a, R: Net + AllocGlobal> Binds<SystemPort<'a, R>> for SystemBinds<'a, R> {
+impl<R: Net + AllocGlobal> Binds<SystemPort> for SystemBinds<'_, R> {
     ghost use Rattle.loopback_run.specs.Binding.{HasBound};
 
     ghost binds = { HasBound };
 
-    fn bind(&mut self, number: u16) -> Result<SystemPort<'a, R>, Unbound> {
+    fn bind(&mut self, number: u16) -> Result<SystemPort, Unbound> {
         match self.told_to_make_room(1) {
             Some(room) => watched(self, number, room),
             None => Err(Unbound::NoMemory),
@@ -22,11 +22,11 @@ impl<'a, R: Net + AllocGlobal> Binds<SystemPort<'a, R>> for SystemBinds<'a, R> {
 }
 
 /// The port of this number, of which waits report in this room that it can be read.
-fn watched<'a, R: Net + AllocGlobal>(
-    system: &mut SystemBinds<'a, R>,
+fn watched<R: Net>(
+    system: &mut SystemBinds<'_, R>,
     number: u16,
     room: Events<Global>,
-) -> Result<SystemPort<'a, R>, Unbound>
+) -> Result<SystemPort, Unbound>
     ensures { Watches number room system.old result system.new }
 {
     let Ok(socket) = system.told_to_bind(address_of(number)) else {

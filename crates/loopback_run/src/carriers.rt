@@ -1,18 +1,21 @@
-//! Who binds ports, and what a port sends its bytes through.
+//! Who binds ports, and who sends bytes through them.
 
 use crate::Passed;
 
-/// What a port sends its bytes through.
-pub(crate) trait Carries {
+/// Who sends bytes through ports.
+pub(crate) trait Carries<S> {
     ghost use Rattle.std.specs.Prelude.{ℕ, List};
+    ghost use Rattle.loopback_run.specs.Reaches.{Reach, reach};
     ghost use Rattle.loopback_run.specs.declared.passage.Passed.{Passed as Fate};
 
-    /// What may become of bytes that it is asked, once, to send to the port of this number, and what it is then.
-    ghost asks: { Self → ℕ → List ℕ → Fate → Self → Type 0 };
+    /// What may become of bytes that he is asked, once, to send through a port to the port of this number, and what both are
+    /// then.
+    ghost asks: { Reach Self S → ℕ → List ℕ → Fate → Reach Self S → Type 0 };
 
-    /// Sends bytes to the port of this number, and says whether just these came.
-    fn carry(&mut self, number: u16, bytes: &[u8]) -> Passed
-        ensures { asks self.old number bytes.now result self.new };
+    /// Sends bytes through a port to the port of this number, and says whether just these came.
+    fn carry(&mut self, port: &mut S, number: u16, bytes: &[u8]) -> Passed
+        ensures { asks (reach self.old port.old) number bytes.now result
+            (reach self.new port.new) };
 }
 
 /// Why a port isn't had.

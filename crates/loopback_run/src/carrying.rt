@@ -5,13 +5,15 @@ ghost use Rattle.std.specs.Prelude.{◌≡◌, ◌≢◌, ◌+◌, ◌<◌, IfSo
 ghost use Rattle.std.specs.declared.io.ErrorKind.TheVariants.{WouldBlock};
 ghost use Rattle.std.specs.Duration.{as_nanos};
 ghost use Rattle.loopback_run.specs.Carrying.{HasAwaited, HasLooked, LooksIn};
+ghost use Rattle.loopback_run.specs.Reaches.{reach};
 ghost use Rattle.loopback_run.specs.declared.carrying.Look.TheVariants.{Came, Failed, Other};
 
 use crate::Passed;
 use crate::carriers::Carries;
-use crate::machine::{SystemPort, address_of};
+use crate::machine::{SystemBinds, SystemPort, address_of};
 use sockets::LONGEST;
 use std::io::{self, ErrorKind};
+use std::net::Net;
 use std::rt::Clock;
 use std::time::{Duration, Instant};
 
@@ -30,14 +32,14 @@ enum Look {
 }
 
 /// A send, a receive or a clock that fails loses the bytes.
-impl<R: Clock> Carries for SystemPort<'_, R> {
+impl<R: Net + Clock> Carries<SystemPort> for SystemBinds<'_, R> {
     ghost use Rattle.loopback_run.specs.Carrying.{HasCarried};
 
     ghost asks = { HasCarried };
 
-    fn carry(&mut self, number: u16, bytes: &[u8]) -> Passed {
-        if self.told_to_send(address_of(number), bytes) {
-            awaited(self, bytes)
+    fn carry(&mut self, port: &mut SystemPort, number: u16, bytes: &[u8]) -> Passed {
+        if self.told_to_send(port, address_of(number), bytes) {
+            awaited(self, port, bytes)
         } else {
             Passed::Lost
         }
@@ -45,15 +47,20 @@ impl<R: Clock> Carries for SystemPort<'_, R> {
 }
 
 /// Looks for bytes until they come or the time is over. What else comes is ignored.
-fn awaited<R: Clock>(port: &mut SystemPort<'_, R>, bytes: &[u8]) -> Passed
-    ensures { HasAwaited bytes.now result port.old port.new }
+fn awaited<R: Net + Clock>(
+    system: &mut SystemBinds<'_, R>,
+    port: &mut SystemPort,
+    bytes: &[u8],
+) -> Passed
+    ensures { HasAwaited bytes.now result (reach system.old port.old)
+        (reach system.new port.new) }
 {
-    let Some(start) = port.asked_now() else {
+    let Some(start) = system.asked_now(port) else {
         return Passed::Lost;
     };
     let mut room = [0; LONGEST];
     for _turn in 0..u64::MAX {
-        match looked_in_time(port, start, &mut room, bytes) {
+        match looked_in_time(system, port, start, &mut room, bytes) {
             Look::Came => return Passed::Received,
             Look::Other => {}
             Look::Failed => return Passed::Lost,
@@ -63,19 +70,21 @@ fn awaited<R: Clock>(port: &mut SystemPort<'_, R>, bytes: &[u8]) -> Passed
 }
 
 /// Looks once for bytes, if there is time left.
-fn looked_in_time<R: Clock>(
-    port: &mut SystemPort<'_, R>,
+fn looked_in_time<R: Net + Clock>(
+    system: &mut SystemBinds<'_, R>,
+    port: &mut SystemPort,
     start: Instant,
     room: &mut [u8; LONGEST],
     bytes: &[u8],
 ) -> Look
-    ensures { LooksIn start bytes.now result port.old port.new }
+    ensures { LooksIn start bytes.now result (reach system.old port.old)
+        (reach system.new port.new) }
 {
-    let Some(spent) = port.asked_since(start) else {
+    let Some(spent) = system.asked_since(port, start) else {
         return Look::Failed;
     };
     match time_left(spent) {
-        Some(left) => looked(port, room, left, bytes),
+        Some(left) => looked(system, port, room, left, bytes),
         None => Look::Failed,
     }
 }
@@ -89,17 +98,19 @@ fn time_left(spent: Duration) -> Option<Duration>
 }
 
 /// Looks once for bytes, and waits for them where none came yet.
-fn looked<R: Clock>(
-    port: &mut SystemPort<'_, R>,
+fn looked<R: Net>(
+    system: &mut SystemBinds<'_, R>,
+    port: &mut SystemPort,
     room: &mut [u8; LONGEST],
     left: Duration,
     bytes: &[u8],
 ) -> Look
-    ensures { HasLooked left bytes.now result port.old port.new }
+    ensures { HasLooked left bytes.now result (reach system.old port.old)
+        (reach system.new port.new) }
 {
-    match port.told_to_receive(room) {
+    match system.told_to_receive(port, room) {
         Ok((count, _)) => look_at(are_same(&room[..count], bytes)),
-        Err(error) if is_none_yet(&error) => look_after(port.told_to_wait(left)),
+        Err(error) if is_none_yet(&error) => look_after(system.told_to_wait(port, left)),
         Err(_) => Look::Failed,
     }
 }

@@ -2,12 +2,13 @@
 ghost use Rattle.std.specs.Prelude.{◌≡◌, IfOk};
 ghost use Rattle.loopback_run.specs.Held.{AreOf, AreOfBoth, AsksOne, AsksOneOf, AsksPort};
 ghost use Rattle.loopback_run.specs.Binding.{BindsBoth, BindsPort, BindsPorts, WasGivenUp};
+ghost use Rattle.loopback_run.specs.Reaches.{reach};
 
 use crate::carriers::{Binds, Carries, Unbound};
 use crate::machine::{SystemBinds, SystemPort};
 use crate::{Channel, Passed, PortFault};
 use nat_types::{GatewayId, Side};
-use runtimes::Hosted;
+use runtimes::Hand;
 use settings::{GatewaySettings, Settings};
 use sockets::Place;
 use std::snapshot::Snapshot;
@@ -18,12 +19,12 @@ mod closed {
     pub trait Sealed {}
 }
 
-/// What carries a port's bytes, a port, or three: itself, and nothing that shows itself as that.
+/// What a port's bytes go through, a port, or three: itself, and nothing that shows itself as that.
 pub(crate) trait Held: Drop + closed::Sealed {}
 
-impl<R> closed::Sealed for SystemPort<'_, R> {}
+impl closed::Sealed for SystemPort {}
 
-impl<R> Held for SystemPort<'_, R> {}
+impl Held for SystemPort {}
 
 impl<S: Held> closed::Sealed for Port<S> {}
 
@@ -39,7 +40,7 @@ fn give_up<X: Held>(_had: X)
     ensures { WasGivenUp _had }
 {}
 
-/// A port that sends to itself: its number, and what carries its bytes.
+/// A port that sends to itself: its number, and what its bytes go through.
 #[derive(Drop)]
 struct Port<S> {
     number: u16,
@@ -60,12 +61,13 @@ impl<S> Port<S> {
     }
 }
 
-impl<S: Carries> Port<S> {
+impl<S> Port<S> {
     /// Sends bytes to itself, once, and says whether just these came.
-    fn pass(&mut self, bytes: &[u8]) -> Passed
-        ensures { AsksPort S.asks bytes.now result self.old self.new }
+    fn pass<B: Carries<S>>(&mut self, system: &mut B, bytes: &[u8]) -> Passed
+        ensures { AsksPort B.asks bytes.now result (reach system.old self.old)
+            (reach system.new self.new) }
     {
-        self.carrier.carry(self.number, bytes)
+        system.carry(&mut self.carrier, self.number, bytes)
     }
 }
 
@@ -107,15 +109,16 @@ impl<S: Held> Ports<S> {
     }
 }
 
-impl<S: Carries> Ports<S> {
+impl<S> Ports<S> {
     /// Sends bytes through the port of a place, once, and through no other; the operator's has none, and loses them.
-    fn pass(&mut self, place: Place, bytes: &[u8]) -> Passed
-        ensures { AsksOne S.asks place bytes.now result self.old self.new }
+    fn pass<B: Carries<S>>(&mut self, system: &mut B, place: Place, bytes: &[u8]) -> Passed
+        ensures { AsksOne B.asks place bytes.now result (reach system.old self.old)
+            (reach system.new self.new) }
     {
         match place {
-            Place::Link => self.link.pass(bytes),
-            Place::Side(Side::Inside) => self.inside.pass(bytes),
-            Place::Side(Side::Outside) => self.outside.pass(bytes),
+            Place::Link => self.link.pass(system, bytes),
+            Place::Side(Side::Inside) => self.inside.pass(system, bytes),
+            Place::Side(Side::Outside) => self.outside.pass(system, bytes),
             Place::Operator => Passed::Lost,
         }
     }
@@ -145,14 +148,21 @@ impl<S: Held> Both<S> {
     }
 }
 
-impl<S: Carries> Both<S> {
+impl<S> Both<S> {
     /// Sends bytes through the port of a gateway's place, once, and through no other.
-    fn pass(&mut self, id: GatewayId, place: Place, bytes: &[u8]) -> Passed
-        ensures { AsksOneOf S.asks id place bytes.now result self.old self.new }
+    fn pass<B: Carries<S>>(
+        &mut self,
+        system: &mut B,
+        id: GatewayId,
+        place: Place,
+        bytes: &[u8],
+    ) -> Passed
+        ensures { AsksOneOf B.asks id place bytes.now result (reach system.old self.old)
+            (reach system.new self.new) }
     {
         match id {
-            GatewayId::Zero => self.zero.pass(place, bytes),
-            GatewayId::One => self.one.pass(place, bytes),
+            GatewayId::Zero => self.zero.pass(system, place, bytes),
+            GatewayId::One => self.one.pass(system, place, bytes),
         }
     }
 }
@@ -165,14 +175,21 @@ struct BoundPorts<S> {
     ghost numbered: { AreOfBoth settings.value both },
 }
 
-impl<S: Carries> BoundPorts<S> {
+impl<S> BoundPorts<S> {
     /// Sends bytes through the port of a gateway's place, once, and through no other.
-    fn pass(&mut self, id: GatewayId, place: Place, bytes: &[u8]) -> Passed
-        ensures asked { AsksOneOf S.asks id place bytes.now result self.old.both self.new.both }
+    fn pass<B: Carries<S>>(
+        &mut self,
+        system: &mut B,
+        id: GatewayId,
+        place: Place,
+        bytes: &[u8],
+    ) -> Passed
+        ensures asked { AsksOneOf B.asks id place bytes.now result (reach system.old self.old.both)
+            (reach system.new self.new.both) }
         ensures settings { self.new.settings.value ≡ self.old.settings.value }
         ensures numbered { AreOfBoth self.old.settings.value self.old.both }
     {
-        self.both.pass(id, place, bytes)
+        self.both.pass(system, id, place, bytes)
     }
 }
 
@@ -201,22 +218,22 @@ impl<S: Held> Hold<S> {
     }
 }
 
-/// Who binds ports, and which are held: a passage through them. Where they aren't had, all is lost. Of who binds, and of what
-/// carries the bytes of a port, no more is known here than that each can be asked for that; so nobody else can be asked.
+/// Who binds ports and has bytes go through them, and which are held: a passage through them. Where they aren't had, all is
+/// lost. Of him no more is known here than that he can be asked for that; so nobody else can be asked.
 #[derive(Drop)]
 pub struct Holding<B, S> {
     system: B,
     hold: Hold<S>,
 }
 
-impl<B: Binds<S>, S: Carries + Held> Channel for Holding<B, S> {
+impl<B: Binds<S> + Carries<S>, S: Held> Channel for Holding<B, S> {
     ghost use Rattle.loopback_run.specs.Holds.{HoldsNoPorts, HoldsPorts, PassesOn};
 
     ghost opens = { HoldsPorts B.binds };
 
     ghost refuses = { HoldsNoPorts B.binds };
 
-    ghost passes = { PassesOn S.asks };
+    ghost passes = { PassesOn B.asks };
 
     /// Asks for the ports of settings, each once, after those that it had are let go. After an Err it has none.
     fn open(&mut self, settings: &Settings) -> Result<(), PortFault> {
@@ -238,24 +255,25 @@ impl<B: Binds<S>, S: Carries + Held> Channel for Holding<B, S> {
     /// place, they are lost.
     fn pass(&mut self, id: GatewayId, place: Place, bytes: &[u8]) -> Passed {
         match &mut self.hold {
-            Hold::Bound(ports) => ports.pass(id, place, bytes),
+            Hold::Bound(ports) => ports.pass(&mut self.system, id, place, bytes),
             Hold::Unasked | Hold::Refused(_) => Passed::Lost,
         }
     }
 }
 
 /// The own UDP ports of both gateways on the loopback address. A send, a receive or a clock that fails loses the bytes.
-pub type Loopback<'a, R> = Holding<SystemBinds<'a, R>, SystemPort<'a, R>>;
+pub type Loopback<'a, R> = Holding<SystemBinds<'a, R>, SystemPort>;
 
-impl<'a, R: Hosted> Loopback<'a, R> {
-    ghost use Rattle.loopback_run.specs.Holds.{IsUnasked};
+impl<'a, R> Loopback<'a, R> {
+    ghost use Rattle.loopback_run.specs.Holds.{IsPassageOf};
 
-    /// Was never asked for its ports. Nothing is asked of the system here: of an `R` alone nothing can be.
-    pub fn new(rt: &'a R) -> Loopback<'a, R>
-        ensures { IsUnasked result }
+    /// It asks by this hand, and was never asked for its ports. Nothing is asked of the system here: of an `R` alone nothing
+    /// can be.
+    pub fn new(hand: Hand<'a, R>) -> Loopback<'a, R>
+        ensures { IsPassageOf hand.entry result }
     {
         Holding {
-            system: SystemBinds::new(rt),
+            system: SystemBinds::new(hand),
             hold: Hold::Unasked,
         }
     }

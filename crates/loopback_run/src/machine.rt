@@ -1,80 +1,35 @@
 //! The system's ports. What it is asked has names, and no more is known of it.
-ghost use Rattle.std.specs.Prelude.{◌≤◌, IfOk};
+ghost use Rattle.std.specs.Prelude.{◌≡◌, ◌≤◌, IfOk};
 ghost use Rattle.sockets.specs.Ends.{IsSocketOf, on_loopback};
 ghost use Rattle.loopback_run.specs.Binding.{WasBound, WasGivenRoom, WasPollMade, WasWatched};
 ghost use Rattle.loopback_run.specs.Carrying.{WasAwaited, WasNow, WasReceived, WasSent, WasSince};
+ghost use Rattle.loopback_run.specs.Reaches.{reach};
 
 use mio::net::UdpSocket;
 use mio::{Events, Interest, Poll, Token};
-use runtimes::Hosted;
+use runtimes::{Hand, Kept};
 use sockets::LONGEST;
 use std::alloc::Global;
 use std::io;
+use std::marker::Model;
 use std::net::{Ipv4Addr, Net, SocketAddr, SocketAddrV4};
 use std::rt::Clock;
 use std::time::{Duration, Instant};
 
 /// A socket of the system's, which nothing can be sent through yet.
 #[derive(Drop)]
-pub(crate) struct Socket(UdpSocket);
+pub(crate) struct Socket(Kept<UdpSocket>);
 
 /// What waits for a socket.
 #[derive(Drop)]
-pub(crate) struct Waits(Poll);
+pub(crate) struct Waits(Kept<Poll>);
 
-/// A socket of the system's that never waits but in a poll, and the system's clock.
+/// A socket of the system's that never waits but in a poll. Nothing goes through it but by who asks the system.
 #[derive(Drop)]
-pub struct SystemPort<'a, R> {
+pub struct SystemPort {
     socket: Socket,
     waits: Waits,
     events: Events<Global>,
-    clock: &'a R,
-}
-
-impl<R: Clock> SystemPort<'_, R> {
-    /// Has the system send bytes to an address, and says whether it did.
-    #[tactic(auto, unfolding(crate::specs::Carrying::WasSent))]
-    pub(crate) fn told_to_send(&mut self, to: SocketAddr, bytes: &[u8]) -> bool
-        ensures { WasSent self.old to bytes.now result self.new }
-    {
-        self.socket.0.send_to(bytes, to).is_ok()
-    }
-
-    /// Asks the system for the next datagram that is there, and who sent it.
-    #[tactic(auto, unfolding(crate::specs::Carrying::WasReceived))]
-    pub(crate) fn told_to_receive(
-        &mut self,
-        room: &mut [u8; LONGEST],
-    ) -> io::Result<(usize, SocketAddr)>
-        ensures within { IfOk result (λ answer. answer.0 ≤ 4096) }
-        ensures asked { WasReceived self.old result room.new self.new }
-    {
-        self.socket.0.recv_from(room)
-    }
-
-    /// Has the system wait for one, for at most so long, and says whether it did.
-    #[tactic(auto, unfolding(crate::specs::Carrying::WasAwaited))]
-    pub(crate) fn told_to_wait(&mut self, limit: Duration) -> bool
-        ensures { WasAwaited self.old limit result self.new }
-    {
-        self.waits.0.poll(&mut self.events, Some(limit)).is_ok()
-    }
-
-    /// Asks the system's clock for the moment.
-    #[tactic(auto, unfolding(crate::specs::Carrying::WasNow))]
-    pub(crate) fn asked_now(&mut self) -> Option<Instant>
-        ensures { WasNow self.old result self.new }
-    {
-        Instant::now(self.clock).ok()
-    }
-
-    /// Asks it how much time has passed since a moment.
-    #[tactic(auto, unfolding(crate::specs::Carrying::WasSince))]
-    pub(crate) fn asked_since(&mut self, start: Instant) -> Option<Duration>
-        ensures { WasSince self.old start result self.new }
-    {
-        start.elapsed(self.clock).ok()
-    }
 }
 
 /// The address of the port of this number.
@@ -84,33 +39,47 @@ pub(crate) fn address_of(number: u16) -> SocketAddr
     SocketAddr::V4(SocketAddrV4::new(Ipv4Addr::LOCALHOST, number))
 }
 
-/// The system, as who binds ports.
+/// The system, as who binds ports, has bytes go through them, and has a clock. It is asked by one hand.
 #[derive(Drop)]
 pub struct SystemBinds<'a, R> {
-    system: &'a R,
+    hand: Hand<'a, R>,
 }
 
-impl<'a, R: Hosted> SystemBinds<'a, R> {
-    pub(crate) fn new(system: &'a R) -> SystemBinds<'a, R> {
-        SystemBinds { system }
+impl<'a, R> Model for SystemBinds<'a, R> {
+    ghost use Rattle.polls.specs.declared.askers.Asker.{Asker};
+
+    ghost Value = { Asker };
+
+    ghost view = { λ system. system.hand };
+}
+
+impl<'a, R> SystemBinds<'a, R> {
+    /// It asks by this hand.
+    pub(crate) fn new(hand: Hand<'a, R>) -> SystemBinds<'a, R>
+        ensures { result ≡ hand.entry }
+    {
+        SystemBinds { hand }
     }
 }
 
-impl<'a, R: Net + AllocGlobal> SystemBinds<'a, R> {
+impl<R: Net + AllocGlobal> SystemBinds<'_, R> {
     /// Asks for memory in which a wait reports so many events.
     #[tactic(auto, unfolding(crate::specs::Binding::WasGivenRoom))]
     pub(crate) fn told_to_make_room(&mut self, count: usize) -> Option<Events<Global>>
         ensures { WasGivenRoom self.old count result self.new }
     {
-        Events::with_capacity(self.system.alloc(), count).ok()
+        Events::with_capacity(self.hand.alloc(), count).ok()
     }
+}
 
+impl<R: Net> SystemBinds<'_, R> {
     /// Asks the system for a socket at an address.
     #[tactic(auto, unfolding(crate::specs::Binding::WasBound))]
     pub(crate) fn told_to_bind(&mut self, address: SocketAddr) -> io::Result<Socket>
         ensures { WasBound self.old address result self.new }
     {
-        Ok(Socket(UdpSocket::bind(self.system, address)?))
+        let socket = UdpSocket::bind(self.hand.lend(), address)?;
+        Ok(Socket(Kept::new(socket)))
     }
 
     /// Asks the system for what waits for a socket.
@@ -118,7 +87,8 @@ impl<'a, R: Net + AllocGlobal> SystemBinds<'a, R> {
     pub(crate) fn told_to_make_poll(&mut self) -> io::Result<Waits>
         ensures { WasPollMade self.old result self.new }
     {
-        Ok(Waits(Poll::new(self.system)?))
+        let poll = Poll::new(self.hand.lend())?;
+        Ok(Waits(Kept::new(poll)))
     }
 
     /// Has waits report of a socket what is of interest, in this room: it is a port then.
@@ -129,19 +99,70 @@ impl<'a, R: Net + AllocGlobal> SystemBinds<'a, R> {
         waits: Waits,
         room: Events<Global>,
         interest: Interest,
-    ) -> io::Result<SystemPort<'a, R>>
+    ) -> io::Result<SystemPort>
         ensures { WasWatched self.old socket waits room interest result self.new }
     {
-        let mut socket = socket;
-        waits
-            .0
-            .registry()
-            .register(&mut socket.0, Token(0), interest)?;
+        let (mut socket, mut waits) = (socket, waits);
+        let registry = waits.0.lend().registry();
+        registry.register(socket.0.lend(), Token(0), interest)?;
         Ok(SystemPort {
             socket,
             waits,
             events: room,
-            clock: self.system,
         })
+    }
+
+    /// Has the system send bytes through a port to an address, and says whether it did.
+    #[tactic(auto, unfolding(crate::specs::Carrying::WasSent))]
+    pub(crate) fn told_to_send(
+        &mut self,
+        port: &mut SystemPort,
+        to: SocketAddr,
+        bytes: &[u8],
+    ) -> bool
+        ensures { WasSent (reach self.old port.old) to bytes.now result (reach self.new port.new) }
+    {
+        port.socket.0.lend().send_to(bytes, to).is_ok()
+    }
+
+    /// Asks the system for the next datagram that is there for a port, and who sent it.
+    #[tactic(auto, unfolding(crate::specs::Carrying::WasReceived))]
+    pub(crate) fn told_to_receive(
+        &mut self,
+        port: &mut SystemPort,
+        room: &mut [u8; LONGEST],
+    ) -> io::Result<(usize, SocketAddr)>
+        ensures within { IfOk result (λ answer. answer.0 ≤ 4096) }
+        ensures asked { WasReceived (reach self.old port.old) result room.new
+            (reach self.new port.new) }
+    {
+        port.socket.0.lend().recv_from(room)
+    }
+
+    /// Has the system wait for one, for at most so long, and says whether it did.
+    #[tactic(auto, unfolding(crate::specs::Carrying::WasAwaited))]
+    pub(crate) fn told_to_wait(&mut self, port: &mut SystemPort, limit: Duration) -> bool
+        ensures { WasAwaited (reach self.old port.old) limit result (reach self.new port.new) }
+    {
+        let waits = port.waits.0.lend();
+        waits.poll(&mut port.events, Some(limit)).is_ok()
+    }
+}
+
+impl<R: Clock> SystemBinds<'_, R> {
+    /// Asks the system's clock for the moment, while a port is what it is.
+    #[tactic(auto, unfolding(crate::specs::Carrying::WasNow))]
+    pub(crate) fn asked_now(&mut self, _port: &SystemPort) -> Option<Instant>
+        ensures { WasNow (reach self.old _port.now) result (reach self.new _port.now) }
+    {
+        Instant::now(self.hand.lend()).ok()
+    }
+
+    /// Asks it how much time has passed since a moment.
+    #[tactic(auto, unfolding(crate::specs::Carrying::WasSince))]
+    pub(crate) fn asked_since(&mut self, _port: &SystemPort, start: Instant) -> Option<Duration>
+        ensures { WasSince (reach self.old _port.now) start result (reach self.new _port.now) }
+    {
+        start.elapsed(self.hand.lend()).ok()
     }
 }

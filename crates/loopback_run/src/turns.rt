@@ -20,19 +20,19 @@ use crate::{Channel, Passed, PortFault};
 use faults::Fault;
 use frame_sim::{Step, Tape, Untaped, World, put_end, read_job};
 use nat_types::WorldEvent;
-use outlets::Tells;
+use outlets::{Output, Tells};
 use printing::Printer;
 use settings::Settings;
 use settings_file::{SettingFault, port_clash_of_both};
 use sockets::Place;
 use std::alloc::Global;
-use std::io::{self, Write};
+use std::io;
 
 /// Runs a script as `simulation::simulate` does, but each frame and each datagram that an event hands in is first sent
 /// through the passage. Where it is lost, its event is left out: that is printed, and the world doesn't take it.
 ///
 /// The answer is the exit status: 0, 3 where an event was refused, or 1 for a fault, which is told on `errors`.
-pub fn run_loop<P: Channel, O: Write, E: Tells>(
+pub fn run_loop<P: Channel, O: Output, E: Tells>(
     alloc: Global,
     settings: &str,
     script: &str,
@@ -66,7 +66,7 @@ pub fn run_loop<P: Channel, O: Write, E: Tells>(
 /// (`CantWork`): after these nothing was sent and nothing is written. Else `NoSocket` where the passage is refused its ports: then nothing is written. Else
 /// `NotWritten` where output is refused: a beginning of it is written, and what the events up to there
 /// hand in was sent. `NoMemory` may come at each.
-pub fn loop_script<P: Channel, O: Write>(
+pub fn loop_script<P: Channel, O: Output>(
     alloc: Global,
     settings: &str,
     script: &str,
@@ -92,7 +92,7 @@ pub fn loop_script<P: Channel, O: Write>(
 /// # Errors
 ///
 /// As those of `loop_script`; `NotWritten` also where the tape is refused.
-pub fn loop_captured<P: Channel, T: Tape, O: Write>(
+pub fn loop_captured<P: Channel, T: Tape, O: Output>(
     alloc: Global,
     settings: &str,
     script: &str,
@@ -146,7 +146,7 @@ pub(crate) fn of_port(fault: PortFault) -> Fault
 ///
 /// `NotWritten` where the tape or output is refused: the events up to there have had their turns. `NoMemory`
 /// before the first event, or after the last.
-pub fn play<P: Channel, T: Tape, O: Write>(
+pub fn play<P: Channel, T: Tape, O: Output>(
     alloc: Global,
     settings: &Settings,
     events: &[WorldEvent],
@@ -174,7 +174,7 @@ pub fn play<P: Channel, T: Tape, O: Write>(
 }
 
 /// Runs events on a world, has a tape take them down, and prints what they gave and its tables.
-fn played<P: Channel, T: Tape, O: Write>(
+fn played<P: Channel, T: Tape, O: Output>(
     world: &mut World<'_>,
     events: &[WorldEvent],
     passage: &mut P,
@@ -195,7 +195,7 @@ fn played<P: Channel, T: Tape, O: Write>(
 }
 
 /// Gives each event its turn, has a tape take it down, and prints what it gave. The answer says whether one was refused.
-fn turned<P: Channel, T: Tape, O: Write>(
+fn turned<P: Channel, T: Tape, O: Output>(
     world: &mut World<'_>,
     events: &[WorldEvent],
     passage: &mut P,
@@ -261,7 +261,7 @@ fn take_down<T: Tape>(
 }
 
 /// Has an output take the lines of what an event gave, or that it is lost.
-fn print<O: Write>(
+fn print<O: Output>(
     printer: &mut Printer,
     output: &mut O,
     event: &WorldEvent,

@@ -1,7 +1,7 @@
 //! A pair of NAT gateways: `natpair --help` tells its commands.
 #![tactic(auto)]
 
-use commands::act;
+use commands::{Hands, act};
 use faults::Fault;
 use std::env;
 use std::io::{self, BufWriter, IsTerminal, Write};
@@ -13,7 +13,8 @@ fn start<E: Write + IsTerminal>(rt: &HostRuntime, errors: &mut E) -> io::Result<
     let words = env::args(rt)?.collect::<Vec<String>>(rt.alloc())?;
     let mut output = BufWriter::new(rt.alloc(), io::writer(rt))?;
     let is_watched = errors.is_terminal();
-    Ok(act(rt, words.as_slice(), is_watched, &mut output, errors))
+    let hands = Hands::new(rt);
+    Ok(act(hands, words.as_slice(), is_watched, &mut output, errors))
 }
 
 fn main(rt: HostRuntime) -> ExitCode {

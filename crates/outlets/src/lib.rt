@@ -3,11 +3,12 @@
 
 mod outputs;
 mod puts;
+mod sealed;
 mod showing;
 mod tells;
 mod texts;
 
-pub use outputs::{told_to_flush, told_to_put};
+pub use outputs::{Output, told_to_flush, told_to_put};
 pub use puts::{Takes, put_in_turns};
 pub use showing::{Shows, told_to_show, told_to_show_number};
 pub use tells::{Tells, tell};

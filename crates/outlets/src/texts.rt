@@ -2,15 +2,15 @@
 ghost use Rattle.std.specs.Prelude.{flat_map};
 ghost use Rattle.outlets.specs.Written.{IsWrittenTo};
 
-use crate::told_to_put;
-use std::io::{self, Write};
+use crate::{Output, told_to_put};
+use std::io;
 
 /// Writes bytes, as a part of a text or all of it.
 ///
 /// # Errors
 ///
 /// As the output answers, but for an interruption, behind which it is asked again; `WriteZero` where it takes nothing.
-pub fn put<O: Write>(output: &mut O, bytes: &[u8]) -> io::Result<()>
+pub fn put<O: Output>(output: &mut O, bytes: &[u8]) -> io::Result<()>
     ensures { IsWrittenTo O.contents output.old bytes.now result output.new }
 {
     told_to_put(output, bytes)
@@ -21,7 +21,7 @@ pub fn put<O: Write>(output: &mut O, bytes: &[u8]) -> io::Result<()>
 /// # Errors
 ///
 /// The same.
-pub fn put_parts<O: Write>(output: &mut O, parts: &[&[u8]]) -> io::Result<()>
+pub fn put_parts<O: Output>(output: &mut O, parts: &[&[u8]]) -> io::Result<()>
     ensures { IsWrittenTo O.contents output.old (flat_map (λ part. part.now) parts.now) result
         output.new }
 {
@@ -36,7 +36,7 @@ pub fn put_parts<O: Write>(output: &mut O, parts: &[&[u8]]) -> io::Result<()>
 /// # Errors
 ///
 /// The same.
-pub fn put_text<O: Write>(output: &mut O, text: &str) -> io::Result<()>
+pub fn put_text<O: Output>(output: &mut O, text: &str) -> io::Result<()>
     ensures { IsWrittenTo O.contents output.old text.now result output.new }
 {
     put(output, text.as_bytes())
@@ -47,7 +47,7 @@ pub fn put_text<O: Write>(output: &mut O, text: &str) -> io::Result<()>
 /// # Errors
 ///
 /// The same.
-pub fn put_all<O: Write>(output: &mut O, texts: &[&str]) -> io::Result<()>
+pub fn put_all<O: Output>(output: &mut O, texts: &[&str]) -> io::Result<()>
     ensures { IsWrittenTo O.contents output.old (flat_map (λ text. text.now) texts.now) result
         output.new }
 {

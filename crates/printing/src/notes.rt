@@ -6,8 +6,8 @@ ghost use Rattle.outlets.specs.Written.{IsWrittenTo};
 use addresses::Protocol;
 use itoa::Buffer;
 use nat_types::{GatewayId, Note, NoteKind, Pair, Side};
-use outlets::put_all;
-use std::io::{self, Write};
+use outlets::{Output, put_all};
+use std::io;
 
 pub(crate) fn id_text(id: GatewayId) -> &'static str
     ensures { result.now ≡ id_text id }
@@ -38,7 +38,7 @@ fn protocol_text(protocol: Protocol) -> &'static str
 }
 
 /// Prints a pair, and ends the line.
-pub(crate) fn end_with_pair<O: Write>(output: &mut O, pair: &Pair) -> io::Result<()>
+pub(crate) fn end_with_pair<O: Output>(output: &mut O, pair: &Pair) -> io::Result<()>
     ensures { IsWrittenTo O.contents output.old (pair_text pair.now ++ codes "\n") result
         output.new }
 {
@@ -66,7 +66,7 @@ pub(crate) fn end_with_pair<O: Write>(output: &mut O, pair: &Pair) -> io::Result
 }
 
 /// Prints a note.
-pub(crate) fn note<O: Write>(output: &mut O, note: &Note) -> io::Result<()>
+pub(crate) fn note<O: Output>(output: &mut O, note: &Note) -> io::Result<()>
     ensures { IsWrittenTo O.contents output.old (note_line note.now) result output.new }
 {
     let id = id_text(note.by);
@@ -85,7 +85,7 @@ pub(crate) fn note<O: Write>(output: &mut O, note: &Note) -> io::Result<()>
 }
 
 /// Prints what is noted of a pair.
-fn note_of_pair<O: Write>(output: &mut O, id: &str, name: &str, pair: &Pair) -> io::Result<()>
+fn note_of_pair<O: Output>(output: &mut O, id: &str, name: &str, pair: &Pair) -> io::Result<()>
     ensures { IsWrittenTo O.contents output.old
         (codes "note " ++ id.now ++ codes " " ++ name.now ++ codes " " ++ pair_text pair.now
         ++ codes "\n") result output.new }

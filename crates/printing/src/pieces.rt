@@ -3,14 +3,14 @@ ghost use Rattle.hex.specs.Hex.{encode_lower};
 ghost use Rattle.std.specs.Prelude.{◌≤◌, length};
 ghost use Rattle.outlets.specs.Written.{IsWrittenTo};
 
-use outlets::put;
-use std::io::{self, Write};
+use outlets::{Output, put};
+use std::io;
 
 /// How many bytes are printed at a time.
 const AT_A_TIME: usize = 128;
 
 /// Writes bytes, two digits each.
-pub(crate) fn put_hex<O: Write>(output: &mut O, bytes: &[u8]) -> io::Result<()>
+pub(crate) fn put_hex<O: Output>(output: &mut O, bytes: &[u8]) -> io::Result<()>
     ensures { IsWrittenTo O.contents output.old (encode_lower bytes.now) result output.new }
 {
     let mut rest = bytes;
@@ -23,7 +23,7 @@ pub(crate) fn put_hex<O: Write>(output: &mut O, bytes: &[u8]) -> io::Result<()>
 }
 
 /// No more bytes than are printed at a time.
-fn put_few<O: Write>(output: &mut O, bytes: &[u8]) -> io::Result<()>
+fn put_few<O: Output>(output: &mut O, bytes: &[u8]) -> io::Result<()>
     requires { length bytes.now ≤ AT_A_TIME }
     ensures { IsWrittenTo O.contents output.old (encode_lower bytes.now) result output.new }
 {

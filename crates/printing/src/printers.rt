@@ -7,10 +7,10 @@ ghost use Rattle.outlets.specs.Written.{IsWritten, IsWrittenTo};
 use crate::told::told;
 use itoa::Buffer;
 use nat_types::{GatewayId, WorldEvent};
-use outlets::put_all;
+use outlets::{Output, put_all};
 use output::Out;
 use spec_step::Outcome;
-use std::io::{self, Write};
+use std::io;
 use std::marker::Model;
 
 /// Why an event was refused, as a text.
@@ -57,7 +57,7 @@ impl Printer {
     /// # Errors
     ///
     /// Where output is refused: a beginning of the lines is written. All is counted then, or nothing.
-    pub fn step<O: Write, F: RefusalText>(
+    pub fn step<O: Output, F: RefusalText>(
         &mut self,
         output: &mut O,
         event: &WorldEvent,
@@ -85,7 +85,7 @@ impl Printer {
     /// # Errors
     ///
     /// Where output is refused: a beginning of the line is written.
-    pub fn lost<O: Write>(&mut self, output: &mut O) -> io::Result<()>
+    pub fn lost<O: Output>(&mut self, output: &mut O) -> io::Result<()>
         ensures printed { Prints (O.contents output.old) result (O.contents output.new)
             (lost_line self.old) }
         ensures put { IsWritten output.old (lost_line self.old) result output.new }
@@ -141,7 +141,7 @@ fn gateway_of(event: &WorldEvent) -> GatewayId
 }
 
 /// What became of an event.
-fn answer<O: Write, F: RefusalText>(
+fn answer<O: Output, F: RefusalText>(
     output: &mut O,
     number: usize,
     outcome: &Result<Outcome, F>,
@@ -161,14 +161,14 @@ fn answer<O: Write, F: RefusalText>(
     }
 }
 
-fn event_line<O: Write>(output: &mut O, number: usize, text: &str) -> io::Result<()>
+fn event_line<O: Output>(output: &mut O, number: usize, text: &str) -> io::Result<()>
     ensures { IsWrittenTo O.contents output.old (event_line number text.now) result output.new }
 {
     let mut buffer = Buffer::new();
     put_all(output, &["event ", buffer.format(number), " ", text, "\n"])
 }
 
-fn event_words<O: Write>(output: &mut O, number: usize, word: &str, text: &str) -> io::Result<()>
+fn event_words<O: Output>(output: &mut O, number: usize, word: &str, text: &str) -> io::Result<()>
     ensures { IsWrittenTo O.contents output.old (event_line number (word.now ++ text.now)) result
         output.new }
 {

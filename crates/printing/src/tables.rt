@@ -8,8 +8,8 @@ use crate::notes::{end_with_pair, id_text};
 use addresses::Port;
 use itoa::Buffer;
 use nat_types::{GatewayId, Pair};
-use outlets::put_all;
-use std::io::{self, Write};
+use outlets::{Output, put_all};
+use std::io;
 
 /// How a gateway stands.
 #[derive(Clone, Copy)]
@@ -38,7 +38,7 @@ impl Standing {
 /// # Errors
 ///
 /// Where output is refused: a beginning of the lines is written.
-pub fn table<O: Write>(
+pub fn table<O: Output>(
     output: &mut O,
     id: GatewayId,
     standing: Standing,
@@ -55,7 +55,7 @@ pub fn table<O: Write>(
     held(output, id, pairs)
 }
 
-fn held<O: Write>(output: &mut O, id: GatewayId, pairs: &[Pair]) -> io::Result<()>
+fn held<O: Output>(output: &mut O, id: GatewayId, pairs: &[Pair]) -> io::Result<()>
     ensures { IsWrittenTo O.contents output.old (flat_map (held_line id) pairs.now) result
         output.new }
 {
@@ -65,7 +65,7 @@ fn held<O: Write>(output: &mut O, id: GatewayId, pairs: &[Pair]) -> io::Result<(
     Ok(())
 }
 
-fn held_pair<O: Write>(output: &mut O, id: GatewayId, pair: &Pair) -> io::Result<()>
+fn held_pair<O: Output>(output: &mut O, id: GatewayId, pair: &Pair) -> io::Result<()>
     ensures { IsWrittenTo O.contents output.old (held_line id pair.now) result output.new }
 {
     put_all(output, &["held ", id_text(id), " "])?;
@@ -73,7 +73,7 @@ fn held_pair<O: Write>(output: &mut O, id: GatewayId, pair: &Pair) -> io::Result
 }
 
 /// The unbroken runs of rising ports, a line each.
-fn owned<O: Write>(output: &mut O, id: GatewayId, ports: &[Port]) -> io::Result<()>
+fn owned<O: Output>(output: &mut O, id: GatewayId, ports: &[Port]) -> io::Result<()>
     ensures { IsWrittenTo O.contents output.old (owned_lines id ports.now) result output.new }
 {
     let Some((first, others)) = ports.split_first() else {
@@ -89,7 +89,7 @@ fn owned<O: Write>(output: &mut O, id: GatewayId, ports: &[Port]) -> io::Result<
 }
 
 /// Prints the run from `first` to `last` where it ends before this port.
-fn ended<O: Write>(
+fn ended<O: Output>(
     output: &mut O,
     id: GatewayId,
     first: Port,
@@ -117,7 +117,7 @@ fn follows(last: Port, port: Port) -> bool
     u32::from(last.0) + 1 == u32::from(port.0)
 }
 
-fn owned_run<O: Write>(output: &mut O, id: GatewayId, first: Port, last: Port) -> io::Result<()>
+fn owned_run<O: Output>(output: &mut O, id: GatewayId, first: Port, last: Port) -> io::Result<()>
     ensures { IsWrittenTo O.contents output.old (owned_line id first last) result output.new }
 {
     let (mut front, mut back) = (Buffer::new(), Buffer::new());

@@ -7,13 +7,13 @@ use crate::notes::{id_text, note, side_text};
 use crate::pieces::put_hex;
 use itoa::Buffer;
 use nat_types::{GatewayId, Note, Side};
-use outlets::put_all;
+use outlets::{Output, put_all};
 use output::Out;
-use std::io::{self, Write};
+use std::io;
 
 /// Prints the frames that a gateway sent in a step, then its datagrams, and then its notes. `sent` counts the datagrams that
 /// it ever sent.
-pub(crate) fn told<O: Write>(
+pub(crate) fn told<O: Output>(
     output: &mut O,
     id: GatewayId,
     sent: &mut usize,
@@ -28,7 +28,7 @@ pub(crate) fn told<O: Write>(
     notes(output, out.notes())
 }
 
-fn frames<O: Write>(output: &mut O, id: GatewayId, out: &Out) -> io::Result<()>
+fn frames<O: Output>(output: &mut O, id: GatewayId, out: &Out) -> io::Result<()>
     ensures { IsWrittenTo O.contents output.old (flat_map (frame_line id) out.now.frames) result
         output.new }
 {
@@ -38,7 +38,7 @@ fn frames<O: Write>(output: &mut O, id: GatewayId, out: &Out) -> io::Result<()>
     Ok(())
 }
 
-fn frame<O: Write>(output: &mut O, id: GatewayId, side: Side, bytes: &[u8]) -> io::Result<()>
+fn frame<O: Output>(output: &mut O, id: GatewayId, side: Side, bytes: &[u8]) -> io::Result<()>
     ensures { IsWrittenTo O.contents output.old
         (frame_line id (record { side = side; bytes = bytes.now })) result output.new }
 {
@@ -47,7 +47,12 @@ fn frame<O: Write>(output: &mut O, id: GatewayId, side: Side, bytes: &[u8]) -> i
     put_all(output, &["\n"])
 }
 
-fn datagrams<O: Write>(output: &mut O, id: GatewayId, sent: &mut usize, out: &Out) -> io::Result<()>
+fn datagrams<O: Output>(
+    output: &mut O,
+    id: GatewayId,
+    sent: &mut usize,
+    out: &Out,
+) -> io::Result<()>
     ensures written { IsWrittenTo O.contents output.old (link_lines id sent.old out.now.datagrams)
         result output.new }
     ensures sent { OnOk result (sent.new ≡ more sent.old out.now.datagrams) }
@@ -59,7 +64,7 @@ fn datagrams<O: Write>(output: &mut O, id: GatewayId, sent: &mut usize, out: &Ou
     Ok(())
 }
 
-fn datagram<O: Write>(output: &mut O, id: GatewayId, number: usize, bytes: &[u8]) -> io::Result<()>
+fn datagram<O: Output>(output: &mut O, id: GatewayId, number: usize, bytes: &[u8]) -> io::Result<()>
     ensures { IsWrittenTo O.contents output.old (link_line id number bytes.now) result output.new }
 {
     let mut buffer = Buffer::new();
@@ -71,7 +76,7 @@ fn datagram<O: Write>(output: &mut O, id: GatewayId, number: usize, bytes: &[u8]
     put_all(output, &["\n"])
 }
 
-fn notes<O: Write>(output: &mut O, notes: &[Note]) -> io::Result<()>
+fn notes<O: Output>(output: &mut O, notes: &[Note]) -> io::Result<()>
     ensures { IsWrittenTo O.contents output.old (flat_map note_line notes.now) result output.new }
 {
     for noted in notes {

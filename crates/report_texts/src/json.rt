@@ -17,10 +17,11 @@ use crate::pieces::{Piece, put};
 use addresses::Protocol;
 use journal::Origin;
 use nat_types::EntryState;
+use outlets::Output;
 use reports::{
     Count, Counters, PairCounts, PeerReport, PortCounts, Report, SideReport, WaitingCounts,
 };
-use std::io::{self, Write};
+use std::io;
 
 /// A name, and its value.
 #[derive(Clone, Copy)]
@@ -31,7 +32,7 @@ struct Member<'t>(&'t str, Piece<'t>);
 /// # Errors
 ///
 /// Where output is refused.
-pub fn write_json<O: Write>(output: &mut O, report: &Report) -> io::Result<()>
+pub fn write_json<O: Output>(output: &mut O, report: &Report) -> io::Result<()>
     ensures { IsWrittenTo O.contents output.old (json_text report.now) result output.new }
 {
     let state = &report.gateway;
@@ -50,7 +51,7 @@ pub fn write_json<O: Write>(output: &mut O, report: &Report) -> io::Result<()>
 }
 
 /// Writes members, the first behind a text, each other one behind a comma.
-fn put_members<'t, O: Write>(
+fn put_members<'t, O: Output>(
     output: &mut O,
     before: &'t str,
     members: &[Member<'t>],
@@ -75,7 +76,7 @@ fn put_members<'t, O: Write>(
 }
 
 /// Writes a name with an object of members, behind a text.
-fn put_object<'t, O: Write>(
+fn put_object<'t, O: Output>(
     output: &mut O,
     before: &'t str,
     name: &'t str,
@@ -93,7 +94,7 @@ fn put_object<'t, O: Write>(
 }
 
 /// Which box it is, and how it stands.
-fn put_box<O: Write>(output: &mut O, report: &Report) -> io::Result<()>
+fn put_box<O: Output>(output: &mut O, report: &Report) -> io::Result<()>
     ensures { IsWrittenTo O.contents output.old (behind (codes "{") (box_members report.now)) result
         output.new }
 {
@@ -111,7 +112,7 @@ fn put_box<O: Write>(output: &mut O, report: &Report) -> io::Result<()>
     )
 }
 
-fn put_side<O: Write>(output: &mut O, name: &str, side: &SideReport, now: u64) -> io::Result<()>
+fn put_side<O: Output>(output: &mut O, name: &str, side: &SideReport, now: u64) -> io::Result<()>
     ensures { IsWrittenTo O.contents output.old
         (codes "," ++ member name.now (side_value now side.now)) result output.new }
 {
@@ -138,7 +139,7 @@ fn heard_value(heard: Option<u64>) -> Piece<'static>
     }
 }
 
-fn put_peer<O: Write>(output: &mut O, peer: &PeerReport) -> io::Result<()>
+fn put_peer<O: Output>(output: &mut O, peer: &PeerReport) -> io::Result<()>
     ensures { IsWrittenTo O.contents output.old
         (codes "," ++ member (codes "peer") (peer_value peer.now)) result output.new }
 {
@@ -154,7 +155,7 @@ fn put_peer<O: Write>(output: &mut O, peer: &PeerReport) -> io::Result<()>
     )
 }
 
-fn put_pairs<O: Write>(output: &mut O, counts: &PairCounts) -> io::Result<()>
+fn put_pairs<O: Output>(output: &mut O, counts: &PairCounts) -> io::Result<()>
     ensures { IsWrittenTo O.contents output.old
         (codes "," ++ member (codes "pairs") (pairs_value counts.now)) result output.new }
 {
@@ -165,7 +166,7 @@ fn put_pairs<O: Write>(output: &mut O, counts: &PairCounts) -> io::Result<()>
 }
 
 /// How many entries of a protocol have each state.
-fn put_states<O: Write>(
+fn put_states<O: Output>(
     output: &mut O,
     before: &str,
     counts: &PairCounts,
@@ -197,7 +198,7 @@ fn put_states<O: Write>(
     )
 }
 
-fn put_ports<O: Write>(output: &mut O, ports: &PortCounts) -> io::Result<()>
+fn put_ports<O: Output>(output: &mut O, ports: &PortCounts) -> io::Result<()>
     ensures { IsWrittenTo O.contents output.old
         (codes "," ++ member (codes "ports") (ports_value ports.now)) result output.new }
 {
@@ -214,7 +215,7 @@ fn put_ports<O: Write>(output: &mut O, ports: &PortCounts) -> io::Result<()>
     )
 }
 
-fn put_waiting<O: Write>(output: &mut O, waiting: &WaitingCounts) -> io::Result<()>
+fn put_waiting<O: Output>(output: &mut O, waiting: &WaitingCounts) -> io::Result<()>
     ensures { IsWrittenTo O.contents output.old
         (codes "," ++ member (codes "waiting") (waiting_value waiting.now)) result output.new }
 {
@@ -229,7 +230,7 @@ fn put_waiting<O: Write>(output: &mut O, waiting: &WaitingCounts) -> io::Result<
     )
 }
 
-fn put_frames<O: Write>(output: &mut O, counters: &Counters) -> io::Result<()>
+fn put_frames<O: Output>(output: &mut O, counters: &Counters) -> io::Result<()>
     ensures { IsWrittenTo O.contents output.old
         (codes "," ++ member (codes "frames") (frames_value counters.now)) result output.new }
 {
@@ -239,7 +240,7 @@ fn put_frames<O: Write>(output: &mut O, counters: &Counters) -> io::Result<()>
 }
 
 /// What came and went at a place.
-fn put_place<O: Write>(
+fn put_place<O: Output>(
     output: &mut O,
     before: &str,
     name: &str,
@@ -268,7 +269,7 @@ fn put_place<O: Write>(
     )
 }
 
-fn put_drops<O: Write>(output: &mut O, counters: &Counters) -> io::Result<()>
+fn put_drops<O: Output>(output: &mut O, counters: &Counters) -> io::Result<()>
     ensures { IsWrittenTo O.contents output.old
         (codes "," ++ member (codes "dropped") (drops_value counters.now)) result output.new }
 {
@@ -280,7 +281,7 @@ fn put_drops<O: Write>(output: &mut O, counters: &Counters) -> io::Result<()>
 }
 
 /// What was dropped at a place, behind a text.
-fn put_dropped<O: Write>(
+fn put_dropped<O: Output>(
     output: &mut O,
     before: &str,
     counters: &Counters,
@@ -302,7 +303,7 @@ fn put_dropped<O: Write>(
 }
 
 /// How many were dropped at a place for each reason, and what opens their object.
-fn put_reasons<O: Write>(output: &mut O, counters: &Counters, origin: Origin) -> io::Result<()>
+fn put_reasons<O: Output>(output: &mut O, counters: &Counters, origin: Origin) -> io::Result<()>
     ensures { IsWrittenTo O.contents output.old
         (behind (codes "{") (map (drop_member counters.now origin) REASONS)) result output.new }
 {
@@ -323,7 +324,7 @@ fn put_reasons<O: Write>(output: &mut O, counters: &Counters, origin: Origin) ->
 }
 
 /// What was left out, and the end of the object and of its line.
-fn put_end<O: Write>(output: &mut O, report: &Report) -> io::Result<()>
+fn put_end<O: Output>(output: &mut O, report: &Report) -> io::Result<()>
     ensures { IsWrittenTo O.contents output.old
         (behind (codes ",") (end_members report.now) ++ codes "}\n") result output.new }
 {

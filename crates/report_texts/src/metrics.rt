@@ -15,8 +15,9 @@ use crate::pieces::{Piece, put};
 use addresses::Protocol;
 use journal::Origin;
 use nat_types::EntryState;
+use outlets::Output;
 use reports::{Count, Counters, GatewayReport, PairCounts, PeerReport, Report, Sides};
-use std::io::{self, Write};
+use std::io;
 use vrrp_states::State;
 
 /// A sample of a family: its labels, and its value.
@@ -34,7 +35,7 @@ const COUNTER: &str = "counter";
 /// # Errors
 ///
 /// Where output is refused.
-pub fn write_metrics<O: Write>(output: &mut O, report: &Report) -> io::Result<()>
+pub fn write_metrics<O: Output>(output: &mut O, report: &Report) -> io::Result<()>
     ensures { IsWrittenTo O.contents output.old (metrics_text report.now) result output.new }
 {
     put_info(output, report)?;
@@ -49,7 +50,7 @@ pub fn write_metrics<O: Write>(output: &mut O, report: &Report) -> io::Result<()
 }
 
 /// Writes what a family is, and of which kind, and its samples.
-fn put_family<'t, O: Write>(
+fn put_family<'t, O: Output>(
     output: &mut O,
     kind: &'t str,
     name: &'t str,
@@ -77,7 +78,7 @@ fn put_family<'t, O: Write>(
 }
 
 /// Writes the samples of a family.
-fn put_samples<'t, O: Write>(
+fn put_samples<'t, O: Output>(
     output: &mut O,
     name: &'t str,
     samples: &[Sample<'t>],
@@ -111,7 +112,7 @@ fn is_heard(heard: Option<u64>) -> bool
 }
 
 /// Which box it is.
-fn put_info<O: Write>(output: &mut O, report: &Report) -> io::Result<()>
+fn put_info<O: Output>(output: &mut O, report: &Report) -> io::Result<()>
     ensures { IsWrittenTo O.contents output.old (info_metric report.now) result output.new }
 {
     put_family(
@@ -134,7 +135,7 @@ fn put_info<O: Write>(output: &mut O, report: &Report) -> io::Result<()>
 }
 
 /// How it stands.
-fn put_box<O: Write>(output: &mut O, report: &Report) -> io::Result<()>
+fn put_box<O: Output>(output: &mut O, report: &Report) -> io::Result<()>
     ensures { IsWrittenTo O.contents output.old (box_metrics report.now) result output.new }
 {
     let state = &report.gateway;
@@ -177,7 +178,7 @@ fn is_active(role: State) -> bool
     }
 }
 
-fn put_sides<O: Write>(output: &mut O, sides: &Sides, now: u64) -> io::Result<()>
+fn put_sides<O: Output>(output: &mut O, sides: &Sides, now: u64) -> io::Result<()>
     ensures { IsWrittenTo O.contents output.old (side_metrics sides.now now) result output.new }
 {
     let (inside, outside) = (&sides.inside, &sides.outside);
@@ -219,7 +220,7 @@ fn put_sides<O: Write>(output: &mut O, sides: &Sides, now: u64) -> io::Result<()
     )
 }
 
-fn put_peer<O: Write>(output: &mut O, peer: &PeerReport) -> io::Result<()>
+fn put_peer<O: Output>(output: &mut O, peer: &PeerReport) -> io::Result<()>
     ensures { IsWrittenTo O.contents output.old (peer_metrics peer.now) result output.new }
 {
     put_family(
@@ -247,7 +248,7 @@ fn put_peer<O: Write>(output: &mut O, peer: &PeerReport) -> io::Result<()>
 }
 
 /// How long ago the other box was heard, if it was.
-fn put_heard<O: Write>(output: &mut O, heard: Option<u64>) -> io::Result<()>
+fn put_heard<O: Output>(output: &mut O, heard: Option<u64>) -> io::Result<()>
     ensures { IsWrittenTo O.contents output.old (heard_metric heard) result output.new }
 {
     match heard {
@@ -262,7 +263,7 @@ fn put_heard<O: Write>(output: &mut O, heard: Option<u64>) -> io::Result<()>
     }
 }
 
-fn put_pairs<O: Write>(output: &mut O, counts: &PairCounts) -> io::Result<()>
+fn put_pairs<O: Output>(output: &mut O, counts: &PairCounts) -> io::Result<()>
     ensures { IsWrittenTo O.contents output.old (pair_metrics counts.now) result output.new }
 {
     put_family(output, GAUGE, "natpair_pairs", "Entries of the table.", &[])?;
@@ -272,7 +273,7 @@ fn put_pairs<O: Write>(output: &mut O, counts: &PairCounts) -> io::Result<()>
 }
 
 /// How many entries of a protocol have each state.
-fn put_states<O: Write>(output: &mut O, counts: &PairCounts, protocol: Protocol) -> io::Result<()>
+fn put_states<O: Output>(output: &mut O, counts: &PairCounts, protocol: Protocol) -> io::Result<()>
     ensures { IsWrittenTo O.contents output.old (states_metrics counts.now protocol) result
         output.new }
 {
@@ -316,7 +317,7 @@ fn pairs_name(protocol: Protocol) -> &'static str
     }
 }
 
-fn put_ports<O: Write>(output: &mut O, state: &GatewayReport) -> io::Result<()>
+fn put_ports<O: Output>(output: &mut O, state: &GatewayReport) -> io::Result<()>
     ensures { IsWrittenTo O.contents output.old (port_metrics state.now) result output.new }
 {
     let (ports, waiting) = (&state.ports, &state.waiting);
@@ -350,7 +351,7 @@ fn put_ports<O: Write>(output: &mut O, state: &GatewayReport) -> io::Result<()>
     )
 }
 
-fn put_traffic<O: Write>(output: &mut O, counters: &Counters) -> io::Result<()>
+fn put_traffic<O: Output>(output: &mut O, counters: &Counters) -> io::Result<()>
     ensures { IsWrittenTo O.contents output.old (traffic_metrics counters.now) result output.new }
 {
     put_came(output, counters)?;
@@ -371,7 +372,7 @@ fn put_traffic<O: Write>(output: &mut O, counters: &Counters) -> io::Result<()>
 }
 
 /// What came and went.
-fn put_came<O: Write>(output: &mut O, counters: &Counters) -> io::Result<()>
+fn put_came<O: Output>(output: &mut O, counters: &Counters) -> io::Result<()>
     ensures { IsWrittenTo O.contents output.old (came_metrics counters.now) result output.new }
 {
     let (inside, outside, link) = (Origin::Inside, Origin::Outside, Origin::Link);
@@ -418,7 +419,7 @@ fn put_came<O: Write>(output: &mut O, counters: &Counters) -> io::Result<()>
 }
 
 /// A count of each place.
-fn put_places<'t, O: Write>(
+fn put_places<'t, O: Output>(
     output: &mut O,
     name: &'t str,
     help: &'t str,
@@ -454,7 +455,7 @@ fn put_places<'t, O: Write>(
     )
 }
 
-fn put_drops<O: Write>(output: &mut O, counters: &Counters) -> io::Result<()>
+fn put_drops<O: Output>(output: &mut O, counters: &Counters) -> io::Result<()>
     ensures { IsWrittenTo O.contents output.old (drops_metrics counters.now) result output.new }
 {
     put_family(
@@ -471,7 +472,7 @@ fn put_drops<O: Write>(output: &mut O, counters: &Counters) -> io::Result<()>
 }
 
 /// How many were dropped at a place for each reason.
-fn put_reasons<O: Write>(output: &mut O, counters: &Counters, origin: Origin) -> io::Result<()>
+fn put_reasons<O: Output>(output: &mut O, counters: &Counters, origin: Origin) -> io::Result<()>
     ensures { IsWrittenTo O.contents output.old (drops_at counters.now origin) result output.new }
 {
     for reason in &REASONS {
@@ -492,7 +493,7 @@ fn put_reasons<O: Write>(output: &mut O, counters: &Counters, origin: Origin) ->
 }
 
 /// What was left out.
-fn put_end<O: Write>(output: &mut O, report: &Report) -> io::Result<()>
+fn put_end<O: Output>(output: &mut O, report: &Report) -> io::Result<()>
     ensures { IsWrittenTo O.contents output.old (end_metrics report.now) result output.new }
 {
     put_family(

@@ -9,8 +9,9 @@ use crate::pieces::{Piece, put};
 use addresses::{Ip, Port, Protocol};
 use bindings::Entry;
 use nat_types::{Endpoint, EntryState, Key};
+use outlets::Output;
 use reports::Page;
-use std::io::{self, Write};
+use std::io;
 
 /// Which entries are wanted: those that have each thing that is said here.
 #[derive(Clone, Copy)]
@@ -85,14 +86,14 @@ impl Filter {
 /// # Errors
 ///
 /// Where output is refused.
-pub fn write_pairs<O: Write>(output: &mut O, page: &Page, filter: &Filter) -> io::Result<()>
+pub fn write_pairs<O: Output>(output: &mut O, page: &Page, filter: &Filter) -> io::Result<()>
     ensures { IsWrittenTo O.contents output.old
         (flat_map (wanted_line filter.now) page.now.entries) result output.new }
 {
     write_entries(output, page.entries(), filter)
 }
 
-fn write_entries<O: Write>(output: &mut O, entries: &[Entry], filter: &Filter) -> io::Result<()>
+fn write_entries<O: Output>(output: &mut O, entries: &[Entry], filter: &Filter) -> io::Result<()>
     ensures { IsWrittenTo O.contents output.old
         (flat_map (wanted_line filter.now) entries.now) result output.new }
 {
@@ -103,7 +104,7 @@ fn write_entries<O: Write>(output: &mut O, entries: &[Entry], filter: &Filter) -
 }
 
 /// Writes the line of an entry, if it is wanted.
-fn write_pair<O: Write>(output: &mut O, entry: &Entry, filter: &Filter) -> io::Result<()>
+fn write_pair<O: Output>(output: &mut O, entry: &Entry, filter: &Filter) -> io::Result<()>
     ensures unwanted { passes filter.now entry.now ≡ false → output.new ≡ output.old }
     ensures put { IsWrittenTo O.contents output.old (wanted_line filter.now entry.now) result
         output.new }
@@ -115,7 +116,7 @@ fn write_pair<O: Write>(output: &mut O, entry: &Entry, filter: &Filter) -> io::R
     }
 }
 
-fn write_line<O: Write>(
+fn write_line<O: Output>(
     output: &mut O,
     key: Key,
     endpoint: Endpoint,

@@ -14,16 +14,17 @@ use crate::pieces::{Piece, put};
 use addresses::Protocol;
 use journal::Origin;
 use nat_types::EntryState;
+use outlets::Output;
 use packet_rules::Reason;
 use reports::{Count, Counters, GatewayReport, PeerReport, Report, SideReport};
-use std::io::{self, Write};
+use std::io;
 
 /// Writes a report for people: a line for each thing, with its name before it.
 ///
 /// # Errors
 ///
 /// Where output is refused.
-pub fn write_people<O: Write>(output: &mut O, report: &Report) -> io::Result<()>
+pub fn write_people<O: Output>(output: &mut O, report: &Report) -> io::Result<()>
     ensures { IsWrittenTo O.contents output.old (people_text report.now) result output.new }
 {
     let state = &report.gateway;
@@ -38,7 +39,7 @@ pub fn write_people<O: Write>(output: &mut O, report: &Report) -> io::Result<()>
 }
 
 /// Which box it is, and how it stands.
-fn put_box<O: Write>(output: &mut O, report: &Report) -> io::Result<()>
+fn put_box<O: Output>(output: &mut O, report: &Report) -> io::Result<()>
     ensures { IsWrittenTo O.contents output.old (box_lines report.now) result output.new }
 {
     put(
@@ -60,7 +61,7 @@ fn put_box<O: Write>(output: &mut O, report: &Report) -> io::Result<()>
     )
 }
 
-fn put_side<O: Write>(output: &mut O, name: &str, side: &SideReport, now: u64) -> io::Result<()>
+fn put_side<O: Output>(output: &mut O, name: &str, side: &SideReport, now: u64) -> io::Result<()>
     ensures { IsWrittenTo O.contents output.old (side_line name.now now side.now) result
         output.new }
 {
@@ -81,7 +82,7 @@ fn put_side<O: Write>(output: &mut O, name: &str, side: &SideReport, now: u64) -
     )
 }
 
-fn put_peer<O: Write>(output: &mut O, peer: &PeerReport) -> io::Result<()>
+fn put_peer<O: Output>(output: &mut O, peer: &PeerReport) -> io::Result<()>
     ensures { IsWrittenTo O.contents output.old (peer_line peer.now) result output.new }
 {
     if peer.boot == 0 {
@@ -92,7 +93,7 @@ fn put_peer<O: Write>(output: &mut O, peer: &PeerReport) -> io::Result<()>
 }
 
 /// The line of a box that is known.
-fn put_known<O: Write>(
+fn put_known<O: Output>(
     output: &mut O,
     boot: u64,
     heard: Option<u64>,
@@ -167,7 +168,7 @@ fn wide_name(protocol: Protocol) -> &'static str
 }
 
 /// What the table has, and what waits.
-fn put_table<O: Write>(output: &mut O, state: &GatewayReport) -> io::Result<()>
+fn put_table<O: Output>(output: &mut O, state: &GatewayReport) -> io::Result<()>
     ensures { IsWrittenTo O.contents output.old (table_lines state.now) result output.new }
 {
     put_protocol(output, state, Protocol::Icmp)?;
@@ -188,7 +189,7 @@ fn put_table<O: Write>(output: &mut O, state: &GatewayReport) -> io::Result<()>
 }
 
 /// How many entries of a protocol have each state, and its free ports.
-fn put_protocol<O: Write>(
+fn put_protocol<O: Output>(
     output: &mut O,
     state: &GatewayReport,
     protocol: Protocol,
@@ -217,7 +218,7 @@ fn put_protocol<O: Write>(
     )
 }
 
-fn put_traffic<O: Write>(output: &mut O, counters: &Counters) -> io::Result<()>
+fn put_traffic<O: Output>(output: &mut O, counters: &Counters) -> io::Result<()>
     ensures { IsWrittenTo O.contents output.old (traffic_lines counters.now) result output.new }
 {
     put_place(output, counters, Origin::Inside)?;
@@ -227,7 +228,7 @@ fn put_traffic<O: Write>(output: &mut O, counters: &Counters) -> io::Result<()>
 }
 
 /// What was received and sent at a place, and what wasn't sent.
-fn put_place<O: Write>(output: &mut O, counters: &Counters, origin: Origin) -> io::Result<()>
+fn put_place<O: Output>(output: &mut O, counters: &Counters, origin: Origin) -> io::Result<()>
     ensures { IsWrittenTo O.contents output.old (traffic_line counters.now origin) result
         output.new }
 {
@@ -260,7 +261,7 @@ fn traffic_name(origin: Origin) -> &'static str
 }
 
 /// What was dropped at each place, where something was.
-fn put_drops<O: Write>(output: &mut O, counters: &Counters) -> io::Result<()>
+fn put_drops<O: Output>(output: &mut O, counters: &Counters) -> io::Result<()>
     ensures { IsWrittenTo O.contents output.old (drops_lines counters.now) result output.new }
 {
     put_dropped(output, counters, Origin::Inside)?;
@@ -270,7 +271,7 @@ fn put_drops<O: Write>(output: &mut O, counters: &Counters) -> io::Result<()>
 }
 
 /// The line of a place, if something was dropped there: each reason for which something was.
-fn put_dropped<O: Write>(output: &mut O, counters: &Counters, origin: Origin) -> io::Result<()>
+fn put_dropped<O: Output>(output: &mut O, counters: &Counters, origin: Origin) -> io::Result<()>
     ensures { IsWrittenTo O.contents output.old (drops_line counters.now origin) result output.new }
 {
     let mut is_first = true;
@@ -286,7 +287,7 @@ fn put_dropped<O: Write>(output: &mut O, counters: &Counters, origin: Origin) ->
 }
 
 /// Writes how many were dropped for a reason, if some were.
-fn put_drop<O: Write>(
+fn put_drop<O: Output>(
     output: &mut O,
     counters: &Counters,
     origin: Origin,
@@ -344,7 +345,7 @@ fn place_of_drops(origin: Origin) -> &'static str
 }
 
 /// What was left out.
-fn put_end<O: Write>(output: &mut O, report: &Report) -> io::Result<()>
+fn put_end<O: Output>(output: &mut O, report: &Report) -> io::Result<()>
     ensures { IsWrittenTo O.contents output.old (end_line report.now) result output.new }
 {
     put(

@@ -7,8 +7,8 @@ ghost use Rattle.report_texts.specs.Units.{sixteen};
 
 use crate::units::{put_groups, put_number, put_seconds, put_sixteen, put_span};
 use itoa::Buffer;
-use outlets::put as put_bytes;
-use std::io::{self, Write};
+use outlets::{Output, put as put_bytes};
+use std::io;
 
 /// A piece of a text.
 #[derive(Clone, Copy)]
@@ -35,7 +35,7 @@ pub(crate) enum Piece<'t> {
 }
 
 /// Writes pieces, one behind the other.
-pub(crate) fn put<O: Write>(output: &mut O, pieces: &[Piece<'_>]) -> io::Result<()>
+pub(crate) fn put<O: Output>(output: &mut O, pieces: &[Piece<'_>]) -> io::Result<()>
     ensures { IsWrittenTo O.contents output.old (flat_map piece_text pieces.now) result output.new }
 {
     for piece in pieces {
@@ -44,7 +44,7 @@ pub(crate) fn put<O: Write>(output: &mut O, pieces: &[Piece<'_>]) -> io::Result<
     Ok(())
 }
 
-fn put_piece<O: Write>(output: &mut O, piece: Piece<'_>) -> io::Result<()>
+fn put_piece<O: Output>(output: &mut O, piece: Piece<'_>) -> io::Result<()>
     ensures { IsWrittenTo O.contents output.old (piece_text piece.entry) result output.new }
 {
     match piece {
@@ -69,7 +69,7 @@ fn truth_name(is_so: bool) -> &'static str
 }
 
 /// Writes bytes in quotation marks.
-fn put_quoted<O: Write>(output: &mut O, bytes: &[u8]) -> io::Result<()>
+fn put_quoted<O: Output>(output: &mut O, bytes: &[u8]) -> io::Result<()>
     ensures { IsWrittenTo O.contents output.old (quoted bytes.now) result output.new }
 {
     put_bytes(output, b"\"")?;
@@ -78,7 +78,7 @@ fn put_quoted<O: Write>(output: &mut O, bytes: &[u8]) -> io::Result<()>
 }
 
 /// Writes a number as sixteen hexadecimal digits in quotation marks.
-fn put_digest<O: Write>(output: &mut O, number: u64) -> io::Result<()>
+fn put_digest<O: Output>(output: &mut O, number: u64) -> io::Result<()>
     ensures { IsWrittenTo O.contents output.old (quoted (sixteen number)) result output.new }
 {
     put_bytes(output, b"\"")?;

@@ -4,18 +4,18 @@ ghost use Rattle.outlets.specs.Written.{IsWrittenTo};
 ghost use Rattle.report_texts.specs.Units.{comma_before, in_groups, seconds_text, sixteen, span};
 
 use itoa::Buffer;
-use outlets::put as put_bytes;
-use std::io::{self, Write};
+use outlets::{Output, put as put_bytes};
+use std::io;
 
 /// Writes a number.
-pub(crate) fn put_number<O: Write>(output: &mut O, number: u64) -> io::Result<()>
+pub(crate) fn put_number<O: Output>(output: &mut O, number: u64) -> io::Result<()>
     ensures { IsWrittenTo O.contents output.old (decimal number) result output.new }
 {
     put_bytes(output, Buffer::new().format(number).as_bytes())
 }
 
 /// Writes centiseconds as seconds: `0.06`.
-pub(crate) fn put_seconds<O: Write>(output: &mut O, moment: u64) -> io::Result<()>
+pub(crate) fn put_seconds<O: Output>(output: &mut O, moment: u64) -> io::Result<()>
     ensures { IsWrittenTo O.contents output.old (seconds_text moment) result output.new }
 {
     put_number(output, moment / 100)?;
@@ -25,7 +25,7 @@ pub(crate) fn put_seconds<O: Write>(output: &mut O, moment: u64) -> io::Result<(
 }
 
 /// Writes two numbers, with bytes between them and behind.
-fn put_two<O: Write>(
+fn put_two<O: Output>(
     output: &mut O,
     first: u64,
     between: &[u8],
@@ -42,7 +42,7 @@ fn put_two<O: Write>(
 }
 
 /// Writes a number of seconds.
-fn put_rest<O: Write>(output: &mut O, seconds: u64) -> io::Result<()>
+fn put_rest<O: Output>(output: &mut O, seconds: u64) -> io::Result<()>
     ensures { IsWrittenTo O.contents output.old (decimal seconds ++ codes " s") result output.new }
 {
     put_number(output, seconds)?;
@@ -50,7 +50,7 @@ fn put_rest<O: Write>(output: &mut O, seconds: u64) -> io::Result<()>
 }
 
 /// Writes seconds in the two greatest units that they have: `3 d 4 h`, `2 h 10 min`, `5 min 0 s`, `12 s`.
-pub(crate) fn put_span<O: Write>(output: &mut O, seconds: u64) -> io::Result<()>
+pub(crate) fn put_span<O: Output>(output: &mut O, seconds: u64) -> io::Result<()>
     ensures { IsWrittenTo O.contents output.old (span seconds) result output.new }
 {
     let (minutes, hours, days) = (seconds / 60, seconds / 3600, seconds / 86_400);
@@ -77,7 +77,7 @@ fn comma_before(digits: &[u8]) -> &'static [u8]
 }
 
 /// Writes digits with a comma before each group of three: `1,204`.
-pub(crate) fn put_groups<O: Write>(output: &mut O, digits: &[u8]) -> io::Result<()>
+pub(crate) fn put_groups<O: Output>(output: &mut O, digits: &[u8]) -> io::Result<()>
     ensures { IsWrittenTo O.contents output.old (in_groups digits.now) result output.new }
 {
     let mut rest = digits;
@@ -90,7 +90,7 @@ pub(crate) fn put_groups<O: Write>(output: &mut O, digits: &[u8]) -> io::Result<
 }
 
 /// Writes a number as sixteen hexadecimal digits.
-pub(crate) fn put_sixteen<O: Write>(output: &mut O, number: u64) -> io::Result<()>
+pub(crate) fn put_sixteen<O: Output>(output: &mut O, number: u64) -> io::Result<()>
     ensures { IsWrittenTo O.contents output.old (sixteen number) result output.new }
 {
     let mut digits = [0; 16];

@@ -30,9 +30,9 @@ pub record Watch : Type 0 where
   pub start : Option Instant
   pub read : ℕ
 
--- the system was asked last for the moment of its start
-abbrev pub WasStarted : Watch → Type 0
-WasStarted watch = (before : Asker) × WasNow before watch.start watch.asker
+-- by who asks, as he was before: the system was asked for the moment of its start, and for nothing else
+abbrev pub WasStarted : Asker → Watch → Type 0
+WasStarted before watch = WasNow before watch.start watch.asker
 
 -- it reads what has passed from its start to the moment that the system gives it; or, where that isn't known, what it read last
 pub record HasRead (watch : Watch) (moment : ℕ) (watch2 : Watch) : Type 0 where

@@ -3,7 +3,7 @@ ghost use Rattle.std.specs.Prelude.{◌≡◌, ℕ, ◌≤◌, IfSome, IsNone};
 ghost use Rattle.rounds.specs.Clocks.{HasPassed, HasRead, WasStarted, centiseconds as span_of};
 
 use crate::asked_clock::SystemClock;
-use runtimes::Hosted;
+use runtimes::Hand;
 use std::marker::Model;
 use std::rt::Clock;
 use std::time::Instant;
@@ -50,13 +50,13 @@ fn passed(start: Option<Instant>, now: Option<Instant>) -> Option<u64>
     centiseconds(start?, now?)
 }
 
-impl<'a, R: Clock + Hosted> Stopwatch<'a, R> {
-    /// Begins at 0.
-    pub fn start(rt: &'a R) -> Stopwatch<'a, R>
-        ensures start { WasStarted result }
+impl<'a, R: Clock> Stopwatch<'a, R> {
+    /// Begins at 0. It asks by this hand.
+    pub fn start(hand: Hand<'a, R>) -> Stopwatch<'a, R>
+        ensures start { WasStarted hand.entry result }
         ensures read { result.read ≡ 0 }
     {
-        let mut clock = SystemClock::new(rt);
+        let mut clock = SystemClock::new(hand);
         let start = clock.told_to_say();
         Stopwatch {
             clock,

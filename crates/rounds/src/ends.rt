@@ -7,9 +7,9 @@ ghost use Rattle.rounds.specs.Polls.{WasStopped};
 ghost use Rattle.rounds.specs.Rounds.{calls};
 
 use gateway::Gateway;
-use outlets::{told_to_flush, told_to_put};
+use outlets::{Output, told_to_flush, told_to_put};
 use sockets::Wire;
-use std::io::{self, Write};
+use std::io;
 
 /// Where the line goes that a box ends by; nothing else can be written there.
 pub trait EndLine {
@@ -31,7 +31,7 @@ pub trait EndLine {
         ensures behind { WasEnded gateway.now self.old self.new };
 }
 
-impl<O: Write> EndLine for O {
+impl<O: Output> EndLine for O {
     ghost contents = { O.contents };
 
     #[tactic(auto, unfolding(crate::specs::Ends::WasEnded))]
@@ -41,7 +41,7 @@ impl<O: Write> EndLine for O {
 }
 
 /// Writes `end`, and flushes it.
-fn put_end<O: Write>(output: &mut O) -> io::Result<()>
+fn put_end<O: Output>(output: &mut O) -> io::Result<()>
     ensures ended { Prints (O.contents output.old) result (O.contents output.new)
         (codes "end\n") }
     ensures written { OnOk result (IsPrinted output.old (codes "end\n") output.new) }

@@ -1,7 +1,11 @@
-//! Who stands for the system: nobody can be made up who does.
+//! Who stands for the system, and who asks it: nobody can be made up who does.
 #![tactic(auto)]
 
+mod hand;
 mod hosted;
+mod kept;
 mod sealed;
 
+pub use hand::Hand;
 pub use hosted::Hosted;
+pub use kept::Kept;

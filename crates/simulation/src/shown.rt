@@ -7,11 +7,12 @@ ghost use Rattle.simulation.specs.Texts.{steps_lines};
 
 use frame_sim::Step;
 use nat_types::WorldEvent;
+use outlets::Output;
 use printing::Printer;
-use std::io::{self, Write};
+use std::io;
 
 /// Prints what each event gave, in order.
-pub(crate) fn print_steps<O: Write>(
+pub(crate) fn print_steps<O: Output>(
     output: &mut O,
     events: &[WorldEvent],
     steps: &[Step],

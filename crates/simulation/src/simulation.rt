@@ -25,15 +25,15 @@ use faults::{Fault, PrintFault};
 use frame_sim::{Step, Tape, Untaped, World, put_end, read_job};
 use memory::{reserve, with_room};
 use nat_types::{NoMemory, WorldEvent};
-use outlets::Tells;
+use outlets::{Output, Tells};
 use settings::Settings;
 use std::alloc::Global;
-use std::io::{self, Write};
+use std::io;
 
 /// Runs a script on a new world of the settings that a text in TOML holds, and prints its steps and tables.
 ///
 /// The answer is the exit status: 0, 3 where an event was refused, or 1 for a fault, which is told on `errors`.
-pub fn simulate<O: Write, E: Tells>(
+pub fn simulate<O: Output, E: Tells>(
     alloc: Global,
     settings: &str,
     script: &str,
@@ -61,7 +61,7 @@ pub fn simulate<O: Write, E: Tells>(
 /// # Errors
 ///
 /// The settings' fault, else the script's first bad line; `NotWritten` where output is refused, `NoMemory`.
-pub fn simulate_watched<P: Progress<O>, O: Write>(
+pub fn simulate_watched<P: Progress<O>, O: Output>(
     alloc: Global,
     settings: &str,
     script: &str,
@@ -90,7 +90,7 @@ pub fn simulate_watched<P: Progress<O>, O: Write>(
 /// # Errors
 ///
 /// The settings' fault, else the script's first bad line; `NotWritten` where the tape or output is refused, `NoMemory`.
-pub fn simulate_captured<P: Progress<O>, T: Tape, O: Write>(
+pub fn simulate_captured<P: Progress<O>, T: Tape, O: Output>(
     alloc: Global,
     settings: &str,
     script: &str,
@@ -130,7 +130,7 @@ pub fn simulate_captured<P: Progress<O>, T: Tape, O: Write>(
 /// # Errors
 ///
 /// `NotWritten` where the tape or output is refused, `NoMemory`.
-pub fn play<P: Progress<O>, T: Tape, O: Write>(
+pub fn play<P: Progress<O>, T: Tape, O: Output>(
     alloc: Global,
     settings: &Settings,
     events: &[WorldEvent],
@@ -163,7 +163,7 @@ pub fn play<P: Progress<O>, T: Tape, O: Write>(
 }
 
 /// Runs events on a world, has a tape take them down, and prints their steps and its tables.
-fn played<P: Progress<O>, T: Tape, O: Write>(
+fn played<P: Progress<O>, T: Tape, O: Output>(
     alloc: Global,
     world: &mut World<'_>,
     events: &[WorldEvent],
@@ -213,7 +213,7 @@ fn take_down<T: Tape>(
 }
 
 /// Prints steps, and the tables of the world to which they led, and hands all of it on.
-fn print<O: Write>(
+fn print<O: Output>(
     world: &World<'_>,
     events: &[WorldEvent],
     steps: &[Step],

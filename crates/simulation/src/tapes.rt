@@ -15,8 +15,8 @@ use crate::writing::write_event;
 use captures::write_head;
 use frame_sim::{Step, Tape, World};
 use nat_types::WorldEvent;
-use outlets::told_to_flush;
-use std::io::{self, ErrorKind, Write};
+use outlets::{Output, told_to_flush};
+use std::io::{self, ErrorKind};
 
 /// A run is taken down as a capture (of `captures`): behind its head of each event first the packet that came with it, and
 /// then those that its gateway sent.
@@ -37,7 +37,7 @@ pub struct Unbegun<W> {
     pub error: io::Error,
 }
 
-impl<W: Write + Drop> Capture<W> {
+impl<W: Output + Drop> Capture<W> {
     /// Begins a capture of a run on a new world: its head is written.
     ///
     /// # Errors
@@ -82,7 +82,7 @@ impl<W: Write + Drop> Capture<W> {
     }
 }
 
-impl<W: Write> Tape for Capture<W> {
+impl<W: Output> Tape for Capture<W> {
     ghost takes = { λ c w e s c2. Records W.contents c.output c.clocks w e s c2.output c2.clocks };
 
     ghost refuses = { λ c w e s c2.

@@ -10,11 +10,12 @@ use crate::Clocks;
 use captures::{Direction, Interface, Packet, write_packet};
 use frame_sim::{Step, World, WorldFault};
 use nat_types::{GatewayId, WorldEvent};
+use outlets::Output;
 use output::Out;
-use std::io::{self, Write};
+use std::io;
 
 /// Writes what came with an event, and what its gateway sent.
-pub(crate) fn write_event<W: Write>(
+pub(crate) fn write_event<W: Output>(
     output: &mut W,
     clocks: &Clocks,
     world: &World<'_>,
@@ -51,7 +52,7 @@ fn gateway_of(event: &WorldEvent) -> GatewayId
 }
 
 /// Writes the frame or the datagram that came with an event.
-fn write_came<W: Write>(
+fn write_came<W: Output>(
     output: &mut W,
     moment: u64,
     world: &World<'_>,
@@ -95,7 +96,7 @@ fn handed_in<'w>(world: &'w World<'_>, id: GatewayId, number: u64, step: &Step) 
     }
 }
 
-fn write_inbound<W: Write>(
+fn write_inbound<W: Output>(
     output: &mut W,
     interface: Interface,
     moment: u64,
@@ -116,7 +117,7 @@ fn write_inbound<W: Write>(
 }
 
 /// Writes the frames that a gateway sent, in order.
-fn write_frames<W: Write>(output: &mut W, id: GatewayId, moment: u64, out: &Out) -> io::Result<()>
+fn write_frames<W: Output>(output: &mut W, id: GatewayId, moment: u64, out: &Out) -> io::Result<()>
     ensures written { OnOk result (Appends (W.contents output.old) (W.contents output.new)
         (packet_blocks (map (frame_out id moment) out.now.frames))) }
     ensures put { Puts (map (frame_out id moment) out.now.frames) output.old result output.new }
@@ -134,7 +135,7 @@ fn write_frames<W: Write>(output: &mut W, id: GatewayId, moment: u64, out: &Out)
 }
 
 /// Writes the datagrams that a gateway sent, in order.
-fn write_datagrams<W: Write>(
+fn write_datagrams<W: Output>(
     output: &mut W,
     id: GatewayId,
     moment: u64,

@@ -13,21 +13,34 @@ use control::{Bound, Control, Waits};
 use mio::net::UdpSocket;
 use mio::unix::SourceFd;
 use mio::{Events, Interest, Poll, Token};
-use runtimes::Hosted;
+use runtimes::{Hand, Kept};
 use std::alloc::{AllocError, Global};
 use std::io::{self, ErrorKind};
+use std::marker::Model;
 use std::net::{Net, SocketAddr};
 use std::os::fd::RawFd;
 use std::time::Duration;
 
 /// The system, as who is asked for sockets. Who has one asks by the calls that have names, and by no others.
 #[derive(Drop)]
-pub struct Machine<'a, R>(&'a R);
+pub struct Machine<'a, R> {
+    hand: Hand<'a, R>,
+}
 
-impl<'a, R: Hosted> Machine<'a, R> {
-    /// The system at hand. It can't be asked for anything here.
-    pub fn new(net: &'a R) -> Machine<'a, R> {
-        Machine(net)
+impl<'a, R> Model for Machine<'a, R> {
+    ghost use Rattle.polls.specs.declared.askers.Asker.{Asker};
+
+    ghost Value = { Asker };
+
+    ghost view = { λ machine. machine.hand };
+}
+
+impl<'a, R> Machine<'a, R> {
+    /// It asks by this hand.
+    pub fn new(hand: Hand<'a, R>) -> Machine<'a, R>
+        ensures { result ≡ hand.entry }
+    {
+        Machine { hand }
     }
 }
 
@@ -37,7 +50,7 @@ impl<R: Net> Machine<'_, R> {
     pub(crate) fn told_to_make_poll(&mut self) -> io::Result<Waiting>
         ensures { WasPollMade self.old result self.new }
     {
-        Ok(Waiting(Poll::new(self.0)?))
+        Ok(Waiting(Poll::new(self.hand.lend())?))
     }
 
     /// Asks the system for memory in which a wait reports so many events.
@@ -58,7 +71,8 @@ impl<R: Net> Machine<'_, R> {
     pub(crate) fn told_to_bind(&mut self, own: SocketAddr) -> io::Result<Udp>
         ensures { WasBound self.old own result self.new }
     {
-        Ok(Udp(UdpSocket::bind(self.0, own)?))
+        let socket = UdpSocket::bind(self.hand.lend(), own)?;
+        Ok(Udp(Kept::new(socket)))
     }
 
     /// Asks the system to have a socket hear this address alone, and send there.
@@ -66,7 +80,7 @@ impl<R: Net> Machine<'_, R> {
     pub(crate) fn told_to_connect(&mut self, socket: &mut Udp, other: SocketAddr) -> io::Result<()>
         ensures { WasConnected self.old socket.old other result socket.new self.new }
     {
-        socket.0.connect(other)
+        socket.0.lend().connect(other)
     }
 
     /// Asks the system to make a descriptor one that never waits, and says whether it did.
@@ -164,7 +178,7 @@ impl Waiting {
         let registry = self.0.registry();
         match opened {
             Opened::Connected(Udp(socket)) | Opened::Open(Udp(socket), _) => {
-                registry.register(socket, token, Interest::READABLE)
+                registry.register(socket.lend(), token, Interest::READABLE)
             }
             Opened::Descriptor(Inherited(descriptor)) => {
                 let mut source = SourceFd(descriptor);
@@ -180,7 +194,7 @@ pub(crate) struct Inherited(RawFd);
 
 /// A UDP socket of the system's.
 #[derive(Drop)]
-pub(crate) struct Udp(UdpSocket);
+pub(crate) struct Udp(Kept<UdpSocket>);
 
 /// What was opened for a place. Nothing passes through it before it is handed out.
 #[derive(Drop)]
@@ -219,9 +233,9 @@ impl Socket {
     }
 
     fn send(&mut self, bytes: &[u8]) -> io::Result<()> {
-        let count = match &self.0 {
-            Opened::Connected(Udp(socket)) => send_connected(socket, bytes)?,
-            Opened::Open(Udp(socket), other) => socket.send_to(bytes, *other)?,
+        let count = match &mut self.0 {
+            Opened::Connected(Udp(socket)) => send_connected(socket.lend(), bytes)?,
+            Opened::Open(Udp(socket), other) => socket.lend().send_to(bytes, *other)?,
             Opened::Descriptor(Inherited(descriptor)) => counted(libc::write(*descriptor, bytes))?,
         };
         taken_whole(count, bytes)
@@ -230,9 +244,9 @@ impl Socket {
     fn receive(&mut self, room: &mut [u8; LONGEST]) -> io::Result<Arrived>
         ensures { IfOk result (λ arrived. arrived.count ≤ 4096) }
     {
-        match &self.0 {
-            Opened::Connected(Udp(socket)) => receive_connected(socket, room),
-            Opened::Open(Udp(socket), _) => receive_from(socket, room),
+        match &mut self.0 {
+            Opened::Connected(Udp(socket)) => receive_connected(socket.lend(), room),
+            Opened::Open(Udp(socket), _) => receive_from(socket.lend(), room),
             Opened::Descriptor(Inherited(descriptor)) => read(*descriptor, room),
         }
     }

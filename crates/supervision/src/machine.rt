@@ -5,7 +5,7 @@ ghost use Rattle.supervision.specs.Descriptors.{IsRefused, IsSet, IsSetOnce, IsU
 
 use crate::NotOpen;
 use arrayvec::ArrayString;
-use runtimes::Hosted;
+use runtimes::Hand;
 use std::marker::Model;
 use std::net::Net;
 use std::os::fd::RawFd;
@@ -14,13 +14,23 @@ use std::snapshot::Snapshot;
 /// This process, as who has inherited descriptors. A manager comes of it alone, and so do the messages that one is told.
 #[derive(Drop)]
 pub struct Machine<'a, R> {
-    _net: &'a R,
+    hand: Hand<'a, R>,
 }
 
-impl<'a, R: Hosted> Machine<'a, R> {
-    /// It can't be asked for anything here.
-    pub fn new(net: &'a R) -> Machine<'a, R> {
-        Machine { _net: net }
+impl<'a, R> Model for Machine<'a, R> {
+    ghost use Rattle.polls.specs.declared.askers.Asker.{Asker};
+
+    ghost Value = { Asker };
+
+    ghost view = { λ machine. machine.hand };
+}
+
+impl<'a, R> Machine<'a, R> {
+    /// It asks by this hand.
+    pub fn new(hand: Hand<'a, R>) -> Machine<'a, R>
+        ensures { result ≡ hand.entry }
+    {
+        Machine { hand }
     }
 }
 

@@ -5,7 +5,7 @@ use Rattle.std.specs.IoError.{error_kind}
 use Rattle.std.specs.declared.io.Error.{Error}
 use Rattle.std.specs.declared.io.ErrorKind.TheVariants.{OutOfMemory}
 use Rattle.captures.specs.Captures.{Captured, capture_of, head, packet_block}
-use Rattle.tap.specs.Outlets.{Looks, Pours, PoursNone, Writes, front}
+use Rattle.tap.specs.Outlets.{IsAskedOnce, Looks, Pours, PoursNone, Writes, front}
 
 -- where it goes, what its last block is owed, and how many packets were left out
 pub record Reeled (O : Type 0) : Type 0 where
@@ -51,6 +51,10 @@ WasRefusedHead = Unit {0}
 
 unfoldable pub WasRefusedRoom : ℕ → Captured → Type 0
 WasRefusedRoom left_out p = Unit {0}
+
+-- it is handed on so far, and then the outlet is asked no more than once
+abbrev pub HandsOnFirst : {O : Type 0} → Looks O → Writes O → Reeled O → O → Type 0
+HandsOnFirst {O = O} looks writes r outlet2 = (r2 : Reeled O) × (HandsOn looks writes r r2 × IsAskedOnce looks writes r2.outlet outlet2)
 
 -- why a capture isn't begun, as it is told: memory was refused for its head; or its outlet took nothing of that. It is let go as it is then.
 abbrev pub IsUnbegun : {O : Type 0} → Looks O → Writes O → (O → Type 0) → O → Error → Type 0

@@ -1,17 +1,16 @@
 //! The system's monotonic clock. Only here it is at hand, and what it is asked has names.
+ghost use Rattle.std.specs.Prelude.{◌≡◌};
 ghost use Rattle.tap.specs.Moments.{WasNow};
 
-use polls::Asker;
-use runtimes::Hosted;
+use runtimes::Hand;
 use std::marker::Model;
 use std::rt::Clock;
 use std::time::Instant;
 
-/// The system's monotonic clock, and who asks it: for clauses it is who asks.
+/// The system's monotonic clock, by the hand that asks it: for clauses it is who asks.
 #[derive(Drop)]
 pub(crate) struct SystemClock<'a, R> {
-    rt: &'a R,
-    asker: Asker,
+    hand: Hand<'a, R>,
 }
 
 impl<'a, R> Model for SystemClock<'a, R> {
@@ -19,16 +18,15 @@ impl<'a, R> Model for SystemClock<'a, R> {
 
     ghost Value = { Asker };
 
-    ghost view = { λ c. c.asker };
+    ghost view = { λ c. c.hand };
 }
 
-impl<'a, R: Hosted> SystemClock<'a, R> {
-    /// It wasn't asked yet.
-    pub(crate) fn new(rt: &'a R) -> SystemClock<'a, R> {
-        SystemClock {
-            rt,
-            asker: Asker::new(),
-        }
+impl<'a, R> SystemClock<'a, R> {
+    /// It is asked by this hand.
+    pub(crate) fn new(hand: Hand<'a, R>) -> SystemClock<'a, R>
+        ensures { result ≡ hand.entry }
+    {
+        SystemClock { hand }
     }
 }
 
@@ -38,6 +36,6 @@ impl<R: Clock> SystemClock<'_, R> {
     pub(crate) fn told_to_say(&mut self) -> Option<Instant>
         ensures { WasNow self.old result self.new }
     {
-        Instant::now(self.rt).ok()
+        Instant::now(self.hand.lend()).ok()
     }
 }

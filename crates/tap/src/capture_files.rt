@@ -3,13 +3,13 @@ ghost use Rattle.std.specs.Prelude.{◌≡◌, ◌<◌, ◌≤◌, Bool, false, 
 ghost use Rattle.std.specs.Io.KnownBytes.{WriteAppends};
 ghost use Rattle.std.specs.Io.{WritesAtMost};
 ghost use Rattle.captures.specs.Files.{IsOpened, IsUnopened};
+ghost use Rattle.captures.specs.declared.machine.OpenedFile.{OpenedFile};
 ghost use Rattle.captures.specs.declared.files.Reader.TheVariants.{NotAwaited};
 ghost use Rattle.tap.specs.Files.{IsBegunIn, IsUnbegunIn, WasCleared};
 ghost use Rattle.tap.specs.Outlets.{Looks, Writes, taken};
 
 use crate::{CaptureFile, Reel};
-use captures::{Reader, Vacant};
-use runtimes::Hosted;
+use captures::{Machine, OpenedFile, Reader, Vacant};
 use std::alloc::Global;
 use std::fs::Files;
 use std::io::{self, Write};
@@ -96,11 +96,16 @@ impl<F: Write + AsRawFd + Drop> Outlet for CaptureFile<F> {
 /// # Errors
 ///
 /// `AlreadyExists` where it is a regular file that has something, and no capture; where the system refuses it.
-pub fn open<R: Files + Hosted>(rt: &R, path: &str) -> io::Result<Vacant<R::File>>
-    ensures opened { IfOk result (IsOpened path.now NotAwaited) }
-    ensures refused { IfErr result (IsUnopened R.File path.now NotAwaited) }
+pub fn open<R: Files>(
+    machine: &mut Machine<'_, R>,
+    path: &str,
+) -> io::Result<Vacant<OpenedFile<R::File>>>
+    ensures opened { IfOk result
+        (λ vacant. IsOpened machine.old path.now NotAwaited vacant machine.new) }
+    ensures refused { IfErr result
+        (λ why. IsUnopened (OpenedFile R.File) machine.old path.now NotAwaited why machine.new) }
 {
-    captures::open(rt, path, Reader::NotAwaited)
+    captures::open(machine, path, Reader::NotAwaited)
 }
 
 /// Begins a capture in a file, which loses what it has.

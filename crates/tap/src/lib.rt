@@ -12,7 +12,7 @@ mod taps;
 
 pub use asked_files::CaptureFile;
 pub use capture_files::{Outlet, begin, open};
-pub use captures::Vacant;
+pub use captures::{Machine, OpenedFile, Vacant};
 pub use laws::capture_law;
 pub use moments::{Moments, SinceFirst};
 pub use reels::Reel;

@@ -4,7 +4,7 @@ ghost use Rattle.std.specs.Duration.{as_nanos};
 ghost use Rattle.tap.specs.Moments.{HasReadSince, IsReading};
 
 use crate::asked_clock::SystemClock;
-use runtimes::Hosted;
+use runtimes::Hand;
 use std::marker::Model;
 use std::rt::Clock;
 use std::time::{Duration, Instant};
@@ -54,14 +54,15 @@ fn reading(start: Option<Instant>, now: Option<Instant>, last: u64) -> u64
     }
 }
 
-impl<'a, R: Hosted> SinceFirst<'a, R> {
-    /// It wasn't asked yet.
-    pub fn new(rt: &'a R) -> SinceFirst<'a, R>
+impl<'a, R> SinceFirst<'a, R> {
+    /// It asks by this hand. No moment was had yet.
+    pub fn new(hand: Hand<'a, R>) -> SinceFirst<'a, R>
+        ensures asker { result.asker ≡ hand.entry }
         ensures start { result.start ≡ None }
         ensures read { result.read ≡ 0 }
     {
         SinceFirst {
-            clock: SystemClock::new(rt),
+            clock: SystemClock::new(hand),
             start: None,
             last: 0,
         }

@@ -4,7 +4,7 @@ ghost use Rattle.std.specs.Io.KnownBytes.{Appends, Keeps};
 ghost use Rattle.std.specs.IoError.{error_kind};
 ghost use Rattle.captures.specs.Captures.{captured_of, head, packet_block};
 ghost use Rattle.tap.specs.Outlets.{IsAskedOnce, IsAskedTwice, Pours, PoursNone, front};
-ghost use Rattle.tap.specs.Reels.{Adds, Begins, HandsOn, IsLeftOut, IsUnbegun, LeavesOut};
+ghost use Rattle.tap.specs.Reels.{Adds, Begins, HandsOn, HandsOnFirst, IsLeftOut, IsUnbegun, LeavesOut};
 ghost use Rattle.tap.specs.Reels.{WasRefusedHead, WasRefusedRoom, whole};
 
 use crate::Outlet;
@@ -83,6 +83,8 @@ impl<O: Outlet> Reel<O> {
         ensures why { result ≡ false
             → IsLeftOut O.IsFull self.old (captured_of packet.now) self.new.outlet }
         ensures outlet { IsAskedTwice O.looks O.writes self.old.outlet self.new.outlet }
+        ensures poured { 0 < length self.old.owed
+            → HandsOnFirst O.looks O.writes self.old self.new.outlet }
     {
         let is_kept = self.settle() && self.lay(packet);
         if !is_kept {

@@ -4,7 +4,7 @@ ghost use Rattle.sockets.specs.Letters.{answer_of, answered, asked, sent};
 ghost use Rattle.captures.specs.declared.interfaces.Direction.TheVariants.{Outbound};
 ghost use Rattle.std.specs.Io.KnownBytes.{Keeps};
 ghost use Rattle.tap.specs.Outlets.{IsAskedOnce, IsAskedTwice};
-ghost use Rattle.tap.specs.Reels.{whole};
+ghost use Rattle.tap.specs.Reels.{HandsOn, whole};
 ghost use Rattle.tap.specs.Taps.{AnswersTapped, DoesTapped, TakesAnswer, TakesDown, TakesNothing, TakesSent, WasEnded, interface_at};
 
 use crate::{Moments, Outlet, Reel};
@@ -80,6 +80,8 @@ impl<W: Wire, M: Moments, O: Outlet> Tapped<W, M, O> {
             → O.IsFull self.new.reel.outlet }
         ensures left_out { self.new.reel.left_out ≡ self.old.reel.left_out }
         ensures outlet { IsAskedOnce O.looks O.writes self.old.reel.outlet self.new.reel.outlet }
+        ensures poured { 0 < length self.old.reel.owed
+            → HandsOn O.looks O.writes self.old.reel self.new.reel }
     {
         let _is_settled = self.reel.settle();
     }

@@ -13,8 +13,13 @@ returns-clause-acts g c = record {
   first_is = c.new-passage.ensures;
   clock = _;
   clock2 = _;
-  acted = c.act_at.ensures.acts;
+  clock_is = c.start-clock.ensures.start;
+  site_gone = c.let_go.ensures;
+  host_gone = c.let_go-2.ensures;
+  passage_gone = c.let_go-3.ensures;
+  clock_gone = c.let_go-4.ensures;
+  acted = c.act_at-status.ensures.acts;
 }
 
 pub returns-clause-done : goal.returns-clause-done
-returns-clause-done g c h = record { first = _; first_is = c.new-passage.ensures; done = c.act_at.ensures.done h }
+returns-clause-done g c h = record { first = _; first_is = c.new-passage.ensures; done = c.act_at-status.ensures.done h }

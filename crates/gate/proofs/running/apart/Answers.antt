@@ -51,3 +51,12 @@ returns-clause-asks g c =
 
 pub returns-clause-unheard : goal.returns-clause-unheard
 returns-clause-unheard g c = c.locked.ensures.unheard
+
+pub returns-in_err-without_clash-clause-rest : goal.returns-in_err-without_clash-clause-rest
+returns-in_err-without_clash-clause-rest g c = inl refl
+
+pub returns-in_err-path-clause-rest : goal.returns-in_err-path-clause-rest
+returns-in_err-path-clause-rest g c = inl refl
+
+pub returns-clause-rest : goal.returns-clause-rest
+returns-clause-rest g c = c.locked.ensures.rest

@@ -1,5 +1,6 @@
-use Rattle.std.proofs.Common.{inl, refl, sym, ap, is_some, ◌∙◌}
+use Rattle.std.proofs.Common.{inl, inr, refl, sym, ap, is_some, ◌∙◌}
 use Rattle.gate.proofs.Refusing.{logged_behind, sparing_none, untouched}
+use Rattle.gate.proofs.Asking.{with_seeds, without_seeds}
 use Rattle.gate.proofs.running.captured.Goals as goal
 
 pub returns-in-Err-clause-err : goal.returns-in-Err-clause-err
@@ -76,3 +77,12 @@ returns-in-Ok-None-clause-left g c = c.run.ensures.left
 
 pub returns-in-Err-clause-left : goal.returns-in-Err-clause-left
 returns-in-Err-clause-left g c = inl refl
+
+pub returns-in-Ok-Some-clause-means : goal.returns-in-Ok-Some-clause-means
+returns-in-Ok-Some-clause-means g c = inr (c.in-Ok-Some.ensures.given, with_seeds _ _ _ _ _ _ c.in-Ok-Some.field-0-is c.in-Ok-Some.ensures.path c.tapped.ensures.means)
+
+pub returns-in-Ok-None-clause-means : goal.returns-in-Ok-None-clause-means
+returns-in-Ok-None-clause-means g c = inr (c.in-Ok-None.ensures.given, without_seeds _ _ _ _ _ c.in-Ok-None.field-0-is c.in-Ok-None.ensures.path c.run.ensures.means)
+
+pub returns-in-Err-clause-means : goal.returns-in-Err-clause-means
+returns-in-Err-clause-means g c = inl refl

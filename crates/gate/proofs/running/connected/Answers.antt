@@ -50,3 +50,9 @@ returns-clause-left g c = c.wired.ensures.left
 
 pub returns-in_err-control-clause-left : goal.returns-in_err-control-clause-left
 returns-in_err-control-clause-left g c = inl refl
+
+pub returns-in_err-control-clause-rest : goal.returns-in_err-control-clause-rest
+returns-in_err-control-clause-rest g c = inl refl
+
+pub returns-clause-rest : goal.returns-clause-rest
+returns-clause-rest g c = c.wired.ensures.rest

@@ -1,11 +1,17 @@
 use Rattle.gate.proofs.Refusing.{silent_or_taken}
 use Rattle.gate.proofs.running.gate.Goals as goal
 
-pub let_go-requires : goal.let_go-requires
-let_go-requires g c = record { asked = (_, (c.machine_of-machine.ensures, c.in-Ok.ensures.asks)) }
+pub returns-in-Ok-clause-asks : goal.returns-in-Ok-clause-asks
+returns-in-Ok-clause-asks g c = (
+  (_, (_, (c.parts_of-machine.ensures.machine, (c.in-Ok.ensures.asks, c.put_down.ensures.machine)))),
+  (_, (_, (c.parts_of-machine.ensures.rest, (c.in-Ok.ensures.rest, c.put_down.ensures.rest)))),
+)
 
-pub let_go-requires-in-Err : goal.let_go-requires-in-Err
-let_go-requires-in-Err g c = record { asked = (_, (c.machine_of-machine.ensures, c.in-Err.ensures.asks)) }
+pub returns-in-Err-clause-asks : goal.returns-in-Err-clause-asks
+returns-in-Err-clause-asks g c = (
+  (_, (_, (c.parts_of-machine.ensures.machine, (c.in-Err.ensures.asks, c.put_down-in-Err.ensures.machine)))),
+  (_, (_, (c.parts_of-machine.ensures.rest, (c.in-Err.ensures.rest, c.put_down-in-Err.ensures.rest)))),
+)
 
 pub returns-in-Err-clause-failed : goal.returns-in-Err-clause-failed
 returns-in-Err-clause-failed g c one = (

@@ -47,3 +47,9 @@ pub unlock-requires-clause-ran : goal.unlock-requires-clause-ran
 unlock-requires-clause-ran g c =
     on_some c.connected-ended.result _ c.args.manager.now (on_some c.connected-ended.result _ c.connected-ended.new.manager
     (on_some c.connected-ended.result _ c.args.output.now c.connected-ended.ensures.ok))
+
+pub returns-in-Err-clause-rest : goal.returns-in-Err-clause-rest
+returns-in-Err-clause-rest g c = inl refl
+
+pub returns-in-Ok-clause-rest : goal.returns-in-Ok-clause-rest
+returns-in-Ok-clause-rest g c = c.connected-ended.ensures.rest

@@ -1,4 +1,4 @@
-use Rattle.std.proofs.Common.{inl, refl}
+use Rattle.std.proofs.Common.{inl, inr, refl}
 use Rattle.gate.specs.Asked.{path_in}
 use Rattle.gate.proofs.Asking.{none_asked}
 use Rattle.gate.proofs.Serving.{closed_at}
@@ -36,7 +36,7 @@ close-requires g c = record {
   told = (
     _,
     (
-      c.in-Ok.ensures.untold,
+      c.told_to_record-records.ensures.untold,
       (_, (c.captured-ended.ensures.recorded, c.captured-ended.ensures.told)),
     ),
   );
@@ -50,3 +50,9 @@ returns-in-Ok-clause-left g c = c.captured-ended.ensures.left
 
 pub returns-in-Err-clause-left : goal.returns-in-Err-clause-left
 returns-in-Err-clause-left g c = inl refl
+
+pub returns-in-Ok-clause-rest : goal.returns-in-Ok-clause-rest
+returns-in-Ok-clause-rest g c = (c.in-Ok.ensures.asked, inr (c.in-Ok.ensures.valid, (c.told_to_record-records.ensures.lent, c.captured-ended.ensures.means)))
+
+pub returns-in-Err-clause-rest : goal.returns-in-Err-clause-rest
+returns-in-Err-clause-rest g c = (c.in-Err.ensures.asked, inl (refl, refl))

@@ -26,3 +26,12 @@ returns-in_err-ways-clause-asks g c = inl refl
 pub returns-in_err-told_to_inherit-clause-asks : goal.returns-in_err-told_to_inherit-clause-asks
 returns-in_err-told_to_inherit-clause-asks g c =
     inr (_, (c.in_ok-ways.ensures.ok, (_, (c.in_err-told_to_inherit.ensures.asked, inl refl))))
+
+pub returns-in_err-ways-clause-rest : goal.returns-in_err-ways-clause-rest
+returns-in_err-ways-clause-rest g c = inl refl
+
+pub returns-in_err-told_to_inherit-clause-rest : goal.returns-in_err-told_to_inherit-clause-rest
+returns-in_err-told_to_inherit-clause-rest g c = inl refl
+
+pub returns-clause-rest : goal.returns-clause-rest
+returns-clause-rest g c = c.watched.ensures.rest

@@ -11,8 +11,8 @@ use Rattle.gate.proofs.running.rounds_of.Goals as goal
 
 pub returns-clause-runs : goal.returns-clause-runs
 returns-clause-runs g c =
-    runs_on (calls g.W.Wire.does g.W.Wire.answers) (wire_says g.W.Wire.waits g.W.Wire.failing g.W.Wire.lost) _ _ _ _ _ _ _ _ _ _ _ _ _ _ _
-    c.requires.fresh.untold c.stopwatch-clock.ensures.start c.stopwatch-clock.ensures.read c.new-until.ensures c.input.ensures.watched c.input.ensures.unasked
+    runs_on (calls g.W.Wire.does g.W.Wire.answers) (wire_says g.W.Wire.waits g.W.Wire.failing g.W.Wire.lost) _ _ _ _ _ _ _ _ _ _ _ _ _ _
+    c.requires.fresh.untold c.begun-clock.ensures.begun c.begun-clock.ensures.read
     c.serve-served.ensures.rounds.run c.serve-served.ensures.rounds.shown c.serve-served.ensures.rounds.wire_is c.let_go.ensures _ (_, (c.ready.ensures, c.serve-served.ensures.rounds.told)) (WasToldRun c.args.start.now c.args.identity.boot c.args.gateway.now.moment)
     (told_run c.args.start.now c.args.identity.boot _ _ _ _ c.moment-moment.ensures c.serve-served.ensures.rounds.told_is
     (c.put_away.ensures c.args.teller (record { own = c.requires.teller; log = c.requires.log; new = new_at _ _ _ c.moment-moment.ensures c.requires.fresh })
@@ -20,8 +20,8 @@ returns-clause-runs g c =
 
 pub returns-in_err-served-clause-runs : goal.returns-in_err-served-clause-runs
 returns-in_err-served-clause-runs g c =
-    runs_on (calls g.W.Wire.does g.W.Wire.answers) (wire_says g.W.Wire.waits g.W.Wire.failing g.W.Wire.lost) _ _ _ _ _ _ _ _ _ _ _ _ _ _ _
-    c.requires.fresh.untold c.stopwatch-clock.ensures.start c.stopwatch-clock.ensures.read c.new-until.ensures c.input.ensures.watched c.input.ensures.unasked
+    runs_on (calls g.W.Wire.does g.W.Wire.answers) (wire_says g.W.Wire.waits g.W.Wire.failing g.W.Wire.lost) _ _ _ _ _ _ _ _ _ _ _ _ _ _
+    c.requires.fresh.untold c.begun-clock.ensures.begun c.begun-clock.ensures.read
     c.serve-served.ensures.rounds.run c.serve-served.ensures.rounds.shown c.serve-served.ensures.rounds.wire_is c.let_go.ensures _ (_, (c.ready.ensures, c.serve-served.ensures.rounds.told)) (WasToldRun c.args.start.now c.args.identity.boot c.args.gateway.now.moment)
     (told_run c.args.start.now c.args.identity.boot _ _ _ _ c.moment-moment.ensures c.serve-served.ensures.rounds.told_is
     (c.put_away.ensures c.args.teller (record { own = c.requires.teller; log = c.requires.log; new = new_at _ _ _ c.moment-moment.ensures c.requires.fresh })

@@ -1,4 +1,4 @@
-use Rattle.std.proofs.Common.{inl, refl, sym}
+use Rattle.std.proofs.Common.{inl, inr, refl, sym}
 use Rattle.rounds.specs.Rounds.{calls, wire_says}
 use Rattle.gate.proofs.Heard.{unheard_behind}
 use Rattle.gate.proofs.Recorded.{new_again, of_run_bare, own_again, own_like, recorded_to_end, told_bare, told_unbooted}
@@ -87,3 +87,9 @@ returns-in-Ok-clause-left g c = c.in-Ok.ensures.left
 
 pub returns-in-Err-clause-left : goal.returns-in-Err-clause-left
 returns-in-Err-clause-left g c = c.in-Err.ensures.left
+
+pub returns-in-Ok-clause-means : goal.returns-in-Ok-clause-means
+returns-in-Ok-clause-means g c = (c.in-Ok.ensures.seed, inr (c.in-Ok.ensures.announced, (refl, c.rounds_of-ended.ensures.pace)))
+
+pub returns-in-Err-clause-means : goal.returns-in-Err-clause-means
+returns-in-Err-clause-means g c = (c.in-Err.ensures.seed, inl (refl, refl))

@@ -17,3 +17,9 @@ returns-clause-asks g c = (_, (c.in_ok-settings.ensures.asked, inr (_, (c.in_ok-
 
 pub returns-in_err-settings-clause-asks : goal.returns-in_err-settings-clause-asks
 returns-in_err-settings-clause-asks g c = (_, (c.in_err-settings.ensures.asked, inl refl))
+
+pub returns-in_err-settings-clause-rest : goal.returns-in_err-settings-clause-rest
+returns-in_err-settings-clause-rest g c = inl refl
+
+pub returns-clause-rest : goal.returns-clause-rest
+returns-clause-rest g c = c.reached-ended.ensures.rest

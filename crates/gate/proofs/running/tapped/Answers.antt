@@ -1,9 +1,10 @@
-use Rattle.std.proofs.Common.{inl, refl}
+use Rattle.std.proofs.Common.{inl, inr, refl, subst, sym}
 use Rattle.rounds.specs.Rounds.{calls, wire_says}
 use Rattle.gate.proofs.Heard.{unheard_tapped}
 use Rattle.gate.proofs.Recorded.{of_run_at, recorded_to_end, told_tapped, told_unbooted}
 use Rattle.gate.proofs.Refusing.{in_order, rounds_behind, sparing_at, sparing_behind, unstarted_behind, unstarted_with, with_capture}
 use Rattle.gate.proofs.Serving.{always, captured_at, has_run, spared_tapped}
+use Rattle.gate.specs.Rests.{AsksSeed}
 use Rattle.gate.proofs.running.tapped.Goals as goal
 
 pub returns-in-Ok-clause-ok : goal.returns-in-Ok-clause-ok
@@ -77,3 +78,12 @@ returns-in-Ok-clause-kept g c =
 
 pub returns-in-Err-clause-kept : goal.returns-in-Err-clause-kept
 returns-in-Err-clause-kept g c = sparing_at g.O.Write.contents _ c.args.capture.path.now _ _ _ c.requires.captured c.spare.ensures
+
+pub returns-in-Ok-clause-means : goal.returns-in-Ok-clause-means
+returns-in-Ok-clause-means g c = (
+  subst (λ s. AsksSeed c.args.means.now.seeds s) (sym c.tapped_rounds-ended.ensures.seeds) c.in-Ok.ensures.seed,
+  inr (c.in-Ok.ensures.announced, c.tapped_rounds-ended.ensures.means),
+)
+
+pub returns-in-Err-clause-means : goal.returns-in-Err-clause-means
+returns-in-Err-clause-means g c = (c.in-Err.ensures.seed, inl (refl, refl))

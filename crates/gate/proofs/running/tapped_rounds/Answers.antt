@@ -1,4 +1,4 @@
-use Rattle.std.proofs.Common.{inr, refl, sym}
+use Rattle.std.proofs.Common.{inl, inr, refl, sym}
 use Rattle.rounds.specs.Rounds.{calls, wire_says}
 use Rattle.gate.proofs.Below.{above_tapped, ran_below}
 use Rattle.gate.proofs.Recorded.{new_again, own_again, own_like}
@@ -64,3 +64,9 @@ rounds_of-ended-requires-clause-log g c = own_again g.L.Journal.passes g.L.Journ
 
 pub rounds_of-ended-requires-clause-teller : goal.rounds_of-ended-requires-clause-teller
 rounds_of-ended-requires-clause-teller g c = (_, (_, (c.requires.begun, (c.lend-run.ensures.lent, c.teller_at-teller.ensures.own))))
+
+pub returns-clause-means : goal.returns-clause-means
+returns-clause-means g c = ((_, c.timed.ensures.lent), inr (c.in_ok-wire.ensures.begun, c.rounds_of-ended.ensures.pace))
+
+pub returns-in_err-wire-clause-means : goal.returns-in_err-wire-clause-means
+returns-in_err-wire-clause-means g c = ((_, c.timed.ensures.lent), inl refl)

@@ -29,3 +29,9 @@ returns-clause-asks g c = (_, (c.in_ok-manager.ensures.asked, inr ((_, c.in_ok-m
 pub apart-ended-requires-clause-watched : goal.apart-ended-requires-clause-watched
 apart-ended-requires-clause-watched g c =
     record { inherited = record { read = c.requires.read; inherited = c.requires.inherited }; watched = (_, c.in_ok-manager.ensures.ok) }
+
+pub returns-in_err-manager-clause-rest : goal.returns-in_err-manager-clause-rest
+returns-in_err-manager-clause-rest g c = inl refl
+
+pub returns-clause-rest : goal.returns-clause-rest
+returns-clause-rest g c = c.apart-ended.ensures.rest

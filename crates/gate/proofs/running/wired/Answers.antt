@@ -45,3 +45,9 @@ returns-clause-left g c = c.logged.ensures.left
 
 pub returns-in_err-wire-clause-left : goal.returns-in_err-wire-clause-left
 returns-in_err-wire-clause-left g c = inl refl
+
+pub returns-in_err-wire-clause-rest : goal.returns-in_err-wire-clause-rest
+returns-in_err-wire-clause-rest g c = inl refl
+
+pub returns-clause-rest : goal.returns-clause-rest
+returns-clause-rest g c = inr (c.in_ok-wire.ensures.wired, c.logged.ensures.rest)

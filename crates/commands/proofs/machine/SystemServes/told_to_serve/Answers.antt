@@ -13,3 +13,6 @@ returns-clause-tells g c =
     c.gate.ensures.status c.gate.ensures.quiet c.gate.ensures.failed
     (λ why is. (is.0, each_of is.1 (λ same. same) (λ behind. (behind.1.1.0, behind.1.1.1.1)))) in
     (told.0, told.1, (λ none. (told.2 none, c.gate.ensures.served none), told.3))
+
+pub returns-clause-asks : goal.returns-clause-asks
+returns-clause-asks g c = (_, (rw c.self.view_is at c.lent.ensures, c.gate.ensures.asks))

@@ -4,4 +4,4 @@ use Rattle.loopback_run.proofs.loopback.HoldingChannel.pass.Goals as goal
 
 pub returns-in-Bound : goal.returns-in-Bound
 returns-in-Bound g c =
-    (refl, rw c.in-Bound.is (refl, carried_by g.S.Carries.asks _ _ _ _ _ _ c.pass.ensures.settings c.pass.ensures.numbered c.pass.ensures.asked))
+    (refl, rw c.in-Bound.is (carried_by g.B.Carries.asks _ _ _ _ _ _ _ _ c.pass.ensures.settings c.pass.ensures.numbered c.pass.ensures.asked))
