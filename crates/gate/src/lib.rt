@@ -10,6 +10,7 @@ mod reading;
 mod recording;
 mod rest;
 mod running;
+mod runs;
 mod seeds;
 mod starting;
 mod ways;

@@ -199,7 +199,8 @@ impl<R: Files + AllocGlobal> Machine<'_, R> {
         ensures opened { IfOk result (λ vacant. IsOpened self.old.captures path.now NotAwaited vacant
             self.new.captures) }
         ensures unopened { IfErr result
-            (λ why. IsUnfit (OpenedFile R.File) self.old.captures path.now NotAwaited why self.new.captures) }
+            (λ why. IsUnfit (OpenedFile R.File) self.old.captures path.now NotAwaited why
+            self.new.captures) }
         ensures given { OnOk result (WasGiven (capture_file path.now)) }
         ensures had { IfOk result (WasHad (capture_file path.now)) }
         ensures answered { IfErr result (WasAnswered (capture_file path.now)) }

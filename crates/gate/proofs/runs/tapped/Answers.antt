@@ -5,7 +5,7 @@ use Rattle.gate.proofs.Recorded.{of_run_at, recorded_to_end, told_tapped, told_u
 use Rattle.gate.proofs.Refusing.{in_order, rounds_behind, sparing_at, sparing_behind, unstarted_behind, unstarted_with, with_capture}
 use Rattle.gate.proofs.Serving.{always, captured_at, has_run, spared_tapped}
 use Rattle.gate.specs.Rests.{AsksSeed}
-use Rattle.gate.proofs.running.tapped.Goals as goal
+use Rattle.gate.proofs.runs.tapped.Goals as goal
 
 pub returns-in-Ok-clause-ok : goal.returns-in-Ok-clause-ok
 returns-in-Ok-clause-ok g c =

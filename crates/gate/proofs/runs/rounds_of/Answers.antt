@@ -7,7 +7,7 @@ use Rattle.gate.specs.Logs.{WasToldRun}
 use Rattle.gate.proofs.Recorded.{new_at, told_run}
 use Rattle.gate.proofs.Refusing.{handed_on}
 use Rattle.gate.proofs.Serving.{runs_on}
-use Rattle.gate.proofs.running.rounds_of.Goals as goal
+use Rattle.gate.proofs.runs.rounds_of.Goals as goal
 
 pub returns-clause-runs : goal.returns-clause-runs
 returns-clause-runs g c =

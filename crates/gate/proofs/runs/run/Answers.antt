@@ -4,7 +4,7 @@ use Rattle.gate.proofs.Heard.{unheard_behind}
 use Rattle.gate.proofs.Recorded.{new_again, of_run_bare, own_again, own_like, recorded_to_end, told_bare, told_unbooted}
 use Rattle.gate.proofs.Refusing.{end_behind, in_order, unstarted_behind, unstarted_with, with_capture}
 use Rattle.gate.proofs.Serving.{always, has_run, on_sockets, ran_bare, spared_behind, uncaptured}
-use Rattle.gate.proofs.running.run.Goals as goal
+use Rattle.gate.proofs.runs.run.Goals as goal
 
 pub returns-in-Ok-clause-ok : goal.returns-in-Ok-clause-ok
 returns-in-Ok-clause-ok g c =

@@ -4,7 +4,7 @@ use Rattle.gate.proofs.Below.{above_tapped, ran_below}
 use Rattle.gate.proofs.Recorded.{new_again, own_again, own_like}
 use Rattle.gate.proofs.Refusing.{handed_on, only_this}
 use Rattle.gate.proofs.Serving.{always, let_go_tapped, on_tapped}
-use Rattle.gate.proofs.running.tapped_rounds.Goals as goal
+use Rattle.gate.proofs.runs.tapped_rounds.Goals as goal
 
 pub returns-clause-ran : goal.returns-clause-ran
 returns-clause-ran g c =
