@@ -196,8 +196,8 @@ impl<R: Files + AllocGlobal> Machine<'_, R> {
         ensures net { LeavesNet self.old self.new }
         ensures others { (self.new.files ≡ self.old.files)
             × (self.new.boot_files ≡ self.old.boot_files) }
-        ensures opened { IfOk result (λ vacant. IsOpened self.old.captures path.now NotAwaited vacant
-            self.new.captures) }
+        ensures opened { IfOk result (λ vacant.
+            IsOpened self.old.captures path.now NotAwaited vacant self.new.captures) }
         ensures unopened { IfErr result
             (λ why. IsUnfit (OpenedFile R.File) self.old.captures path.now NotAwaited why
             self.new.captures) }
