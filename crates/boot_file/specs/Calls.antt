@@ -42,9 +42,6 @@ WasSynced before answer after = Unit {0}
 unfoldable pub WasNameSynced : {F : Type 0} → SyncsName F
 WasNameSynced before folder answer after = Unit {0}
 
-unfoldable pub WasDropped : {F : Type 0} → Tries F
-WasDropped before answer after = Unit {0}
-
 unfoldable pub WasLocked : {F : Type 0} → TriesLock F
 WasLocked before answer after = Unit {0}
 

@@ -3,11 +3,11 @@ use Rattle.std.specs.Prelude.{ℕ, Bool, true, false, not, ◌&&◌, ◌≡◌, 
 use Rattle.std.specs.declared.io.Error.{Error}
 use Rattle.control.specs.declared.machine.SystemListener.{SystemListener}
 use Rattle.control.specs.declared.machine.SystemCaller.{SystemCaller}
-use Rattle.mio.specs.declared.token.Token.{Token}
+use Rattle.descriptors.specs.Events.{Token}
 use Rattle.control.specs.Asking.{AreLeft, IsSpeaker}
-use Rattle.control.specs.Calling.{Calls, LetsIn, Reporting, WasCalled, WasReported}
+use Rattle.control.specs.Calling.{Calls, LetsIn, Reporting, WasCalled, WasCallerReported, WasListenerReported}
 use Rattle.control.specs.Counting.{AreCounted, AreJoined, one_if}
-use Rattle.control.specs.Reads.{Reads, WasHeard}
+use Rattle.control.specs.Reads.{Reads, WasCallerHeard}
 use Rattle.control.specs.Speaking.{WasLetGo}
 use Rattle.control.specs.Words.{word_of}
 use Rattle.control.specs.declared.machine.Waits.{Waits}
@@ -53,9 +53,10 @@ nobody_yet listener token = record {
 }
 
 -- waits were to report this listener under this token, once, and it is attended to as it is then; or they refused to; they were asked for nothing else
-abbrev pub WasListenedTo : {W : Type 0} → SystemListener → Token → Result Attending Error → W → W → Type 0
-WasListenedTo listener token (Ok attending) before after = WasReported before listener token (Ok tt) attending.listener after
-WasListenedTo listener token (Err error) before after = (told : SystemListener) × (WasReported before listener token (Err error) told after × WasLetGo told)
+abbrev pub WasListenedTo : SystemListener → Token → Result Attending Error → Waits → Waits → Type 0
+WasListenedTo listener token (Ok attending) before after = WasListenerReported before listener token (Ok tt) attending.listener after
+WasListenedTo listener token (Err error) before after =
+    (told : SystemListener) × (WasListenerReported before listener token (Err error) told after × WasLetGo told)
 
 -- somebody may have called, or said something; all else stays
 abbrev pub woken : {L S : Type 0} → Attended L S → Attended L S
@@ -114,12 +115,12 @@ abbrev pub LooksBy : {W L S T : Type 0} → Reads S → Calls L S → Reporting 
 LooksBy reads calls reports (Some word) before after = HearsBy reads before after
 LooksBy reads calls reports None before after = LetsInBy reads calls reports before after
 
--- so it is at the system's sockets, by the names of the calls
+-- so it is at the system's sockets, by the names that `descriptors` has for the calls
 abbrev pub HasHeard : Attending → Attending → Type 0
-HasHeard before after = HearsBy WasHeard before after
+HasHeard before after = HearsBy WasCallerHeard before after
 
 abbrev pub HasLetIn : Attending → Attending → Type 0
-HasLetIn before after = LetsInBy {W = Waits} WasHeard WasCalled WasReported before after
+HasLetIn before after = LetsInBy WasCallerHeard WasCalled WasCallerReported before after
 
 abbrev pub HasLooked : {T : Type 0} → Option T → Attending → Attending → Type 0
-HasLooked found before after = LooksBy {W = Waits} WasHeard WasCalled WasReported found before after
+HasLooked found before after = LooksBy WasCallerHeard WasCalled WasCallerReported found before after

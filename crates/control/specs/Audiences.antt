@@ -5,7 +5,7 @@ use Rattle.control.specs.Asking.{AreLeft, IsSpeaker}
 use Rattle.control.specs.Attending.{Attended}
 use Rattle.control.specs.Calling.{Reporting}
 use Rattle.control.specs.Reads.{Reads}
-use Rattle.mio.specs.declared.token.Token.{Token}
+use Rattle.descriptors.specs.Events.{Token}
 use Rattle.control.specs.declared.audience.Audience.{Audience}
 use Rattle.control.specs.declared.audience.Doorway.{Doorway}
 use Rattle.control.specs.Speaking.{WasLetGo}

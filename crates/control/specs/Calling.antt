@@ -3,8 +3,11 @@ use Rattle.std.specs.Prelude.{ℕ, Bool, true, false, ◌≡◌, ◌≢◌, ◌�
 use Rattle.std.specs.IoError.{error_kind}
 use Rattle.std.specs.declared.io.Error.{Error}
 use Rattle.std.specs.declared.io.ErrorKind.TheVariants.{WouldBlock}
+use Rattle.descriptors.specs.Asked.{WasAccepted, WasRegistered}
+use Rattle.descriptors.specs.Events.{Interest, Token}
 use Rattle.control.specs.declared.machine.SystemCaller.{SystemCaller}
-use Rattle.mio.specs.declared.token.Token.{Token}
+use Rattle.control.specs.declared.machine.SystemListener.{SystemListener}
+use Rattle.control.specs.declared.machine.Waits.{Waits}
 use Rattle.control.specs.Counting.{with_room}
 use Rattle.control.specs.Speaking.{WasLetGo}
 
@@ -16,14 +19,24 @@ Calls L S = L → Result S Error → L → Type 0
 abbrev pub Reporting : Type 0 → Type 0 → Type 1
 Reporting W S = W → S → Token → Result (Unit {0}) Error → S → W → Type 0
 
--- Waits were to report this under a token, and it was answered so. It is no more than a name for the call, by what both were before and are then:
--- who makes the call has it, and nobody else.
-unfoldable pub WasReported : {W S : Type 0} → Reporting W S
-WasReported before source token answer told after = Unit {0}
+-- what is of interest of a socket: that there is something to read, or somebody who calls
+abbrev pub reading : Interest
+reading = record { priority = false; writable = false; readable = true }
 
--- A listener was asked who calls next, and answered so. It is such a name, too: by what the listener was before and is then.
-unfoldable pub WasCalled : {L S : Type 0} → Calls L S
-WasCalled before answer after = Unit {0}
+-- the registry of these waits was to watch this listener's socket for that, under this token, once, and answered so
+abbrev pub WasListenerReported : Reporting Waits SystemListener
+WasListenerReported before listener token answer told after =
+    WasRegistered before.registry listener.socket token reading answer told.socket after.registry
+
+-- it was to watch this caller's socket so, and answered that
+abbrev pub WasCallerReported : Reporting Waits SystemCaller
+WasCallerReported before caller token answer told after =
+    WasRegistered before.registry caller.socket token reading answer told.socket after.registry
+
+-- The listener's socket was asked once who calls next: somebody does, and it is this caller's; or nobody can be had.
+abbrev pub WasCalled : Calls SystemListener SystemCaller
+WasCalled before (Ok caller) after = WasAccepted before.socket (Ok caller.socket) after.socket
+WasCalled before (Err error) after = WasAccepted before.socket (Err error) after.socket
 
 -- waits were to report one who calls under this token, once; they were asked for nothing else
 abbrev pub AsksForOne : {W S : Type 0} → Reporting W S → Token → W → W → Type 0
@@ -36,8 +49,8 @@ AsksFor reports token (Some word) before after = after ≡ before
 AsksFor reports token None before after = (after ≡ before) ⊎ AsksForOne reports token before after
 
 -- so the system's waits were, of the system's streams
-abbrev pub WereAskedFor : {W T : Type 0} → Token → Option T → W → W → Type 0
-WereAskedFor token word before after = AsksFor {S = SystemCaller} WasReported token word before after
+abbrev pub WereAskedFor : {T : Type 0} → Token → Option T → Waits → Waits → Type 0
+WereAskedFor token word before after = AsksFor WasCallerReported token word before after
 
 -- once he is registered he is waited for, behind the others; one who can't be registered is let go
 abbrev pub IsKept : {S : Type 0} → Result (Unit {0}) Error → List S → S → List S → Type 0

@@ -1,6 +1,7 @@
 -- How a control socket is opened.
 use Rattle.std.specs.Prelude.{ℕ, ◌≡◌, ◌⊎◌, List, Result, Ok, Err}
 use Rattle.std.specs.declared.io.Error.{Error}
+use Rattle.descriptors.specs.Asked.{WasListened}
 use Rattle.control.specs.declared.machine.SystemListener.{SystemListener}
 use Rattle.control.specs.Folders.{Does, IsReady, IsRefused, WasDone}
 use Rattle.control.specs.Paths.{Paths}
@@ -9,10 +10,10 @@ use Rattle.control.specs.Paths.{Paths}
 abbrev pub Binding : Type 0 → Type 0 → Type 1
 Binding F L = F → List ℕ → Result L Error → F → Type 0
 
--- This machine was asked for a socket that is bound at this path, and answered so. It is no more than a name for the call, by what the machine
--- was before and is then: who makes the call has it, and nobody else.
-unfoldable pub WasBound : {M L : Type 0} → Binding M L
-WasBound before socket answer after = Unit {0}
+-- This machine asked the system once for a socket at which callers call, at this path: it gave one, which is this listener's; or it refused.
+abbrev pub WasBound : {M : Type 0} → Binding M SystemListener
+WasBound before socket (Ok listener) after = WasListened before socket (Ok listener.socket) after
+WasBound before socket (Err error) after = WasListened before socket (Err error) after
 
 -- Memory for so many callers was refused. No clause can say when that is, so this is no more than a name: who asks for it has it, and nobody
 -- else.
@@ -43,4 +44,4 @@ WasOpened path before listener after = IsOpened WasDone WasBound path before lis
 
 -- or wasn't
 abbrev pub WasNotOpened : {M : Type 0} → Paths → M → M → Type 0
-WasNotOpened path before after = IsUnopened {L = SystemListener} WasDone WasBound path before after
+WasNotOpened path before after = IsUnopened WasDone WasBound path before after

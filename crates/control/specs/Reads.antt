@@ -3,15 +3,21 @@ use Rattle.std.specs.Prelude.{ℕ, zero, suc, ◌≡◌, ◌≤◌, ◌⊎◌, �
 use Rattle.std.specs.IoError.{error_kind}
 use Rattle.std.specs.declared.io.Error.{Error}
 use Rattle.std.specs.declared.io.ErrorKind.TheVariants.{Interrupted}
+use Rattle.descriptors.specs.Asked.{WasHeard as WasStreamHeard}
+use Rattle.control.specs.declared.machine.SystemCaller.{SystemCaller}
 
 -- what one read may answer who is read, by the room as it is then, and what he is then
 abbrev pub Reads : Type 0 → Type 1
 Reads S = S → List ℕ → Result ℕ Error → S → Type 0
 
--- Who calls was read, once, and answered so; this is what the room has then. It says nothing of such a call, so this is no more than a name for it,
+-- A reader was read, once, and answered so; this is what the room has then. It says nothing of such a call, so this is no more than a name for it,
 -- by what he was before and is then: who makes the call has it, and nobody else.
 unfoldable pub WasHeard : {S : Type 0} → Reads S
 WasHeard before room answer after = Unit {0}
+
+-- who called was heard, by one read of his socket, which answered so
+abbrev pub WasCallerHeard : Reads SystemCaller
+WasCallerHeard before room answer after = WasStreamHeard before.socket room answer after.socket
 
 -- a read that answered so was interrupted
 abbrev pub IsInterrupted : Result ℕ Error → Type 0

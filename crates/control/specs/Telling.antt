@@ -3,7 +3,7 @@ use Rattle.std.specs.Prelude.{ℕ, ◌≡◌, List, length, Option, Some, None, 
 use Rattle.std.specs.Io.KnownBytes.{WriteAppends}
 use Rattle.std.specs.declared.io.Error.{Error}
 use Rattle.control.specs.declared.machine.SystemCaller.{SystemCaller}
-use Rattle.outlets.specs.Outputs.{WasTaken}
+use Rattle.descriptors.specs.Asked.{WasTold}
 use Rattle.outlets.specs.Writes.{Asks}
 use Rattle.control.specs.Attending.{Attending}
 use Rattle.control.specs.Counting.{unanswered_after}
@@ -26,6 +26,10 @@ abbrev pub IsAnsweredIf : {S : Type 0} → Asks S → Option S → List ℕ → 
 IsAnsweredIf asks (Some caller) bytes count count2 = IsAnsweredOnce asks caller bytes count count2
 IsAnsweredIf asks None bytes count count2 = count2 ≡ count
 
--- who awaited an answer was told just these bytes, once, by the names of the calls, and so many went unanswered then
+-- who called was told these bytes, by one write to his socket, which answered so
+abbrev pub WasCallerTold : Asks SystemCaller
+WasCallerTold before bytes answer after = WasTold before.socket bytes answer after.socket
+
+-- who awaited an answer was told just these bytes, once, and so many went unanswered then
 abbrev pub IsTold : List ℕ → Attending → Attending → Type 0
-IsTold bytes c c2 = (caller : SystemCaller) × ((c.speaker ≡ Some caller) × IsAnsweredOnce WasTaken caller bytes c.unanswered c2.unanswered)
+IsTold bytes c c2 = (caller : SystemCaller) × ((c.speaker ≡ Some caller) × IsAnsweredOnce WasCallerTold caller bytes c.unanswered c2.unanswered)

@@ -13,7 +13,7 @@ use crate::listeners::{Listens, Reports, let_in};
 use crate::newcomers::Newcomers;
 use crate::speakers::Speaks;
 use crate::{Word, word_of};
-use mio::Token;
+use descriptors::Token;
 use outlets::Takes;
 use std::io;
 

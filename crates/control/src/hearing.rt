@@ -11,7 +11,7 @@ use crate::audience::{Audience, Doorway};
 use crate::machine::{Machine, SystemCaller, SystemListener, Waits};
 use crate::opening::opened;
 use crate::{ControlPath, NoSocket};
-use mio::Token;
+use descriptors::Token;
 use std::alloc::Global;
 use std::fs::Files;
 use std::io;

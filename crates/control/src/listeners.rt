@@ -6,7 +6,7 @@ ghost use Rattle.control.specs.Counting.{AreJoined, one_if};
 use crate::awaiting::{Held, let_go};
 use crate::callers::make_room;
 use crate::newcomers::Newcomers;
-use mio::Token;
+use descriptors::Token;
 use std::io::{self, ErrorKind};
 
 /// Waits, which report who calls, or says something.

@@ -1,18 +1,18 @@
 //! This machine, the lines that it makes, and what waits. What they are asked has names, and no more is known of them.
 ghost use Rattle.std.specs.Prelude.{◌≡◌};
-ghost use Rattle.control.specs.Calling.{WasCalled, WasReported};
+ghost use Rattle.control.specs.Calling.{WasCalled, WasCallerReported, WasListenerReported};
 ghost use Rattle.control.specs.Folders.{Deed, WasDone};
 ghost use Rattle.control.specs.Opening.{WasBound};
-ghost use Rattle.control.specs.Reads.{WasHeard};
+ghost use Rattle.control.specs.Reads.{WasCallerHeard};
 ghost use Rattle.control.specs.Speaking.{WasDialled, WasLetGo, WasLimited, WasRead, WasWritten};
+ghost use Rattle.control.specs.Telling.{WasCallerTold};
 
 use crate::folders::Folders;
 use crate::lines::{Dials, Limits};
 use crate::listeners::{Listens, Reports};
 use crate::opening::Binds;
 use crate::speakers::Speaks;
-use mio::net::UnixListener;
-use mio::{Interest, Registry, Token};
+use descriptors::{Interest, Registry, Token, UnixListener};
 use outlets::Takes;
 use runtimes::{Hand, Kept};
 use std::fs::{Files, Permissions};
@@ -71,11 +71,9 @@ impl<R: Files> Folders for Machine<'_, R> {
 impl<R: Files + Net> Binds<SystemListener> for Machine<'_, R> {
     ghost binds = { WasBound };
 
-    #[tactic(auto, unfolding(crate::specs::Opening::WasBound))]
     fn bind(&mut self, socket: &str) -> io::Result<SystemListener> {
-        let listener = UnixListener::bind(self.hand.lend(), socket)?;
         Ok(SystemListener {
-            listener: Kept::new(listener),
+            socket: UnixListener::bind(&mut self.hand, socket)?,
         })
     }
 }
@@ -95,49 +93,50 @@ impl<R: Net> Dials<SystemLine> for Machine<'_, R> {
 /// What waits for a box, as who is to report who calls at its control socket, and who says something there. It can be
 /// asked for nothing else.
 #[derive(Drop)]
-pub struct Waits<'a>(&'a Registry);
+pub struct Waits<'a> {
+    registry: Registry<'a>,
+}
 
 impl<'a> Waits<'a> {
-    pub fn new(registry: &'a Registry) -> Waits<'a> {
-        Waits(registry)
+    /// They are asked by this registry.
+    pub fn new(registry: Registry<'a>) -> Waits<'a>
+        ensures { result.registry ≡ registry.entry }
+    {
+        Waits { registry }
     }
 }
 
 impl Reports<SystemListener> for Waits<'_> {
-    ghost reports = { WasReported };
+    ghost reports = { WasListenerReported };
 
-    #[tactic(auto, unfolding(crate::specs::Calling::WasReported))]
     fn report(&mut self, source: &mut SystemListener, token: Token) -> io::Result<()> {
-        self.0
-            .register(source.listener.lend(), token, Interest::READABLE)
+        self.registry
+            .register_listener(&mut source.socket, token, Interest::READABLE)
     }
 }
 
 impl Reports<SystemCaller> for Waits<'_> {
-    ghost reports = { WasReported };
+    ghost reports = { WasCallerReported };
 
-    #[tactic(auto, unfolding(crate::specs::Calling::WasReported))]
     fn report(&mut self, source: &mut SystemCaller, token: Token) -> io::Result<()> {
-        self.0
-            .register(source.caller.lend(), token, Interest::READABLE)
+        self.registry
+            .register_stream(&mut source.socket, token, Interest::READABLE)
     }
 }
 
 /// Where callers of this machine's call. It can be asked who calls next, and for nothing else.
 #[derive(Drop)]
 pub struct SystemListener {
-    listener: Kept<UnixListener>,
+    socket: UnixListener,
 }
 
 /// It was asked who calls next, and answered so: more isn't known of it.
 impl Listens<SystemCaller> for SystemListener {
     ghost calls = { WasCalled };
 
-    #[tactic(auto, unfolding(crate::specs::Calling::WasCalled))]
     fn call(&mut self) -> io::Result<SystemCaller> {
-        let (caller, _) = self.listener.lend().accept()?;
         Ok(SystemCaller {
-            caller: Kept::new(caller),
+            socket: self.socket.accept()?,
         })
     }
 }
@@ -145,7 +144,7 @@ impl Listens<SystemCaller> for SystemListener {
 /// Who called there. He can be read, and answered, and asked for nothing else.
 #[derive(Drop)]
 pub struct SystemCaller {
-    caller: Kept<mio::net::UnixStream>,
+    socket: descriptors::UnixStream,
 }
 
 impl Speaks for SystemCaller {
@@ -153,25 +152,22 @@ impl Speaks for SystemCaller {
 
     ghost rest = { λ _. None };
 
-    ghost answers = { WasHeard };
+    ghost answers = { WasCallerHeard };
 
-    #[tactic(auto, unfolding(crate::specs::Reads::WasHeard))]
     fn hear(&mut self, room: &mut [u8]) -> io::Result<usize> {
-        self.caller.lend().read(room)
+        self.socket.read(room)
     }
 }
 
 impl Takes for SystemCaller {
     ghost use Rattle.std.specs.Prelude.{None};
-    ghost use Rattle.outlets.specs.Outputs.{WasTaken};
 
     ghost held = { λ _. None };
 
-    ghost answers = { WasTaken };
+    ghost answers = { WasCallerTold };
 
-    #[tactic(auto, unfolding(outlets::specs::Outputs::WasTaken))]
     fn take(&mut self, bytes: &[u8]) -> io::Result<usize> {
-        self.caller.lend().write(bytes)
+        self.socket.write(bytes)
     }
 }
 

@@ -3,14 +3,17 @@ use Rattle.std.specs.Prelude.{◌≡◌, ◌⊎◌, ℕ, false, true, List, [], 
 use Rattle.std.specs.declared.io.Error.{Error}
 use Rattle.std.specs.declared.net.socket_addr.SocketAddr.{SocketAddr}
 use Rattle.std.specs.declared.alloc.Global.{Global}
-use Rattle.mio.specs.declared.event.events.Events.{Events}
-use Rattle.mio.specs.declared.interest.Interest.{Interest}
+use Rattle.descriptors.specs.Asked as asked
+use Rattle.descriptors.specs.Events.{Events, Interest}
+use Rattle.descriptors.specs.declared.polling.Registry.{Registry}
+use Rattle.descriptors.specs.declared.udp.UdpSocket.{UdpSocket}
 use Rattle.settings.specs.declared.gateway_settings.GatewaySettings.{GatewaySettings}
 use Rattle.settings.specs.declared.whole.Settings.{Settings}
 use Rattle.sockets.specs.Ends.{IsSocketOf, on_loopback}
 use Rattle.loopback_run.specs.declared.carriers.Unbound.{Unbound}
 use Rattle.loopback_run.specs.declared.carriers.Unbound.TheVariants as unbound
 use Rattle.loopback_run.specs.declared.machine.Socket.{Socket}
+use Rattle.loopback_run.specs.declared.machine.SystemPort.{SystemPort}
 use Rattle.loopback_run.specs.declared.machine.Waits.{Waits}
 use Rattle.loopback_run.specs.declared.loopback.Port.{Port}
 use Rattle.loopback_run.specs.declared.loopback.Ports.{Ports}
@@ -69,21 +72,32 @@ BindsBoth {B = B} {S = S} binds settings b (Err why) b2 = BindsPorts binds setti
 -- ---- by the system
 
 -- Who binds ports asked for memory in which a wait reports so many events, and was given this, or none. It is no more than a name for the call, by
--- what he was before and is then, and so are those below it: who makes the call has it, and nobody else.
+-- what he was before and is then: who makes the call has it, and nobody else.
 unfoldable pub WasGivenRoom : {B : Type 0} → B → ℕ → Option (Events Global) → B → Type 0
 WasGivenRoom before count room after = Unit {0}
 
--- he asked the system for a socket at this address, and it answered so
-unfoldable pub WasBound : {B : Type 0} → B → SocketAddr → Result Socket Error → B → Type 0
-WasBound before address answer after = Unit {0}
+-- he asked the system, once, for a socket at this address, and it answered so
+abbrev pub WasBound : {B : Type 0} → B → SocketAddr → Result Socket Error → B → Type 0
+WasBound before address (Ok socket) after = asked.WasBound before address (Ok socket.0) after
+WasBound before address (Err error) after = asked.WasBound before address (Err error) after
 
 -- and for what waits for a socket
-unfoldable pub WasPollMade : {B : Type 0} → B → Result Waits Error → B → Type 0
-WasPollMade before answer after = Unit {0}
+abbrev pub WasPollMade : {B : Type 0} → B → Result Waits Error → B → Type 0
+WasPollMade before (Ok waits) after = asked.WasPollMade before (Ok waits.0) after
+WasPollMade before (Err error) after = asked.WasPollMade before (Err error) after
 
--- and that waits report of a socket what is of interest, in a room for events: this is the port
-unfoldable pub WasWatched : {B S : Type 0} → B → Socket → Waits → Events Global → Interest → Result S Error → B → Type 0
-WasWatched before socket waits room interest answer after = Unit {0}
+-- a poll was told, once, to watch a socket for what is of interest, under the token 0; it answered so, and since then the socket is that one
+abbrev pub WasRegistered : UdpSocket → Interest → Result (Unit {0}) Error → UdpSocket → Type 0
+WasRegistered socket interest answer socket2 = (registry : Registry)
+    × ((since : Registry) × asked.WasRegistered registry socket (record { 0 = 0 }) interest answer socket2 since)
+
+-- Waits were to report of a socket what is of interest, in this room. The port is the socket as that left it, with these waits and this room as they
+-- were; or it was refused. Who asks the system was asked for nothing.
+abbrev pub WasWatched : {B : Type 0} → B → Socket → Waits → Events Global → Interest → Result SystemPort Error → B → Type 0
+WasWatched before socket waits room interest (Ok port) after = WasRegistered socket.0 interest (Ok tt) port.socket.0
+    × ((port ≡ record { socket = port.socket; waits = waits; events = room }) × (after ≡ before))
+WasWatched before socket waits room interest (Err error) after =
+    ((socket2 : UdpSocket) × WasRegistered socket.0 interest (Err error) socket2) × (after ≡ before)
 
 -- that it can be read
 abbrev pub reading : Interest
@@ -94,7 +108,7 @@ abbrev pub IsBoundAt : {B : Type 0} → ℕ → B → Result Socket Error → B 
 IsBoundAt number before answer after = (address : SocketAddr) × (IsSocketOf (on_loopback number) address × WasBound before address answer after)
 
 -- it was had, and then what waits for it; and that was to report what comes to it, which the system answered so
-pub record IsWatched {B S : Type 0} (number : ℕ) (room : Events Global) (before : B) (answer : Result S Error) (after : B) : Type 0 where
+pub record IsWatched {B : Type 0} (number : ℕ) (room : Events Global) (before : B) (answer : Result SystemPort Error) (after : B) : Type 0 where
   pub socket : Socket
   pub bound : B
   pub had : IsBoundAt number before (Ok socket) bound
@@ -112,18 +126,18 @@ pub record IsAwaitedByNone {B : Type 0} (number : ℕ) (before after : B) : Type
   pub refused : WasPollMade bound (Err error) after
 
 -- the first of these three that was refused; nothing was asked behind it
-abbrev pub IsUnwatched : {B : Type 0} → Type 0 → ℕ → Events Global → B → B → Type 0
-IsUnwatched S number room before after = ((error : Error) × IsBoundAt number before (Err error) after)
-    ⊎ (IsAwaitedByNone number before after ⊎ ((error : Error) × IsWatched {S = S} number room before (Err error) after))
+abbrev pub IsUnwatched : {B : Type 0} → ℕ → Events Global → B → B → Type 0
+IsUnwatched number room before after = ((error : Error) × IsBoundAt number before (Err error) after)
+    ⊎ (IsAwaitedByNone number before after ⊎ ((error : Error) × IsWatched number room before (Err error) after))
 
 -- the port of a number is had, with this room; or it isn't, for no want of memory
-abbrev pub Watches : {B S : Type 0} → ℕ → Events Global → B → Result S Unbound → B → Type 0
+abbrev pub Watches : {B : Type 0} → ℕ → Events Global → B → Result SystemPort Unbound → B → Type 0
 Watches number room before (Ok port) after = IsWatched number room before (Ok port) after
-Watches {S = S} number room before (Err unbound.NoSocket) after = IsUnwatched S number room before after
+Watches number room before (Err unbound.NoSocket) after = IsUnwatched number room before after
 Watches number room before (Err unbound.NoMemory) after = ⊥
 
 -- Room for one event was had, and then the port, or not. Want of memory is told only where there is no such room, and then the system isn't asked.
-abbrev pub HasBound : {B S : Type 0} → B → ℕ → Result S Unbound → B → Type 0
+abbrev pub HasBound : {B : Type 0} → B → ℕ → Result SystemPort Unbound → B → Type 0
 HasBound before number (Err unbound.NoMemory) after = WasGivenRoom before 1 None after
 HasBound {B = B} before number answer after =
     (room : Events Global) × ((next : B) × (WasGivenRoom before 1 (Some room) next × Watches number room next answer after))

@@ -3,7 +3,7 @@ ghost use Rattle.loopback_run.specs.Binding.{Watches};
 
 use crate::carriers::{Binds, Unbound};
 use crate::machine::{SystemBinds, SystemPort, address_of};
-use mio::{Events, Interest};
+use descriptors::{Events, Interest};
 use std::alloc::Global;
 use std::net::Net;
 

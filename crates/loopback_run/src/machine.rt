@@ -5,9 +5,8 @@ ghost use Rattle.loopback_run.specs.Binding.{WasBound, WasGivenRoom, WasPollMade
 ghost use Rattle.loopback_run.specs.Carrying.{WasAwaited, WasNow, WasReceived, WasSent, WasSince};
 ghost use Rattle.loopback_run.specs.Reaches.{reach};
 
-use mio::net::UdpSocket;
-use mio::{Events, Interest, Poll, Token};
-use runtimes::{Hand, Kept};
+use descriptors::{Events, Interest, Poll, Token, UdpSocket};
+use runtimes::Hand;
 use sockets::LONGEST;
 use std::alloc::Global;
 use std::io;
@@ -18,11 +17,11 @@ use std::time::{Duration, Instant};
 
 /// A socket of the system's, which nothing can be sent through yet.
 #[derive(Drop)]
-pub(crate) struct Socket(Kept<UdpSocket>);
+pub(crate) struct Socket(UdpSocket);
 
 /// What waits for a socket.
 #[derive(Drop)]
-pub(crate) struct Waits(Kept<Poll>);
+pub(crate) struct Waits(Poll);
 
 /// A socket of the system's that never waits but in a poll. Nothing goes through it but by who asks the system.
 #[derive(Drop)]
@@ -62,7 +61,7 @@ impl<'a, R> SystemBinds<'a, R> {
     }
 }
 
-impl<R: Net + AllocGlobal> SystemBinds<'_, R> {
+impl<R: AllocGlobal> SystemBinds<'_, R> {
     /// Asks for memory in which a wait reports so many events.
     #[tactic(auto, unfolding(crate::specs::Binding::WasGivenRoom))]
     pub(crate) fn told_to_make_room(&mut self, count: usize) -> Option<Events<Global>>
@@ -74,25 +73,20 @@ impl<R: Net + AllocGlobal> SystemBinds<'_, R> {
 
 impl<R: Net> SystemBinds<'_, R> {
     /// Asks the system for a socket at an address.
-    #[tactic(auto, unfolding(crate::specs::Binding::WasBound))]
     pub(crate) fn told_to_bind(&mut self, address: SocketAddr) -> io::Result<Socket>
         ensures { WasBound self.old address result self.new }
     {
-        let socket = UdpSocket::bind(self.hand.lend(), address)?;
-        Ok(Socket(Kept::new(socket)))
+        Ok(Socket(UdpSocket::bind(&mut self.hand, address)?))
     }
 
     /// Asks the system for what waits for a socket.
-    #[tactic(auto, unfolding(crate::specs::Binding::WasPollMade))]
     pub(crate) fn told_to_make_poll(&mut self) -> io::Result<Waits>
         ensures { WasPollMade self.old result self.new }
     {
-        let poll = Poll::new(self.hand.lend())?;
-        Ok(Waits(Kept::new(poll)))
+        Ok(Waits(Poll::new(&mut self.hand)?))
     }
 
     /// Has waits report of a socket what is of interest, in this room: it is a port then.
-    #[tactic(auto, unfolding(crate::specs::Binding::WasWatched))]
     pub(crate) fn told_to_watch(
         &mut self,
         socket: Socket,
@@ -102,9 +96,9 @@ impl<R: Net> SystemBinds<'_, R> {
     ) -> io::Result<SystemPort>
         ensures { WasWatched self.old socket waits room interest result self.new }
     {
-        let (mut socket, mut waits) = (socket, waits);
-        let registry = waits.0.lend().registry();
-        registry.register(socket.0.lend(), Token(0), interest)?;
+        let mut socket = socket;
+        let mut registry = waits.0.registry();
+        registry.register_udp(&mut socket.0, Token(0), interest)?;
         Ok(SystemPort {
             socket,
             waits,
@@ -113,7 +107,6 @@ impl<R: Net> SystemBinds<'_, R> {
     }
 
     /// Has the system send bytes through a port to an address, and says whether it did.
-    #[tactic(auto, unfolding(crate::specs::Carrying::WasSent))]
     pub(crate) fn told_to_send(
         &mut self,
         port: &mut SystemPort,
@@ -122,11 +115,10 @@ impl<R: Net> SystemBinds<'_, R> {
     ) -> bool
         ensures { WasSent (reach self.old port.old) to bytes.now result (reach self.new port.new) }
     {
-        port.socket.0.lend().send_to(bytes, to).is_ok()
+        port.socket.0.send_to(bytes, to).is_ok()
     }
 
     /// Asks the system for the next datagram that is there for a port, and who sent it.
-    #[tactic(auto, unfolding(crate::specs::Carrying::WasReceived))]
     pub(crate) fn told_to_receive(
         &mut self,
         port: &mut SystemPort,
@@ -136,16 +128,14 @@ impl<R: Net> SystemBinds<'_, R> {
         ensures asked { WasReceived (reach self.old port.old) result room.new
             (reach self.new port.new) }
     {
-        port.socket.0.lend().recv_from(room)
+        port.socket.0.recv_from(room)
     }
 
     /// Has the system wait for one, for at most so long, and says whether it did.
-    #[tactic(auto, unfolding(crate::specs::Carrying::WasAwaited))]
     pub(crate) fn told_to_wait(&mut self, port: &mut SystemPort, limit: Duration) -> bool
         ensures { WasAwaited (reach self.old port.old) limit result (reach self.new port.new) }
     {
-        let waits = port.waits.0.lend();
-        waits.poll(&mut port.events, Some(limit)).is_ok()
+        port.waits.0.poll(&mut port.events, limit).is_ok()
     }
 }
 

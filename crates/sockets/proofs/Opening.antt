@@ -5,9 +5,9 @@ use Rattle.std.specs.declared.alloc.Global.{Global}
 use Rattle.std.specs.declared.io.Error.{Error}
 use Rattle.std.specs.declared.net.socket_addr.SocketAddr.{SocketAddr}
 use Rattle.control.specs.Attending.{Attending}
-use Rattle.mio.specs.declared.event.events.Events.{Events}
+use Rattle.descriptors.specs.Events.{Events}
 use Rattle.control.specs.declared.machine.SystemListener.{SystemListener}
-use Rattle.sockets.specs.declared.machine.Waiting.{Waiting}
+use Rattle.sockets.specs.declared.waits.Waiting.{Waiting}
 use Rattle.sockets.specs.Asking.{WasControlRegistered, WasRegistered}
 use Rattle.sockets.specs.Boards.{HasRoom, IsHad, IsRefused, OpensPlaces, control_token}
 use Rattle.sockets.specs.Opening.{IsAttached, IsJoined, IsOpened, RefusesOne, Wanted, WasBound, WasConnected, WasGivenRoom, WasPollMade, places_of, wanted}

@@ -3,8 +3,7 @@ use Rattle.std.proofs.Common.{◌≡◌, ◌+◌, ℕ, Bool, true, false, List, 
 use Rattle.std.specs.Duration.{as_nanos}
 use Rattle.std.specs.declared.time.Duration.{Duration}
 use Rattle.control.specs.Attending.{Attending}
-use Rattle.mio.specs.Events.{capacity, items}
-use Rattle.mio.specs.declared.event.event.Event.{Event}
+use Rattle.descriptors.specs.Events.{Event, capacity, items}
 use Rattle.sockets.specs.Hearing.{Attached}
 use Rattle.sockets.specs.Letters.{answer_of}
 use Rattle.sockets.specs.Looking.{turned, woken_by_all}

@@ -1,17 +1,24 @@
 -- What is asked of what carries a place's bytes, and when.
 use Rattle.std.specs.Prelude.{ℕ, zero, suc, Bool, true, false, ◌≡◌, ◌≤◌, ◌<◌, ◌⊎◌, List, length, take, Option, Some, None, Result, Ok, Err}
 use Rattle.std.specs.declared.io.Error.{Error}
-use Rattle.control.specs.Attending.{Attending}
+use Rattle.control.specs.Attending.{Attending, WasListenedTo}
+use Rattle.control.specs.declared.machine.SystemListener.{SystemListener}
+use Rattle.control.specs.declared.machine.Waits.{Waits}
+use Rattle.descriptors.specs.declared.polling.Registry.{Registry}
 use Rattle.sockets.specs.declared.attachments.Brought.{Brought}
 use Rattle.sockets.specs.declared.attachments.Brought.TheVariants.{Heard, Stranger, Nothing, Failed}
 use Rattle.sockets.specs.declared.conduits.Arrived.{Arrived}
 use Rattle.sockets.specs.declared.far_ends.FarEnd.{FarEnd}
 use Rattle.sockets.specs.declared.losses.SendFault.{SendFault}
 use Rattle.sockets.specs.declared.losses.SendFault.TheVariants.{TooLong}
+use Rattle.sockets.specs.declared.machine.Opened.{Opened}
+use Rattle.sockets.specs.declared.machine.Socket.{Socket}
 use Rattle.sockets.specs.declared.wire.WireFault.{WireFault}
 use Rattle.sockets.specs.Bringing.{ready_after}
 use Rattle.sockets.specs.FarEnds.{heard}
 use Rattle.sockets.specs.Hearing.{Attached}
+use Rattle.sockets.specs.Moving.{WasMovedOn}
+use Rattle.sockets.specs.Passing.{HasReceived, HasSent, IsSettled, IsWatched, sent_of}
 use Rattle.sockets.specs.Rooms.{arrival}
 
 -- ---- to send
@@ -25,10 +32,9 @@ pub record HandsOver {C : Type 0} (sends : Sends C) (c c2 : C) (result : Result 
   pub fits : length bytes ≤ 4096 → sends c bytes result c2
   pub too_long : 4096 < length bytes → (result ≡ Err TooLong) × (c2 ≡ c)
 
--- A socket of the system's was asked to send these bytes, answered so, and is this from then on. It is no more than a name for the call: who
--- makes it has this, and nobody else. What a socket is then nobody else can say, so one more call leads elsewhere.
-unfoldable pub WasSent : {S : Type 0} → S → List ℕ → Result (Unit {0}) SendFault → S → Type 0
-WasSent before bytes result after = Unit {0}
+-- What was handed out was asked to send these bytes, answered so, and is this from then on.
+abbrev pub WasSent : Socket → List ℕ → Result (Unit {0}) SendFault → Socket → Type 0
+WasSent before bytes result after = (answer : Result ℕ Error) × (HasSent before.0 bytes answer after.0 × (result ≡ sent_of (length bytes) answer))
 
 -- ---- to receive
 
@@ -36,17 +42,19 @@ WasSent before bytes result after = Unit {0}
 abbrev pub Receives : Type 0 → Type 1
 Receives C = C → Result (Option Arrived) WireFault → List ℕ → C → Type 0
 
--- the same of what is received
-unfoldable pub WasReceived : {S : Type 0} → S → Result (Option Arrived) WireFault → List ℕ → S → Type 0
-WasReceived before result room after = Unit {0}
+-- What was handed out was asked for what came next, answered so, with this in the room, and is this from then on.
+abbrev pub WasReceived : Socket → Result (Option Arrived) WireFault → List ℕ → Socket → Type 0
+WasReceived before result room after = (answer : Result Arrived Error) × (HasReceived before.0 answer room after.0 × IsSettled answer result)
 
--- the same where the system was to have waits report a socket under the token of this number: by who asks it, as he was before and is then
-unfoldable pub WasRegistered : {M S : Type 0} → M → S → ℕ → Result (Unit {0}) Error → S → M → Type 0
-WasRegistered before s number answer s2 after = Unit {0}
+-- Waits were to report what was opened under the token of this number, once: by who asks, as he was before and is then.
+abbrev pub WasRegistered : {M : Type 0} → M → Opened → ℕ → Result (Unit {0}) Error → Opened → M → Type 0
+WasRegistered before s number answer s2 after =
+    WasMovedOn before after × ((r : Registry) × ((r2 : Registry) × IsWatched r s (record { 0 = number }) answer s2 r2))
 
--- and where it was to have waits report what was bound for a control socket: only then is there one
-unfoldable pub WasControlRegistered : {M B : Type 0} → M → B → ℕ → Result Attending Error → M → Type 0
-WasControlRegistered before bound number answer after = Unit {0}
+-- and they were to report what was bound for a control socket: only then is there one
+abbrev pub WasControlRegistered : {M : Type 0} → M → SystemListener → ℕ → Result Attending Error → M → Type 0
+WasControlRegistered before bound number answer after =
+    WasMovedOn before after × ((w : Waits) × ((w2 : Waits) × WasListenedTo bound (record { 0 = number }) answer w w2))
 
 -- an answer is of these kinds: something of the far end's, or of somebody else's, nothing, or a failure
 pub data Kind : Type 0 where

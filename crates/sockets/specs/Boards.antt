@@ -5,10 +5,8 @@ use Rattle.control.specs.declared.machine.SystemListener.{SystemListener}
 use Rattle.std.specs.declared.alloc.AllocError.{AllocError}
 use Rattle.std.specs.declared.alloc.Global.{Global}
 use Rattle.std.specs.declared.io.Error.{Error}
-use Rattle.sockets.specs.declared.machine.Waiting.{Waiting}
-use Rattle.mio.specs.Events.{capacity}
-use Rattle.mio.specs.declared.event.events.Events.{Events}
-use Rattle.mio.specs.declared.token.Token.{Token}
+use Rattle.sockets.specs.declared.waits.Waiting.{Waiting}
+use Rattle.descriptors.specs.Events.{Events, Token, capacity}
 use Rattle.nat_types.specs.declared.gateways.Side.TheVariants.{Inside, Outside}
 use Rattle.sockets.specs.declared.places.Place.{Place}
 use Rattle.sockets.specs.declared.places.Place.TheVariants.{Link, Side, Operator}

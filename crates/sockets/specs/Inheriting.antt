@@ -1,5 +1,8 @@
 -- How a box inherits the descriptors of its ways.
-use Rattle.std.specs.Prelude.{ℕ, Bool, true, false, ◌≡◌, ◌⊎◌, List, [], ◌∷◌, Option, Some, None, IsSome, Result, Ok, Err}
+use Rattle.std.specs.Prelude.{ℕ, ℤ, pos, int_le, Bool, true, false, ◌≡◌, ◌⊎◌, List, [], ◌∷◌, Option, Some, None, IsSome, Result, Ok, Err}
+use Rattle.descriptors.specs.Asked as asked
+use Rattle.descriptors.specs.declared.inherited.Descriptors.{Descriptors}
+use Rattle.sockets.specs.Moving.{WasLetGo}
 use Rattle.sockets.specs.declared.ways.NoDescriptor.{NoDescriptor}
 use Rattle.sockets.specs.declared.ways.Way.{Way}
 use Rattle.sockets.specs.declared.ways.Way.TheVariants.{Loopback, Udp, Vxlan, Descriptor}
@@ -34,14 +37,23 @@ AreInherited {D} unblocks (one ∷ others) named before after =
     (IsInherited unblocks one named before after × IsSome named)
     ⊎ ((between : D) × (IsInherited unblocks one None before between × AreInherited unblocks others named between after))
 
--- The system answered this, where it was asked to make a descriptor one that never waits: whether it did. It is no more than a name for the
--- call: who calls it has this, and nobody else.
-unfoldable pub WasUnblocked : ℕ → Bool → Type 0
-WasUnblocked number answer = Unit {0}
+-- One who may ask for descriptors was to make this one that never waits, once, and nothing else before he was let go. The system counts less than 0
+-- just where it can't be.
+pub record IsUnblocked (descriptors : Descriptors) (number : ℕ) (answer : Bool) : Type 0 where
+  pub counted : ℤ
+  pub last : Descriptors
+  pub unblocked : asked.WasUnblocked descriptors number counted last
+  pub let_go : WasLetGo last
+  pub is_answer : answer ≡ int_le (pos 0) counted
 
--- Whoever asked it was this before and is this then: he asked for just that. It is such a name, too.
-unfoldable pub WasUnblockedBy : {M : Type 0} → M → ℕ → Bool → M → Type 0
-WasUnblockedBy before number answer after = Unit {0}
+-- The system answered this, where it was asked to make a descriptor one that never waits: whether it did.
+abbrev pub WasUnblocked : ℕ → Bool → Type 0
+WasUnblocked number answer = (descriptors : Descriptors) × IsUnblocked descriptors number answer
+
+-- Whoever asked it was this before and is this then: he asked for just that.
+abbrev pub WasUnblockedBy : {M : Type 0} → M → ℕ → Bool → M → Type 0
+WasUnblockedBy before number answer after =
+    (descriptors : Descriptors) × (asked.WereDescriptorsMade before descriptors after × IsUnblocked descriptors number answer)
 
 -- so it answered, and so who asked it was, and is
 abbrev pub AsksSystem : {M : Type 0} → M → ℕ → Bool → M → Type 0

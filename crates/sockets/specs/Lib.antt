@@ -12,6 +12,8 @@ pub mod Kept
 pub mod Losses
 pub mod Hearing
 pub mod Bringing
+pub mod Moving
+pub mod Passing
 pub mod Asking
 pub mod Boards
 pub mod Showing

@@ -2,9 +2,7 @@
 use Rattle.std.specs.Prelude.{ℕ, zero, suc, Bool, true, false, ◌≡◌, ◌<◌, ◌⊎◌, ◌||◌, List, [], ◌∷◌, take, Option, Some, None, IsNone, Result, Ok, Err, nat_le, if◌then◌else◌}
 use Rattle.control.specs.Attending.{Attending, HasHeard, HasLooked, SaysWord, answered, is_ready, woken}
 use Rattle.control.specs.Telling.{IsTold}
-use Rattle.mio.specs.Event.{event_token}
-use Rattle.mio.specs.declared.event.event.Event.{Event}
-use Rattle.mio.specs.declared.token.Token.{Token}
+use Rattle.descriptors.specs.Events.{Event, Token, event_token}
 use Rattle.sockets.specs.Boards.{after}
 use Rattle.sockets.specs.declared.places.Place.{Place}
 use Rattle.sockets.specs.declared.places.Place.TheVariants.{Link, Side, Operator}

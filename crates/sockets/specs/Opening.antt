@@ -4,16 +4,19 @@ use Rattle.std.specs.declared.alloc.AllocError.{AllocError}
 use Rattle.std.specs.declared.alloc.Global.{Global}
 use Rattle.std.specs.declared.io.Error.{Error}
 use Rattle.std.specs.declared.net.socket_addr.SocketAddr.{SocketAddr}
-use Rattle.mio.specs.declared.event.events.Events.{Events}
-use Rattle.sockets.specs.declared.machine.Waiting.{Waiting}
+use Rattle.descriptors.specs.Asked as asked
+use Rattle.descriptors.specs.Events.{Events}
+use Rattle.descriptors.specs.declared.inherited.Descriptors.{Descriptors}
+use Rattle.sockets.specs.declared.waits.Waiting.{Waiting}
 use Rattle.sockets.specs.Asking.{WasRegistered}
+use Rattle.sockets.specs.Moving.{WasLetGo, WasMovedOn}
 use Rattle.sockets.specs.Ends.{IsSocketOf, are_on_loopback}
 use Rattle.sockets.specs.declared.ends.End.{End}
 use Rattle.sockets.specs.declared.ends.Ends.{Ends}
-use Rattle.sockets.specs.declared.machine.Inherited.{Inherited}
 use Rattle.sockets.specs.declared.machine.Opened.{Opened}
 use Rattle.sockets.specs.declared.machine.Opened.TheVariants as opened
 use Rattle.sockets.specs.declared.machine.Socket.{Socket}
+use Rattle.sockets.specs.declared.machine.Taken.{Taken}
 use Rattle.sockets.specs.declared.machine.Udp.{Udp}
 use Rattle.sockets.specs.declared.places.Ports.{Ports}
 use Rattle.sockets.specs.declared.ways.Way.{Way}
@@ -22,30 +25,37 @@ use Rattle.sockets.specs.declared.ways.Ways.{Ways}
 
 -- ---- what the system is asked
 
--- The system was asked for a socket at this address, and answered so: by who asks it, as he was before and is then. It is no more than a name
--- for the call: who makes it has this, and nobody else. What he is then nobody else can say, so one more call leads elsewhere.
-unfoldable pub WasBound : {M : Type 0} → M → SocketAddr → Result Udp Error → M → Type 0
-WasBound before address answer after = Unit {0}
+-- The system was asked for a socket at this address, once, and answered so: by who asks it, as he was before and is then.
+abbrev pub WasBound : {M : Type 0} → M → SocketAddr → Result Udp Error → M → Type 0
+WasBound before address (Ok socket) after = asked.WasBound before address (Ok socket.0) after
+WasBound before address (Err error) after = asked.WasBound before address (Err error) after
 
 -- the same where it was asked for what waits for sockets
-unfoldable pub WasPollMade : {M : Type 0} → M → Result Waiting Error → M → Type 0
-WasPollMade before answer after = Unit {0}
+abbrev pub WasPollMade : {M : Type 0} → M → Result Waiting Error → M → Type 0
+WasPollMade before (Ok waiting) after = asked.WasPollMade before (Ok waiting.0) after
+WasPollMade before (Err error) after = asked.WasPollMade before (Err error) after
 
--- and where it was asked for memory in which a wait reports so many events
+-- And where it was asked for memory in which a wait reports so many events. It is no more than a name for the call.
 unfoldable pub WasGivenRoom : {M : Type 0} → M → ℕ → Result (Events Global) AllocError → M → Type 0
 WasGivenRoom before count answer after = Unit {0}
 
+-- one who may ask for descriptors was to take over the one of this number, once, and nothing else before he was let go
+pub record TakesOver (descriptors : Descriptors) (number : ℕ) (it : Taken) : Type 0 where
+  pub last : Descriptors
+  pub inherited : asked.WasInherited descriptors number it.0 last
+  pub let_go : WasLetGo last
+
 -- and where an inherited descriptor of this number was taken over
-unfoldable pub WasInherited : {M : Type 0} → M → ℕ → Inherited → M → Type 0
-WasInherited before number it after = Unit {0}
+abbrev pub WasInherited : {M : Type 0} → M → ℕ → Taken → M → Type 0
+WasInherited before number it after = (descriptors : Descriptors) × (asked.WereDescriptorsMade before descriptors after × TakesOver descriptors number it)
 
--- and where it was asked to connect a socket to this address
-unfoldable pub WasConnected : {M : Type 0} → M → Udp → SocketAddr → Result (Unit {0}) Error → Udp → M → Type 0
-WasConnected before s address answer s2 after = Unit {0}
+-- and where a socket was to be connected to this address, once
+abbrev pub WasConnected : {M : Type 0} → M → Udp → SocketAddr → Result (Unit {0}) Error → Udp → M → Type 0
+WasConnected before s address answer s2 after = WasMovedOn before after × asked.WasConnected s.0 address answer s2.0
 
--- and where what was opened was handed out as a socket: nothing passes through it before
-unfoldable pub WasHandedOut : {M : Type 0} → M → Opened → Socket → M → Type 0
-WasHandedOut before opened socket after = Unit {0}
+-- and where what was opened was handed out: nothing passes through it before
+abbrev pub WasHandedOut : {M : Type 0} → M → Opened → Socket → M → Type 0
+WasHandedOut before opened socket after = WasMovedOn before after × (socket ≡ record { 0 = opened })
 
 -- ---- a socket
 
@@ -76,7 +86,7 @@ IsOpened before way.Loopback ports answer after = IsJoined before (are_on_loopba
 IsOpened before (way.Udp ends) ports answer after = IsJoined before ends answer after
 IsOpened before (way.Vxlan ends network) ports answer after = IsAimed before ends answer after
 IsOpened before (way.Descriptor number) ports answer after =
-    (it : Inherited) × (WasInherited before number it after × (answer ≡ Ok (opened.Descriptor it)))
+    (it : Taken) × (WasInherited before number it after × (answer ≡ Ok (opened.Descriptor it)))
 
 -- ---- a place
 

@@ -2,9 +2,8 @@
 use Rattle.std.specs.Prelude.{ℕ, Bool, true, false, ◌≡◌, ◌⊎◌, [], Option, Some, None, Result, Ok, Err}
 use Rattle.std.specs.declared.alloc.Global.{Global}
 use Rattle.std.specs.declared.time.Duration.{Duration}
-use Rattle.mio.specs.Events.{items}
-use Rattle.mio.specs.declared.event.events.Events.{Events}
-use Rattle.sockets.specs.declared.machine.Waiting.{Waiting}
+use Rattle.descriptors.specs.Events.{Events, items}
+use Rattle.sockets.specs.declared.waits.Waiting.{Waiting}
 use Rattle.nat_types.specs.declared.gateways.Side.TheVariants.{Inside, Outside}
 use Rattle.sockets.specs.declared.channels.Channel.{Channel}
 use Rattle.sockets.specs.declared.losses.Losses.{Losses}

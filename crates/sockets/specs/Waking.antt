@@ -1,9 +1,7 @@
 -- Which places may have something.
 use Rattle.std.specs.Prelude.{ℕ, zero, suc, Bool, true, false, ◌≡◌, ◌==◌, ◌||◌, List, [], ◌∷◌, Option, Some, None, Result, Ok, Err, if◌then◌else◌}
 use Rattle.control.specs.Attending.{is_ready}
-use Rattle.mio.specs.Event.{event_token}
-use Rattle.mio.specs.declared.event.event.Event.{Event}
-use Rattle.mio.specs.declared.token.Token.{Token}
+use Rattle.descriptors.specs.Events.{Event, Token, event_token}
 use Rattle.sockets.specs.declared.channels.Channel.{Channel}
 use Rattle.sockets.specs.declared.places.Place.{Place}
 use Rattle.sockets.specs.declared.sockets.Board.{Board}

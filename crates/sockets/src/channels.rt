@@ -1,14 +1,16 @@
 //! The system's sockets and inherited descriptors as conduits.
-ghost use Rattle.std.specs.Prelude.{◌≡◌, ◌≢◌, ◌≤◌, ◌<ℤ◌, ◌↔◌, pos, length, IfErr, IfOk, IfSome, IsErr, IsOk, Some, None, Ok, Err};
+ghost use Rattle.std.specs.Prelude.{◌≡◌, ◌≢◌, ◌≤◌, length, IfErr, IfOk, IfSome, IsErr, Some, None, Ok, Err};
 ghost use Rattle.std.specs.IoError.{error_kind, raw_os_error};
 ghost use Rattle.sockets.specs.Kept.{nothing_yet};
 ghost use Rattle.sockets.specs.Losses.{fault_of};
 ghost use Rattle.sockets.specs.Opening.{IsAimed, IsAttached, IsJoined, IsOpened, wanted};
+ghost use Rattle.sockets.specs.Passing.{sent_of};
 
-use crate::machine::{Machine, Opened, Socket, Waiting};
+use crate::machine::{Machine, Opened, Socket};
 use crate::traffic::Traffic;
+use crate::unwaited::Unwaited;
 use crate::{Arrived, Conduit, Ends, LONGEST, SendFault, Way, WireFault};
-use mio::Token;
+use descriptors::Token;
 use std::io::{self, ErrorKind};
 use std::net::Net;
 
@@ -59,7 +61,7 @@ impl Conduit for Channel {
 /// ports: its own, and the other.
 pub(crate) fn attached<R: Net>(
     machine: &mut Machine<'_, R>,
-    waits: &Waiting,
+    waits: &Unwaited,
     number: usize,
     way: Way,
     ports: (u16, u16),
@@ -107,7 +109,7 @@ fn aimed<R: Net>(machine: &mut Machine<'_, R>, ends: Ends) -> io::Result<Opened>
 const EMSGSIZE: i32 = 90;
 
 /// Why a datagram wasn't sent.
-pub(crate) fn fault_of(error: &io::Error) -> SendFault
+fn fault_of(error: &io::Error) -> SendFault
     ensures { result ≡ fault_of (raw_os_error error.now) }
 {
     match error.raw_os_error() {
@@ -133,24 +135,13 @@ pub(crate) fn settled(received: io::Result<Arrived>) -> Result<Option<Arrived>, 
     }
 }
 
-/// Whether so many bytes are all of a datagram: a part of one isn't sent.
-pub(crate) fn taken_whole(count: usize, bytes: &[u8]) -> io::Result<()>
-    ensures { IsOk result ↔ (count ≡ length bytes.now) }
+/// Whether a datagram was sent: a part of one isn't.
+pub(crate) fn sent_of(answer: io::Result<usize>, bytes: &[u8]) -> Result<(), SendFault>
+    ensures { result ≡ sent_of (length bytes.now) answer }
 {
-    if count == bytes.len() {
-        Ok(())
-    } else {
-        Err(io::Error::from(ErrorKind::WriteZero))
+    match answer {
+        Ok(count) if count == bytes.len() => Ok(()),
+        Ok(_) => Err(SendFault::Failed),
+        Err(error) => Err(fault_of(&error)),
     }
-}
-
-/// How many bytes a call of the system counts, or why it fails: it counts less than 0 then.
-pub(crate) fn counted(count: isize) -> io::Result<usize>
-    ensures failed { IsErr result ↔ (count <ℤ pos 0) }
-    ensures bytes { IfOk result (λ bytes. count ≡ pos bytes) }
-{
-    if count < 0 {
-        return Err(io::Error::from_raw_os_error(os::errno()));
-    }
-    Ok(count as usize)
 }

@@ -12,7 +12,9 @@ mod machine;
 mod places;
 mod sockets;
 mod traffic;
+mod unwaited;
 mod vxlan;
+mod waits;
 mod ways;
 mod wire;
 

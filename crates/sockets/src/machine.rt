@@ -1,25 +1,23 @@
 //! The system: its sockets, and descriptors that were inherited. What it is asked has names, and no more is known of it.
-ghost use Rattle.std.specs.Prelude.{◌≡◌, ◌≤◌, [], IfOk, IfSome, IsNone, OnErr, false, is_err, length, true};
-ghost use Rattle.control.specs.Attending.{HasLooked, SaysWord, is_ready, nobody_yet};
-ghost use Rattle.mio.specs.Events.{capacity, items};
+ghost use Rattle.std.specs.Prelude.{◌≡◌, ◌≤◌, IfOk, IfSome};
+ghost use Rattle.control.specs.Attending.{nobody_yet};
+ghost use Rattle.descriptors.specs.Events.{capacity};
 ghost use Rattle.sockets.specs.Asking.{WasControlRegistered, WasReceived, WasRegistered, WasSent};
 ghost use Rattle.sockets.specs.Inheriting.{WasUnblocked, WasUnblockedBy};
+ghost use Rattle.sockets.specs.Moving.{WasLetGo, WasMovedOn};
 ghost use Rattle.sockets.specs.Opening.{WasBound, WasConnected, WasGivenRoom, WasHandedOut, WasInherited, WasPollMade};
-ghost use Rattle.sockets.specs.Polling.{WasPolled};
+ghost use Rattle.sockets.specs.Passing.{HasReceived, HasSent, IsWatched, ReadsFrame, ReceivesConnected, ReceivesFrom, SendsConnected};
 
-use crate::channels::{counted, fault_of, settled, taken_whole};
+use crate::channels::{sent_of, settled};
+use crate::unwaited::Unwaited;
 use crate::{Arrived, End, LONGEST, SendFault, Sender, WireFault};
-use control::{Bound, Control, Waits};
-use mio::net::UdpSocket;
-use mio::unix::SourceFd;
-use mio::{Events, Interest, Poll, Token};
-use runtimes::{Hand, Kept};
+use control::{Bound, Control};
+use descriptors::{Descriptors, Events, Inherited, Interest, Poll, Registry, Token, UdpSocket};
+use runtimes::Hand;
 use std::alloc::{AllocError, Global};
 use std::io::{self, ErrorKind};
 use std::marker::Model;
 use std::net::{Net, SocketAddr};
-use std::os::fd::RawFd;
-use std::time::Duration;
 
 /// The system, as who is asked for sockets. Who has one asks by the calls that have names, and by no others.
 #[derive(Drop)]
@@ -45,12 +43,20 @@ impl<'a, R> Machine<'a, R> {
 }
 
 impl<R: Net> Machine<'_, R> {
+    /// It is another from then on: so each call is told that asks by no hand.
+    #[tactic(auto, unfolding(crate::specs::Moving::WasMovedOn))]
+    fn move_on(&mut self)
+        ensures { WasMovedOn self.old self.new }
+    {}
+
     /// Asks the system for what waits for sockets.
-    #[tactic(auto, unfolding(crate::specs::Opening::WasPollMade))]
-    pub(crate) fn told_to_make_poll(&mut self) -> io::Result<Waiting>
+    pub(crate) fn told_to_make_poll(&mut self) -> io::Result<Unwaited>
         ensures { WasPollMade self.old result self.new }
     {
-        Ok(Waiting(Poll::new(self.hand.lend())?))
+        match Poll::new(&mut self.hand) {
+            Ok(poll) => Ok(Unwaited::new(poll)),
+            Err(error) => Err(error),
+        }
     }
 
     /// Asks the system for memory in which a wait reports so many events.
@@ -67,134 +73,93 @@ impl<R: Net> Machine<'_, R> {
     }
 
     /// Asks the system for a socket at an address.
-    #[tactic(auto, unfolding(crate::specs::Opening::WasBound))]
     pub(crate) fn told_to_bind(&mut self, own: SocketAddr) -> io::Result<Udp>
         ensures { WasBound self.old own result self.new }
     {
-        let socket = UdpSocket::bind(self.hand.lend(), own)?;
-        Ok(Udp(Kept::new(socket)))
+        match UdpSocket::bind(&mut self.hand, own) {
+            Ok(socket) => Ok(Udp(socket)),
+            Err(error) => Err(error),
+        }
     }
 
     /// Asks the system to have a socket hear this address alone, and send there.
-    #[tactic(auto, unfolding(crate::specs::Opening::WasConnected))]
     pub(crate) fn told_to_connect(&mut self, socket: &mut Udp, other: SocketAddr) -> io::Result<()>
         ensures { WasConnected self.old socket.old other result socket.new self.new }
     {
-        socket.0.lend().connect(other)
+        self.move_on();
+        socket.0.connect(other)
     }
 
     /// Asks the system to make a descriptor one that never waits, and says whether it did.
-    #[tactic(auto, unfolding(crate::specs::Inheriting::WasUnblocked, crate::specs::Inheriting::WasUnblockedBy))]
     pub(crate) fn told_to_unblock(&mut self, number: u16) -> bool
         ensures asked { WasUnblocked number result }
         ensures alone { WasUnblockedBy self.old number result self.new }
     {
-        os::set_nonblocking(RawFd::from(number), true) >= 0
+        let mut descriptors = Descriptors::new(&mut self.hand);
+        let counted = descriptors.unblock(number);
+        let_go(descriptors);
+        counted >= 0
     }
 
     /// Takes over an inherited descriptor.
-    #[tactic(auto, unfolding(crate::specs::Opening::WasInherited))]
-    pub(crate) fn told_to_inherit(&mut self, number: u16) -> Inherited
+    pub(crate) fn told_to_inherit(&mut self, number: u16) -> Taken
         ensures { WasInherited self.old number result self.new }
     {
-        Inherited(RawFd::from(number))
+        let mut descriptors = Descriptors::new(&mut self.hand);
+        let inherited = descriptors.inherited(number);
+        let_go(descriptors);
+        Taken(inherited)
     }
 
     /// Has waits report what was opened under a token.
-    #[tactic(auto, unfolding(crate::specs::Asking::WasRegistered))]
     pub(crate) fn told_to_register(
         &mut self,
         opened: &mut Opened,
-        waits: &Waiting,
+        waits: &Unwaited,
         token: Token,
     ) -> io::Result<()>
         ensures { WasRegistered self.old opened.old token.0 result opened.new self.new }
     {
-        waits.register(opened, token)
+        self.move_on();
+        opened.watched(&mut waits.registry(), token)
     }
 
     /// Hands out what was opened: from then on datagrams may pass.
-    #[tactic(auto, unfolding(crate::specs::Opening::WasHandedOut))]
     pub(crate) fn told_to_hand_out(&mut self, opened: Opened) -> Socket
         ensures { WasHandedOut self.old opened result self.new }
     {
+        self.move_on();
         Socket(opened)
     }
 
     /// Has waits report what was bound for a control socket, and who calls there, under a token.
-    #[tactic(auto, unfolding(crate::specs::Asking::WasControlRegistered))]
     pub(crate) fn told_to_register_control(
         &mut self,
         bound: Bound,
-        waits: &Waiting,
+        waits: &Unwaited,
         token: Token,
     ) -> io::Result<Control>
         ensures asked { WasControlRegistered self.old bound token.0 result self.new }
         ensures ok { IfOk result (λ control. control ≡ nobody_yet control.listener token) }
     {
-        bound.register(&mut Waits::new(waits.0.registry()), token)
+        self.move_on();
+        bound.register(&mut waits.reports(), token)
     }
 }
 
-/// What waits for sockets. Nobody else has what registers them.
+/// Lets go who may ask for descriptors. A function of its own, so that a clause can say that it was done.
+#[tactic(auto, unfolding(crate::specs::Moving::WasLetGo))]
+fn let_go(_descriptors: Descriptors)
+    ensures { WasLetGo _descriptors }
+{}
+
+/// A UDP socket of the system's. Only the calls of this module ask it anything.
 #[derive(Drop)]
-pub(crate) struct Waiting(Poll);
+pub(crate) struct Udp(UdpSocket);
 
-impl Waiting {
-    ghost use Rattle.std.specs.Prelude.{◌||◌, is_some, take};
-
-    /// Asks the system to wait for at most so long, and has what it reports instead of what it did before.
-    #[tactic(auto, unfolding(crate::specs::Polling::WasPolled))]
-    pub(crate) fn told_to_wait(
-        &mut self,
-        events: &mut Events<Global>,
-        limit: Duration,
-    ) -> Result<(), WireFault>
-        ensures polled { WasPolled self.old events.old limit (is_err result) events.new self.new }
-        ensures failed { OnErr result (items events.new ≡ []) }
-        ensures room { capacity events.new ≡ capacity events.old }
-    {
-        match self.0.poll(events, Some(limit)) {
-            Ok(()) => Ok(()),
-            Err(_) => Err(WireFault),
-        }
-    }
-
-    /// A word that is said at a control socket, if one is, as [`Control::take`] says; who calls there is registered.
-    pub(crate) fn take_word(&self, control: &mut Control, room: &mut [u8]) -> Option<usize>
-        ensures within { IfSome result (λ count. count ≤ length room.new) }
-        ensures words { IfSome result (λ count. SaysWord (take count room.new) control.new) }
-        ensures unanswered { control.new.unanswered ≡ control.old.unanswered }
-        ensures deaf { is_ready control.old ≡ false
-            → IsNone result × (control.new ≡ control.old) }
-        ensures looked { is_ready control.old ≡ true
-            → HasLooked result control.old control.new }
-        ensures asked { is_ready control.old ≡ true → control.new.asked ≡ length room.new }
-    {
-        control.take(&mut Waits::new(self.0.registry()), room)
-    }
-
-    fn register(&self, opened: &mut Opened, token: Token) -> io::Result<()> {
-        let registry = self.0.registry();
-        match opened {
-            Opened::Connected(Udp(socket)) | Opened::Open(Udp(socket), _) => {
-                registry.register(socket.lend(), token, Interest::READABLE)
-            }
-            Opened::Descriptor(Inherited(descriptor)) => {
-                let mut source = SourceFd(descriptor);
-                registry.register(&mut source, token, Interest::READABLE)
-            }
-        }
-    }
-}
-
-/// An inherited descriptor. It is never closed.
+/// An inherited descriptor that was taken over. Only the calls of this module ask it anything.
 #[derive(Drop)]
-pub(crate) struct Inherited(RawFd);
-
-/// A UDP socket of the system's.
-#[derive(Drop)]
-pub(crate) struct Udp(Kept<UdpSocket>);
+pub(crate) struct Taken(Inherited);
 
 /// What was opened for a place. Nothing passes through it before it is handed out.
 #[derive(Drop)]
@@ -204,7 +169,49 @@ pub(crate) enum Opened {
     /// A kernel sends each flow of VXLAN from a port of its own, so this one isn't connected; it sends there.
     Open(Udp, SocketAddr),
     /// Inherited.
-    Descriptor(Inherited),
+    Descriptor(Taken),
+}
+
+impl Opened {
+    /// Has waits report it where there is something to hear.
+    fn watched(&mut self, registry: &mut Registry<'_>, token: Token) -> io::Result<()>
+        ensures { IsWatched registry.old self.old token result self.new registry.new }
+    {
+        match self {
+            Opened::Connected(Udp(socket)) => {
+                registry.register_udp(socket, token, Interest::READABLE)
+            }
+            Opened::Open(Udp(socket), _) => {
+                registry.register_udp(socket, token, Interest::READABLE)
+            }
+            Opened::Descriptor(Taken(inherited)) => {
+                registry.register_inherited(inherited, token, Interest::READABLE)
+            }
+        }
+    }
+
+    /// Sends a datagram, and says how many bytes of it were taken.
+    fn send(&mut self, bytes: &[u8]) -> io::Result<usize>
+        ensures { HasSent self.old bytes.now result self.new }
+    {
+        match self {
+            Opened::Connected(Udp(socket)) => send_connected(socket, bytes),
+            Opened::Open(Udp(socket), other) => socket.send_to(bytes, *other),
+            Opened::Descriptor(Taken(inherited)) => inherited.write(bytes),
+        }
+    }
+
+    /// What came next.
+    fn receive(&mut self, room: &mut [u8; LONGEST]) -> io::Result<Arrived>
+        ensures within { IfOk result (λ arrived. arrived.count ≤ 4096) }
+        ensures asked { HasReceived self.old result room.new self.new }
+    {
+        match self {
+            Opened::Connected(Udp(socket)) => receive_connected(socket, room),
+            Opened::Open(Udp(socket), _) => receive_from(socket, room),
+            Opened::Descriptor(Taken(inherited)) => read(inherited, room),
+        }
+    }
 }
 
 /// What a datagram goes through: what was handed out. It never waits.
@@ -213,15 +220,13 @@ pub(crate) struct Socket(Opened);
 
 impl Socket {
     /// Asks the system to send a datagram.
-    #[tactic(auto, unfolding(crate::specs::Asking::WasSent))]
     pub(crate) fn told_to_send(&mut self, bytes: &[u8]) -> Result<(), SendFault>
         ensures { WasSent self.old bytes.now result self.new }
     {
-        self.send(bytes).map_err(|e| fault_of(&e))
+        sent_of(self.0.send(bytes), bytes)
     }
 
     /// Asks the system for what came next.
-    #[tactic(auto, unfolding(crate::specs::Asking::WasReceived))]
     pub(crate) fn told_to_receive(
         &mut self,
         room: &mut [u8; LONGEST],
@@ -229,32 +234,15 @@ impl Socket {
         ensures within { IfOk result (λ found. IfSome found (λ arrived. arrived.count ≤ 4096)) }
         ensures asked { WasReceived self.old result room.new self.new }
     {
-        settled(self.receive(room))
-    }
-
-    fn send(&mut self, bytes: &[u8]) -> io::Result<()> {
-        let count = match &mut self.0 {
-            Opened::Connected(Udp(socket)) => send_connected(socket.lend(), bytes)?,
-            Opened::Open(Udp(socket), other) => socket.lend().send_to(bytes, *other)?,
-            Opened::Descriptor(Inherited(descriptor)) => counted(libc::write(*descriptor, bytes))?,
-        };
-        taken_whole(count, bytes)
-    }
-
-    fn receive(&mut self, room: &mut [u8; LONGEST]) -> io::Result<Arrived>
-        ensures { IfOk result (λ arrived. arrived.count ≤ 4096) }
-    {
-        match &mut self.0 {
-            Opened::Connected(Udp(socket)) => receive_connected(socket.lend(), room),
-            Opened::Open(Udp(socket), _) => receive_from(socket.lend(), room),
-            Opened::Descriptor(Inherited(descriptor)) => read(*descriptor, room),
-        }
+        settled(self.0.receive(room))
     }
 }
 
 /// Sends a datagram to whom a socket is connected. Where the system tells in its place that an earlier one found
 /// nobody, it is sent after that: else the first after the other's return would be lost.
-fn send_connected(socket: &UdpSocket, bytes: &[u8]) -> io::Result<usize> {
+fn send_connected(socket: &mut UdpSocket, bytes: &[u8]) -> io::Result<usize>
+    ensures { SendsConnected socket.old bytes.now result socket.new }
+{
     match socket.send(bytes) {
         Err(error) if error.kind() == ErrorKind::ConnectionRefused => socket.send(bytes),
         sent => sent,
@@ -262,8 +250,9 @@ fn send_connected(socket: &UdpSocket, bytes: &[u8]) -> io::Result<usize> {
 }
 
 /// The next datagram, where the system may tell first that one which was sent found nobody.
-fn receive_connected(socket: &UdpSocket, room: &mut [u8; LONGEST]) -> io::Result<Arrived>
-    ensures { IfOk result (λ arrived. arrived.count ≤ 4096) }
+fn receive_connected(socket: &mut UdpSocket, room: &mut [u8; LONGEST]) -> io::Result<Arrived>
+    ensures within { IfOk result (λ arrived. arrived.count ≤ 4096) }
+    ensures asked { ReceivesConnected socket.old result room.new socket.new }
 {
     match receive_from(socket, room) {
         Err(error) if error.kind() == ErrorKind::ConnectionRefused => receive_from(socket, room),
@@ -271,28 +260,31 @@ fn receive_connected(socket: &UdpSocket, room: &mut [u8; LONGEST]) -> io::Result
     }
 }
 
-fn receive_from(socket: &UdpSocket, room: &mut [u8; LONGEST]) -> io::Result<Arrived>
-    ensures { IfOk result (λ arrived. arrived.count ≤ 4096) }
+fn receive_from(socket: &mut UdpSocket, room: &mut [u8; LONGEST]) -> io::Result<Arrived>
+    ensures within { IfOk result (λ arrived. arrived.count ≤ 4096) }
+    ensures asked { ReceivesFrom socket.old result room.new socket.new }
 {
-    match socket.recv_from(room)? {
-        (count, SocketAddr::V4(from)) => Ok(Arrived {
+    match socket.recv_from(room) {
+        Ok((count, SocketAddr::V4(from))) => Ok(Arrived {
             count,
             sender: Sender::End(End::of(from)),
         }),
-        (_, SocketAddr::V6(_)) => Err(io::Error::from(ErrorKind::InvalidData)),
+        Ok((_, SocketAddr::V6(_))) => Err(io::Error::from(ErrorKind::InvalidData)),
+        Err(error) => Err(error),
     }
 }
 
 /// Reads a frame. A descriptor that gives none is closed at its other end.
-fn read(descriptor: RawFd, room: &mut [u8; LONGEST]) -> io::Result<Arrived>
-    ensures { IfOk result (λ arrived. arrived.count ≤ 4096) }
+fn read(inherited: &mut Inherited, room: &mut [u8; LONGEST]) -> io::Result<Arrived>
+    ensures within { IfOk result (λ arrived. arrived.count ≤ 4096) }
+    ensures asked { ReadsFrame inherited.old result room.new inherited.new }
 {
-    let count = counted(libc::read(descriptor, room))?;
-    if count == 0 {
-        return Err(io::Error::from(ErrorKind::UnexpectedEof));
+    match inherited.read(room) {
+        Ok(0) => Err(io::Error::from(ErrorKind::UnexpectedEof)),
+        Ok(count) => Ok(Arrived {
+            count,
+            sender: Sender::Interface,
+        }),
+        Err(error) => Err(error),
     }
-    Ok(Arrived {
-        count,
-        sender: Sender::Interface,
-    })
 }

@@ -1,6 +1,6 @@
 //! The sockets of a box, all waited for at once.
 ghost use Rattle.control.specs.Attending.{is_ready};
-ghost use Rattle.mio.specs.Events.{items};
+ghost use Rattle.descriptors.specs.Events.{items};
 ghost use Rattle.std.specs.Duration.{as_nanos};
 ghost use Rattle.std.specs.Prelude.{◌≡◌, ◌≤◌, Err, IfErr, IfOk, IfSome, Ok, is_err, option_map, take};
 ghost use Rattle.sockets.specs.Boards.{HearsAt, IsNew, IsRefused, Opens, OpensPlaces, Rests, SendsAt, Tells, after};
@@ -13,11 +13,13 @@ ghost use Rattle.sockets.specs.Waking.{AreMaybeWoken, AreWoken, SpentFor, TakesA
 ghost use Rattle.sockets.specs.Showing.{HasFailed, IsOfLast, IsOfWait, TurnsFor, attached_at, failing_at, losses_at, strangers_at};
 
 use crate::channels::{Channel, attached};
-use crate::machine::{Machine, Opened, Waiting};
+use crate::machine::{Machine, Opened};
+use crate::unwaited::Unwaited;
+use crate::waits::Waiting;
 use crate::wire::{LONGEST, Wire, WireFault};
 use crate::{Attachment, Losses, Place, Ports, SendFault, Way, Ways};
 use control::{Bound, Control};
-use mio::{Events, Token};
+use descriptors::{Events, Token};
 use nat_types::Side;
 use std::alloc::{AllocError, Global};
 use std::io;
@@ -312,7 +314,7 @@ struct Places {
 /// What the places need by their ways.
 fn open_places<R: Net>(
     machine: &mut Machine<'_, R>,
-    waits: &Waiting,
+    waits: &Unwaited,
     ways: &Ways,
     ports: Ports,
 ) -> io::Result<Places>
@@ -395,7 +397,7 @@ impl Sockets {
         let inside = place(machine, places.inside, ways.inside, ports.inside);
         let outside = place(machine, places.outside, ways.outside, ports.outside);
         let board = Board {
-            poll,
+            poll: poll.waiting(),
             events,
             link,
             inside,

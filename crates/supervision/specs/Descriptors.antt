@@ -1,15 +1,21 @@
 -- What can be said of a descriptor that is to never wait.
 use Rattle.std.specs.Prelude.{ℕ, ℤ, pos, ◌<ℤ◌}
+use Rattle.descriptors.specs.Asked.{WasUnblocked, WereDescriptorsMade}
+use Rattle.descriptors.specs.declared.inherited.Descriptors.{Descriptors}
 
--- The names below are of a call: a descriptor was to be made one that never waits, and the system answered this. It says nothing of such a
--- call, so they are no more than names: whoever makes the call has them, and nobody else.
--- by what this process was before and is then
-unfoldable pub WasAsked : {M : Type 0} → M → ℕ → ℤ → M → Type 0
-WasAsked before descriptor answer after = Unit {0}
+-- By a process was made, once, who may ask for descriptors. He was then to make this descriptor one that never waits: that is all that he was asked, the
+-- system answered so, and since then he is this.
+abbrev pub WasAskedBy : {M : Type 0} → M → ℕ → ℤ → Descriptors → M → Type 0
+WasAskedBy before descriptor answer since after =
+    (made : Descriptors) × (WereDescriptorsMade before made after × WasUnblocked made descriptor answer since)
 
--- for who has a manager, and nothing of this process
-unfoldable pub WasAnswered : ℕ → ℤ → Type 0
-WasAnswered descriptor answer = Unit {0}
+-- the same by what this process was before and is then
+abbrev pub WasAsked : {M : Type 0} → M → ℕ → ℤ → M → Type 0
+WasAsked before descriptor answer after = (since : Descriptors) × WasAskedBy before descriptor answer since after
+
+-- that the system was asked so, by whomever, and answered this
+abbrev pub WasAnswered : ℕ → ℤ → Type 0
+WasAnswered descriptor answer = (made : Descriptors) × ((since : Descriptors) × WasUnblocked made descriptor answer since)
 
 -- it did so
 abbrev pub NeverWaits : ℕ → Type 0

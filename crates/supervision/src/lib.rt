@@ -4,6 +4,7 @@
 mod machine;
 mod managers;
 mod notices;
+mod outbox;
 mod supervisors;
 
 pub use machine::Machine;

@@ -1,15 +1,15 @@
-//! This process, as who has inherited descriptors, and what the system was handed for them. Nothing else of this crate
-//! asks the system.
+//! This process, as who has inherited descriptors, and by what a manager is told. Nothing else of this crate has a hand of
+//! the system.
 ghost use Rattle.std.specs.Prelude.{◌≡◌, ◌↔◌, ◌++◌, ◌∷◌, ◌<ℤ◌, [], pos, IfErr, IfOk, IsTrue, OnErr, OnOk};
-ghost use Rattle.supervision.specs.Descriptors.{IsRefused, IsSet, IsSetOnce, IsUnset, NeverWaits, WasAnswered, WasAsked};
+ghost use Rattle.supervision.specs.Descriptors.{IsRefused, IsSet, IsSetOnce, IsUnset, NeverWaits, WasAskedBy};
 
 use crate::NotOpen;
+use crate::outbox::Outbox;
 use arrayvec::ArrayString;
+use descriptors::Descriptors;
 use runtimes::Hand;
 use std::marker::Model;
 use std::net::Net;
-use std::os::fd::RawFd;
-use std::snapshot::Snapshot;
 
 /// This process, as who has inherited descriptors. A manager comes of it alone, and so do the messages that one is told.
 #[derive(Drop)]
@@ -50,19 +50,21 @@ impl<R: Net> Machine<'_, R> {
         ensures unset { OnErr result (IsUnset self.old descriptor self.new) }
         ensures named { IfErr result (λ fault. fault.0 ≡ descriptor) }
     {
-        if is_refused(self.told_to_set(descriptor)) {
+        let (answer, outbox) = self.told_to_set(descriptor);
+        if is_refused(answer) {
             return Err(NotOpen(descriptor));
         }
-        Ok(Messages { last: None })
+        Ok(Messages::new(outbox))
     }
 
-    /// Asks the system to make a descriptor one that never waits, and gives its answer.
-    #[tactic(auto, unfolding(crate::specs::Descriptors::WasAnswered, crate::specs::Descriptors::WasAsked))]
-    fn told_to_set(&mut self, descriptor: u16) -> i32
-        ensures asked { WasAsked self.old descriptor result self.new }
-        ensures answered { WasAnswered descriptor result }
+    /// Asks the system to make a descriptor one that never waits, and gives its answer, and by what messages go out.
+    fn told_to_set(&mut self, descriptor: u16) -> (i32, Outbox)
+        ensures by { WasAskedBy self.old descriptor result.0 result.1.descriptors self.new }
+        ensures none { result.1.handed ≡ [] }
     {
-        os::set_nonblocking(RawFd::from(descriptor), true)
+        let mut descriptors = Descriptors::new(&mut self.hand);
+        let answer = descriptors.unblock(descriptor);
+        (answer, Outbox::new(descriptors))
     }
 }
 
@@ -73,36 +75,34 @@ fn is_refused(answer: i32) -> bool
     answer < 0
 }
 
-/// The messages that the system was handed, each for a descriptor. Clauses read them; no byte is kept.
+/// By what a manager is told. Clauses read which messages were handed on, each for a descriptor.
 #[derive(Drop)]
 pub struct Messages {
-    last: Option<(u16, Snapshot<ArrayString<64>>, Snapshot<Messages>)>,
+    outbox: Outbox,
 }
 
 impl Model for Messages {
-    ghost use Rattle.std.specs.Prelude.{List, length};
-    ghost use Rattle.supervision.specs.Messages.{Message, all_handed};
+    ghost use Rattle.std.specs.Prelude.{List};
+    ghost use Rattle.supervision.specs.Messages.{Message};
 
     ghost Value = { List Message };
 
-    ghost view = { λ m. all_handed m.last };
-
-    ghost size = { λ l. length l };
+    ghost view = { λ m. m.outbox.handed };
 }
 
 impl Messages {
+    /// Those that go out by this.
+    fn new(outbox: Outbox) -> Messages
+        ensures { result ≡ outbox.handed }
+    {
+        Messages { outbox }
+    }
+
     /// Hands the system a message for a descriptor, and doesn't wait. One that fails is lost.
     pub(crate) fn send(&mut self, descriptor: u16, text: &ArrayString<64>)
         ensures { self.new
             ≡ self.old ++ record { descriptor = descriptor; bytes = text.now.bytes } ∷ [] }
     {
-        let _lost = os::sendv(
-            RawFd::from(descriptor),
-            [text.as_str().as_bytes(), &[], &[], &[]],
-        );
-        let before = Snapshot::of(self);
-        *self = Messages {
-            last: Some((descriptor, Snapshot::of(text), before)),
-        };
+        self.outbox.send(descriptor, text);
     }
 }

@@ -1,6 +1,6 @@
 use Rattle.std.proofs.Common.{◌≡◌}
 use Rattle.std.specs.Slice.Iter.{iter_rest}
-use Rattle.mio.specs.Events.{items}
+use Rattle.descriptors.specs.Events.{items}
 use Rattle.sockets.specs.Looking.{IsMaybeWoken, woken_by_all}
 use Rattle.sockets.specs.Waking.{woken_at_all}
 use Rattle.sockets.proofs.sockets.wake.Given as goal

@@ -1,7 +1,7 @@
 use Rattle.std.proofs.Common.{◌∙◌, ap, refl}
-use Rattle.mio.specs.Events.{capacity}
+use Rattle.descriptors.specs.Events.{capacity}
 use Rattle.control.specs.declared.machine.SystemListener.{SystemListener}
-use Rattle.sockets.specs.declared.machine.Waiting.{Waiting}
+use Rattle.sockets.specs.declared.waits.Waiting.{Waiting}
 use Rattle.sockets.proofs.Opening.{all_had, asked, at_err, at_ok, control_refused, had_room, handed_on, held_last, held_of, made_still, place_refused, room_refused, still_had, still_room}
 use Rattle.sockets.specs.declared.sockets.SocketFault.TheVariants.{NoMemory, NoSocket}
 use Rattle.sockets.proofs.sockets.Sockets.open.Goals as goal
@@ -37,11 +37,12 @@ pub returns-clause-opened : goal.returns-clause-opened
 returns-clause-opened g c =
     let whole = c.in_ok-held-2.ensures.held ∙ ap (λ (h : SystemListener × Waiting). (h, c.in_ok-held.places)) c.in_ok-held.ensures.held in
     let same = held_of _ _ _ _ _ whole ∙ c.in_ok-control.ensures.held in
+    let waiting = ap (λ (w : Waiting). ((w, c.in_ok-poll.places), c.in_ok-poll.events)) c.waiting.ensures ∙ c.in_ok-poll.ensures.held in
     record {
       places = c.in_ok-poll.places;
       between = c.told_to_make_room-events.new.self;
       behind = c.told_to_register_control-control.new.self;
-      had = still_room _ _ c.args.ways.now c.args.ports _ _ _ _ _ _ c.in_ok-poll.ensures.held
+      had = still_room _ _ c.args.ways.now c.args.ports _ _ _ _ _ _ waiting
           (had_room _ _ _ c.args.ways.now c.args.ports _ _ c.told_to_make_room-events.result _
           (still_had _ _ c.args.ways.now c.args.ports _ _ _ _ (held_last _ _ _ _ _ whole)
           (all_had _ _ _ c.args.ways.now c.args.ports c.told_to_make_poll.result _ c.open_places-places.result _ c.told_to_make_poll.ensures

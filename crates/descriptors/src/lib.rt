@@ -1,0 +1,16 @@
+//! What the system gives by a descriptor: sockets, what waits for them, and descriptors that were inherited. Who asks for one needs a
+//! hand of the system, and what was given is asked by `&mut` alone, without a clause: nothing is known of it behind an ask.
+#![tactic(auto)]
+
+mod advice;
+mod inherited;
+mod polling;
+mod udp;
+mod unix;
+
+pub use advice::drop_cache;
+pub use inherited::{Descriptors, Inherited};
+pub use mio::{Events, Interest, Token};
+pub use polling::{Poll, Registry};
+pub use udp::UdpSocket;
+pub use unix::{UnixListener, UnixStream};
