@@ -5,9 +5,9 @@ use crate::pages::Paper;
 use crate::sheets::Sheet;
 use crate::words::paper_in;
 use cases_words::{Actor, Case};
-use journal::{Format, Journal, Pen, Tally, Unhindered, filter_of};
+use journal::{FilteredLog, Format, Journal, Pen, Tally, Unhindered, filter_of};
 use log::Log;
-use log::filter::{Filter, FilteredLog};
+use log::filter::Filter;
 use std::cell::Cell;
 use std::mem;
 

@@ -1,6 +1,7 @@
 //! The rest of the system, beside what a start has opened: its environment, its standard error and input, its seeds, its clocks.
 ghost use Rattle.std.specs.Prelude.{◌≡◌, IfErr, IfOk, None, OnOk, Some, [], false, option_map, string_bytes, true, unwrap_or};
-ghost use Rattle.log.specs.Filter.{filter_rules, filtered_inner, filtered_rules, invalid_spec, or_errors};
+ghost use Rattle.log.specs.Filter.{filter_rules, invalid_spec, or_errors};
+ghost use Rattle.journal.specs.Filtered.{filtered_inner, filtered_rules};
 ghost use Rattle.journal.specs.Filters.{IsRefused, WasSaid, rules_of};
 ghost use Rattle.journal.specs.Sinks.{format_of};
 ghost use Rattle.gate.specs.Asked.{IsChosenBy, IsFilter};
@@ -15,9 +16,10 @@ use crate::wires::let_go;
 use box_words::BoxFault;
 use inputs::{InputEnd, StandardInput};
 use journal::{
-    FilterFault, Format, Machine as Environment, StandardError, Unhindered, environment, filter_of,
+    FilterFault, FilteredLog, Format, Machine as Environment, StandardError, Unhindered,
+    environment, filter_of,
 };
-use log::filter::{Filter, FilteredLog};
+use log::filter::Filter;
 use rounds::Stopwatch;
 use runtimes::Hand;
 use std::alloc::Global;

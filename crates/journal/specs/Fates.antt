@@ -1,8 +1,8 @@
 -- How many lines were left out, and stand in no line yet.
 use Rattle.std.specs.Prelude.{ℕ, Bool, true, false, suc, min}
 use Rattle.journal.specs.Tally.{most}
-use Rattle.journal.specs.declared.desks.Fate.{Fate}
-use Rattle.journal.specs.declared.desks.Fate.TheVariants.{Written, LeftOut, ToldAndLeftOut}
+use Rattle.journal.specs.declared.desk.Fate.{Fate}
+use Rattle.journal.specs.declared.desk.Fate.TheVariants.{Written, LeftOut, ToldAndLeftOut}
 
 -- once they were told, or weren't
 abbrev pub left_told : Bool → ℕ → ℕ

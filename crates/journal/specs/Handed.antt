@@ -24,6 +24,10 @@ use Rattle.journal.specs.declared.pens.Pen.{Pen}
 unfoldable pub IsUnhanded : {P : Type 0} → P → Type 0
 IsUnhanded pen = Unit {0}
 
+-- the log was asked whether a record of this level, for this target, passes, and answered this
+unfoldable pub WasAskedPassing : {P : Type 0} → P → Level → List ℕ → Bool → P → Type 0
+WasAskedPassing before level target answer after = Unit {0}
+
 -- the log was handed this, at this level, for this target
 unfoldable pub WasHanded : {P N : Type 0} → P → Level → List ℕ → N → P → Type 0
 WasHanded before level target note after = Unit {0}
@@ -50,6 +54,10 @@ log_of pen = pen.log.now
 abbrev pub Enables : Type 0 → Type 0
 Enables L = L → Level → List ℕ → Option Bool
 
+-- the log of the pen was asked just that, once, and answered this, and the pen is of the same log
+abbrev pub IsAsked : {L : Type 0} → Pen L → Level → List ℕ → Bool → Pen L → Type 0
+IsAsked before level target answer after = WasAskedPassing before level target answer after × (log_of after ≡ log_of before)
+
 -- the log of the pen was handed just this, once, and the pen is of the same log
 abbrev pub IsHanded : {L N : Type 0} → Pen L → Level → List ℕ → N → Pen L → Type 0
 IsHanded before level target note after = WasHanded before level target note after × (log_of after ≡ log_of before)
@@ -60,14 +68,20 @@ IsFlushed before after = WasFlushed before after × (log_of after ≡ log_of bef
 
 -- by what is said of whether such a record passes: the one where it does, the other where it doesn't, one of both where that isn't said
 abbrev pub ByPassing : Option Bool → Type 0 → Type 0 → Type 0
-ByPassing (Some true) handed unhanded = handed
-ByPassing (Some false) handed unhanded = unhanded
-ByPassing None handed unhanded = handed ⊎ unhanded
+ByPassing (Some true) handed asked = handed
+ByPassing (Some false) handed asked = asked
+ByPassing None handed asked = handed ⊎ asked
 
--- where a log says that such a record passes, it was handed just that, once; where it says that it doesn't, nothing was asked
+-- the log was asked whether such a record passes, once, and said that it does; then it was handed just this, once
+abbrev pub IsAskedAndHanded : {L N : Type 0} → Pen L → Level → List ℕ → N → Pen L → Type 0
+IsAskedAndHanded {L = L} before level target note after = (between : Pen L)
+    × (IsAsked before level target true between × IsHanded between level target note after)
+
+-- The log was asked whether such a record passes, once. Where it says that it does, it was then handed just that, once; where it says that it doesn't,
+-- nothing else was asked.
 abbrev pub IsRecord : {L N : Type 0} → Enables L → Pen L → Level → List ℕ → N → Pen L → Type 0
 IsRecord enables before level target note after =
-    ByPassing (enables (log_of before) level target) (IsHanded before level target note after) (after ≡ before)
+    ByPassing (enables (log_of before) level target) (IsAskedAndHanded before level target note after) (IsAsked before level target false after)
 
 -- so it is of an entry with its moment, at the entry's level, for its target
 abbrev pub IsTold : {L : Type 0} → Enables L → Pen L → ℕ → Entry → Pen L → Type 0

@@ -6,6 +6,7 @@ pub mod Visits
 pub mod Pairs
 pub mod Fates
 pub mod Filters
+pub mod Filtered
 pub mod Owed
 pub mod Each
 pub mod Lines

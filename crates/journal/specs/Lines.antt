@@ -3,8 +3,8 @@ use Rattle.std.specs.Prelude.{◌≡◌, ◌<◌, ◌⊎◌, ℕ, Bool, true, fa
 use Rattle.std.specs.declared.io.Error.{Error}
 use Rattle.journal.specs.declared.lines.Format.{Format}
 use Rattle.journal.specs.declared.lines.Format.TheVariants.{Text, Pairs}
-use Rattle.journal.specs.declared.desks.Fate.{Fate}
-use Rattle.journal.specs.declared.desks.Fate.TheVariants.{Written, LeftOut, ToldAndLeftOut}
+use Rattle.journal.specs.declared.desk.Fate.{Fate}
+use Rattle.journal.specs.declared.desk.Fate.TheVariants.{Written, LeftOut, ToldAndLeftOut}
 
 -- the line of how many lines were left out, for people and for programs
 abbrev pub left_out_text : Format → ℕ → List ℕ

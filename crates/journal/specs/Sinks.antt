@@ -3,12 +3,24 @@ use Rattle.std.specs.Prelude.{◌≡◌, ℕ, Option, Some, None, Result, Ok, Er
 use Rattle.std.specs.RefCell.{ref_value}
 use Rattle.std.specs.declared.cell.Ref.{Ref}
 use Rattle.journal.specs.declared.lines.Format.{Format}
-use Rattle.journal.specs.declared.desks.Desk.{Desk}
+use Rattle.journal.specs.declared.desk.Desk.{Desk}
 use Rattle.journal.specs.declared.sink.Unhindered.{Unhindered}
 
 -- how a sink writes its records
 abbrev pub format_of : {O : Type 0} → Unhindered O → Format
 format_of sink = sink.format
+
+-- a desk over this outlet, which was asked for nothing there yet: no line was left out
+abbrev pub unwritten : {O : Type 0} → O → Desk O
+unwritten outlet = record { outlet = outlet; left_out = 0; all = 0 }
+
+-- A cell was made of this desk. No clause can say what a cell holds, so this is no more than a name: who makes the cell has it, and nobody else.
+unfoldable pub IsCellOf : {D S : Type 0} → D → S → Type 0
+IsCellOf desk cell = Unit {0}
+
+-- the cell of a sink was made of a desk over this outlet, at which no line was left out yet
+abbrev pub IsUnwrittenOver : {O : Type 0} → O → Unhindered O → Type 0
+IsUnwrittenOver outlet sink = IsCellOf (unwritten outlet) sink.desk
 
 -- A cell was asked to lend its desk, and lent this, or none, since somebody wrote there. No clause can say what a cell holds, so this is no more than
 -- a name: who asks the cell has it, and nobody else.

@@ -1,10 +1,13 @@
 //! What a box writes for its operator: which events are records, what stands in a record, and a sink that never waits.
 #![tactic(auto)]
 
+mod answers;
 mod causes;
+mod desk;
 mod desks;
 mod destinations;
 mod entries;
+mod filtered;
 mod filters;
 mod laws;
 mod lines;
@@ -20,11 +23,13 @@ mod standard_error;
 mod tally;
 mod telling;
 
+pub use answers::Answers;
 pub use causes::Cause;
 pub use destinations::Outlet;
 pub use entries::{Entry, Role};
+pub use filtered::FilteredLog;
 pub use filters::{FilterFault, VARIABLE, environment, filter_of};
-pub use laws::{account_law, tellings_law};
+pub use laws::{account_law, left_out_law, passing_law, tellings_law};
 pub use lines::Format;
 pub use machine::Machine;
 pub use notes::{LeftOutPackets, Note};

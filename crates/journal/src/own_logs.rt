@@ -1,9 +1,9 @@
 //! A box's own log.
 
+use crate::filtered::FilteredLog;
 use crate::sealed::Sealed;
 use crate::sink::Unhindered;
 use crate::standard_error::StandardError;
-use log::filter::FilteredLog;
 use std::alloc::Allocator;
 
 /// A log whose lines go to this process's standard error, where they pass a filter. Nothing else is one, and nothing that another

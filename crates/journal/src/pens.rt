@@ -1,9 +1,10 @@
 //! The pen by which a log is handed the records of a box. What the log is asked by it has names, and only here it is at hand.
 ghost use Rattle.std.specs.Prelude.{◌≡◌, IfSome};
 ghost use Rattle.log.specs.Record.{metadata_level, metadata_target};
-ghost use Rattle.journal.specs.Handed.{IsFlushed, IsHanded, IsUnhanded};
+ghost use Rattle.journal.specs.Handed.{IsAsked, IsFlushed, IsHanded, IsUnhanded};
 ghost use Rattle.journal.specs.Handed.{WasAskedLines, WasPutDown, log_of};
 
+use crate::answers::Answers;
 use crate::notes::Loggable;
 use crate::sink::Journal;
 use log::{Metadata, Record};
@@ -38,15 +39,30 @@ impl<'a, L> Pen<'a, L> {
     }
 }
 
-impl<L: Journal> Pen<'_, L> {
-    /// Whether the log says that such a record passes.
-    pub(crate) fn passes(&self, metadata: &Metadata<'_>) -> bool
-        ensures { IfSome (L.enables (log_of self.now) (metadata_level metadata.now)
+impl<L: Answers> Pen<'_, L> {
+    /// Asks the log whether such a record passes. Of a log that answers no more is known, so nothing can be written here.
+    #[tactic(auto, unfolding(crate::specs::Handed::WasAskedPassing))]
+    pub(crate) fn told_whether_passes(&mut self, metadata: &Metadata<'_>) -> bool
+        ensures asked { IsAsked self.old (metadata_level metadata.now)
+            (metadata_target metadata.now) result self.new }
+        ensures says { IfSome (L.lets (log_of self.old) (metadata_level metadata.now)
             (metadata_target metadata.now)) (λ said. result ≡ said) }
     {
-        self.log.enabled(metadata)
+        self.log.lets_pass(metadata)
     }
 
+    /// How many lines the log has left out so far.
+    #[tactic(auto, unfolding(crate::specs::Handed::WasAskedLines))]
+    pub fn lines_left_out(&mut self) -> u64
+        ensures log { log_of self.new ≡ log_of self.old }
+        ensures asked { WasAskedLines self.old result self.new }
+        ensures lines { L.leaves_out (log_of self.old) result }
+    {
+        self.log.lines_left_out()
+    }
+}
+
+impl<L: Journal> Pen<'_, L> {
     /// Hands the log a record.
     #[tactic(auto, unfolding(crate::specs::Handed::WasHanded))]
     pub(crate) fn hand<N: Loggable>(&mut self, metadata: Metadata<'_>, note: N)
@@ -62,15 +78,5 @@ impl<L: Journal> Pen<'_, L> {
         ensures { IsFlushed self.old self.new }
     {
         self.log.flush();
-    }
-
-    /// How many lines the log has left out so far.
-    #[tactic(auto, unfolding(crate::specs::Handed::WasAskedLines))]
-    pub fn lines_left_out(&mut self) -> u64
-        ensures log { log_of self.new ≡ log_of self.old }
-        ensures asked { WasAskedLines self.old result self.new }
-        ensures lines { L.leaves_out (log_of self.old) result }
-    {
-        self.log.lines_left_out()
     }
 }

@@ -1,8 +1,8 @@
 //! What keeps other crates from having an `OwnLog` of their own.
 
+use crate::filtered::FilteredLog;
 use crate::sink::Unhindered;
 use crate::standard_error::StandardError;
-use log::filter::FilteredLog;
 use std::alloc::Allocator;
 
 /// Nobody outside this crate can name it.

@@ -1,17 +1,17 @@
 //! A sink that never waits.
-ghost use Rattle.std.specs.Prelude.{◌≡◌, true, ℕ, [], List, None, Option, Some};
-ghost use Rattle.log.specs.Filter.{Rule, filtered_inner, filtered_rules};
-ghost use Rattle.journal.specs.Sinks.{HasLeftOut, format_of};
+ghost use Rattle.std.specs.Prelude.{◌≡◌, refl, true, ℕ, [], List, None, Option, Some};
+ghost use Rattle.log.specs.Filter.{Rule};
+ghost use Rattle.log.specs.declared.level.Level.{Level};
+ghost use Rattle.journal.specs.Sinks.{HasLeftOut, IsUnwrittenOver, format_of};
 ghost use Rattle.journal.specs.declared.lines.Format.{Format as Writing};
 
+use crate::answers::Answers;
 use crate::desks::SharedDesk;
 use crate::destinations::Outlet;
 use crate::lines::{Format, Shown};
-use log::filter::FilteredLog;
 use log::kv::Source;
 use log::span::Spans;
 use log::{Log, Metadata, Record};
-use std::alloc::Allocator;
 use std::fmt::Display;
 
 /// Writes each record by one write, where that doesn't wait. It counts what it leaves out, and writes the count when
@@ -23,13 +23,31 @@ pub struct Unhindered<O> {
 }
 
 impl<O> Unhindered<O> {
-    /// Over an outlet, of which nothing was left out yet.
+    /// Over an outlet, at which no line was left out yet.
     pub fn new(outlet: O, format: Format) -> Unhindered<O>
-        ensures { format_of result ≡ format }
+        ensures format { format_of result ≡ format }
+        ensures unwritten { IsUnwrittenOver outlet result }
     {
         Unhindered {
             desk: SharedDesk::new(outlet),
             format,
+        }
+    }
+}
+
+impl<O> Answers for Unhindered<O> {
+    ghost lets = { λ _ _ _. Some true };
+
+    ghost leaves_out = { HasLeftOut };
+
+    fn lets_pass(&self, _metadata: &Metadata<'_>) -> bool {
+        true
+    }
+
+    fn lines_left_out(&self) -> u64 {
+        match self.desk.told_to_lend() {
+            Ok(desk) => desk.lines_left_out(),
+            Err(_) => 0,
         }
     }
 }
@@ -57,43 +75,21 @@ impl<O: Outlet> Log for Unhindered<O> {
     }
 }
 
-/// A log that says how much of it was left out.
-pub trait Journal: Log {
+/// A log that is handed the records of a box, and answers how much of them was left out.
+pub trait Journal: Log + Answers {
     /// How it writes its records, where that is known.
     ghost writes: { Self → Option Writing } = { λ _. None };
 
     /// By which rules they pass, where that is known.
     ghost passes: { Self → Option (List Rule) } = { λ _. None };
 
-    /// That it has left out so many lines, as it says.
-    ghost leaves_out: { Self → ℕ → Type 0 } = { λ _ _. Unit {0} };
-
-    /// How many lines were left out so far. It stays at its greatest number.
-    fn lines_left_out(&self) -> u64
-        ensures { leaves_out self.now result };
+    /// It answers whether a record passes as it is known to.
+    ghost lets_as_enables: { (log : Self) → (level : Level) → (target : List ℕ)
+        → Self.lets log level target ≡ Self.enables log level target };
 }
 
 impl<O: Outlet> Journal for Unhindered<O> {
     ghost writes = { λ sink. Some (format_of sink) };
 
-    ghost leaves_out = { HasLeftOut };
-
-    fn lines_left_out(&self) -> u64 {
-        match self.desk.told_to_lend() {
-            Ok(desk) => desk.lines_left_out(),
-            Err(_) => 0,
-        }
-    }
-}
-
-impl<L: Journal, A: Allocator> Journal for FilteredLog<L, A> {
-    ghost writes = { λ log. L.writes (filtered_inner log) };
-
-    ghost passes = { λ log. Some (filtered_rules log) };
-
-    ghost leaves_out = { λ log lines. L.leaves_out (filtered_inner log) lines };
-
-    fn lines_left_out(&self) -> u64 {
-        self.inner().lines_left_out()
-    }
+    ghost lets_as_enables = { λ _ _ _. refl };
 }

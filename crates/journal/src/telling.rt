@@ -109,13 +109,13 @@ impl<L: Journal> Pen<'_, L> {
         }
     }
 
-    /// Hands the log a record, if it says that it passes.
+    /// Asks the log whether a record passes, and hands it that if it says so.
     fn offer<N: Loggable>(&mut self, metadata: Metadata<'_>, note: N)
         ensures log { log_of self.new ≡ log_of self.old }
         ensures told { IsRecord L.enables self.old (metadata_level metadata.entry)
             (metadata_target metadata.entry) note self.new }
     {
-        if self.passes(&metadata) {
+        if self.told_whether_passes(&metadata) {
             self.hand(metadata, note);
         }
     }
