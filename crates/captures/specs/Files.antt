@@ -6,6 +6,7 @@ use Rattle.std.specs.declared.io.Error.{Error}
 use Rattle.std.specs.declared.io.ErrorKind.TheVariants.{AlreadyExists}
 use Rattle.captures.specs.declared.files.Reader.{Reader}
 use Rattle.captures.specs.declared.files.Reader.TheVariants.{Awaited, NotAwaited}
+use Rattle.captures.specs.Reads.{WasFilled}
 
 -- A capture may be begun in a file that has these bytes: where they are none, or begin as a capture does, with the type of a
 -- Section Header Block.
@@ -37,13 +38,10 @@ Looks F = F → Result Held Error → F → Type 0
 abbrev pub Empties : Type 0 → Type 1
 Empties F = F → Result (Unit {0}) Error → F → Type 0
 
--- Of a file of the system's it was asked whether it is a regular one; it was read until four bytes were had, or it was at its end; it was rewound to
--- its front; it was told to let go of all that it has. They are no more than names, each of a call: who makes the call has it, and nobody else.
+-- Of a file of the system's it was asked whether it is a regular one; it was rewound to its front; it was told to let go of all that it has. They are
+-- no more than names, each of a call: who makes the call has it, and nobody else. How it is read, Reads says.
 unfoldable pub WasAskedKind : {F : Type 0} → F → Result Bool Error → F → Type 0
 WasAskedKind before regular after = Unit {0}
-
-unfoldable pub WasFilled : {F : Type 0} → F → Result (List ℕ) Error → F → Type 0
-WasFilled before bytes after = Unit {0}
 
 unfoldable pub WasRewound : {F : Type 0} → F → Result (Unit {0}) Error → F → Type 0
 WasRewound before answer after = Unit {0}

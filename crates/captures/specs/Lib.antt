@@ -1,4 +1,5 @@
 pub mod Fields
 pub mod Interfaces
 pub mod Captures
+pub mod Reads
 pub mod Files

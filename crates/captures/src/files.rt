@@ -4,7 +4,7 @@ ghost use Rattle.std.specs.IoError.{error_kind};
 ghost use Rattle.captures.specs.declared.machine.OpenedFile.{OpenedFile};
 ghost use Rattle.captures.specs.Files.{Empties, Held, IsForCapture, IsFound, IsLookedAt, IsNoPlace, IsOpened, IsRead, IsTurnedAway, IsUnemptied, IsUnopened, Looks, ReadsFront, SystemEmpties, SystemLooks, WasLetGo, WasToldMode, emptied, found_in, is_free, may_begin};
 
-use crate::calls::Calls;
+use crate::calls::{Calls, PutsDown, fill};
 use crate::{Machine, OpenedFile};
 use std::fs::{Files, OpenOptions};
 use std::io::{self, ErrorKind};
@@ -65,7 +65,7 @@ pub trait Opened {
 }
 
 /// No clause can say what the system's files do, so they claim nothing. Each call that is made of them, and its answer, has a name.
-impl<F: Calls> Opened for F {
+impl<F: Calls + PutsDown> Opened for F {
     ghost held = { λ _. None };
 
     ghost readable = { λ _. ⊥ };
@@ -95,7 +95,7 @@ impl<F: Calls> Opened for F {
     }
 
     fn put_down(self) {
-        Calls::put_down(self)
+        PutsDown::put_down(self)
     }
 }
 
@@ -104,7 +104,7 @@ fn front_of<F: Calls>(file: &mut F, room: &mut [u8; FRONT]) -> io::Result<Option
     ensures within { IfOk result (λ found. IfSome found (λ count. count ≤ 4)) }
     ensures read { ReadsFront file.old (found_in room.new result) file.new }
 {
-    match file.told_to_fill(room) {
+    match fill(file, room) {
         Ok(count) => match file.told_to_rewind() {
             Ok(()) => Ok(Some(count)),
             Err(error) => Err(error),

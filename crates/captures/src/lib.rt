@@ -7,6 +7,7 @@ mod fields;
 mod files;
 mod heads;
 mod interfaces;
+mod kept_files;
 mod machine;
 mod packets;
 

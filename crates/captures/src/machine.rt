@@ -2,8 +2,8 @@
 ghost use Rattle.std.specs.Prelude.{◌≡◌};
 ghost use Rattle.captures.specs.Files.{WasOpened, WasSought};
 
-use crate::calls::{Calls, fill};
-use crate::files::FRONT;
+use crate::calls::{Calls, PutsDown};
+use crate::kept_files::KeptFile;
 use runtimes::Hand;
 use std::fs::{self, Files, OpenFile, OpenOptions};
 use std::io::{self, Read, Seek, SeekFrom, Write};
@@ -44,7 +44,7 @@ impl<R: Files> Machine<'_, R> {
         ensures { WasOpened self.old options.now path.now result self.new }
     {
         Ok(OpenedFile {
-            file: options.open(self.hand.lend(), path)?,
+            file: KeptFile::new(options.open(self.hand.lend(), path)?),
         })
     }
 
@@ -64,31 +64,35 @@ impl<R: Files> Machine<'_, R> {
 /// say the number of its descriptor, and nothing else.
 #[derive(Drop)]
 pub struct OpenedFile<F> {
-    file: F,
+    file: KeptFile<F>,
 }
 
 impl<F: Read + Seek + OpenFile + Drop> Calls for OpenedFile<F> {
+    ghost rest = { λ opened. ⟦<KeptFile<F> as Read>⟧.remaining opened.file };
+
     #[tactic(auto, unfolding(crate::specs::Files::WasAskedKind))]
     fn told_of_kind(&mut self) -> io::Result<bool> {
-        Ok(self.file.metadata()?.is_file())
+        Ok(self.file.lend().metadata()?.is_file())
     }
 
     #[tactic(auto, unfolding(crate::specs::Files::WasCut))]
     fn told_to_cut(&mut self) -> io::Result<()> {
-        self.file.set_len(0)
+        self.file.lend().set_len(0)
     }
 
     #[tactic(auto, unfolding(crate::specs::Files::WasRewound))]
     fn told_to_rewind(&mut self) -> io::Result<()> {
-        self.file.seek(SeekFrom::Start(0))?;
+        self.file.lend().seek(SeekFrom::Start(0))?;
         Ok(())
     }
 
-    #[tactic(auto, unfolding(crate::specs::Files::WasFilled))]
-    fn told_to_fill(&mut self, room: &mut [u8; FRONT]) -> io::Result<usize> {
-        fill(&mut self.file, room)
+    #[tactic(auto, unfolding(crate::specs::Reads::WasRead))]
+    fn told_to_read(&mut self, room: &mut [u8]) -> io::Result<usize> {
+        self.file.read(room)
     }
+}
 
+impl<F: Drop> PutsDown for OpenedFile<F> {
     #[tactic(auto, unfolding(crate::specs::Files::WasLetGo))]
     fn put_down(self) {
         drop(self);
@@ -96,7 +100,7 @@ impl<F: Read + Seek + OpenFile + Drop> Calls for OpenedFile<F> {
 }
 
 impl<F: Write> Write for OpenedFile<F> {
-    ghost contents = { λ opened. F.contents opened.file };
+    ghost contents = { λ opened. ⟦<KeptFile<F> as Write>⟧.contents opened.file };
 
     fn write(&mut self, bytes: &[u8]) -> io::Result<usize> {
         self.file.write(bytes)
@@ -108,7 +112,7 @@ impl<F: Write> Write for OpenedFile<F> {
 }
 
 impl<F: AsRawFd> AsRawFd for OpenedFile<F> {
-    ghost raw_fd = { λ opened. F.raw_fd opened.file };
+    ghost raw_fd = { λ opened. ⟦<KeptFile<F> as AsRawFd>⟧.raw_fd opened.file };
 
     fn as_raw_fd(&self) -> RawFd {
         self.file.as_raw_fd()
