@@ -14,10 +14,15 @@ AT_HAND = {
     "boot_file/machine": {"Machine": "hand"},
     "boot_file/openings": {"Opened": "file"},
     "box_words/machine": {"System": "0"},
+    "captures/kept_files": {"KeptFile": "file"},
     "captures/machine": {"Machine": "hand", "OpenedFile": "file"},
     "checks/machine": {"ThisMachine": "0", "Opened": "file"},
     "commands/machine": {"SystemCaptures": "captures", "SystemServes": "hands"},
-    "control/machine": {"Machine": "hand", "Waits": "0", "SystemLine": "stream", "SystemListener": "listener", "SystemCaller": "caller"},
+    "control/machine": {"Machine": "hand", "SystemLine": "stream"},
+    "descriptors/inherited": {"Inherited": "0"},
+    "descriptors/polling": {"Poll": "0", "Registry": "0"},
+    "descriptors/udp": {"UdpSocket": "0"},
+    "descriptors/unix": {"UnixListener": "0", "UnixStream": "0"},
     "gate/files": {"FileSystem": "hand"},
     "gate/recording": {"Records": "log"},
     "gate/seeds": {"Seeds": "hand"},
@@ -25,11 +30,11 @@ AT_HAND = {
     "journal/machine": {"Machine": "hand"},
     "journal/pens": {"Pen": "log"},
     "journal/standard_error": {"StandardError": "hand"},
-    "loopback_run/machine": {"Socket": "0", "Waits": "0", "SystemPort": "socket waits", "SystemBinds": "hand"},
+    "loopback_run/machine": {"SystemBinds": "hand"},
     "rounds/asked_clock": {"SystemClock": "hand"},
     "runtimes/hand": {"Hand": "rt"},
     "slots/draws": {"SystemDraws": "0"},
-    "sockets/machine": {"Machine": "hand", "Waiting": "0", "Inherited": "0", "Udp": "0", "Socket": "0"},
+    "sockets/machine": {"Machine": "hand"},
     "supervision/machine": {"Machine": "hand"},
     "tap/asked_clock": {"SystemClock": "hand"},
     "tap/asked_files": {"CaptureFile": "file"},
@@ -41,33 +46,48 @@ THROUGH = {
     "commands/hands": {"Hands": "system boot_files lines captures around gate passage clock"},
     "commands/hosts": {"ThisHost": "captures around"},
     "control/hearing": {"Bound": "doorway", "Control": "audience"},
+    "control/machine": {"Waits": "registry", "SystemListener": "socket", "SystemCaller": "socket"},
     "gate/hands": {"Hands": "files boot_files captures descriptors listeners places ends environment errors seeds moments clock input"},
     "gate/machine": {"Machine": "files boot_files captures descriptors listeners places ends"},
     "gate/rest": {"Rest": "environment errors means", "Means": "seeds moments pace", "Pace": "clock input"},
     "inputs/told": {"InputEnd": "watched"},
     "journal/lines": {"Shown": "logged"},  # A record of a log, which can be asked for nothing.
+    "loopback_run/machine": {"Socket": "0", "Waits": "0", "SystemPort": "socket waits"},
     "rounds/clocks": {"Stopwatch": "clock"},
     "rounds/teller": {"Teller": "pen"},
+    "sockets/machine": {"Udp": "0", "Taken": "0", "Opened": "Connected Open Descriptor", "Socket": "0"},
+    "sockets/waits": {"Waiting": "0"},
     "tap/moments": {"SinceFirst": "clock"},
 }
 
 # Functions of a module of AT_HAND that use such a field in another way, and why they may.
 OTHERWISE = {
     ("box_words/machine", "told_to_read"): "the name is that of `faults`, of who reads by a hand",
+    ("captures/kept_files", "lend"): "it lends the file for an ask, and says nothing of what it is then",
     ("captures/machine", "as_raw_fd"): "it gives a number, and asks nothing",
     ("captures/machine", "flush"): "it hands on what a buffer over it is told, and its line is trusted",
     ("captures/machine", "write"): "it hands on what a buffer over it is told, and its line is trusted",
     ("commands/machine", "act"): "it makes each who asks by his own hand",
+    ("control/machine", "bind"): "the name is that of `descriptors`, of who asks by a hand",
+    ("descriptors/inherited", "registered"): "it is of `Registry` alone, which has the name",
+    ("descriptors/polling", "new"): "it asks by a hand, and has the name of that",
+    ("descriptors/polling", "registry"): "by what it gives nothing can be asked but what has a name",
+    ("descriptors/udp", "bind"): "it asks by a hand, and has the name of that",
+    ("descriptors/udp", "registered"): "it is of `Registry` alone, which has the name",
+    ("descriptors/unix", "bind"): "it asks by a hand, and has the name of that",
+    ("descriptors/unix", "registered"): "it is of `Registry` alone, which has the name",
     ("gate/recording", "teller_at"): "the teller that it gives is the name's",
     ("inputs/standard_input", "is_reported"): "the name is that of `polls`, of who asks",
-    ("journal/pens", "passes"): "it asks whether a record passes, and a log isn't told that",
+    ("loopback_run/machine", "told_to_bind"): "the name is that of `descriptors`, of who asks by a hand",
+    ("loopback_run/machine", "told_to_make_poll"): "the same",
     ("runtimes/hand", "lend"): "it lends the system for an ask, and says nothing of what it is then",
     ("runtimes/hand", "lent"): "it lends itself, and says nothing of what it is then",
     ("slots/draws", "draw"): "nobody in the program draws by it",
-    ("sockets/machine", "receive"): "private, and of `told_to_receive` alone",
-    ("sockets/machine", "register"): "private, and of `told_to_register` alone",
-    ("sockets/machine", "send"): "private, and of `told_to_send` alone",
-    ("sockets/machine", "take_word"): "what waits is lent to the control socket, which has the name",
+    ("sockets/machine", "told_to_bind"): "the name is that of `descriptors`, of who asks by a hand",
+    ("sockets/machine", "told_to_inherit"): "the same",
+    ("sockets/machine", "told_to_make_poll"): "the same",
+    ("sockets/machine", "told_to_unblock"): "the same",
+    ("supervision/machine", "told_to_set"): "the name is that of `descriptors`, of who asks by a hand",
     ("tap/asked_files", "is_roomy"): "who asks has the name",
 }
 
@@ -76,18 +96,22 @@ OTHERWISE = {
 HANDS_ON = {
     "boot_file/openings": ("Blocks Lockable", "read_at=read_at write_at=write_at sync=sync sync_name=sync_name drop_cache=drop_cache "
                                               "try_lock=try_lock"),
+    "captures/kept_files": ("Read Write AsRawFd", "read=read write=write flush=flush as_raw_fd=as_raw_fd"),
     "checks/machine": ("Read OpenFile Lockable", "lock=try_lock"),
 }
 
 # A module of AT_HAND that only hands on: what it is asked has the names of whom it asks, and none of its own.
-NAMELESS = ("boot_file/openings",)
+NAMELESS = ("boot_file/openings", "captures/kept_files")
 
-# The one function that gives the system to who asks: for one ask, and nothing says what the hand is then.
-LENDS = ("runtimes/hand", "lend")
+# The functions that give the system, or a file of it, to who asks: for one ask, and nothing says what the hand, or the file, is then.
+LENDS = (("captures/kept_files", "lend"), ("runtimes/hand", "lend"))
+
+# The crate in which what the system gave is handed to a library's own calls: a socket to the library's poll.
+LIBRARIES = "descriptors"
 
 # What has to be known of that of which a type of AT_HAND is made, by its module: nothing, or the one trait that is named here. Elsewhere it
 # is `Hosted`, so that nobody can be made up for the system.
-MADE_OF = {"boot_file/openings": "", "gate/recording": "OwnLog", "journal/pens": "", "tap/asked_files": ""}
+MADE_OF = {"boot_file/openings": "", "captures/kept_files": "", "gate/recording": "OwnLog", "journal/pens": "", "tap/asked_files": ""}
 
 # Types of AT_HAND whose field is public, and the one crate of the program that names each.
 OPEN = {"SystemDraws": "slots"}
@@ -109,6 +133,7 @@ HANDED = {
 # By which traits of its own the program asks, and who answers by each. The name of a call is given of whoever answers by
 # its trait, so who answers is looked at here; of a type parameter any type of std's that is bound so.
 ANSWERED = {
+    "Answers": "journal/filtered:FilteredLog journal/sink:Unhindered",
     "Binder": "box_words/ends:System",
     "Binds": "control/machine:Machine loopback_run/binding:SystemBinds",
     "Blocks": "boot_file/blocks:File boot_file/openings:Opened",
@@ -131,7 +156,7 @@ ANSWERED = {
             "loopback_run/loopback:Port loopback_run/loopback:Ports loopback_run/loopback:SystemPort",
     "Host": "commands/hosts:ThisHost",
     "Hosted": "runtimes/hosted:HostRuntime runtimes/hosted:R",
-    "Journal": "journal/sink:FilteredLog journal/sink:Unhindered",
+    "Journal": "journal/filtered:FilteredLog journal/sink:Unhindered",
     "Limits": "control/machine:SystemLine",
     "Loggable": "journal/notes:LeftOutPackets journal/notes:Note",
     "Line": "control/lines:S",
@@ -147,6 +172,8 @@ ANSWERED = {
     "OwnDisk": "gate/wires:FileDisk",
     "OwnLog": "journal/own_logs:FilteredLog",
     "Puts": "outlets/puts:T",
+    "PutsDown": "captures/machine:OpenedFile",
+    "Read": "captures/kept_files:KeptFile",
     "Reads": "checks/machine:ThisMachine faults/texts:Hand gate/files:FileSystem",
     "RefusalText": "frame_sim/events:WorldFault",
     "Reports": "control/machine:Waits",
@@ -170,7 +197,7 @@ ANSWERED = {
     "Tells": "outlets/tells:P",
     "Told": "inputs/told:InputEnd",
     "Wire": "sockets/sockets:Sockets sockets/wire:Failing tap/taps:Tapped",
-    "Write": "captures/machine:OpenedFile",
+    "Write": "captures/kept_files:KeptFile captures/machine:OpenedFile",
     "WriteBytes": "forwarder/outgoing:ArpReply forwarder/outgoing:OwnAnswer forwarder/outgoing:OwnComplaint "
                   "forwarder/outgoing:PassedFrame forwarder/outgoing:Request forwarder/outgoing:SentFrame "
                   "gateway/ends:NextDatagram gateway/routers:AdvertFrame gateway/routers:GratuitousFrame",
@@ -179,11 +206,9 @@ ANSWERED = {
 # Who asks the system with no handle, by a number of a descriptor or by none, and for what: all that his module names of `libc` and
 # of `os`.
 BY_NUMBER = {
-    "boot_file/blocks": "libc::posix_fadvise libc::POSIX_FADV_DONTNEED",
+    "descriptors/advice": "libc::posix_fadvise libc::POSIX_FADV_DONTNEED",
+    "descriptors/inherited": "libc::read libc::write os::errno os::sendv os::set_nonblocking",
     "polls/looks": "libc::types::pollfd libc::net::POLLIN libc::net::POLLOUT libc::net::poll libc::STDIN_FILENO libc::STDERR_FILENO",
-    "sockets/channels": "os::errno",
-    "sockets/machine": "libc::read libc::write os::set_nonblocking",
-    "supervision/machine": "os::set_nonblocking os::sendv",
 }
 
 # What is brought in of these under its own word: a type.
@@ -196,7 +221,7 @@ BRACKET = re.compile(r"[(){}\[\]]")
 OPENS = re.compile(r"[(\[{;]")
 ATTRIBUTES = r"(?:#\[(?:[^\[\]]|\[[^\]]*\])*\]\s*)*"
 TYPE = re.compile(rf"({ATTRIBUTES})(?:pub(?:\([^)]*\))? )?(?:struct|enum|union) (\w+)\s*")
-THING = r"\b(?:HostRuntime|LibcRuntime|UdpSocket|Unix(?:Stream|Listener|Datagram)|Tcp(?:Stream|Listener)|Poll|Registry|(?:Raw|Owned)Fd" \
+THING = r"\b(?:HostRuntime|LibcRuntime|UdpSocket|Unix(?:Stream|Listener|Datagram)|Tcp(?:Stream|Listener)|(?:Raw|Owned)Fd" \
     r"|Std(?:in|out|err))\b"
 SYSTEM = r"\b(?:Host|Libc)Runtime\b|\bStd(?:in|out|err)\b"
 TOLD_FOR = re.compile(r"[<,]\s*(?!const\b)([A-Za-z_]\w*)\b(?!')")
@@ -220,6 +245,8 @@ BY_REFERENCE = re.compile(r"(?:\.|::)\s*(accept|create_dir(?:_with_mode|_all)?|d
                           r"|set_nonblocking|set_permissions|set_read_timeout|set_times|set_ttl|set_write_timeout|shutdown"
                           r"|symlink(?:_metadata)?|sync_all|sync_data|take_error|try_clone|try_io|try_lock|unlock|write_all_at|write_at"
                           r"|write_vectored)\s*(?:::\s*<[^;(){}]*>\s*)?\(")
+# What `descriptors` asks of whatever says that it has a number, and so of any number.
+BY_ANY_NUMBER = re.compile(r"(?<!fn )(?<![.\w])(drop_cache)\b")
 ANY_USE = re.compile(r"\b(?:ghost )?use\b[^;]*;")
 MODEL_WORD = re.compile(r"\bModel\b")
 MODEL = re.compile(r"\bimpl\b\s*(?:<[^{]*?>)?\s*(?:::)?(?:\w+::)*Model\s+for\s+(?:\w+::)*(\w+)")
@@ -338,7 +365,7 @@ def by_a_field(top, crates):
     """Who has the system by a field, and stands in no table: what is asked by that changes nothing that a clause could see."""
     for place, path, code in of_the_program(top, crates):
         for _, name, generics, fields, _ in types_in(code):
-            told = {**AT_HAND, **THROUGH}.get(place, {}).get(name, "").split()
+            told = {**AT_HAND.get(place, {}), **THROUGH.get(place, {})}.get(name, "").split()
             for field, said in fields.items():
                 if field not in told and has_system(said, generics):
                     yield f"{path}: {name} has the system at hand by {field}: no clause could say what is asked by that"
@@ -474,7 +501,7 @@ def asked_otherwise(top, crates):
                 yield f"{path}: {name} uses the system at hand, and is no call that has a name and is of `&mut self`"
             elif is_used and SAME.search(function.clauses):
                 yield f"{path}: {name} says that who asks is as he was: then whoever makes that call isn't seen"
-            elif "self" in function.taken and (place, name) != LENDS and gives_system(function):
+            elif "self" in function.taken and (place, name) not in LENDS and place.split("/")[0] != LIBRARIES and gives_system(function):
                 yield f"{path}: {name} gives the system at hand to others, who may ask it for anything"
         if types and uses.search(outside(code)):
             yield f"{path}: something that is no function uses the system at hand"
@@ -607,7 +634,7 @@ def shown_as_others(top, crates):
 def asked_by_reference(top, crates):
     """What may be asked with no trace in a clause, where scripts/asked.txt doesn't have it so often."""
     found = [(path, f"{place} {word}", str(count)) for place, path, code in of_the_program(top, crates)
-             for word, count in sorted(collections.Counter(BY_REFERENCE.findall(code)).items())]
+             for word, count in sorted(collections.Counter(BY_REFERENCE.findall(code) + BY_ANY_NUMBER.findall(code)).items())]
     yield from not_listed(top, "asked.txt", found, "has {} {} times")
 
 
@@ -647,7 +674,7 @@ def rows_for_nothing(top, _crates):
         path = top / "crates" / crate / "src" / f"{module}.rt"
         if not path.exists() or not is_there(code_of(path), row):
             yield f"{path.relative_to(top)}: has no {row if isinstance(row, str) else '.'.join(row)}, which scripts/handles.py names"
-        elif place not in HANDS_ON and [it.name for it in functions_in(code_of(path)) if it.body].count(row) > 1:
+        elif place not in HANDS_ON and crate != LIBRARIES and [it.name for it in functions_in(code_of(path)) if it.body].count(row) > 1:
             yield f"{path.relative_to(top)}: has {row} twice, which scripts/handles.py names once"
     for place, words in BY_NUMBER.items():
         code = code_of(top / "crates" / place.split("/")[0] / "src" / f"{place.split('/')[1]}.rt")

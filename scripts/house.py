@@ -3,6 +3,8 @@
 
     scripts/house.py [FOLDER]      this repository, or the one in FOLDER
     scripts/house.py --self-test   plants faults of each kind in a copy, and shows that each is found
+    scripts/house.py --calls       prints the lines of scripts/calls.txt as the code has them: to be looked at, one by one, and put
+                                   there by hand. Nothing else writes them.
 
 A dependency of a crate in crates.txt has to be named by the crate's own sources; comments and quoted texts don't
 count. The lemmas that other crates cite
@@ -33,13 +35,14 @@ import sys
 import tempfile
 
 sys.dont_write_bytecode = True  # Nothing is left in the repository.
+import calls
 import handles
 from edits import edits_of
 from sources import CALL, FIELD, code_of, crates_of, found_in, names_of_calls, sources_of
 
 # A library that a crate's sources name nowhere, and that its check asks for all the same: a public clause of a crate
 # below, or the code of a derive, leads to it. Each was left out once, and the check was refused.
-LED_TO = {}
+LED_TO = {"sockets": ("mio",)}
 
 
 @functools.cache
@@ -249,7 +252,8 @@ def other_versions(top):
 
 def faults(top):
     crates = crates_of(top)
-    looks = (unused, past_the_door, looked_into, kept, untold_names, unfolded_by_none, never_let_go, *handles.LOOKS, out_of_date, without_a_sign)
+    looks = (unused, past_the_door, looked_into, kept, untold_names, unfolded_by_none, never_let_go, *handles.LOOKS, *calls.LOOKS, out_of_date,
+             without_a_sign)
     return [line for look in looks for line in look(top, crates)] + list(other_versions(top))
 
 
@@ -289,6 +293,7 @@ PLANTED = {
 }
 
 MORE, WORDS, OPENINGS = "sums/src/more.rt", "box_words/src/machine.rt", "boot_file/src/openings.rt"
+NUMBERS, OTHERS, GIVEN = (f"{calls.NAMED_BY[word].split()[0]}/src/{word}.rt" for word in ("libc", "os", "mio"))
 CLOCK, REST = "impl<R: Clock> System<'_, R> {\n", "told_to_rest(&mut self, milliseconds: u64)\n"
 BY_HAND = "impl<F: OpenFile> Opened<F> {\n    fn cut(&self) {\n        self.file.len();\n    }\n"
 
@@ -304,8 +309,8 @@ CHANGED = {
                          "new uses the system at hand"),
     "twin": ("inputs/src/standard_input.rt", "#[derive(Drop)]", "#[derive(Clone, Drop)]",
              "StandardInput has the system at hand, and may"),
-    "cut file": ("captures/src/machine.rt", "        self.file.seek(SeekFrom::Start(0))?;",
-                 "        self.file.set_len(0)?;\n        self.file.seek(SeekFrom::Start(0))?;",
+    "cut file": ("captures/src/machine.rt", "        self.file.lend().seek(SeekFrom::Start(0))?;",
+                 "        self.file.lend().set_len(0)?;\n        self.file.lend().seek(SeekFrom::Start(0))?;",
                  "has set_len 2 times"),
     "view": ("captures/src/files.rt", "ghost view = { λ vacant. vacant.file };", "ghost view = { λ vacant. vacant.shown.value };",
              "Vacant shows itself as F | λ vacant. vacant.shown.value"),
@@ -327,10 +332,10 @@ CHANGED = {
     "cut": (OPENINGS, "impl<F: Blocks> Blocks for", BY_HAND + "}\n\nimpl<F: Blocks> Blocks for", "cut uses the system"),
     "otherwise": (OPENINGS, "self.file.sync()", "self.file.drop_cache()", "sync uses the system"),
     "lock": ("checks/src/machine.rt", "self.file.try_lock()", "self.file.len();\n        self.file.try_lock()", "lock uses the system"),
-    "twice": ("sockets/src/machine.rt", "impl Waiting {\n", "impl Waiting {\n    fn send(&self) {\n        go(&self.0);\n    }\n",
-              "has send twice"),
-    "number": (MORE, "", "fn number() {\n    libc::ftruncate(4, 0);\n}\n", "libc::ftruncate asks the system"),
-    "brought": (MORE, "", "use os::{open_overwrite};\n", "use os::{open_overwrite}: another word"),
+    "twice": ("sockets/src/machine.rt", "impl Socket {\n", "impl Socket {\n    fn told_to_bind(&self) {\n        go(&self.0);\n    }\n",
+              "has told_to_bind twice"),
+    "number": (NUMBERS, "", "fn number() {\n    libc::ftruncate(4, 0);\n}\n", "libc::ftruncate asks the system"),
+    "brought": (OTHERS, "", "use os::{open_overwrite};\n", "use os::{open_overwrite}: another word"),
     "array of it": (MORE, "", "fn array_of<R: AsRef<R> + Files>(rt: [&R; 1]) {}\n", "array_of is handed the system"),
     "runtime": (MORE, "", "fn runtime<R: Runtime>(rt: &mut R) {}\n", "runtime is handed the system"),
     "any": (MORE, "", "fn any(rt: &dyn Files) {}\n", "any is handed the system"),
@@ -343,6 +348,59 @@ CHANGED = {
     "kept": (MORE, "", "struct Kept<'a, r, F: Fn(u8)> {\n    rt: &'a r,\n    ask: F,\n}\n", "Kept has the system at hand by rt"),
 }
 
+LOCKS, ROUNDS, CALLERS = "boot_file/src/locks.rt", "rounds/src/asked_clock.rt", "control/src/listeners.rt"
+NOW, MOMENTS, BIND = "Instant::now(self.0.lend()).ok()", "tap/src/moments.rt", "UdpSocket::bind(self.0.lend(), address)"
+
+# A fault that scripts/calls.txt has no line for: as in CHANGED, but that the copy's list isn't made anew behind it.
+UNLISTED = {
+    "second ask": (WORDS, NOW, f"{NOW};\n        {NOW}", "asked_now calls Instant::now .lend .ok Instant::now .lend .ok, and not"),
+    "loop": (LOCKS, "File::try_lock(self)", "for _ in 0..2 {\n            File::try_lock(self);\n        }",
+             "try_lock calls for File::try_lock, and not File::try_lock,"),
+    "not empty": (LOCKS, "{ WasLetGo _file }\n{}", "{ WasLetGo _file }\n{\n    _file.len();\n}", "let_go calls .len, and not nothing"),
+    "new function": ("control/src/hearing.rt", "", "fn planted<T: Held>() {\n    go();\n}\n",
+                     "scripts/calls.txt has no line control/hearing planted <T: Held>: go"),
+    "one of two": (CALLERS, "", "impl Planted {\n    fn keep() {}\n}\n", "scripts/calls.txt has no line control/listeners keep:"),
+    "fewer": (WORDS, "Duration::from_millis(milliseconds)", "milliseconds", "told_to_rest calls thread::sleep .lend, and not"),
+    "other order": ("journal/src/machine.rt", "env::var(self.hand.lend(), variable)",
+                    "{ let rt = self.hand.lend(); env::var(rt, variable) }",
+                    "told_to_say calls .lend env::var, and not env::var .lend,"),
+    "handed on": (MOMENTS, ".duration_since(start))", ".duration_since(start).map(centiseconds))",
+                  "reading calls centiseconds .duration_since .map centiseconds .unwrap_or, and not"),
+    "by a path": (WORDS, BIND, f"{BIND}.map(crate::go)",
+                  "told_to_bind calls UdpSocket::bind .lend .map crate::go .is_err, and not"),
+    "nameless": (ROUNDS, "Instant::now(self.hand.lend())", "(self.go)(Instant::now(self.hand.lend()))",
+                 "told_to_say calls (..) Instant::now .lend .ok, and not"),
+    "told for": ("tap/src/asked_clock.rt", "Instant::now(self.hand.lend())", "go::<Vec<u8>>(Instant::now::<R>(self.hand.lend()))",
+                 "told_to_say calls go Instant::now .lend .ok, and not"),
+    "capitals": ("slots/src/draws.rt", "u128::from_le_bytes(", "GO!(u128::from_le_bytes)(",
+                 "draw calls .fill_bytes GO! u128::from_le_bytes (..), and not"),
+    "shouted": ("box_words/src/refusals.rt", "String::from_str(alloc", "STRING(alloc", "copied calls STRING, and not String::from_str,"),
+    "bound": (WORDS, "let_go<F: Drop>", "let_go<F: Drop + Blocks>",
+              "let_go knows F: Drop + Blocks of what it is told for, and not F: Drop,"),
+    "impl's bound": ("gate/src/seeds.rt", "impl<R: RandomSource> Draws", "impl<R: RandomSource + Seek> Draws",
+                     "draw knows R: RandomSource + Seek of"),
+    "where": ("commands/src/letting_go.rt", "(_it: T)\n", "(_it: T)\nwhere\n    T: Seek,\n", "let_go knows T: Held, T: Seek of"),
+    "any impl": ("gate/src/wires.rt", "disk: FileDisk<Opened<F>>", "disk: impl Held",
+                 "unlock knows F: Drop, O: Output, disk: impl Held of"),
+    "supertrait": ("sockets/src/sockets.rt", "", "trait Planted: Held {\n    fn planted() {}\n}\n",
+                   "scripts/calls.txt has no line sockets/sockets planted <Self: Held>:"),
+    "no function": ("../scripts/calls.txt", "memory/lib append", "memory/lib added: .push\nmemory/lib append",
+                    "memory/lib added: .push: there is no such function"),
+    "no line": ("../scripts/calls.txt", "memory/lib append", "memory\nmemory/lib append", "memory: it is no line of a function"),
+    "outside": (ROUNDS, "", "const ASKED: u8 = go();\n", "calls go outside of its functions"),
+    "unread": ("control/src/audience.rt", "", "fn r#odd() {}\n", "has a function that this script doesn't read"),
+    "capital": ("sums/src/capital.rt", "", "fn Planted() {}\n", "Planted may be called, and looks like"),
+    "as capital": ("sums/src/capital.rt", "", "use crate::go as Go;\n", "Go may be called, and looks like"),
+    "held as capital": ("sums/src/capital.rt", "", "static Stop: fn(u8) = go;\n", "Stop may be called, and looks like"),
+    "elsewhere": ("sums/src/elsewhere.rt", "", "use std::os::fd::RawFd;\nuse std::{fs, net};\nuse {mio::Poll};\n", "names mio: only "),
+    "through": ("sums/src/through.rt", "", "type Odd = sockets::mio::Poll;\n", "names mio: only "),
+    "given on": (GIVEN, "", "pub(crate) use mio::Token;\n", "gives others a word for what mio has"),
+    "stands on": ("../crates.txt", "\nsums: ", "\nsums: mio ", "sums stands on mio: only "),
+    "no more": ("../crates.txt", "polls: libc\n", "polls:\n", "polls doesn't stand on libc, and scripts/calls.py"),
+}
+
+NUMBER = re.compile(r"^([^:\s]+):\d+:")
+
 
 def plant(top, fault):
     """Makes a copy wrong in one way; gives the beginning of the one line that has to be said of it."""
@@ -352,11 +410,11 @@ def plant(top, fault):
         path.parent.mkdir(parents=True, exist_ok=True)
         path.write_text(text)
         return f"{path.relative_to(top.resolve())}: {said}"
-    if fault in CHANGED:
-        place, old, new, said = CHANGED[fault]
-        path = top / "crates" / place
+    if fault in CHANGED or fault in UNLISTED:
+        place, old, new, said = {**CHANGED, **UNLISTED}[fault]
+        path = (top / "crates" / place).resolve()
         path.write_text((path.read_text() if path.exists() else "").replace(old, new, 1))
-        return f"crates/{place}: {said}"
+        return f"{path.relative_to(top.resolve())}: {said}"
     if fault == "theorem":
         path = top / "docs" / "THEOREM.md"
         path.write_text(path.read_text().replace("| `told_to_draw` |", "| `drawn` |"))
@@ -379,15 +437,29 @@ def plant(top, fault):
     return "crates/planted: no line"
 
 
+def list_anew(top):
+    """Makes the list of calls of a copy what its code has: then what is planted there is a fault of another kind alone."""
+    now = calls.lines_now(top, crates_of(top))
+    (top / "scripts" / "calls.txt").write_text("".join(f"{line}\n" for line in now))
+
+
+def faults_in(copy):
+    """What is said of a copy, without the numbers of lines: these change with what is planted above."""
+    return [NUMBER.sub(r"\1:", line) for line in faults(copy)]
+
+
 def self_test(top):
     """Each planted fault, with others or behind them, gives its own line more and no other, also where the repository isn't in order
     yet."""
     with tempfile.TemporaryDirectory(prefix="house-") as room:
         copy = copy_of(top, pathlib.Path(room))
-        before = set(faults(copy))
-        for planted in (PLANTED, CHANGED, ["theorem"], ["dependency"], ["door"], ["version"], ["folder"]):
+        list_anew(copy)
+        before = set(faults_in(copy))
+        for planted in (PLANTED, CHANGED, UNLISTED, ["theorem"], ["dependency"], ["door"], ["version"], ["folder"]):
             wanted = {fault: plant(copy, fault) for fault in planted}
-            now = faults(copy)
+            if planted in (PLANTED, CHANGED):
+                list_anew(copy)
+            now = faults_in(copy)
             found = [line for line in now if line not in before]
             for fault, said in wanted.items():
                 if sum(line.startswith(said) for line in found) != 1:
@@ -402,9 +474,12 @@ def main():
     parser = argparse.ArgumentParser(description=__doc__, formatter_class=argparse.RawDescriptionHelpFormatter)
     parser.add_argument("folder", nargs="?", type=pathlib.Path, default=pathlib.Path(__file__).resolve().parent.parent)
     parser.add_argument("--self-test", action="store_true")
+    parser.add_argument("--calls", action="store_true")
     given = parser.parse_args()
     if given.self_test:
         return self_test(given.folder)
+    if given.calls:
+        return print("\n".join(calls.lines_now(given.folder, crates_of(given.folder))))
     found = faults(given.folder)
     for line in found:
         print(line)

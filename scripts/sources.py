@@ -35,7 +35,8 @@ def sources_of(folder):
 
 @functools.cache
 def code_in(suffix, text):
-    return NO_CODE[suffix].sub(" ", text)
+    """The text with a gap for what is no code, each line where it was."""
+    return NO_CODE[suffix].sub(lambda it: " " + "\n" * it[0].count("\n"), text)
 
 
 def code_of(path):
