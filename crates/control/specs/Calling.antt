@@ -3,7 +3,7 @@ use Rattle.std.specs.Prelude.{ℕ, Bool, true, false, ◌≡◌, ◌≢◌, ◌�
 use Rattle.std.specs.IoError.{error_kind}
 use Rattle.std.specs.declared.io.Error.{Error}
 use Rattle.std.specs.declared.io.ErrorKind.TheVariants.{WouldBlock}
-use Rattle.descriptors.specs.Asked.{WasAccepted, WasRegistered}
+use Rattle.descriptors.specs.Asked.{WasAccepted, WasListenerRegistered, WasStreamRegistered}
 use Rattle.descriptors.specs.Events.{Interest, Token}
 use Rattle.control.specs.declared.machine.SystemCaller.{SystemCaller}
 use Rattle.control.specs.declared.machine.SystemListener.{SystemListener}
@@ -26,12 +26,12 @@ reading = record { priority = false; writable = false; readable = true }
 -- the registry of these waits was to watch this listener's socket for that, under this token, once, and answered so
 abbrev pub WasListenerReported : Reporting Waits SystemListener
 WasListenerReported before listener token answer told after =
-    WasRegistered before.registry listener.socket token reading answer told.socket after.registry
+    WasListenerRegistered before.registry listener.socket token reading answer told.socket after.registry
 
 -- it was to watch this caller's socket so, and answered that
 abbrev pub WasCallerReported : Reporting Waits SystemCaller
 WasCallerReported before caller token answer told after =
-    WasRegistered before.registry caller.socket token reading answer told.socket after.registry
+    WasStreamRegistered before.registry caller.socket token reading answer told.socket after.registry
 
 -- The listener's socket was asked once who calls next: somebody does, and it is this caller's; or nobody can be had.
 abbrev pub WasCalled : Calls SystemListener SystemCaller

@@ -5,6 +5,7 @@ ghost use Rattle.control.specs.Audiences.{HasNobody, HasRoom, IsHeard, IsRegiste
 ghost use Rattle.control.specs.Audiences.{answered, attending_of, woken};
 ghost use Rattle.control.specs.Calling.{AsksFor};
 ghost use Rattle.control.specs.Counting.{AreCounted, speakers, with_more};
+ghost use Rattle.control.specs.Speaking.{WasLetGo};
 ghost use Rattle.control.specs.Telling.{IsAnsweredIf, IsWritten};
 
 use crate::awaiting::{Held, let_go};
@@ -31,6 +32,13 @@ impl<L: Held, S: Held> Doorway<L, S> {
         ensures callers { result.callers ≡ callers }
     {
         Doorway { listener, callers }
+    }
+
+    /// Lets the listener go, and nobody calls there any more.
+    pub(crate) fn let_go(self)
+        ensures { WasLetGo self.listener }
+    {
+        let_go(self.listener);
     }
 
     /// Has waits report the listener under a token, and who calls from then on. It is let go where they refuse to.

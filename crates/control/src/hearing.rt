@@ -5,6 +5,7 @@ ghost use Rattle.control.specs.Attending.{nobody_yet, woken};
 ghost use Rattle.control.specs.Calling.{WereAskedFor};
 ghost use Rattle.control.specs.Counting.{with_more};
 ghost use Rattle.control.specs.Opening.{WasNotOpened, WasOpened};
+ghost use Rattle.control.specs.Speaking.{WasLetGo};
 ghost use Rattle.control.specs.Telling.{IsTold};
 
 use crate::audience::{Audience, Doorway};
@@ -56,6 +57,13 @@ impl Bound {
         Ok(Bound {
             doorway: opened(machine, path, alloc)?,
         })
+    }
+
+    /// Lets it go: nobody was let in, or heard, and nobody can call there any more.
+    pub fn let_go(self)
+        ensures { WasLetGo self }
+    {
+        self.doorway.let_go();
     }
 
     /// Has waits report who calls, and who says something, under a token. It is let go where they refuse to.

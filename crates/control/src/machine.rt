@@ -4,7 +4,7 @@ ghost use Rattle.control.specs.Calling.{WasCalled, WasCallerReported, WasListene
 ghost use Rattle.control.specs.Folders.{Deed, WasDone};
 ghost use Rattle.control.specs.Opening.{WasBound};
 ghost use Rattle.control.specs.Reads.{WasCallerHeard};
-ghost use Rattle.control.specs.Speaking.{WasDialled, WasLetGo, WasLimited, WasRead, WasWritten};
+ghost use Rattle.control.specs.Speaking.{WasDialled, WasLimited, WasRead, WasWritten};
 ghost use Rattle.control.specs.Telling.{WasCallerTold};
 
 use crate::folders::Folders;
@@ -12,15 +12,14 @@ use crate::lines::{Dials, Limits};
 use crate::listeners::{Listens, Reports};
 use crate::opening::Binds;
 use crate::speakers::Speaks;
-use descriptors::{Interest, Registry, Token, UnixListener};
+use descriptors::{Dialled, Interest, Registry, Token, UnixListener, UnixStream};
 use outlets::Takes;
-use runtimes::{Hand, Kept};
+use runtimes::Hand;
 use std::fs::{Files, Permissions};
-use std::io::{self, Read, Write};
+use std::io;
 use std::marker::Model;
 use std::net::Net;
 use std::os::unix::fs::PermissionsExt;
-use std::os::unix::net::UnixStream;
 use std::time::Duration;
 
 /// This machine, as who makes folders, binds sockets and makes lines. Each is a call by itself, and nobody else has the
@@ -81,11 +80,9 @@ impl<R: Files + Net> Binds<SystemListener> for Machine<'_, R> {
 impl<R: Net> Dials<SystemLine> for Machine<'_, R> {
     ghost dials = { WasDialled };
 
-    #[tactic(auto, unfolding(crate::specs::Speaking::WasDialled))]
     fn dial(&mut self, socket: &str) -> io::Result<SystemLine> {
-        let stream = UnixStream::connect(self.hand.lend(), socket)?;
         Ok(SystemLine {
-            stream: Kept::new(stream),
+            line: Dialled::connect(&mut self.hand, socket)?,
         })
     }
 }
@@ -110,8 +107,9 @@ impl Reports<SystemListener> for Waits<'_> {
     ghost reports = { WasListenerReported };
 
     fn report(&mut self, source: &mut SystemListener, token: Token) -> io::Result<()> {
-        self.registry
-            .register_listener(&mut source.socket, token, Interest::READABLE)
+        source
+            .socket
+            .register(&mut self.registry, token, Interest::READABLE)
     }
 }
 
@@ -119,8 +117,9 @@ impl Reports<SystemCaller> for Waits<'_> {
     ghost reports = { WasCallerReported };
 
     fn report(&mut self, source: &mut SystemCaller, token: Token) -> io::Result<()> {
-        self.registry
-            .register_stream(&mut source.socket, token, Interest::READABLE)
+        source
+            .socket
+            .register(&mut self.registry, token, Interest::READABLE)
     }
 }
 
@@ -144,7 +143,7 @@ impl Listens<SystemCaller> for SystemListener {
 /// Who called there. He can be read, and answered, and asked for nothing else.
 #[derive(Drop)]
 pub struct SystemCaller {
-    socket: descriptors::UnixStream,
+    socket: UnixStream,
 }
 
 impl Speaks for SystemCaller {
@@ -171,23 +170,21 @@ impl Takes for SystemCaller {
     }
 }
 
-/// A line of this machine's to a box.
+/// A line of this machine's to a box. It takes limits, and bytes, and can be read, and asked for nothing else.
 #[derive(Drop)]
 pub(crate) struct SystemLine {
-    stream: Kept<UnixStream>,
+    line: Dialled,
 }
 
 impl Limits for SystemLine {
     ghost limits = { WasLimited };
 
-    #[tactic(auto, unfolding(crate::specs::Speaking::WasLimited))]
     fn limit_hearing(&mut self, limit: Duration) -> io::Result<()> {
-        self.stream.lend().set_read_timeout(Some(limit))
+        self.line.limit_reading(limit)
     }
 
-    #[tactic(auto, unfolding(crate::specs::Speaking::WasLimited))]
     fn limit_saying(&mut self, limit: Duration) -> io::Result<()> {
-        self.stream.lend().set_write_timeout(Some(limit))
+        self.line.limit_writing(limit)
     }
 }
 
@@ -198,9 +195,8 @@ impl Takes for SystemLine {
 
     ghost answers = { WasWritten };
 
-    #[tactic(auto, unfolding(crate::specs::Speaking::WasWritten))]
     fn take(&mut self, bytes: &[u8]) -> io::Result<usize> {
-        self.stream.lend().write(bytes)
+        self.line.write(bytes)
     }
 }
 
@@ -211,8 +207,7 @@ impl Speaks for SystemLine {
 
     ghost answers = { WasRead };
 
-    #[tactic(auto, unfolding(crate::specs::Speaking::WasRead))]
     fn hear(&mut self, room: &mut [u8]) -> io::Result<usize> {
-        self.stream.lend().read(room)
+        self.line.read(room)
     }
 }

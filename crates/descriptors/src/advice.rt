@@ -1,6 +1,7 @@
 //! What the system is advised of a file.
 ghost use Rattle.descriptors.specs.Asked.{WasDropped};
 
+use std::fs::File;
 use std::io;
 use std::os::fd::AsRawFd;
 
@@ -10,7 +11,7 @@ use std::os::fd::AsRawFd;
 ///
 /// Those of `posix_fadvise`.
 #[tactic(auto, unfolding(crate::specs::Asked::WasDropped))]
-pub fn drop_cache<F: AsRawFd>(file: &mut F) -> io::Result<()>
+pub fn drop_cache(file: &mut File) -> io::Result<()>
     ensures asked { WasDropped file.old result file.new }
 {
     match libc::posix_fadvise(file.as_raw_fd(), 0, 0, libc::POSIX_FADV_DONTNEED) {

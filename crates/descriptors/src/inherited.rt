@@ -1,10 +1,10 @@
 //! Descriptors that the process inherited.
-ghost use Rattle.descriptors.specs.Asked.{WasInherited, WasRead, WasSentThrough, WasUnblocked, WasWritten, WereDescriptorsMade};
+ghost use Rattle.descriptors.specs.Asked.{WasInherited, WasInheritedRegistered, WasLastError, WasRead, WasSentThrough, WasUnblocked, WasWritten, WereDescriptorsMade};
 ghost use Rattle.std.specs.Io.{ReadsAtMost, WritesAtMost};
-ghost use Rattle.std.specs.Prelude.{◌≡◌, ◌↔◌, ◌<ℤ◌, pos, IfOk, IsErr};
+ghost use Rattle.std.specs.Prelude.{◌≡◌, ◌↔◌, ◌<ℤ◌, pos, IfErr, IfOk, IsErr};
 
+use crate::{Interest, Registry, Token};
 use mio::unix::SourceFd;
-use mio::{Interest, Registry, Token};
 use runtimes::Hand;
 use std::io;
 use std::net::Net;
@@ -21,9 +21,16 @@ pub struct Descriptors {
 
 impl Descriptors {
     /// By a hand of the system.
-    #[tactic(auto, unfolding(crate::specs::Asked::WereDescriptorsMade))]
     pub fn new<R: Net>(hand: &mut Hand<'_, R>) -> Descriptors
         ensures asked { WereDescriptorsMade hand.old result hand.new }
+    {
+        Descriptors::made(hand)
+    }
+
+    /// By a hand of which nothing is known here by which it could be asked.
+    #[tactic(auto, unfolding(crate::specs::Asked::WereDescriptorsMade))]
+    pub(crate) fn made<R>(hand: &mut Hand<'_, R>) -> Descriptors
+        ensures { WereDescriptorsMade hand.old result hand.new }
     {
         let _by = hand.lend();
         Descriptors {
@@ -70,6 +77,7 @@ impl Inherited {
     pub fn read(&mut self, room: &mut [u8]) -> io::Result<usize>
         ensures asked { WasRead self.old room.new result self.new }
         ensures within { ReadsAtMost result room.new }
+        ensures failed { IfErr result WasLastError }
     {
         counted(libc::read(self.0, room))
     }
@@ -83,29 +91,46 @@ impl Inherited {
     pub fn write(&mut self, bytes: &[u8]) -> io::Result<usize>
         ensures asked { WasWritten self.old bytes.now result self.new }
         ensures within { WritesAtMost result bytes.now }
+        ensures failed { IfErr result WasLastError }
     {
         counted(libc::write(self.0, bytes))
     }
 
-    /// Has a poll watch it: of `Registry`, which has the name of that.
-    pub(crate) fn registered(
+    /// Has it be watched, under a token.
+    ///
+    /// # Errors
+    ///
+    /// Those of `epoll_ctl`.
+    #[tactic(auto, unfolding(crate::specs::Asked::WasWatched))]
+    pub fn register(
         &mut self,
-        registry: &Registry,
+        registry: &mut Registry<'_>,
         token: Token,
         interest: Interest,
-    ) -> io::Result<()> {
-        let mut source = SourceFd(&self.0);
-        registry.register(&mut source, token, interest)
+    ) -> io::Result<()>
+        ensures asked { WasInheritedRegistered registry.old self.old token interest
+            result self.new registry.new }
+    {
+        registry.watch(&mut SourceFd(&self.0), token, interest)
     }
 }
 
 /// How many bytes a call of the system counts, or why it fails: it counts less than 0 then.
 fn counted(count: isize) -> io::Result<usize>
     ensures failed { IsErr result ↔ (count <ℤ pos 0) }
+    ensures error { IfErr result WasLastError }
     ensures bytes { IfOk result (λ bytes. count ≡ pos bytes) }
 {
     if count < 0 {
-        return Err(io::Error::from_raw_os_error(os::errno()));
+        return Err(last_error());
     }
     Ok(count as usize)
+}
+
+/// Why the call of the system failed that was made last.
+#[tactic(auto, unfolding(crate::specs::Asked::WasLastError))]
+fn last_error() -> io::Error
+    ensures { WasLastError result }
+{
+    io::Error::from_raw_os_error(os::errno())
 }

@@ -1,9 +1,10 @@
 //! What waits for sockets.
-ghost use Rattle.descriptors.specs.Asked.{WasPollMade, WasPolled, WasRegistered};
+ghost use Rattle.descriptors.specs.Asked.{WasPollMade, WasPolled, WasWatched};
 ghost use Rattle.descriptors.specs.Events.{capacity, items};
 ghost use Rattle.std.specs.Prelude.{◌≡◌, [], OnErr};
 
-use crate::{Events, Inherited, Interest, Token, UdpSocket, UnixListener, UnixStream};
+use crate::{Events, Interest, Token};
+use mio::event::Source;
 use runtimes::Hand;
 use std::alloc::Global;
 use std::io;
@@ -52,75 +53,16 @@ impl Poll {
 pub struct Registry<'a>(&'a mio::Registry);
 
 impl Registry<'_> {
-    /// Has a socket be watched, under a token.
-    ///
-    /// # Errors
-    ///
-    /// Those of `epoll_ctl`.
-    #[tactic(auto, unfolding(crate::specs::Asked::WasRegistered))]
-    pub fn register_udp(
+    /// Has something be watched, under a token.
+    #[tactic(auto, unfolding(crate::specs::Asked::WasWatched))]
+    pub(crate) fn watch<S: Source>(
         &mut self,
-        socket: &mut UdpSocket,
+        source: &mut S,
         token: Token,
         interest: Interest,
     ) -> io::Result<()>
-        ensures asked { WasRegistered self.old socket.old token interest
-            result socket.new self.new }
+        ensures { WasWatched self.old source.old token interest result source.new self.new }
     {
-        socket.registered(self.0, token, interest)
-    }
-
-    /// The same of where callers call.
-    ///
-    /// # Errors
-    ///
-    /// Those of `epoll_ctl`.
-    #[tactic(auto, unfolding(crate::specs::Asked::WasRegistered))]
-    pub fn register_listener(
-        &mut self,
-        listener: &mut UnixListener,
-        token: Token,
-        interest: Interest,
-    ) -> io::Result<()>
-        ensures asked { WasRegistered self.old listener.old token interest
-            result listener.new self.new }
-    {
-        listener.registered(self.0, token, interest)
-    }
-
-    /// The same of who called.
-    ///
-    /// # Errors
-    ///
-    /// Those of `epoll_ctl`.
-    #[tactic(auto, unfolding(crate::specs::Asked::WasRegistered))]
-    pub fn register_stream(
-        &mut self,
-        stream: &mut UnixStream,
-        token: Token,
-        interest: Interest,
-    ) -> io::Result<()>
-        ensures asked { WasRegistered self.old stream.old token interest
-            result stream.new self.new }
-    {
-        stream.registered(self.0, token, interest)
-    }
-
-    /// The same of a descriptor that was inherited.
-    ///
-    /// # Errors
-    ///
-    /// Those of `epoll_ctl`.
-    #[tactic(auto, unfolding(crate::specs::Asked::WasRegistered))]
-    pub fn register_inherited(
-        &mut self,
-        inherited: &mut Inherited,
-        token: Token,
-        interest: Interest,
-    ) -> io::Result<()>
-        ensures asked { WasRegistered self.old inherited.old token interest
-            result inherited.new self.new }
-    {
-        inherited.registered(self.0, token, interest)
+        self.0.register(source, token, interest)
     }
 }

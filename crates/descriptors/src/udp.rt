@@ -1,10 +1,10 @@
 //! Sockets for datagrams.
-ghost use Rattle.descriptors.specs.Asked.{WasBound, WasConnected, WasReceived, WasSent, WasSentTo};
+ghost use Rattle.descriptors.specs.Asked.{WasBound, WasConnected, WasReceived, WasSent, WasSentTo, WasUdpRegistered};
 ghost use Rattle.std.specs.Counts.{IsPrefixLen};
 ghost use Rattle.std.specs.Io.{WritesAtMost};
 ghost use Rattle.std.specs.Prelude.{IfOk};
 
-use mio::{Interest, Registry, Token};
+use crate::{Interest, Registry, Token};
 use runtimes::Hand;
 use std::io;
 use std::net::{Net, SocketAddr};
@@ -77,13 +77,20 @@ impl UdpSocket {
         self.0.recv_from(room)
     }
 
-    /// Has a poll watch it: of `Registry`, which has the name of that.
-    pub(crate) fn registered(
+    /// Has it be watched, under a token.
+    ///
+    /// # Errors
+    ///
+    /// Those of `epoll_ctl`.
+    pub fn register(
         &mut self,
-        registry: &Registry,
+        registry: &mut Registry<'_>,
         token: Token,
         interest: Interest,
-    ) -> io::Result<()> {
-        registry.register(&mut self.0, token, interest)
+    ) -> io::Result<()>
+        ensures asked { WasUdpRegistered registry.old self.old token interest
+            result self.new registry.new }
+    {
+        registry.watch(&mut self.0, token, interest)
     }
 }

@@ -1,8 +1,8 @@
 //! Sockets of this machine, by paths.
-ghost use Rattle.descriptors.specs.Asked.{WasAccepted, WasHeard, WasListened, WasTold};
+ghost use Rattle.descriptors.specs.Asked.{WasAccepted, WasHeard, WasListened, WasListenerRegistered, WasStreamRegistered, WasTold};
 ghost use Rattle.std.specs.Io.{ReadsAtMost, WritesAtMost};
 
-use mio::{Interest, Registry, Token};
+use crate::{Interest, Registry, Token};
 use runtimes::Hand;
 use std::fs::Files;
 use std::io::{self, Read, Write};
@@ -38,14 +38,21 @@ impl UnixListener {
         Ok(UnixStream(stream))
     }
 
-    /// Has a poll watch it: of `Registry`, which has the name of that.
-    pub(crate) fn registered(
+    /// Has it be watched, under a token.
+    ///
+    /// # Errors
+    ///
+    /// Those of `epoll_ctl`.
+    pub fn register(
         &mut self,
-        registry: &Registry,
+        registry: &mut Registry<'_>,
         token: Token,
         interest: Interest,
-    ) -> io::Result<()> {
-        registry.register(&mut self.0, token, interest)
+    ) -> io::Result<()>
+        ensures asked { WasListenerRegistered registry.old self.old token interest
+            result self.new registry.new }
+    {
+        registry.watch(&mut self.0, token, interest)
     }
 }
 
@@ -80,13 +87,20 @@ impl UnixStream {
         self.0.write(bytes)
     }
 
-    /// Has a poll watch it: of `Registry`, which has the name of that.
-    pub(crate) fn registered(
+    /// Has him be watched, under a token.
+    ///
+    /// # Errors
+    ///
+    /// Those of `epoll_ctl`.
+    pub fn register(
         &mut self,
-        registry: &Registry,
+        registry: &mut Registry<'_>,
         token: Token,
         interest: Interest,
-    ) -> io::Result<()> {
-        registry.register(&mut self.0, token, interest)
+    ) -> io::Result<()>
+        ensures asked { WasStreamRegistered registry.old self.old token interest
+            result self.new registry.new }
+    {
+        registry.watch(&mut self.0, token, interest)
     }
 }

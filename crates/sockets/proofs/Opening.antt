@@ -1,23 +1,21 @@
 -- That a box's sockets are opened, one call after another, and what it is told where one is refused.
-use Rattle.std.proofs.Common.{◌≡◌, ◌∙◌, ℕ, Result, Ok, Err, IfErr, IfOk, IsErrAnd, inl, inr, ap, sym, subst}
-use Rattle.std.specs.declared.alloc.AllocError.{AllocError}
+use Rattle.std.proofs.Common.{◌≡◌, ◌∙◌, Result, Ok, Err, IfErr, IfOk, IsErrAnd, inl, inr, ap, refl, sym, subst}
 use Rattle.std.specs.declared.alloc.Global.{Global}
 use Rattle.std.specs.declared.io.Error.{Error}
 use Rattle.std.specs.declared.net.socket_addr.SocketAddr.{SocketAddr}
-use Rattle.control.specs.Attending.{Attending}
 use Rattle.descriptors.specs.Events.{Events}
 use Rattle.control.specs.declared.machine.SystemListener.{SystemListener}
 use Rattle.sockets.specs.declared.waits.Waiting.{Waiting}
 use Rattle.sockets.specs.Asking.{WasControlRegistered, WasRegistered}
-use Rattle.sockets.specs.Boards.{HasRoom, IsHad, IsRefused, OpensPlaces, control_token}
-use Rattle.sockets.specs.Opening.{IsAttached, IsJoined, IsOpened, RefusesOne, Wanted, WasBound, WasConnected, WasGivenRoom, WasPollMade, places_of, wanted}
+use Rattle.sockets.specs.Boards.{HasRoom, IsRefused, OpensPlaces, RefusesBefore, control_token}
+use Rattle.sockets.specs.Opening.{IsAttached, IsJoined, IsOpened, RefusesOne, Wanted, WasBound, WasConnected, WasPollMade, places_of, wanted}
 use Rattle.sockets.specs.Ends.{IsSocketOf}
 use Rattle.sockets.specs.declared.ends.Ends.{Ends}
 use Rattle.sockets.specs.declared.machine.Opened.{Opened}
 use Rattle.sockets.specs.declared.machine.Udp.{Udp}
 use Rattle.sockets.specs.declared.places.Ports.{Ports}
 use Rattle.sockets.specs.declared.sockets.Places.{Places}
-use Rattle.sockets.specs.declared.sockets.SocketFault.TheVariants.{NoMemory, NoSocket}
+use Rattle.sockets.specs.declared.sockets.SocketFault.TheVariants.{NoSocket}
 use Rattle.sockets.specs.declared.ways.Ways.{Ways}
 
 -- ---- what an answer has
@@ -83,80 +81,22 @@ all_opened before second third after ways ports link link2 link3 inside inside2 
 
 -- ---- a box
 
--- what waits was had
-polled : {M : Type 0} (before after : M) (answer : Result Waiting Error) (poll : Waiting) → WasPollMade before answer after → answer ≡ Ok poll
-    → WasPollMade before (Ok poll) after
-polled before after answer poll made is = subst (λ (a : Result Waiting Error). WasPollMade before a after) is made
+-- what waits is had, and a place is refused
+pub place_refused : {M : Type 0} (before between after : M) (ways : Ways) (ports : Ports) (poll : Waiting) (error : Error)
+    → WasPollMade before (Ok poll) between → RefusesOne between (places_of ways ports) error after → RefusesBefore before ways ports NoSocket after
+place_refused before between after ways ports poll error made one = (error, inr (poll, (between, (made, one))))
 
--- a place is refused
-pub place_refused : {M : Type 0} (before between after : M) (ways : Ways) (ports : Ports) (handed_in : SystemListener) (answer : Result Waiting Error)
-    (poll : Waiting) (error : Error) → WasPollMade before answer between → answer ≡ Ok poll → RefusesOne between (places_of ways ports) error after
-    → IsRefused before ways ports handed_in NoSocket after
-place_refused before between after ways ports handed_in answer poll error made is one =
-    (error, inl (inr (poll, (between, (polled before between answer poll made is, one)))))
-
--- none is
-pub all_had : {M : Type 0} (before between after : M) (ways : Ways) (ports : Ports) (answer : Result Waiting Error) (poll : Waiting)
-    (places : Result Places Error) (p : Places) → WasPollMade before answer between → answer ≡ Ok poll
-    → IfOk places (λ x. OpensPlaces between ways ports x after) → places ≡ Ok p → IsHad before ways ports poll p after
-all_had before between after ways ports answer poll places p made is all are = record {
+-- all is had, and then waits can't report the control socket
+pub control_refused : {M : Type 0} (before between after : M) (ways : Ways) (ports : Ports) (handed_in : SystemListener) (poll : Waiting) (p : Places)
+    (events : Events Global) (error : Error) → HasRoom before ways ports poll p events between
+    → WasControlRegistered between handed_in control_token.0 (Err error) after → IsRefused before ways ports handed_in NoSocket after
+control_refused before between after ways ports handed_in poll p events error had asked = inr (record {
+  poll = poll;
+  places = p;
+  events = events;
   between = between;
-  polled = polled before between answer poll made is;
-  places = at_ok places (λ x. OpensPlaces between ways ports x after) p all are;
-}
-
--- so it is held
-pub still_had : {M : Type 0} (before after : M) (ways : Ways) (ports : Ports) (poll2 poll : Waiting) (p2 p : Places)
-    → ◌≡◌ {A = Waiting × Places} (poll2, p2) (poll, p) → IsHad before ways ports poll p after → IsHad before ways ports poll2 p2 after
-still_had before after ways ports poll2 poll p2 p is had =
-    subst (λ (x : Waiting × Places). IsHad before ways ports x.0 x.1 after) (sym is) had
-
--- memory for events isn't
-pub room_refused : {M : Type 0} (before between after : M) (ways : Ways) (ports : Ports) (handed_in : SystemListener) (poll : Waiting) (p : Places)
-    (answer : Result (Events Global) AllocError) (error : AllocError) → IsHad before ways ports poll p between → WasGivenRoom between 8 answer after
-    → answer ≡ Err error → IsRefused before ways ports handed_in NoMemory after
-room_refused before between after ways ports handed_in poll p answer error had given is =
-    (poll, (p, (between, (had, (error, subst (λ (a : Result (Events Global) AllocError). WasGivenRoom between 8 a after) is given)))))
-
--- it is
-pub had_room : {M : Type 0} (before between after : M) (ways : Ways) (ports : Ports) (poll : Waiting) (p : Places)
-    (answer : Result (Events Global) AllocError) (events : Events Global) → IsHad before ways ports poll p between → WasGivenRoom between 8 answer after
-    → answer ≡ Ok events → HasRoom before ways ports poll p events after
-had_room before between after ways ports poll p answer events had given is = record {
-  between = between;
+  error = error;
   had = had;
-  given = subst (λ (a : Result (Events Global) AllocError). WasGivenRoom between 8 a after) is given;
-}
-
--- and held, too
-pub still_room : {M : Type 0} (before after : M) (ways : Ways) (ports : Ports) (poll2 poll : Waiting) (p2 p : Places) (events2 events : Events Global)
-    → ◌≡◌ {A = (Waiting × Places) × Events Global} ((poll2, p2), events2) ((poll, p), events) → HasRoom before ways ports poll p events after
-    → HasRoom before ways ports poll2 p2 events2 after
-still_room before after ways ports poll2 poll p2 p events2 events is had =
-    subst (λ (x : (Waiting × Places) × Events Global). HasRoom before ways ports x.0.0 x.0.1 x.1 after) (sym is) had
-
--- of what is held, with what was made beside it: the last of both that are held and that; and the first
-pub held_last : {A B C : Type 0} (h : A × B) (a : A) (b : B) (c c2 : C) → ◌≡◌ {A = (A × B) × C} (h, c) ((a, b), c2) → ◌≡◌ {A = B × C} (h.1, c) (b, c2)
-held_last {A} {B} {C} h a b c c2 is = ap (λ (x : (A × B) × C). (x.0.1, x.1)) is
-
-pub held_of : {A B C : Type 0} (h : A × B) (a : A) (b : B) (c c2 : C) → ◌≡◌ {A = (A × B) × C} (h, c) ((a, b), c2) → h.0 ≡ a
-held_of {A} {B} {C} h a b c c2 is = ap (λ (x : (A × B) × C). x.0.0) is
-
--- what holds of how large it was that was made beside them holds still
-pub made_still : {A C : Type 0} (size : C → ℕ) (h h2 : A) (c c2 : C) (n : ℕ) → ◌≡◌ {A = A × C} (h, c) (h2, c2) → size c2 ≡ n → size c ≡ n
-made_still {A} {C} size h h2 c c2 n is holds = ap (λ (x : A × C). size x.1) is ∙ holds
-
--- what was bound for the control socket, and handed in, was to be reported
-pub asked : {M : Type 0} (before after : M) (handed_in held : SystemListener) (answer answer2 : Result Attending Error) → held ≡ handed_in
-    → WasControlRegistered before held control_token.0 answer after → answer ≡ answer2
-    → WasControlRegistered before handed_in control_token.0 answer2 after
-asked before after handed_in held answer answer2 same had is =
-    subst (λ (a : Result Attending Error). WasControlRegistered before handed_in control_token.0 a after) is
-    (subst (λ (h : SystemListener). WasControlRegistered before h control_token.0 answer after) same had)
-
--- it can't be
-pub control_refused : {M : Type 0} (before between after : M) (ways : Ways) (ports : Ports) (handed_in held : SystemListener) (poll : Waiting) (p : Places)
-    (events : Events Global) (answer : Result Attending Error) (error : Error) → HasRoom before ways ports poll p events between → held ≡ handed_in
-    → WasControlRegistered between held control_token.0 answer after → answer ≡ Err error → IsRefused before ways ports handed_in NoSocket after
-control_refused before between after ways ports handed_in held poll p events answer error had same heard is =
-    (error, inr (poll, (p, (events, (between, (had, asked between after handed_in held answer (Err error) same heard is))))))
+  refused = asked;
+  is_fault = refl;
+})

@@ -11,6 +11,7 @@ use Rattle.sockets.specs.declared.conduits.Arrived.{Arrived}
 use Rattle.sockets.specs.declared.far_ends.FarEnd.{FarEnd}
 use Rattle.sockets.specs.declared.losses.SendFault.{SendFault}
 use Rattle.sockets.specs.declared.losses.SendFault.TheVariants.{TooLong}
+use Rattle.sockets.specs.declared.machine.Move.TheVariants.{Hear, Register}
 use Rattle.sockets.specs.declared.machine.Opened.{Opened}
 use Rattle.sockets.specs.declared.machine.Socket.{Socket}
 use Rattle.sockets.specs.declared.wire.WireFault.{WireFault}
@@ -49,12 +50,12 @@ WasReceived before result room after = (answer : Result Arrived Error) × (HasRe
 -- Waits were to report what was opened under the token of this number, once: by who asks, as he was before and is then.
 abbrev pub WasRegistered : {M : Type 0} → M → Opened → ℕ → Result (Unit {0}) Error → Opened → M → Type 0
 WasRegistered before s number answer s2 after =
-    WasMovedOn before after × ((r : Registry) × ((r2 : Registry) × IsWatched r s (record { 0 = number }) answer s2 r2))
+    WasMovedOn before Register after × ((r : Registry) × ((r2 : Registry) × IsWatched r s (record { 0 = number }) answer s2 r2))
 
 -- and they were to report what was bound for a control socket: only then is there one
 abbrev pub WasControlRegistered : {M : Type 0} → M → SystemListener → ℕ → Result Attending Error → M → Type 0
 WasControlRegistered before bound number answer after =
-    WasMovedOn before after × ((w : Waits) × ((w2 : Waits) × WasListenedTo bound (record { 0 = number }) answer w w2))
+    WasMovedOn before Hear after × ((w : Waits) × ((w2 : Waits) × WasListenedTo bound (record { 0 = number }) answer w w2))
 
 -- an answer is of these kinds: something of the far end's, or of somebody else's, nothing, or a failure
 pub data Kind : Type 0 where

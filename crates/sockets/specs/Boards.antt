@@ -1,6 +1,7 @@
 -- What is told of each place of a box: what its own attachment has heard.
 use Rattle.std.specs.Prelude.{ℕ, Bool, true, false, ◌≡◌, List, [], ◌∷◌, ◌++◌, ◌⊎◌, take, Option, Some, None, Result, Ok, Err, is_err}
 use Rattle.control.specs.Attending.{nobody_yet}
+use Rattle.control.specs.Speaking.{WasLetGo}
 use Rattle.control.specs.declared.machine.SystemListener.{SystemListener}
 use Rattle.std.specs.declared.alloc.AllocError.{AllocError}
 use Rattle.std.specs.declared.alloc.Global.{Global}
@@ -157,38 +158,55 @@ pub record HandsOut {M : Type 0} (before : M) (ways : Ways) (ports : Ports) (p :
   pub inside : IsNew second p.inside ways.inside ports.inside b.inside third
   pub outside : IsNew third p.outside ways.outside ports.outside b.outside after
 
--- So a box has them: last of all waits were to report the control socket under its token, and who calls there is heard from then on; nobody has
--- called yet. The link is asked first; there is room for eight events.
-pub record Opens {M : Type 0} (before : M) (ways : Ways) (ports : Ports) (handed_in : SystemListener) (b : Board) (after : M) : Type 0 where
-  pub places : Places
-  pub between : M
+-- Where these were had waits were to report the control socket under its token, and who calls there is heard from then on; nobody has called yet. Then
+-- what was opened was handed out. The link is asked first.
+pub record Begins {M : Type 0} (before : M) (poll : Waiting) (p : Places) (events : Events Global) (ways : Ways) (ports : Ports) (handed_in : SystemListener) (b : Board) (after : M) : Type 0 where
   pub behind : M
-  pub had : HasRoom before ways ports b.poll places b.events between
-  pub heard : WasControlRegistered between handed_in control_token.0 (Ok b.control) behind
-  pub handed_out : HandsOut behind ways ports places b after
+  pub polls : b.poll ≡ poll
+  pub reports : b.events ≡ events
+  pub heard : WasControlRegistered before handed_in control_token.0 (Ok b.control) behind
+  pub handed_out : HandsOut behind ways ports p b after
   pub control : b.control ≡ nobody_yet b.control.listener control_token
   pub first : b.first ≡ Link
-  pub room : capacity b.events ≡ 8
+
+-- So a box has its sockets: all was had that they need, with room for eight events, and last of all waits were to report the control socket.
+pub record Opens {M : Type 0} (before : M) (ways : Ways) (ports : Ports) (handed_in : SystemListener) (b : Board) (after : M) : Type 0 where
+  pub poll : Waiting
+  pub places : Places
+  pub events : Events Global
+  pub between : M
+  pub had : HasRoom before ways ports poll places events between
+  pub room : capacity events ≡ 8
+  pub begins : Begins between poll places events ways ports handed_in b after
 
 -- what waits is refused; or it isn't, and one of the places is
 abbrev pub RefusesPlaces : {M : Type 0} → M → Ways → Ports → Error → M → Type 0
 RefusesPlaces {M} before ways ports error after = WasPollMade before (Err error) after
     ⊎ ((poll : Waiting) × ((between : M) × (WasPollMade before (Ok poll) between × RefusesOne between (places_of ways ports) error after)))
 
--- none is, and then waits can't report the control socket
-abbrev pub RefusesControl : {M : Type 0} → M → Ways → Ports → SystemListener → Error → M → Type 0
-RefusesControl {M} before ways ports handed_in error after =
-    (poll : Waiting) × ((p : Places) × ((events : Events Global) × ((between : M) × (HasRoom before ways ports poll p events between
-    × WasControlRegistered between handed_in control_token.0 (Err error) after))))
+-- none is, nor memory for events, and then waits can't report the control socket
+pub record RefusesControl {M : Type 0} (before : M) (ways : Ways) (ports : Ports) (handed_in : SystemListener) (fault : SocketFault) (after : M) : Type 0 where
+  pub poll : Waiting
+  pub places : Places
+  pub events : Events Global
+  pub between : M
+  pub error : Error
+  pub had : HasRoom before ways ports poll places events between
+  pub refused : WasControlRegistered between handed_in control_token.0 (Err error) after
+  pub is_fault : fault ≡ NoSocket
 
 -- none is, and then memory for events is refused
 abbrev pub RefusesRoom : {M : Type 0} → M → Ways → Ports → M → Type 0
 RefusesRoom {M} before ways ports after = (poll : Waiting) × ((p : Places) × ((between : M) × (IsHad before ways ports poll p between
     × ((error : AllocError) × WasGivenRoom between 8 (Err error) after))))
 
--- A box's sockets aren't had: the system refused what it was asked, and wasn't asked for more behind that. Or it refused memory for events, and
--- nothing before: then it wasn't asked to report the control socket. Nobody was heard there in any case.
+-- The system refused what it was asked, and wasn't asked for more behind that; or memory for events is refused, and nothing before.
+abbrev pub RefusesBefore : {M : Type 0} → M → Ways → Ports → SocketFault → M → Type 0
+RefusesBefore before ways ports NoSocket after = (error : Error) × RefusesPlaces before ways ports error after
+RefusesBefore before ways ports NoMemory after = RefusesRoom before ways ports after
+
+-- A box's sockets aren't had: what they need is refused, and the control socket was let go as it was handed in, so that nobody was heard there. Or waits
+-- can't report it.
 abbrev pub IsRefused : {M : Type 0} → M → Ways → Ports → SystemListener → SocketFault → M → Type 0
-IsRefused before ways ports handed_in NoSocket after =
-    (error : Error) × (RefusesPlaces before ways ports error after ⊎ RefusesControl before ways ports handed_in error after)
-IsRefused before ways ports handed_in NoMemory after = RefusesRoom before ways ports after
+IsRefused before ways ports handed_in fault after =
+    (RefusesBefore before ways ports fault after × WasLetGo handed_in) ⊎ RefusesControl before ways ports handed_in fault after

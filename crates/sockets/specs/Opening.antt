@@ -13,6 +13,7 @@ use Rattle.sockets.specs.Moving.{WasLetGo, WasMovedOn}
 use Rattle.sockets.specs.Ends.{IsSocketOf, are_on_loopback}
 use Rattle.sockets.specs.declared.ends.End.{End}
 use Rattle.sockets.specs.declared.ends.Ends.{Ends}
+use Rattle.sockets.specs.declared.machine.Move.TheVariants.{Connect, HandOut}
 use Rattle.sockets.specs.declared.machine.Opened.{Opened}
 use Rattle.sockets.specs.declared.machine.Opened.TheVariants as opened
 use Rattle.sockets.specs.declared.machine.Socket.{Socket}
@@ -51,11 +52,11 @@ WasInherited before number it after = (descriptors : Descriptors) × (asked.Were
 
 -- and where a socket was to be connected to this address, once
 abbrev pub WasConnected : {M : Type 0} → M → Udp → SocketAddr → Result (Unit {0}) Error → Udp → M → Type 0
-WasConnected before s address answer s2 after = WasMovedOn before after × asked.WasConnected s.0 address answer s2.0
+WasConnected before s address answer s2 after = WasMovedOn before Connect after × asked.WasConnected s.0 address answer s2.0
 
 -- and where what was opened was handed out: nothing passes through it before
 abbrev pub WasHandedOut : {M : Type 0} → M → Opened → Socket → M → Type 0
-WasHandedOut before opened socket after = WasMovedOn before after × (socket ≡ record { 0 = opened })
+WasHandedOut before opened socket after = WasMovedOn before HandOut after × (socket ≡ record { 0 = opened })
 
 -- ---- a socket
 

@@ -31,10 +31,10 @@ reading = record { priority = false; writable = false; readable = true }
 
 -- waits were to report it where there is something to hear, once, under this token
 abbrev pub IsWatched : Registry → Opened → Token → Result (Unit {0}) Error → Opened → Registry → Type 0
-IsWatched r (opened.Connected s) token answer (opened.Connected s2) r2 = asked.WasRegistered r s.0 token reading answer s2.0 r2
+IsWatched r (opened.Connected s) token answer (opened.Connected s2) r2 = asked.WasUdpRegistered r s.0 token reading answer s2.0 r2
 IsWatched r (opened.Open s other) token answer (opened.Open s2 other2) r2 =
-    (other2 ≡ other) × asked.WasRegistered r s.0 token reading answer s2.0 r2
-IsWatched r (opened.Descriptor it) token answer (opened.Descriptor it2) r2 = asked.WasRegistered r it.0 token reading answer it2.0 r2
+    (other2 ≡ other) × asked.WasUdpRegistered r s.0 token reading answer s2.0 r2
+IsWatched r (opened.Descriptor it) token answer (opened.Descriptor it2) r2 = asked.WasInheritedRegistered r it.0 token reading answer it2.0 r2
 IsWatched r o token answer o2 r2 = ⊥
 
 -- ---- to send

@@ -4,11 +4,12 @@ ghost use Rattle.control.specs.Attending.{nobody_yet};
 ghost use Rattle.descriptors.specs.Events.{capacity};
 ghost use Rattle.sockets.specs.Asking.{WasControlRegistered, WasReceived, WasRegistered, WasSent};
 ghost use Rattle.sockets.specs.Inheriting.{WasUnblocked, WasUnblockedBy};
-ghost use Rattle.sockets.specs.Moving.{WasLetGo, WasMovedOn};
+ghost use Rattle.sockets.specs.Moving.{WasMovedOn};
 ghost use Rattle.sockets.specs.Opening.{WasBound, WasConnected, WasGivenRoom, WasHandedOut, WasInherited, WasPollMade};
 ghost use Rattle.sockets.specs.Passing.{HasReceived, HasSent, IsWatched, ReadsFrame, ReceivesConnected, ReceivesFrom, SendsConnected};
 
 use crate::channels::{sent_of, settled};
+use crate::letting_go::let_go;
 use crate::unwaited::Unwaited;
 use crate::{Arrived, End, LONGEST, SendFault, Sender, WireFault};
 use control::{Bound, Control};
@@ -42,24 +43,25 @@ impl<'a, R> Machine<'a, R> {
     }
 }
 
-impl<R: Net> Machine<'_, R> {
-    /// It is another from then on: so each call is told that asks by no hand.
+/// A call that asks by no hand: a socket is connected; what was opened is registered; it is handed out; or a control socket is
+/// registered, so that words are heard there.
+#[derive(Clone, Copy)]
+enum Move {
+    Connect,
+    Register,
+    HandOut,
+    Hear,
+}
+
+impl<R> Machine<'_, R> {
+    /// It is another from then on, by this: so each call is told that asks by no hand. Of the system nothing is known here, so it can
+    /// be asked for nothing.
     #[tactic(auto, unfolding(crate::specs::Moving::WasMovedOn))]
-    fn move_on(&mut self)
-        ensures { WasMovedOn self.old self.new }
+    fn move_on(&mut self, _by: Move)
+        ensures { WasMovedOn self.old _by self.new }
     {}
 
-    /// Asks the system for what waits for sockets.
-    pub(crate) fn told_to_make_poll(&mut self) -> io::Result<Unwaited>
-        ensures { WasPollMade self.old result self.new }
-    {
-        match Poll::new(&mut self.hand) {
-            Ok(poll) => Ok(Unwaited::new(poll)),
-            Err(error) => Err(error),
-        }
-    }
-
-    /// Asks the system for memory in which a wait reports so many events.
+    /// Asks for memory in which a wait reports so many events.
     #[tactic(auto, unfolding(crate::specs::Opening::WasGivenRoom))]
     pub(crate) fn told_to_make_room(
         &mut self,
@@ -72,6 +74,61 @@ impl<R: Net> Machine<'_, R> {
         Events::with_capacity(alloc, count)
     }
 
+    /// Asks the system to have a socket hear this address alone, and send there.
+    pub(crate) fn told_to_connect(&mut self, socket: &mut Udp, other: SocketAddr) -> io::Result<()>
+        ensures { WasConnected self.old socket.old other result socket.new self.new }
+    {
+        self.move_on(Move::Connect);
+        socket.0.connect(other)
+    }
+
+    /// Has waits report what was opened under a token.
+    pub(crate) fn told_to_register(
+        &mut self,
+        opened: &mut Opened,
+        waits: &Unwaited,
+        token: Token,
+    ) -> io::Result<()>
+        ensures { WasRegistered self.old opened.old token.0 result opened.new self.new }
+    {
+        self.move_on(Move::Register);
+        opened.watched(&mut waits.registry(), token)
+    }
+
+    /// Hands out what was opened: from then on datagrams may pass.
+    pub(crate) fn told_to_hand_out(&mut self, opened: Opened) -> Socket
+        ensures { WasHandedOut self.old opened result self.new }
+    {
+        self.move_on(Move::HandOut);
+        Socket(opened)
+    }
+
+    /// Has waits report what was bound for a control socket, and who calls there, under a token.
+    pub(crate) fn told_to_register_control(
+        &mut self,
+        bound: Bound,
+        waits: &Unwaited,
+        token: Token,
+    ) -> io::Result<Control>
+        ensures asked { WasControlRegistered self.old bound token.0 result self.new }
+        ensures ok { IfOk result (λ control. control ≡ nobody_yet control.listener token) }
+    {
+        self.move_on(Move::Hear);
+        bound.register(&mut waits.reports(), token)
+    }
+}
+
+impl<R: Net> Machine<'_, R> {
+    /// Asks the system for what waits for sockets.
+    pub(crate) fn told_to_make_poll(&mut self) -> io::Result<Unwaited>
+        ensures { WasPollMade self.old result self.new }
+    {
+        match Poll::new(&mut self.hand) {
+            Ok(poll) => Ok(Unwaited::new(poll)),
+            Err(error) => Err(error),
+        }
+    }
+
     /// Asks the system for a socket at an address.
     pub(crate) fn told_to_bind(&mut self, own: SocketAddr) -> io::Result<Udp>
         ensures { WasBound self.old own result self.new }
@@ -80,14 +137,6 @@ impl<R: Net> Machine<'_, R> {
             Ok(socket) => Ok(Udp(socket)),
             Err(error) => Err(error),
         }
-    }
-
-    /// Asks the system to have a socket hear this address alone, and send there.
-    pub(crate) fn told_to_connect(&mut self, socket: &mut Udp, other: SocketAddr) -> io::Result<()>
-        ensures { WasConnected self.old socket.old other result socket.new self.new }
-    {
-        self.move_on();
-        socket.0.connect(other)
     }
 
     /// Asks the system to make a descriptor one that never waits, and says whether it did.
@@ -110,48 +159,7 @@ impl<R: Net> Machine<'_, R> {
         let_go(descriptors);
         Taken(inherited)
     }
-
-    /// Has waits report what was opened under a token.
-    pub(crate) fn told_to_register(
-        &mut self,
-        opened: &mut Opened,
-        waits: &Unwaited,
-        token: Token,
-    ) -> io::Result<()>
-        ensures { WasRegistered self.old opened.old token.0 result opened.new self.new }
-    {
-        self.move_on();
-        opened.watched(&mut waits.registry(), token)
-    }
-
-    /// Hands out what was opened: from then on datagrams may pass.
-    pub(crate) fn told_to_hand_out(&mut self, opened: Opened) -> Socket
-        ensures { WasHandedOut self.old opened result self.new }
-    {
-        self.move_on();
-        Socket(opened)
-    }
-
-    /// Has waits report what was bound for a control socket, and who calls there, under a token.
-    pub(crate) fn told_to_register_control(
-        &mut self,
-        bound: Bound,
-        waits: &Unwaited,
-        token: Token,
-    ) -> io::Result<Control>
-        ensures asked { WasControlRegistered self.old bound token.0 result self.new }
-        ensures ok { IfOk result (λ control. control ≡ nobody_yet control.listener token) }
-    {
-        self.move_on();
-        bound.register(&mut waits.reports(), token)
-    }
 }
-
-/// Lets go who may ask for descriptors. A function of its own, so that a clause can say that it was done.
-#[tactic(auto, unfolding(crate::specs::Moving::WasLetGo))]
-fn let_go(_descriptors: Descriptors)
-    ensures { WasLetGo _descriptors }
-{}
 
 /// A UDP socket of the system's. Only the calls of this module ask it anything.
 #[derive(Drop)]
@@ -179,13 +187,11 @@ impl Opened {
     {
         match self {
             Opened::Connected(Udp(socket)) => {
-                registry.register_udp(socket, token, Interest::READABLE)
+                socket.register(registry, token, Interest::READABLE)
             }
-            Opened::Open(Udp(socket), _) => {
-                registry.register_udp(socket, token, Interest::READABLE)
-            }
+            Opened::Open(Udp(socket), _) => { socket.register(registry, token, Interest::READABLE) }
             Opened::Descriptor(Taken(inherited)) => {
-                registry.register_inherited(inherited, token, Interest::READABLE)
+                inherited.register(registry, token, Interest::READABLE)
             }
         }
     }

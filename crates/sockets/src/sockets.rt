@@ -1,9 +1,10 @@
 //! The sockets of a box, all waited for at once.
 ghost use Rattle.control.specs.Attending.{is_ready};
-ghost use Rattle.descriptors.specs.Events.{items};
+ghost use Rattle.descriptors.specs.Events.{capacity, items};
 ghost use Rattle.std.specs.Duration.{as_nanos};
 ghost use Rattle.std.specs.Prelude.{◌≡◌, ◌≤◌, Err, IfErr, IfOk, IfSome, Ok, is_err, option_map, take};
-ghost use Rattle.sockets.specs.Boards.{HearsAt, IsNew, IsRefused, Opens, OpensPlaces, Rests, SendsAt, Tells, after};
+ghost use Rattle.sockets.specs.Asking.{WasControlRegistered};
+ghost use Rattle.sockets.specs.Boards.{Begins, HasRoom, HearsAt, IsNew, IsRefused, Opens, OpensPlaces, RefusesBefore, Rests, SendsAt, Tells, after};
 ghost use Rattle.sockets.specs.Doing.{AnswersAt, DoesAt};
 ghost use Rattle.sockets.specs.Hearing.{told};
 ghost use Rattle.sockets.specs.Looking.{IsMaybeWoken, LooksFor, SaysAt, SaysFor, woken_by, woken_by_all};
@@ -334,6 +335,75 @@ fn open_places<R: Net>(
     })
 }
 
+/// What a box has before waits are to report its control socket.
+#[derive(Drop)]
+struct Had {
+    poll: Unwaited,
+    places: Places,
+    events: Events,
+}
+
+/// Asks for what waits, then for what the places need, and then for memory in which a wait reports eight events.
+fn all_had<R: Net>(
+    machine: &mut Machine<'_, R>,
+    alloc: Global,
+    ways: &Ways,
+    ports: Ports,
+) -> Result<Had, SocketFault>
+    ensures had { IfOk result
+        (λ had. HasRoom machine.old ways.now ports had.poll had.places had.events machine.new) }
+    ensures room { IfOk result (λ had. capacity had.events ≡ 8) }
+    ensures refused { IfErr result
+        (λ fault. RefusesBefore machine.old ways.now ports fault machine.new) }
+{
+    let poll = machine.told_to_make_poll()?;
+    let places = open_places(machine, &poll, ways, ports);
+    let (poll, places) = beside(poll, places)?;
+    let events = machine.told_to_make_room(alloc, 8);
+    let ((poll, places), events) = beside((poll, places), events)?;
+    Ok(Had {
+        poll,
+        places,
+        events,
+    })
+}
+
+/// Has waits report a control socket, and then hands out what was opened: nobody is heard before.
+fn begun<R: Net>(
+    machine: &mut Machine<'_, R>,
+    had: Had,
+    ways: &Ways,
+    ports: Ports,
+    control: Bound,
+) -> io::Result<Board>
+    ensures begins { IfOk result
+        (λ b. Begins machine.old had.poll had.places had.events ways.now ports control b
+        machine.new) }
+    ensures refused { IfErr result
+        (λ error. WasControlRegistered machine.old control 3 (Err error) machine.new) }
+{
+    let Had {
+        poll,
+        places,
+        events,
+    } = had;
+    let control = machine.told_to_register_control(control, &poll, CONTROL);
+    let (((poll, places), events), control) = beside(((poll, places), events), control)?;
+    let poll = poll.waiting(&control);
+    let link = place(machine, places.link, ways.link, ports.link);
+    let inside = place(machine, places.inside, ways.inside, ports.inside);
+    let outside = place(machine, places.outside, ways.outside, ports.outside);
+    Ok(Board {
+        poll,
+        events,
+        link,
+        inside,
+        outside,
+        control,
+        first: Place::Link,
+    })
+}
+
 /// A place by what was opened for its way.
 fn place<R: Net>(
     machine: &mut Machine<'_, R>,
@@ -367,8 +437,8 @@ pub struct Sockets {
 
 impl Sockets {
     /// Opens what the ways of a box need, and has waits report its control socket last of all: nobody is heard there
-    /// before. Where a way is the loopback address it has these ports. Descriptors were inherited before
-    /// ([`Ways::inherit`]).
+    /// before, and it is let go where one can't be had. Where a way is the loopback address it has these ports. Descriptors were
+    /// inherited before ([`Ways::inherit`]).
     ///
     /// # Errors
     ///
@@ -385,27 +455,15 @@ impl Sockets {
         ensures refused { IfErr result
             (λ fault. IsRefused machine.old ways.now ports control fault machine.new) }
     {
-        let (control, poll) = beside(control, machine.told_to_make_poll())?;
-        let places = open_places(machine, &poll, ways, ports);
-        let (held, places) = beside((control, poll), places)?;
-        let events = machine.told_to_make_room(alloc, 8);
-        let ((held, places), events) = beside((held, places), events)?;
-        let (control, poll) = held;
-        let control = machine.told_to_register_control(control, &poll, CONTROL);
-        let (((poll, places), events), control) = beside(((poll, places), events), control)?;
-        let link = place(machine, places.link, ways.link, ports.link);
-        let inside = place(machine, places.inside, ways.inside, ports.inside);
-        let outside = place(machine, places.outside, ways.outside, ports.outside);
-        let board = Board {
-            poll: poll.waiting(),
-            events,
-            link,
-            inside,
-            outside,
-            control,
-            first: Place::Link,
-        };
-        Ok(Sockets { board })
+        match all_had(machine, alloc, ways, ports) {
+            Ok(had) => Ok(Sockets {
+                board: begun(machine, had, ways, ports, control)?,
+            }),
+            Err(fault) => {
+                control.let_go();
+                Err(fault)
+            }
+        }
     }
 
     /// How much came to a place from others than those it hears, or was no frame of its network; of the operator's

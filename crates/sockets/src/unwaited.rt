@@ -2,12 +2,12 @@
 ghost use Rattle.std.specs.Prelude.{◌≡◌};
 
 use crate::waits::Waiting;
-use control::Waits;
+use control::{Control, Waits};
 use descriptors::{Poll, Registry};
 use std::marker::Model;
 
-/// What is to wait for sockets, and is told meanwhile which. It can't be had wait before all of them are handed out. For clauses it is
-/// what waits then.
+/// What is to wait for sockets, and is told meanwhile which. It can't be had wait by who has no registered control socket: that is the
+/// last that is asked for and can be refused. For clauses it is what waits then.
 #[derive(Drop)]
 pub(crate) struct Unwaited {
     waiting: Waiting,
@@ -31,8 +31,8 @@ impl Unwaited {
         }
     }
 
-    /// It waits from now on.
-    pub(crate) fn waiting(self) -> Waiting
+    /// It waits from now on: a control socket is registered, which is the last that can be refused.
+    pub(crate) fn waiting(self, _heard: &Control) -> Waiting
         ensures { result ≡ self }
     {
         self.waiting
