@@ -3,3 +3,4 @@ pub mod Interfaces
 pub mod Captures
 pub mod Reads
 pub mod Files
+pub mod Writes

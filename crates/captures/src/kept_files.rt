@@ -1,4 +1,7 @@
 //! What the system opened, as a value that changes with each ask.
+ghost use Rattle.std.specs.Io.KnownBytes.{Keeps, ReadConsumes, WriteAppends};
+ghost use Rattle.std.specs.Io.{ReadsAtMost, WritesAtMost};
+ghost use Rattle.captures.specs.Writes.{WasFlushed, WasGiven, WasWritten};
 
 use std::io::{self, Read, Write};
 use std::os::fd::{AsRawFd, RawFd};
@@ -26,7 +29,13 @@ impl<F> KeptFile<F> {
 impl<F: Read> Read for KeptFile<F> {
     ghost remaining = { λ kept. F.remaining kept.file };
 
-    fn read(&mut self, room: &mut [u8]) -> io::Result<usize> {
+    #[tactic(auto, unfolding(crate::specs::Writes::WasGiven))]
+    fn read(&mut self, room: &mut [u8]) -> io::Result<usize>
+        ensures bound { ReadsAtMost result room.new }
+        ensures bytes { ReadConsumes (F.remaining self.old.file) (F.remaining self.new.file)
+            result room.new }
+        ensures given { WasGiven self.old room.new result self.new }
+    {
         self.file.read(room)
     }
 }
@@ -34,11 +43,21 @@ impl<F: Read> Read for KeptFile<F> {
 impl<F: Write> Write for KeptFile<F> {
     ghost contents = { λ kept. F.contents kept.file };
 
-    fn write(&mut self, bytes: &[u8]) -> io::Result<usize> {
+    #[tactic(auto, unfolding(crate::specs::Writes::WasWritten))]
+    fn write(&mut self, bytes: &[u8]) -> io::Result<usize>
+        ensures bound { WritesAtMost result bytes.now }
+        ensures bytes { WriteAppends (F.contents self.old.file) (F.contents self.new.file)
+            result bytes.now }
+        ensures written { WasWritten self.old bytes.now result self.new }
+    {
         self.file.write(bytes)
     }
 
-    fn flush(&mut self) -> io::Result<()> {
+    #[tactic(auto, unfolding(crate::specs::Writes::WasFlushed))]
+    fn flush(&mut self) -> io::Result<()>
+        ensures bytes { Keeps (F.contents self.old.file) (F.contents self.new.file) }
+        ensures flushed { WasFlushed self.old result self.new }
+    {
         self.file.flush()
     }
 }

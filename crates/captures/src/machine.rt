@@ -1,6 +1,10 @@
 //! This machine, as who opens the files of captures. What it and a file are asked has names, and no more is known of it.
 ghost use Rattle.std.specs.Prelude.{◌≡◌};
-ghost use Rattle.captures.specs.Files.{WasOpened, WasSought};
+ghost use Rattle.std.specs.Io.KnownBytes.{Keeps, ReadConsumes, WriteAppends};
+ghost use Rattle.std.specs.Io.{ReadsAtMost, WritesAtMost};
+ghost use Rattle.captures.specs.Files.{WasAskedKind, WasCut, WasLetGo, WasOpened, WasRewound, WasSought};
+ghost use Rattle.captures.specs.Reads.{WasRead};
+ghost use Rattle.captures.specs.Writes.{IsFlushed, IsGiven, IsWritten, descriptor_of, held_by, left_in};
 
 use crate::calls::{Calls, PutsDown};
 use crate::kept_files::KeptFile;
@@ -61,34 +65,74 @@ impl<R: Files> Machine<'_, R> {
 }
 
 /// A file that was opened. Nobody sees it but this module, so that it can be asked by the calls of `Calls`, be written to, and
-/// say the number of its descriptor, and nothing else.
+/// say the number of its descriptor, and nothing else. Each call that has a name knows no more of it than that call needs: who
+/// reads it can't have it cut.
 #[derive(Drop)]
 pub struct OpenedFile<F> {
     file: KeptFile<F>,
 }
 
-impl<F: Read + Seek + OpenFile + Drop> Calls for OpenedFile<F> {
-    ghost rest = { λ opened. ⟦<KeptFile<F> as Read>⟧.remaining opened.file };
-
+impl<F: OpenFile> OpenedFile<F> {
+    /// Asks the system whether it is a regular one.
     #[tactic(auto, unfolding(crate::specs::Files::WasAskedKind))]
-    fn told_of_kind(&mut self) -> io::Result<bool> {
+    pub(crate) fn ask_kind(&mut self) -> io::Result<bool>
+        ensures { WasAskedKind self.old result self.new }
+    {
         Ok(self.file.lend().metadata()?.is_file())
     }
 
+    /// Has it let go of all that it has.
     #[tactic(auto, unfolding(crate::specs::Files::WasCut))]
-    fn told_to_cut(&mut self) -> io::Result<()> {
+    pub(crate) fn cut(&mut self) -> io::Result<()>
+        ensures { WasCut self.old result self.new }
+    {
         self.file.lend().set_len(0)
     }
+}
 
+impl<F: Seek> OpenedFile<F> {
+    /// Has it be read and written from its front on. It can be asked for nothing else here.
     #[tactic(auto, unfolding(crate::specs::Files::WasRewound))]
-    fn told_to_rewind(&mut self) -> io::Result<()> {
+    pub(crate) fn rewind(&mut self) -> io::Result<()>
+        ensures { WasRewound self.old result self.new }
+    {
         self.file.lend().seek(SeekFrom::Start(0))?;
         Ok(())
     }
+}
 
+impl<F: Read> OpenedFile<F> {
+    /// Reads bytes of it, once. It can be asked for nothing else here.
     #[tactic(auto, unfolding(crate::specs::Reads::WasRead))]
-    fn told_to_read(&mut self, room: &mut [u8]) -> io::Result<usize> {
+    pub(crate) fn read_once(&mut self, room: &mut [u8]) -> io::Result<usize>
+        ensures bound { ReadsAtMost result room.new }
+        ensures bytes { ReadConsumes (left_in F.remaining self.old) (left_in F.remaining self.new)
+            result room.new }
+        ensures answered { WasRead self.old room.new result self.new }
+        ensures given { IsGiven self.old room.new result self.new }
+    {
         self.file.read(room)
+    }
+}
+
+/// Each of these is the one call of that name. No name is opened here.
+impl<F: Read + Seek + OpenFile> Calls for OpenedFile<F> {
+    ghost rest = { left_in F.remaining };
+
+    fn told_of_kind(&mut self) -> io::Result<bool> {
+        self.ask_kind()
+    }
+
+    fn told_to_cut(&mut self) -> io::Result<()> {
+        self.cut()
+    }
+
+    fn told_to_rewind(&mut self) -> io::Result<()> {
+        self.rewind()
+    }
+
+    fn told_to_read(&mut self, room: &mut [u8]) -> io::Result<usize> {
+        self.read_once(room)
     }
 }
 
@@ -100,19 +144,27 @@ impl<F: Drop> PutsDown for OpenedFile<F> {
 }
 
 impl<F: Write> Write for OpenedFile<F> {
-    ghost contents = { λ opened. ⟦<KeptFile<F> as Write>⟧.contents opened.file };
+    ghost contents = { held_by F.contents };
 
-    fn write(&mut self, bytes: &[u8]) -> io::Result<usize> {
+    fn write(&mut self, bytes: &[u8]) -> io::Result<usize>
+        ensures bound { WritesAtMost result bytes.now }
+        ensures bytes { WriteAppends (held_by F.contents self.old) (held_by F.contents self.new)
+            result bytes.now }
+        ensures written { IsWritten self.old bytes.now result self.new }
+    {
         self.file.write(bytes)
     }
 
-    fn flush(&mut self) -> io::Result<()> {
+    fn flush(&mut self) -> io::Result<()>
+        ensures bytes { Keeps (held_by F.contents self.old) (held_by F.contents self.new) }
+        ensures flushed { IsFlushed self.old result self.new }
+    {
         self.file.flush()
     }
 }
 
 impl<F: AsRawFd> AsRawFd for OpenedFile<F> {
-    ghost raw_fd = { λ opened. ⟦<KeptFile<F> as AsRawFd>⟧.raw_fd opened.file };
+    ghost raw_fd = { descriptor_of F.raw_fd };
 
     fn as_raw_fd(&self) -> RawFd {
         self.file.as_raw_fd()
