@@ -6,7 +6,6 @@ use crate::sheets::Sheet;
 use crate::words::paper_in;
 use cases_words::{Actor, Case};
 use journal::{FilteredLog, Format, Journal, Pen, Tally, Unhindered, filter_of};
-use log::Log;
 use log::filter::Filter;
 use std::cell::Cell;
 use std::mem;
@@ -114,7 +113,7 @@ fn act_on(station: &mut Station<'_>, case: &mut Case) {
             pen.tell(moment, entry_in(case));
         }
         "end" => pen.tell_end(&station.tally, case.number()),
-        "flush" => station.log.flush(),
+        "flush" => pen.flush(),
         _ => case.fault(),
     }
 }

@@ -6,3 +6,4 @@ mod Passing
 mod Cutting
 mod Showing
 mod Seeing
+mod Offering

@@ -12,5 +12,6 @@ pub mod Each
 pub mod Lines
 pub mod Sinks
 pub mod Handed
+pub mod Offers
 pub mod Errors
 pub mod Shown

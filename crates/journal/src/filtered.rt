@@ -1,16 +1,16 @@
 //! A log whose records a filter lets pass. The crate `log` has such a one, too: but who asks that whether a record passes has the
-//! right to have records written by it.
+//! right to have records written by it, and nobody knows what it does with a record.
 ghost use Rattle.std.specs.Prelude.{◌≡◌, Some};
-ghost use Rattle.std.proofs.Common.{rules};
 ghost use Rattle.log.specs.Filter.{filter_rules};
-ghost use Rattle.journal.specs.Filtered.{filtered_inner, filtered_rules, filtered_says};
+ghost use Rattle.journal.specs.Filtered.{filtered_inner, filtered_rules, filtered_says, filtered_takes};
 
 use crate::answers::Answers;
+use crate::offers::{Look, Offered, Turn};
 use crate::sink::Journal;
+use crate::takes::{Flushes, Takes};
+use log::Metadata;
 use log::filter::Filter;
 use log::kv::Source;
-use log::span::Spans;
-use log::{Log, Metadata, Record};
 use std::alloc::{Allocator, Global};
 use std::fmt::Display;
 
@@ -32,7 +32,7 @@ impl<L, A: Allocator> FilteredLog<L, A> {
 }
 
 impl<L: Answers, A: Allocator> Answers for FilteredLog<L, A> {
-    ghost lets = { filtered_says L.lets };
+    ghost enables = { filtered_says L.enables };
 
     ghost leaves_out = { λ f lines. L.leaves_out (filtered_inner f) lines };
 
@@ -40,32 +40,28 @@ impl<L: Answers, A: Allocator> Answers for FilteredLog<L, A> {
         self.filter.enabled(metadata) && self.log.lets_pass(metadata)
     }
 
-    fn lines_left_out(&self) -> u64 {
-        self.log.lines_left_out()
+    fn lines_left_out(&self, look: Look) -> u64 {
+        self.log.lines_left_out(look)
     }
 }
 
-impl<L: Log, A: Allocator> Log for FilteredLog<L, A> {
-    ghost enables = { filtered_says L.enables };
+impl<L: Takes, A: Allocator> Takes for FilteredLog<L, A> {
+    ghost takes = { filtered_takes L.takes };
 
-    ghost target_of = { λ f. L.target_of (filtered_inner f) };
-
-    fn enabled(&self, metadata: &Metadata<'_>) -> bool {
-        self.filter.enabled(metadata) && self.log.enabled(metadata)
-    }
-
-    fn log<D: Display, K: Source, S: Spans>(&self, record: &Record<'_, D, K, S>) {
-        if self.filter.matches(record) {
-            self.log.log(record);
+    fn take<N: Display + Source + Copy>(&self, offered: Offered<'_, N>) {
+        if self.filter.enabled(&offered.metadata()) {
+            self.log.take(offered);
+        } else {
+            offered.pass_over();
         }
     }
+}
 
-    fn flush(&self) {
-        self.log.flush();
-    }
+impl<L: Flushes, A: Allocator> Flushes for FilteredLog<L, A> {
+    ghost tells = { λ f. L.tells (filtered_inner f) };
 
-    fn target(&self) -> &str {
-        self.log.target()
+    fn flush(&self, turn: Turn) {
+        self.log.flush(turn);
     }
 }
 
@@ -73,6 +69,4 @@ impl<L: Journal, A: Allocator> Journal for FilteredLog<L, A> {
     ghost writes = { λ f. L.writes (filtered_inner f) };
 
     ghost passes = { λ f. Some (filtered_rules f) };
-
-    ghost lets_as_enables = { λ f level target. Prim.search rules };
 }

@@ -14,12 +14,14 @@ mod lines;
 mod machine;
 mod names;
 mod notes;
+mod offers;
 mod origins;
 mod own_logs;
 mod pens;
 mod sealed;
 mod sink;
 mod standard_error;
+mod takes;
 mod tally;
 mod telling;
 
@@ -29,13 +31,18 @@ pub use destinations::Outlet;
 pub use entries::{Entry, Role};
 pub use filtered::FilteredLog;
 pub use filters::{FilterFault, VARIABLE, environment, filter_of};
-pub use laws::{account_law, left_out_law, passing_law, tellings_law};
+pub use laws::{
+    account_law, flushing_law, left_out_law, passing_law, put_down_law, putting_down_law, sink_law,
+    taking_law, tellings_law,
+};
 pub use lines::Format;
 pub use machine::Machine;
 pub use notes::{LeftOutPackets, Note};
+pub use offers::{Look, Offered, Turn};
 pub use origins::Origin;
 pub use own_logs::OwnLog;
 pub use pens::Pen;
 pub use sink::{Journal, Unhindered};
 pub use standard_error::StandardError;
+pub use takes::{Flushes, Takes};
 pub use tally::Tally;

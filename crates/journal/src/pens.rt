@@ -3,11 +3,13 @@ ghost use Rattle.std.specs.Prelude.{◌≡◌, IfSome};
 ghost use Rattle.log.specs.Record.{metadata_level, metadata_target};
 ghost use Rattle.journal.specs.Handed.{IsAsked, IsFlushed, IsHanded, IsUnhanded};
 ghost use Rattle.journal.specs.Handed.{WasAskedLines, WasPutDown, log_of};
+ghost use Rattle.journal.specs.Offers.{offered_level, offered_note, offered_pairs, offered_target};
 
 use crate::answers::Answers;
 use crate::notes::Loggable;
-use crate::sink::Journal;
-use log::{Metadata, Record};
+use crate::offers::{Look, Offered, Turn};
+use crate::takes::{Flushes, Takes};
+use log::Metadata;
 use std::snapshot::Snapshot;
 
 /// A log, which is handed records by this alone, as long as it is there. So what is known of the pen, before a call and after,
@@ -45,38 +47,44 @@ impl<L: Answers> Pen<'_, L> {
     pub(crate) fn told_whether_passes(&mut self, metadata: &Metadata<'_>) -> bool
         ensures asked { IsAsked self.old (metadata_level metadata.now)
             (metadata_target metadata.now) result self.new }
-        ensures says { IfSome (L.lets (log_of self.old) (metadata_level metadata.now)
+        ensures says { IfSome (L.enables (log_of self.old) (metadata_level metadata.now)
             (metadata_target metadata.now)) (λ said. result ≡ said) }
     {
         self.log.lets_pass(metadata)
     }
 
-    /// How many lines the log has left out so far.
+    /// Asks the log how many lines it has left out so far, by a look. Nobody makes one here, so it is asked once.
     #[tactic(auto, unfolding(crate::specs::Handed::WasAskedLines))]
-    pub fn lines_left_out(&mut self) -> u64
+    pub(crate) fn told_lines_left_out(&mut self, look: Look) -> u64
         ensures log { log_of self.new ≡ log_of self.old }
         ensures asked { WasAskedLines self.old result self.new }
         ensures lines { L.leaves_out (log_of self.old) result }
     {
-        self.log.lines_left_out()
+        self.log.lines_left_out(look)
     }
 }
 
-impl<L: Journal> Pen<'_, L> {
-    /// Hands the log a record.
+impl<L: Takes> Pen<'_, L> {
+    /// Hands the log a record. Nobody makes one here, and of a log that takes records no more is known: so it is handed this one alone.
     #[tactic(auto, unfolding(crate::specs::Handed::WasHanded))]
-    pub(crate) fn hand<N: Loggable>(&mut self, metadata: Metadata<'_>, note: N)
-        ensures { IsHanded self.old (metadata_level metadata.entry)
-            (metadata_target metadata.entry) note self.new }
+    pub(crate) fn told_to_take<N: Loggable>(&mut self, offered: Offered<'_, N>)
+        ensures handed { IsHanded self.old (offered_level offered.entry)
+            (offered_target offered.entry) (offered_note offered.entry) self.new }
+        ensures taken { L.takes (log_of self.old) (offered_level offered.entry)
+            (offered_target offered.entry) (N.output (offered_note offered.entry))
+            (N.pairs (offered_pairs offered.entry)) }
     {
-        self.log.log(&Record::new(metadata, note, note, ()));
+        self.log.take(offered);
     }
+}
 
-    /// Has the log write how many lines were left out, if there is room.
+impl<L: Flushes> Pen<'_, L> {
+    /// Has the log write how many lines were left out, if there is room. Of a log that does that no more is known here.
     #[tactic(auto, unfolding(crate::specs::Handed::WasFlushed))]
-    pub(crate) fn flush(&mut self)
-        ensures { IsFlushed self.old self.new }
+    pub(crate) fn told_to_flush(&mut self, turn: Turn)
+        ensures flushed { IsFlushed self.old self.new }
+        ensures tells { L.tells (log_of self.old) }
     {
-        self.log.flush();
+        self.log.flush(turn);
     }
 }

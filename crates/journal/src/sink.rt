@@ -1,17 +1,17 @@
 //! A sink that never waits.
-ghost use Rattle.std.specs.Prelude.{◌≡◌, refl, true, ℕ, [], List, None, Option, Some};
+ghost use Rattle.std.specs.Prelude.{◌≡◌, true, List, None, Option, Some};
 ghost use Rattle.log.specs.Filter.{Rule};
-ghost use Rattle.log.specs.declared.level.Level.{Level};
-ghost use Rattle.journal.specs.Sinks.{HasLeftOut, IsUnwrittenOver, format_of};
+ghost use Rattle.journal.specs.Sinks.{HasLeftOut, IsUnwrittenOver, format_of, sink_takes, sink_tells};
 ghost use Rattle.journal.specs.declared.lines.Format.{Format as Writing};
 
 use crate::answers::Answers;
 use crate::desks::SharedDesk;
 use crate::destinations::Outlet;
-use crate::lines::{Format, Shown};
+use crate::lines::Format;
+use crate::offers::{Look, Offered, Turn};
+use crate::takes::{Flushes, Takes};
+use log::Metadata;
 use log::kv::Source;
-use log::span::Spans;
-use log::{Log, Metadata, Record};
 use std::fmt::Display;
 
 /// Writes each record by one write, where that doesn't wait. It counts what it leaves out, and writes the count when
@@ -36,7 +36,7 @@ impl<O> Unhindered<O> {
 }
 
 impl<O> Answers for Unhindered<O> {
-    ghost lets = { λ _ _ _. Some true };
+    ghost enables = { λ _ _ _. Some true };
 
     ghost leaves_out = { HasLeftOut };
 
@@ -44,52 +44,38 @@ impl<O> Answers for Unhindered<O> {
         true
     }
 
-    fn lines_left_out(&self) -> u64 {
-        match self.desk.told_to_lend() {
-            Ok(desk) => desk.lines_left_out(),
-            Err(_) => 0,
-        }
+    fn lines_left_out(&self, look: Look) -> u64 {
+        self.desk.lines_left_out(look)
     }
 }
 
-impl<O: Outlet> Log for Unhindered<O> {
-    ghost enables = { λ _ _ _. Some true };
+impl<O: Outlet> Takes for Unhindered<O> {
+    ghost takes = { sink_takes O.looks O.writes };
 
-    ghost target_of = { λ _. Some [] };
-
-    fn enabled(&self, _metadata: &Metadata<'_>) -> bool {
-        true
+    fn take<N: Display + Source + Copy>(&self, offered: Offered<'_, N>) {
+        self.desk.offer(self.format, offered);
     }
+}
 
-    fn log<D: Display, K: Source, S: Spans>(&self, record: &Record<'_, D, K, S>) {
-        self.desk
-            .offer(self.format, Shown::new(self.format, record));
-    }
+impl<O: Outlet> Flushes for Unhindered<O> {
+    ghost tells = { sink_tells O.looks O.writes };
 
-    fn flush(&self) {
-        self.desk.tell_left_out(self.format);
-    }
-
-    fn target(&self) -> &str {
-        ""
+    fn flush(&self, turn: Turn) {
+        self.desk.tell_left_out(self.format, turn);
     }
 }
 
 /// A log that is handed the records of a box, and answers how much of them was left out.
-pub trait Journal: Log + Answers {
+pub trait Journal: Answers + Takes + Flushes {
     /// How it writes its records, where that is known.
     ghost writes: { Self → Option Writing } = { λ _. None };
 
     /// By which rules they pass, where that is known.
     ghost passes: { Self → Option (List Rule) } = { λ _. None };
-
-    /// It answers whether a record passes as it is known to.
-    ghost lets_as_enables: { (log : Self) → (level : Level) → (target : List ℕ)
-        → Self.lets log level target ≡ Self.enables log level target };
 }
 
-impl<O: Outlet> Journal for Unhindered<O> {
+/// Of a sink whose outlet can be let go. Where a sink takes a record, or flushes, no more is known of its outlet than that lines go
+/// there: so there it is no `Journal`, and has nobody's pen write at it.
+impl<O: Outlet + Drop> Journal for Unhindered<O> {
     ghost writes = { λ sink. Some (format_of sink) };
-
-    ghost lets_as_enables = { λ _ _ _. refl };
 }

@@ -2,6 +2,7 @@
 ghost use Rattle.std.specs.Prelude.{◌≡◌};
 ghost use Rattle.journal.specs.Errors.{IsSeenRoomy, WasSeen, WasWritten};
 
+use polls::Asks;
 use runtimes::Hand;
 use std::fmt::Display;
 use std::io;
@@ -20,6 +21,8 @@ impl<'a, R> Model for StandardError<'a, R> {
 
     ghost view = { λ e. e.hand };
 }
+
+impl<R> Asks for StandardError<'_, R> {}
 
 impl<'a, R> StandardError<'a, R> {
     /// It is asked by this hand. Nothing is known of its room.

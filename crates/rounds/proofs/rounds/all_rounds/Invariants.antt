@@ -10,5 +10,5 @@ invariant-loop g l = record {
       l.counter l.last
       (box l.fn.gateway l.fn.wire l.fn.desk l.fn.log.told) l.fn.clock l.fn.until l.fn.supervisor
       (box l.gateway l.wire l.desk l.log.told) l.clock l.until l.supervisor;
-  handed : HandsOn g.L.Log.enables l.fn.log l.log;
+  handed : HandsOn g.L.Answers.enables l.fn.log l.log;
 }

@@ -17,4 +17,4 @@ returns-clause-rounds g c = record {
 
 pub returns-clause-handed : goal.returns-clause-handed
 returns-clause-handed g c =
-    all_handed g.L.Log.enables _ _ (λ first all. c.end.ensures.goes_on first (c.all_rounds.ensures.handed first all))
+    all_handed g.L.Answers.enables _ _ (λ first all. c.end.ensures.goes_on first (c.all_rounds.ensures.handed first all))

@@ -29,7 +29,7 @@ returns-clause-rounds g c = record {
 }
 
 pub returns-in_err-end-clause-handed : goal.returns-in_err-end-clause-handed
-returns-in_err-end-clause-handed g c = all_handed g.L.Log.enables _ _ c.run-left.ensures.handed
+returns-in_err-end-clause-handed g c = all_handed g.L.Answers.enables _ _ c.run-left.ensures.handed
 
 pub returns-clause-handed : goal.returns-clause-handed
-returns-clause-handed g c = all_handed g.L.Log.enables _ _ c.run-left.ensures.handed
+returns-clause-handed g c = all_handed g.L.Answers.enables _ _ c.run-left.ensures.handed

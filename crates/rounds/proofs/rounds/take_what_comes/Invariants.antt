@@ -12,5 +12,5 @@ invariant-loop g l = record {
   had :
       HasAsked (calls g.W.Wire.does g.W.Wire.answers) g.W.Wire.waits l.track 10_000_000 l.counter (box l.fn.gateway l.fn.wire l.fn.desk l.fn.log.told)
       (box l.gateway l.wire l.desk l.log.told);
-  handed : HandsOn g.L.Log.enables l.fn.log l.log;
+  handed : HandsOn g.L.Answers.enables l.fn.log l.log;
 }

@@ -9,6 +9,6 @@ use Rattle.journal.proofs.pens.Pen.tell_all_others.Given as goal
 abbrev pub invariant-loop-origin : goal.invariant-loop-origin
 invariant-loop-origin g l = record {
   same_log : log_of l.self ≡ log_of l.fn.self;
-  told : (after : Pen _) → FoldsTo (λ p (origin : Origin) q. AreToldOfOrigin g.L.Log.enables p l.moment l.ended origin q) l.self (drop l.origin-index l.origin-items) after
-      → AreToldOthers g.L.Log.enables l.fn.self l.moment l.ended after;
+  told : (after : Pen _) → FoldsTo (λ p (origin : Origin) q. AreToldOfOrigin g.L.Answers.enables p l.moment l.ended origin q) l.self (drop l.origin-index l.origin-items) after
+      → AreToldOthers g.L.Answers.enables l.fn.self l.moment l.ended after;
 }

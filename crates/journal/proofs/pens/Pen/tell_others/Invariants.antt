@@ -10,6 +10,6 @@ use Rattle.journal.proofs.pens.Pen.tell_others.Given as goal
 abbrev pub invariant-loop-cause : goal.invariant-loop-cause
 invariant-loop-cause g l = record {
   same_log : log_of l.self ≡ log_of l.fn.self;
-  told : (after : Pen _) → FoldsTo (λ p (cause : Cause) q. IsToldSome g.L.Log.enables p l.moment (owed l.ended l.origin cause) q) l.self (drop l.cause-index l.cause-items) after
-      → AreToldOfOrigin g.L.Log.enables l.fn.self l.moment l.ended l.origin after;
+  told : (after : Pen _) → FoldsTo (λ p (cause : Cause) q. IsToldSome g.L.Answers.enables p l.moment (owed l.ended l.origin cause) q) l.self (drop l.cause-index l.cause-items) after
+      → AreToldOfOrigin g.L.Answers.enables l.fn.self l.moment l.ended l.origin after;
 }
