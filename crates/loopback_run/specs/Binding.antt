@@ -38,8 +38,8 @@ BindsAll binds [] b (port ∷ ports) b2 = ⊥
 BindsAll binds (n ∷ ns) b [] b2 = ⊥
 BindsAll {B = B} binds (n ∷ ns) b (port ∷ ports) b2 = (next : B) × (BindsPort binds n b (Ok port) next × BindsAll binds ns next ports b2)
 
--- A port that was had, or those of a gateway, were given up, as they were. It is no more than a name: of who gives them up nothing is known where he has
--- it, but that they are gone.
+-- A port that was had, or those of a gateway, were given up, as they were; or a socket that is no port, or what waits for it. It is no more than a name:
+-- of who gives them up nothing is known where he has it, but that they are gone.
 unfoldable pub WasGivenUp : {X : Type 0} → X → Type 0
 WasGivenUp had = Unit {0}
 
@@ -89,15 +89,15 @@ WasPollMade before (Err error) after = asked.WasPollMade before (Err error) afte
 -- a poll was told, once, to watch a socket for what is of interest, under the token 0; it answered so, and since then the socket is that one
 abbrev pub WasRegistered : UdpSocket → Interest → Result (Unit {0}) Error → UdpSocket → Type 0
 WasRegistered socket interest answer socket2 = (registry : Registry)
-    × ((since : Registry) × asked.WasRegistered registry socket (record { 0 = 0 }) interest answer socket2 since)
+    × ((since : Registry) × asked.WasUdpRegistered registry socket (record { 0 = 0 }) interest answer socket2 since)
 
 -- Waits were to report of a socket what is of interest, in this room. The port is the socket as that left it, with these waits and this room as they
--- were; or it was refused. Who asks the system was asked for nothing.
+-- were; or it was refused, and then the socket was given up as that left it, and the waits as they were. Who asks the system was asked for nothing.
 abbrev pub WasWatched : {B : Type 0} → B → Socket → Waits → Events Global → Interest → Result SystemPort Error → B → Type 0
 WasWatched before socket waits room interest (Ok port) after = WasRegistered socket.0 interest (Ok tt) port.socket.0
     × ((port ≡ record { socket = port.socket; waits = waits; events = room }) × (after ≡ before))
 WasWatched before socket waits room interest (Err error) after =
-    ((socket2 : UdpSocket) × WasRegistered socket.0 interest (Err error) socket2) × (after ≡ before)
+    ((socket2 : Socket) × (WasRegistered socket.0 interest (Err error) socket2.0 × (WasGivenUp socket2 × WasGivenUp waits))) × (after ≡ before)
 
 -- that it can be read
 abbrev pub reading : Interest
@@ -117,13 +117,14 @@ pub record IsWatched {B : Type 0} (number : ℕ) (room : Events Global) (before 
   pub made : WasPollMade bound (Ok waits) waiting
   pub watched : WasWatched waiting socket waits room reading answer after
 
--- it was had, and nothing waits for it
+-- it was had, and nothing waits for it: it was given up
 pub record IsAwaitedByNone {B : Type 0} (number : ℕ) (before after : B) : Type 0 where
   pub socket : Socket
   pub bound : B
   pub had : IsBoundAt number before (Ok socket) bound
   pub error : Error
   pub refused : WasPollMade bound (Err error) after
+  pub given_up : WasGivenUp socket
 
 -- the first of these three that was refused; nothing was asked behind it
 abbrev pub IsUnwatched : {B : Type 0} → ℕ → Events Global → B → B → Type 0

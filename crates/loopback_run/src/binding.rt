@@ -2,6 +2,7 @@
 ghost use Rattle.loopback_run.specs.Binding.{Watches};
 
 use crate::carriers::{Binds, Unbound};
+use crate::giving::give_up;
 use crate::machine::{SystemBinds, SystemPort, address_of};
 use descriptors::{Events, Interest};
 use std::alloc::Global;
@@ -21,7 +22,8 @@ impl<R: Net + AllocGlobal> Binds<SystemPort> for SystemBinds<'_, R> {
     }
 }
 
-/// The port of this number, of which waits report in this room that it can be read.
+/// The port of this number, of which waits report in this room that it can be read. A socket that nothing waits for is given
+/// up.
 fn watched<R: Net>(
     system: &mut SystemBinds<'_, R>,
     number: u16,
@@ -33,6 +35,7 @@ fn watched<R: Net>(
         return Err(Unbound::NoSocket);
     };
     let Ok(waits) = system.told_to_make_poll() else {
+        give_up(socket);
         return Err(Unbound::NoSocket);
     };
     match system.told_to_watch(socket, waits, room, Interest::READABLE) {

@@ -4,6 +4,8 @@
 mod binding;
 mod carriers;
 mod carrying;
+mod giving;
+mod laws;
 mod loopback;
 mod machine;
 mod passage;

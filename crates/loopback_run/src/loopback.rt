@@ -1,10 +1,11 @@
 //! A passage through UDP sockets on the loopback address.
 ghost use Rattle.std.specs.Prelude.{◌≡◌, IfOk};
 ghost use Rattle.loopback_run.specs.Held.{AreOf, AreOfBoth, AsksOne, AsksOneOf, AsksPort};
-ghost use Rattle.loopback_run.specs.Binding.{BindsBoth, BindsPort, BindsPorts, WasGivenUp};
+ghost use Rattle.loopback_run.specs.Binding.{BindsBoth, BindsPort, BindsPorts};
 ghost use Rattle.loopback_run.specs.Reaches.{reach};
 
 use crate::carriers::{Binds, Carries, Unbound};
+use crate::giving::{Held, give_up};
 use crate::machine::{SystemBinds, SystemPort};
 use crate::{Channel, Passed, PortFault};
 use nat_types::{GatewayId, Side};
@@ -13,36 +14,9 @@ use settings::{GatewaySettings, Settings};
 use sockets::Place;
 use std::snapshot::Snapshot;
 
-/// Kept to this file, so that nothing else can be a `Held`.
-mod closed {
-    /// Nobody else can name it.
-    pub trait Sealed {}
-}
-
-/// What a port's bytes go through, a port, or three: itself, and nothing that shows itself as that.
-pub(crate) trait Held: Drop + closed::Sealed {}
-
-impl closed::Sealed for SystemPort {}
-
-impl Held for SystemPort {}
-
-impl<S: Held> closed::Sealed for Port<S> {}
-
-impl<S: Held> Held for Port<S> {}
-
-impl<S: Held> closed::Sealed for Ports<S> {}
-
-impl<S: Held> Held for Ports<S> {}
-
-/// Gives up what was had. Of what it is nothing is known here, so nothing else can be done with it.
-#[tactic(auto, unfolding(crate::specs::Binding::WasGivenUp))]
-fn give_up<X: Held>(_had: X)
-    ensures { WasGivenUp _had }
-{}
-
 /// A port that sends to itself: its number, and what its bytes go through.
 #[derive(Drop)]
-struct Port<S> {
+pub(crate) struct Port<S> {
     number: u16,
     carrier: S,
 }
@@ -73,7 +47,7 @@ impl<S> Port<S> {
 
 /// The three ports of a gateway.
 #[derive(Drop)]
-struct Ports<S> {
+pub(crate) struct Ports<S> {
     link: Port<S>,
     inside: Port<S>,
     outside: Port<S>,
@@ -169,7 +143,7 @@ impl<S> Both<S> {
 
 /// The ports of both gateways, by these settings.
 #[derive(Drop)]
-struct BoundPorts<S> {
+pub(crate) struct BoundPorts<S> {
     both: Both<S>,
     settings: Snapshot<Settings>,
     ghost numbered: { AreOfBoth settings.value both },
@@ -195,7 +169,7 @@ impl<S> BoundPorts<S> {
 
 /// What was answered when ports were asked for last.
 #[derive(Drop)]
-enum Hold<S> {
+pub(crate) enum Hold<S> {
     Unasked,
     /// They are had.
     Bound(BoundPorts<S>),
@@ -209,7 +183,7 @@ impl<S: Held> Hold<S> {
 
     /// Lets go what was answered, and the ports, if they are had, as they are, before who binds others is asked for these.
     #[tactic(auto, unfolding(crate::specs::Standings::WasLetGo))]
-    fn let_go<B>(&mut self, system: &mut B)
+    pub(crate) fn let_go<B>(&mut self, system: &mut B)
         ensures let_go { WasLetGo system.old (standing_of self.old) system.new }
         ensures unasked { standing_of self.new ≡ unasked }
     {

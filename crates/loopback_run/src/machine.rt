@@ -5,6 +5,7 @@ ghost use Rattle.loopback_run.specs.Binding.{WasBound, WasGivenRoom, WasPollMade
 ghost use Rattle.loopback_run.specs.Carrying.{WasAwaited, WasNow, WasReceived, WasSent, WasSince};
 ghost use Rattle.loopback_run.specs.Reaches.{reach};
 
+use crate::giving::give_up;
 use descriptors::{Events, Interest, Poll, Token, UdpSocket};
 use runtimes::Hand;
 use sockets::LONGEST;
@@ -86,7 +87,8 @@ impl<R: Net> SystemBinds<'_, R> {
         Ok(Waits(Poll::new(&mut self.hand)?))
     }
 
-    /// Has waits report of a socket what is of interest, in this room: it is a port then.
+    /// Has waits report of a socket what is of interest, in this room: it is a port then. Where they refuse
+    /// to, both are given up.
     pub(crate) fn told_to_watch(
         &mut self,
         socket: Socket,
@@ -98,12 +100,18 @@ impl<R: Net> SystemBinds<'_, R> {
     {
         let mut socket = socket;
         let mut registry = waits.0.registry();
-        registry.register_udp(&mut socket.0, Token(0), interest)?;
-        Ok(SystemPort {
-            socket,
-            waits,
-            events: room,
-        })
+        match socket.0.register(&mut registry, Token(0), interest) {
+            Ok(()) => Ok(SystemPort {
+                socket,
+                waits,
+                events: room,
+            }),
+            Err(error) => {
+                give_up(socket);
+                give_up(waits);
+                Err(error)
+            }
+        }
     }
 
     /// Has the system send bytes through a port to an address, and says whether it did.

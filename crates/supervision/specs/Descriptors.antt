@@ -1,7 +1,8 @@
 -- What can be said of a descriptor that is to never wait.
-use Rattle.std.specs.Prelude.{ℕ, ℤ, pos, ◌<ℤ◌}
+use Rattle.std.specs.Prelude.{ℕ, ℤ, pos, ◌<ℤ◌, ◌≡◌, []}
 use Rattle.descriptors.specs.Asked.{WasUnblocked, WereDescriptorsMade}
 use Rattle.descriptors.specs.declared.inherited.Descriptors.{Descriptors}
+use Rattle.supervision.specs.declared.outbox.Outbox.{Outbox}
 
 -- By a process was made, once, who may ask for descriptors. He was then to make this descriptor one that never waits: that is all that he was asked, the
 -- system answered so, and since then he is this.
@@ -30,10 +31,20 @@ abbrev pub IsSet : {M : Type 0} → M → ℕ → M → Type 0
 IsSet before descriptor after =
     (answer : ℤ) × (WasAsked before descriptor answer after × (WasAnswered descriptor answer × ¬ (answer <ℤ pos 0)))
 
--- and it refused to
+-- By what messages go out was let go, as it was. It is no more than a name: who lets it go has it, and nobody else.
+unfoldable pub WasLetGo : {S : Type 0} → S → Type 0
+WasLetGo it = Unit {0}
+
+-- this process asked it for this descriptor alone, once; and by what messages would have gone out was let go as this answer left it, and had handed on
+-- none
+abbrev pub WasLeft : {M : Type 0} → M → ℕ → ℤ → M → Type 0
+WasLeft before descriptor answer after = (outbox : Outbox)
+    × (WasAskedBy before descriptor answer outbox.descriptors after × ((outbox.handed ≡ []) × WasLetGo outbox))
+
+-- and it refused to, and all that was made for that was let go
 abbrev pub IsUnset : {M : Type 0} → M → ℕ → M → Type 0
 IsUnset before descriptor after =
-    (answer : ℤ) × (WasAsked before descriptor answer after × (WasAnswered descriptor answer × (answer <ℤ pos 0)))
+    (answer : ℤ) × (WasLeft before descriptor answer after × (WasAnswered descriptor answer × (answer <ℤ pos 0)))
 
 -- this process asked it for this descriptor alone, once
 abbrev pub IsSetOnce : {M : Type 0} → M → ℕ → M → Type 0

@@ -1,6 +1,8 @@
 //! What a service manager is told of a box: that it is up, that it goes on, and that it ends.
 #![tactic(auto)]
 
+mod laws;
+mod letting_go;
 mod machine;
 mod managers;
 mod notices;

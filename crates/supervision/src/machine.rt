@@ -4,6 +4,7 @@ ghost use Rattle.std.specs.Prelude.{◌≡◌, ◌↔◌, ◌++◌, ◌∷◌, �
 ghost use Rattle.supervision.specs.Descriptors.{IsRefused, IsSet, IsSetOnce, IsUnset, NeverWaits, WasAskedBy};
 
 use crate::NotOpen;
+use crate::letting_go::let_go;
 use crate::outbox::Outbox;
 use arrayvec::ArrayString;
 use descriptors::Descriptors;
@@ -36,7 +37,7 @@ impl<'a, R> Machine<'a, R> {
 
 impl<R: Net> Machine<'_, R> {
     /// Has the system make a descriptor one that never waits. What it gives hands on messages then: there is no other way to
-    /// one, so who tells a manager has his alone.
+    /// one, so who tells a manager has his alone. Where it refuses to, what it made for them is let go as it was then.
     ///
     /// # Errors
     ///
@@ -52,6 +53,7 @@ impl<R: Net> Machine<'_, R> {
     {
         let (answer, outbox) = self.told_to_set(descriptor);
         if is_refused(answer) {
+            let_go(outbox);
             return Err(NotOpen(descriptor));
         }
         Ok(Messages::new(outbox))

@@ -8,6 +8,7 @@ returns-in_default-told_to_make_poll g c = inr (inl (record {
   had = (c.address_of.result, (c.address_of.ensures, c.in-Ok.ensures));
   error = c.in_default-told_to_make_poll.field-0;
   refused = c.in_default-told_to_make_poll.ensures;
+  given_up = c.give_up.ensures;
 }))
 
 pub returns-in-Ok-told_to_watch : goal.returns-in-Ok-told_to_watch
