@@ -3,7 +3,7 @@ ghost use Rattle.std.specs.Prelude.{◌≡◌, false, true, length};
 ghost use Rattle.polls.specs.Polls.{HasNoReport, HasReport};
 ghost use Rattle.inputs.specs.Inputs.{IsReported, WasRead};
 
-use polls::standard_input_is_reported;
+use polls::{Asks, standard_input_is_reported};
 use runtimes::Hand;
 use std::io::{self, Read};
 use std::marker::Model;
@@ -22,6 +22,8 @@ impl<'a, R> Model for StandardInput<'a, R> {
     ghost view = { λ s. s.hand };
 }
 
+impl<R> Asks for StandardInput<'_, R> {}
+
 impl<'a, R> StandardInput<'a, R> {
     /// It is asked by this hand.
     pub fn new(hand: Hand<'a, R>) -> StandardInput<'a, R>
@@ -37,7 +39,7 @@ impl<R> StandardInput<'_, R> {
         ensures reported { result ≡ true → HasReport self.old self.new }
         ensures none { result ≡ false → HasNoReport self.old self.new }
     {
-        standard_input_is_reported(&mut self.hand)
+        standard_input_is_reported(self)
     }
 }
 

@@ -4,5 +4,5 @@
 mod askers;
 mod looks;
 
-pub use askers::Asker;
+pub use askers::{Asker, Asks};
 pub use looks::{file_has_room, standard_error_has_room, standard_input_is_reported};

@@ -3,12 +3,13 @@ ghost use Rattle.std.specs.Prelude.{◌≡◌, ◌↔◌, IsTrue, false, pos, tr
 ghost use Rattle.polls.specs.Polls.{FileHasNoRoom, FileHasRoom, HasNoReport, HasNoRoom};
 ghost use Rattle.polls.specs.Polls.{HasReport, HasRoom, IsWritable, WasPolled};
 
+use crate::askers::Asks;
 use libc::types::pollfd;
 use std::io::Write;
 use std::os::fd::{AsRawFd, RawFd};
 
 /// Whether something stands on the standard input, or it is closed: POLLIN. It doesn't wait.
-pub fn standard_input_is_reported<I>(asker: &mut I) -> bool
+pub fn standard_input_is_reported<I: Asks>(asker: &mut I) -> bool
     ensures reported { result ≡ true → HasReport asker.old asker.new }
     ensures none { result ≡ false → HasNoReport asker.old asker.new }
 {
@@ -21,7 +22,7 @@ pub fn standard_input_is_reported<I>(asker: &mut I) -> bool
 }
 
 /// Whether a write to the standard error wouldn't wait: a pipe has room for 4,096 bytes then. It doesn't wait itself.
-pub fn standard_error_has_room<I>(asker: &mut I) -> bool
+pub fn standard_error_has_room<I: Asks>(asker: &mut I) -> bool
     ensures room { result ≡ true → HasRoom (pos 2) asker.old asker.new }
     ensures full { result ≡ false → HasNoRoom (pos 2) asker.old asker.new }
 {
@@ -29,7 +30,7 @@ pub fn standard_error_has_room<I>(asker: &mut I) -> bool
 }
 
 /// The same of a file or a pipe. A number alone is none.
-pub fn file_has_room<F: Write + AsRawFd, I>(file: &F, asker: &mut I) -> bool
+pub fn file_has_room<F: Write + AsRawFd, I: Asks>(file: &F, asker: &mut I) -> bool
     ensures room { result ≡ true → FileHasRoom (F.raw_fd file.now) asker.old asker.new }
     ensures full { result ≡ false → FileHasNoRoom (F.raw_fd file.now) asker.old asker.new }
 {
@@ -37,7 +38,7 @@ pub fn file_has_room<F: Write + AsRawFd, I>(file: &F, asker: &mut I) -> bool
 }
 
 /// Whether a write to a descriptor wouldn't wait: POLLOUT.
-fn has_room<I>(descriptor: RawFd, asker: &mut I) -> bool
+fn has_room<I: Asks>(descriptor: RawFd, asker: &mut I) -> bool
     ensures room { result ≡ true → HasRoom descriptor asker.old asker.new }
     ensures full { result ≡ false → HasNoRoom descriptor asker.old asker.new }
 {
@@ -63,7 +64,7 @@ fn is_writable(answered: &[pollfd]) -> bool
 /// Has the system poll these, waiting for at most so many milliseconds, which are none, and gives its answer. Nothing else
 /// of this crate asks the system.
 #[tactic(auto, unfolding(crate::specs::Polls::WasPolled))]
-fn told_to_poll<I>(asker: &mut I, asked: &mut [pollfd], limit: i32) -> i32
+fn told_to_poll<I: Asks>(asker: &mut I, asked: &mut [pollfd], limit: i32) -> i32
     requires unwaited { limit ≡ pos 0 }
     ensures polled { WasPolled asker.old asked.old limit asked.new result asker.new }
     ensures polled_so { WasPolled (tt {0}) asked.old limit asked.new result tt }

@@ -3,9 +3,7 @@
 
 mod hand;
 mod hosted;
-mod kept;
 mod sealed;
 
 pub use hand::Hand;
 pub use hosted::Hosted;
-pub use kept::Kept;
