@@ -1,11 +1,15 @@
 -- The ends of its own that a box needs.
-use Rattle.std.specs.Prelude.{◌≡◌, ◌⊎◌, ℕ, Bool, true, false, List, [], ◌∷◌, ◌++◌, Option, None, Some, IsSome, codes, decimal}
+use Rattle.std.specs.Prelude.{◌≡◌, ◌⊎◌, ℕ, Bool, true, false, List, [], ◌∷◌, ◌++◌, Option, None, Some, IsSome, Ok, Err, codes, decimal}
 use Rattle.std.specs.Int.{to_be_bytes, w32}
 use Rattle.std.specs.Net.Addr.{IsIpv4OfBits}
 use Rattle.std.specs.Net.Socket.{v4_ip, v4_port}
 use Rattle.std.specs.Net.Text.{ipv4_text}
+use Rattle.std.specs.declared.io.Error.{Error}
 use Rattle.std.specs.declared.net.socket_addr.SocketAddr.{SocketAddr}
 use Rattle.std.specs.declared.net.socket_addr.SocketAddr.TheVariants as socket
+use Rattle.polls.specs.declared.askers.Asker.{Asker}
+use Rattle.descriptors.specs.Asked.{WasBound}
+use Rattle.descriptors.specs.declared.udp.UdpSocket.{UdpSocket}
 use Rattle.sockets.specs.Ends.{are_on_loopback}
 use Rattle.sockets.specs.declared.ends.End.{End}
 use Rattle.sockets.specs.declared.places.Ports.{Ports}
@@ -42,14 +46,19 @@ abbrev pub IsAt : End → SocketAddr → Type 0
 IsAt end (socket.V4 at) = IsIpv4OfBits (v4_ip at) end.address.0 × (v4_port at ≡ end.port)
 IsAt end (socket.V6 at) = ⊥
 
--- The system answered so when it was asked for a socket at this address: it refuses it, or not. It says nothing of such a call, so this is no
--- more than a name for it: who makes the call has it, and nobody else.
-unfoldable pub WasAsked : SocketAddr → Bool → Type 0
-WasAsked address is_refused = Unit {0}
+-- A socket that was had was let go as it was given: nothing was sent by it. It is no more than a name: who lets it go has it, and nobody else.
+unfoldable pub WasReleased : {S : Type 0} → S → Type 0
+WasReleased socket = Unit {0}
 
--- Whoever asked it was this before and is this then: he asked for just that. It is such a name, too.
-unfoldable pub WasAskedBy : {B : Type 0} → B → SocketAddr → Bool → B → Type 0
-WasAskedBy before address is_refused after = Unit {0}
+-- Whoever asked the system was this before and is this then: he asked it for a socket at this address, once. It refused it; or it gave one, which was let
+-- go as it was.
+abbrev pub WasAskedBy : {B : Type 0} → B → SocketAddr → Bool → B → Type 0
+WasAskedBy before address true after = (error : Error) × WasBound before address (Err error) after
+WasAskedBy before address false after = (given : UdpSocket) × (WasBound before address (Ok given) after × WasReleased given)
+
+-- the system answered so when somebody asked it for a socket at this address
+abbrev pub WasAsked : SocketAddr → Bool → Type 0
+WasAsked address is_refused = (before after : Asker) × WasAskedBy before address is_refused after
 
 -- so it answered when it was asked at the address and the port of this end
 abbrev pub WasAskedAt : End → Bool → Type 0

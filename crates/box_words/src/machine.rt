@@ -7,12 +7,14 @@ ghost use Rattle.box_words.specs.Ends.{WasAsked, WasAskedBy};
 ghost use Rattle.box_words.specs.Machines.{IsOfReading, WasDone, WasNow, WasSince};
 ghost use Rattle.box_words.specs.Making.{WasLetGo};
 
+use crate::releasing::release;
 use boot_file::{FileDisk, Opened};
+use descriptors::UdpSocket;
 use faults::{Fault, text_of};
 use runtimes::Hand;
 use std::fs::Files;
 use std::marker::Model;
-use std::net::{Net, SocketAddr, UdpSocket};
+use std::net::{Net, SocketAddr};
 use std::rt::Clock;
 use std::thread;
 use std::time::{Duration, Instant};
@@ -80,12 +82,24 @@ impl<R: Clock> System<'_, R> {
 
 impl<R: Net> System<'_, R> {
     /// Asks it for a socket at an address, which is let go again, and says whether it refuses it.
-    #[tactic(auto, unfolding(crate::specs::Ends::WasAsked, crate::specs::Ends::WasAskedBy))]
     pub(crate) fn told_to_bind(&mut self, address: SocketAddr) -> bool
         ensures asked { WasAsked address result }
         ensures alone { WasAskedBy self.old address result self.new }
     {
-        UdpSocket::bind(self.0.lend(), address).is_err()
+        self.is_bound_refused(address)
+    }
+
+    /// Asks it so.
+    fn is_bound_refused(&mut self, address: SocketAddr) -> bool
+        ensures { WasAskedBy self.old address result self.new }
+    {
+        match UdpSocket::bind(&mut self.0, address) {
+            Ok(socket) => {
+                release(socket);
+                false
+            }
+            Err(_) => true,
+        }
     }
 }
 

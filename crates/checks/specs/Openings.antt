@@ -31,8 +31,8 @@ Lets F = F → Option ℕ → F → Type 0
 abbrev pub Locks : Type 0 → Type 1
 Locks F = F → Result (Unit {0}) TryLockError → F → Type 0
 
--- Who was asked for the file at this path, where it is a regular one, by these options, answered so, and is this then. No more is known of it, so this is no more than a
--- name for the call, as are the two below it: who makes the call has it, and nobody else.
+-- Who was asked for the file at this path, where it is a regular one, by these options, and that file for its mode, answered so, and is this then. No more is known of it,
+-- so this is no more than a name for the call, as is the one below it: who makes the call has it, and nobody else.
 unfoldable pub WasOpened : {P F : Type 0} → P → OpenOptions → List ℕ → Result (Option F) Error → P → Type 0
 WasOpened before options path answer after = Unit {0}
 
@@ -40,9 +40,13 @@ WasOpened before options path answer after = Unit {0}
 unfoldable pub WasBegun : {F : Type 0} → Begins F
 WasBegun before answer after = Unit {0}
 
--- for its mode
-unfoldable pub WasLet : {F : Type 0} → Lets F
-WasLet before mode after = Unit {0}
+-- so was what was opened, and the mode that is kept beside the file is as it was
+abbrev pub BeginsOpened : {F : Type 0} → Begins (Opened F)
+BeginsOpened before answer after = WasBegun before answer after × (after.mode ≡ before.mode)
+
+-- the mode is the one that is kept beside the file, and nothing is asked for it
+abbrev pub IsModeOf : {F : Type 0} → Lets (Opened F)
+IsModeOf before mode after = (mode ≡ before.mode) × (after ≡ before)
 
 -- what was opened has the lock of the file within
 abbrev pub LocksOpened : {F : Type 0} → Locks F → Locks (Opened F)
@@ -82,7 +86,7 @@ IsSeenAt begins lets locks (Ok (Some file)) other = ⊥
 abbrev pub IsFoundIn : {P : Type 0} → (F : Type 0) → Locks F → Finds P
 IsFoundIn F locks before path what after =
     (options : OpenOptions) × (IsToRead options × ((opened : Result (Option (Opened F)) Error)
-    × (WasOpened before options path opened after × IsSeenAt WasBegun WasLet (LocksOpened locks) opened what)))
+    × (WasOpened before options path opened after × IsSeenAt BeginsOpened IsModeOf (LocksOpened locks) opened what)))
 
 -- ---- an MTU
 

@@ -9,6 +9,7 @@ mod differences;
 mod digests;
 mod doubts;
 mod ends;
+mod laws;
 mod machine;
 mod memory;
 mod openings;

@@ -1,6 +1,6 @@
 //! The system, as who is asked for files. Each thing it is asked has a name, and no more is known of it.
-ghost use Rattle.std.specs.Prelude.{◌≡◌};
-ghost use Rattle.checks.specs.Openings.{WasOpened};
+ghost use Rattle.std.specs.Prelude.{◌≡◌, IfOk, IfSome, take};
+ghost use Rattle.checks.specs.Openings.{LocksOpened, WasBegun, WasOpened};
 
 use crate::openings::Opening;
 use boot_file::Lockable;
@@ -42,8 +42,8 @@ impl<R: AllocGlobal> ThisMachine<'_, R> {
 }
 
 impl<R: Files> ThisMachine<'_, R> {
-    /// Asks the system for the file at a path, where it is a regular one, by these options. What is answered can be asked
-    /// by `Opening` alone.
+    /// Asks the system for the file at a path, where it is a regular one, by these options, and that file for its mode.
+    /// What is answered can be asked by `Opening` alone.
     #[tactic(auto, unfolding(crate::specs::Openings::WasOpened))]
     pub(crate) fn told_to_open(
         &mut self,
@@ -55,33 +55,32 @@ impl<R: Files> ThisMachine<'_, R> {
         if !fs::metadata(self.0.lend(), path)?.is_file() {
             return Ok(None);
         }
+        let file = options.open(self.0.lend(), path)?;
         Ok(Some(Opened {
-            file: options.open(self.0.lend(), path)?,
+            mode: match file.metadata() {
+                Ok(metadata) => Some(metadata.permissions().mode()),
+                Err(_) => None,
+            },
+            file,
         }))
     }
 }
 
-/// A boot file that was opened. Nobody sees it but this module, so that it can be asked by `Opening` alone.
+/// A boot file that was opened, and the mode that it had then, where that is known. Nobody sees the file but this module, so
+/// that it can be asked by `Opening` alone.
 #[derive(Drop)]
 pub struct Opened<F> {
     file: F,
+    mode: Option<u32>,
 }
 
-/// That it is asked for its first bytes and for its mode has names, and of these no more is known; its lock is that of the
-/// file. Of a file whose bytes are known the first are read.
-impl<F: Read + OpenFile + Lockable> Opening for Opened<F> {
-    ghost use Rattle.std.specs.Prelude.{◌≡◌, IfOk, IfSome, take};
-    ghost use Rattle.checks.specs.Openings.{LocksOpened, WasBegun, WasLet};
-
-    ghost begins = { WasBegun };
-
-    ghost lets = { WasLet };
-
-    ghost locks = { LocksOpened F.locks };
-
+impl<F: Read> Opened<F> {
+    /// Asks it for its first bytes, by no more than that it can be read. Of a file whose bytes are known the first are read;
+    /// the mode that is kept beside it stays.
     #[tactic(auto, unfolding(crate::specs::Openings::WasBegun))]
-    fn first(&mut self) -> io::Result<[u8; 32]>
+    pub(crate) fn told_to_begin(&mut self) -> io::Result<[u8; 32]>
         ensures asked { WasBegun self.old result self.new }
+        ensures mode { self.new.mode ≡ self.old.mode }
         ensures bytes { IfSome (F.remaining self.old.file)
             (λ bytes. IfOk result (λ first. first ≡ take 32 bytes)) }
     {
@@ -89,17 +88,47 @@ impl<F: Read + OpenFile + Lockable> Opening for Opened<F> {
         self.file.read_exact(&mut bytes)?;
         Ok(bytes)
     }
+}
 
-    #[tactic(auto, unfolding(crate::specs::Openings::WasLet))]
+impl<F> Opened<F> {
+    /// The mode that is kept beside it. Of the file nothing is known here, so it can be asked for nothing.
+    pub(crate) fn kept_mode(&self) -> Option<u32>
+        ensures { result ≡ self.now.mode }
+    {
+        self.mode
+    }
+}
+
+impl<F: Lockable> Opened<F> {
+    /// Has it locked, by no more than that it can be.
+    pub(crate) fn told_to_lock(&mut self) -> Result<(), TryLockError>
+        ensures { LocksOpened F.locks self.old result self.new }
+    {
+        self.file.try_lock()
+    }
+}
+
+/// That it is asked for its first bytes has a name, and of that no more is known; its mode is the one that is kept beside it,
+/// and its lock that of the file.
+impl<F: Read + Lockable> Opening for Opened<F> {
+    ghost use Rattle.checks.specs.Openings.{BeginsOpened, IsModeOf, LocksOpened};
+
+    ghost begins = { BeginsOpened };
+
+    ghost lets = { IsModeOf };
+
+    ghost locks = { LocksOpened F.locks };
+
+    fn first(&mut self) -> io::Result<[u8; 32]> {
+        self.told_to_begin()
+    }
+
     fn mode(&mut self) -> Option<u32> {
-        match self.file.metadata() {
-            Ok(metadata) => Some(metadata.permissions().mode()),
-            Err(_) => None,
-        }
+        self.kept_mode()
     }
 
     fn lock(&mut self) -> Result<(), TryLockError> {
-        self.file.try_lock()
+        self.told_to_lock()
     }
 }
 

@@ -26,6 +26,10 @@ IsOwnLog passes writes start log = IfSome (passes log) (IsChosenBy start.log) ×
 abbrev pub IsLikeLog : {L : Type 0} → (L → Option (List Rule)) → (L → Option Format) → L → L → Type 0
 IsLikeLog passes writes log log2 = (passes log2 ≡ passes log) × (writes log2 ≡ writes log)
 
+-- that, by whatever one asks for them
+abbrev pub IsAlike : {L : Type 0} → L → L → Type 0
+IsAlike {L = L} log log2 = (passes : L → Option (List Rule)) → (writes : L → Option Format) → IsLikeLog passes writes log log2
+
 -- a pen was asked just this, and then put down
 abbrev pub IsAskedOnce : {P : Type 0} → (P → Type 0) → Type 0
 IsAskedOnce {P = P} asks = (after : P) × (asks after × WasPutDown after)

@@ -131,7 +131,7 @@ WasUnlocked path ended output = Unit {0}
 unfoldable pub WasSpared : List ℕ → Type 0
 WasSpared path = Unit {0}
 
--- a wire or a service manager was this when it was let go: nothing was asked of it, or told it, behind that
+-- a wire, what captured its packets, a service manager, who asks, or who tells, was this when it was let go: nothing was asked of it, or told it, behind that
 unfoldable pub WasLetGo : {A : Type 0} → A → Type 0
 WasLetGo it = Unit {0}
 

@@ -15,7 +15,7 @@ use Rattle.sockets.specs.Receiving.{WaitsAt}
 use Rattle.sockets.specs.Showing.{failing_at, losses_at}
 use Rattle.sockets.specs.declared.sockets.Sockets.{Sockets}
 use Rattle.sockets.specs.declared.ways.Ways.{Ways}
-use Rattle.tap.specs.Taps.{Tapping}
+use Rattle.tap.specs.Taps.{Tapping, WasEnded}
 use Rattle.gate.specs.Asked.{box_ports, path_in}
 use Rattle.gate.specs.Boots.{IsIdentity}
 use Rattle.gate.specs.Logs.{WasToldRun}
@@ -85,11 +85,11 @@ abbrev pub IsLetGo : {W : Type 0} → Option (List ℕ) → W → W → Type 0
 IsLetGo None wire wire2 = WasLetGo wire2
 IsLetGo (Some path) wire wire2 = WasTapped path wire wire2 × WasLetGo wire2
 
--- A wire whose packets were captured: where it was had for the capture of a start at a path, and the start's box was run on it from then on, the wire
--- below was run through that capture.
+-- A wire whose packets were captured: where it was had for the capture of a start at a path, the start's box was run on it from then on, and then its
+-- capture was ended, once, the wire below was run through that capture.
 abbrev pub IsTapped : {W M O : Type 0} → Calls (Tapping W M O) → WireSays (Tapping W M O) → Tapping W M O → Type 0
 IsTapped {W = W} {M = M} {O = O} does says tapped = (start : Start) → (path : List ℕ) → (first : Tapping W M O) → (last : Tapping W M O)
-    → WasHad (tapped_wire path start.id) first → WasRun does says start first last → tapped.wire ≡ last.wire → WasTapped path first.wire tapped.wire
+    → WasHad (tapped_wire path start.id) first → WasRun does says start first last → WasEnded last tapped → WasTapped path first.wire tapped.wire
 
 -- So ran the box of a start, as this one, from a gateway to a gateway, on a wire, by its capture where there is one, and the wire was let go behind
 -- that. Its service manager, where it has one, heard of just that run, and its own log was told of it, from the gateway's moment on.

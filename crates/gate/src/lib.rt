@@ -4,6 +4,7 @@
 mod capturing;
 mod files;
 mod hands;
+mod laws;
 mod machine;
 mod making;
 mod reading;

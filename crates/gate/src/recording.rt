@@ -7,13 +7,13 @@ ghost use Rattle.rounds.specs.Rounds.{calls, wire_says};
 ghost use Rattle.rounds.specs.Tellings.{IsNewTeller, ToldLog};
 ghost use Rattle.tap.specs.Taps.{IsEnded};
 ghost use Rattle.gate.specs.Asked.{path_in};
-ghost use Rattle.gate.specs.Logs.{IsAskedOnce, IsLikeLog, IsOwnAndNew, IsToldOfBoot, IsToldOfLeftOut, IsToldSo, WasToldRun};
+ghost use Rattle.gate.specs.Logs.{IsAlike, IsAskedOnce, IsLikeLog, IsOwnAndNew, IsToldOfBoot, IsToldOfLeftOut, IsToldSo, WasToldRun};
 ghost use Rattle.gate.specs.Named.{IsTellerOf, WasClosed, WasLeftOut, WasLent, WasLetGo, WasRecorded};
 ghost use Rattle.gate.specs.Wires.{IsTapped};
 ghost use Rattle.gate.specs.declared.recording.Records.{Records};
 
 use crate::running::Start;
-use crate::wires::Held;
+use crate::wires::{Held, dismiss, untap};
 use box_words::BoxFault;
 use journal::{Entry, Journal, OwnLog, Pen};
 use outlets::Output;
@@ -64,6 +64,15 @@ impl<L: Drop + OwnLog> Records<L> {
 }
 
 impl<L: OwnLog> Records<L> {
+    /// Lends it to one who is to tell of a run. So each of these leaves a trace. It is told nothing here: nobody knows how.
+    #[tactic(auto, unfolding(crate::specs::Named::WasLent))]
+    pub(crate) fn lend(&mut self) -> OneRun
+        ensures lent { WasLent self.old self.new }
+        ensures like { IsAlike self.old.log self.new.log }
+    {
+        OneRun(())
+    }
+
     /// Who tells it of the run for which it was lent, which begins at this moment.
     #[tactic(auto, unfolding(crate::specs::Named::IsTellerOf))]
     pub(crate) fn teller_at(&self, _run: OneRun, moment: u64) -> Teller<'_, L>
@@ -75,15 +84,6 @@ impl<L: OwnLog> Records<L> {
 }
 
 impl<L: Journal + OwnLog> Records<L> {
-    /// Lends it to one who is to tell of a run. So each of these leaves a trace.
-    #[tactic(auto, unfolding(crate::specs::Named::WasLent))]
-    pub(crate) fn lend(&mut self) -> OneRun
-        ensures lent { WasLent self.old self.new }
-        ensures like { IsLikeLog L.passes L.writes self.old.log self.new.log }
-    {
-        OneRun(())
-    }
-
     /// Hands it the first record of a box: that of its boot.
     #[tactic(auto, unfolding(crate::specs::Named::WasRecorded))]
     pub(crate) fn told_of_boot(&mut self, boot: u64)
@@ -96,7 +96,7 @@ impl<L: Journal + OwnLog> Records<L> {
 
     /// Lets a wire go whose packets were captured, and hands it how many of them the capture has left out, if it has. Where it was
     /// run from the capture's beginning on, that was run through it.
-    #[tactic(auto, unfolding(crate::specs::Named::WasLeftOut, crate::specs::Named::WasLetGo, crate::specs::Named::WasTapped))]
+    #[tactic(auto, unfolding(crate::specs::Named::WasLeftOut, crate::specs::Named::WasTapped))]
     pub(crate) fn told_of_left_out<W: Wire + Held, C: Clock, F: Write + AsRawFd + Drop>(
         &mut self,
         tapped: TappedBox<'_, W, C, F>,
@@ -105,6 +105,7 @@ impl<L: Journal + OwnLog> Records<L> {
         ensures told { IsToldOfLeftOut L.enables self.old.log tapped.entry.reel.left_out }
         ensures left_out { WasLeftOut self.old tapped.entry.reel.left_out self.new }
         ensures gone { WasLetGo tapped.entry.wire }
+        ensures whole { WasLetGo tapped.entry }
         ensures tapped { IsTapped
             (calls ⟦<TappedBox<'static, W, C, F> as Wire>⟧.does
             ⟦<TappedBox<'static, W, C, F> as Wire>⟧.answers)
@@ -113,7 +114,7 @@ impl<L: Journal + OwnLog> Records<L> {
             ⟦<TappedBox<'static, W, C, F> as Wire>⟧.lost) tapped.entry }
     {
         tell_left_out(Pen::new(&self.log), tapped.left_out());
-        drop(tapped);
+        untap(tapped);
     }
 }
 
@@ -125,12 +126,13 @@ pub(crate) fn put_away<L: Journal>(
     _boot: u64,
     _moment: u64,
 )
-    ensures { (first : ToldLog L)
+    ensures gone { WasLetGo teller.entry }
+    ensures told { (first : ToldLog L)
         → IsOwnAndNew L.passes L.writes (Records L) _start.now _boot _moment first
         → HandsAll L.enables first teller.entry
         → WasToldRun _start.now _boot _moment teller.entry.told }
 {
-    drop(teller);
+    dismiss(teller);
 }
 
 /// Tells of a boot, and of nothing else.

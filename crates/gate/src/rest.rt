@@ -52,7 +52,7 @@ pub(crate) struct Pace<'a, R> {
 }
 
 /// Those of a box on the standard error.
-type OwnRecords<'a, R> = Records<FilteredLog<Unhindered<StandardError<'a, R>>>>;
+pub(crate) type OwnRecords<'a, R> = Records<FilteredLog<Unhindered<StandardError<'a, R>>>>;
 
 impl<'a, R> Model for Pace<'a, R> {
     ghost use Rattle.gate.specs.Named.{Pacing};
@@ -65,7 +65,7 @@ impl<'a, R> Model for Pace<'a, R> {
 impl<'a, R> Pace<'a, R> {
     /// Lends both for a run.
     #[tactic(auto, unfolding(crate::specs::Named::WasLentToRun))]
-    fn lent(&mut self) -> (Hand<'a, R>, Hand<'a, R>)
+    pub(crate) fn lent(&mut self) -> (Hand<'a, R>, Hand<'a, R>)
         ensures { WasLentToRun self.old (pacing result.0 result.1) self.new }
     {
         (self.clock.lent(), self.input.lent())

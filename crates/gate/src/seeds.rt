@@ -50,7 +50,7 @@ impl<R: RandomSource> Draws for Seeds<'_, R> {
 impl<R: RandomSource> Seeds<'_, R> {
     /// The next 16 bytes that the system gives, as a number.
     #[tactic(auto, unfolding(crate::specs::Named::WasDrawn, crate::specs::Named::WasUndrawn))]
-    fn told_to_draw(&mut self) -> io::Result<u128>
+    pub(crate) fn told_to_draw(&mut self) -> io::Result<u128>
         ensures drew { IfOk result (λ number. WasDrawn self.old number self.new) }
         ensures refused { IfErr result (λ why. WasUndrawn self.old why self.new) }
     {

@@ -14,11 +14,12 @@ use boot_file::{Blocks, FileDisk, Opened};
 use boot_store::Disk;
 use box_words::BoxFault;
 use outlets::Output;
-use rounds::{InputEnd, Stopwatch};
+use rounds::{InputEnd, Stopwatch, Teller};
 use runtimes::Hand;
 use settings::Settings;
 use sockets::{Sockets, Ways};
 use supervision::Manager;
+use tap::Tapped;
 
 /// Kept to this file, so that nothing else can be a `Held`.
 mod closed {
@@ -70,6 +71,23 @@ pub(crate) fn let_go<A: Held>(it: A)
     ensures { WasLetGo it }
 {
     drop(it);
+}
+
+/// Lets a wire go whose packets were captured, as it is, and with it what says their moments, and the capture's file.
+#[tactic(auto, unfolding(crate::specs::Named::WasLetGo))]
+pub(crate) fn untap<W: Held, M: Drop, O: Drop>(tapped: Tapped<W, M, O>)
+    ensures whole { WasLetGo tapped }
+    ensures wire { WasLetGo tapped.wire }
+{
+    drop(tapped);
+}
+
+/// Lets go who tells of a run, as it is. Of the log nothing is known here, so it can be told nothing.
+#[tactic(auto, unfolding(crate::specs::Named::WasLetGo))]
+pub(crate) fn dismiss<L>(teller: Teller<'_, L>)
+    ensures { WasLetGo teller.entry }
+{
+    drop(teller);
 }
 
 /// Lets what asked the system for a start go, as it is.

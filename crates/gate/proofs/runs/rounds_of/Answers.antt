@@ -15,7 +15,7 @@ returns-clause-runs g c =
     c.requires.fresh.untold c.begun-clock.ensures.begun c.begun-clock.ensures.read
     c.serve-served.ensures.rounds.run c.serve-served.ensures.rounds.shown c.serve-served.ensures.rounds.wire_is c.let_go.ensures _ (_, (c.ready.ensures, c.serve-served.ensures.rounds.told)) (WasToldRun c.args.start.now c.args.identity.boot c.args.gateway.now.moment)
     (told_run c.args.start.now c.args.identity.boot _ _ _ _ c.moment-moment.ensures c.serve-served.ensures.rounds.told_is
-    (c.put_away.ensures c.args.teller (record { own = c.requires.teller; log = c.requires.log; new = new_at _ _ _ c.moment-moment.ensures c.requires.fresh })
+    (c.put_away.ensures.told c.args.teller (record { own = c.requires.teller; log = c.requires.log; new = new_at _ _ _ c.moment-moment.ensures c.requires.fresh })
     c.serve-served.ensures.handed))
 
 pub returns-in_err-served-clause-runs : goal.returns-in_err-served-clause-runs
@@ -24,7 +24,7 @@ returns-in_err-served-clause-runs g c =
     c.requires.fresh.untold c.begun-clock.ensures.begun c.begun-clock.ensures.read
     c.serve-served.ensures.rounds.run c.serve-served.ensures.rounds.shown c.serve-served.ensures.rounds.wire_is c.let_go.ensures _ (_, (c.ready.ensures, c.serve-served.ensures.rounds.told)) (WasToldRun c.args.start.now c.args.identity.boot c.args.gateway.now.moment)
     (told_run c.args.start.now c.args.identity.boot _ _ _ _ c.moment-moment.ensures c.serve-served.ensures.rounds.told_is
-    (c.put_away.ensures c.args.teller (record { own = c.requires.teller; log = c.requires.log; new = new_at _ _ _ c.moment-moment.ensures c.requires.fresh })
+    (c.put_away.ensures.told c.args.teller (record { own = c.requires.teller; log = c.requires.log; new = new_at _ _ _ c.moment-moment.ensures c.requires.fresh })
     c.serve-served.ensures.handed))
 
 pub returns-clause-ended : goal.returns-clause-ended

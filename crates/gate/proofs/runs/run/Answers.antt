@@ -76,7 +76,7 @@ rounds_of-ended-requires-clause-log g c =
     own_again g.L.Journal.passes g.L.Journal.writes c.args.start.now _ _ (sym c.teller_at-teller.ensures.new.of_log)
     (own_like g.L.Journal.passes g.L.Journal.writes c.args.start.now _ _ (
     own_like g.L.Journal.passes g.L.Journal.writes c.args.start.now _ _ c.requires.log c.in-Ok.ensures.like
-    ) c.lend-run.ensures.like)
+    ) (c.lend-run.ensures.like g.L.Journal.passes g.L.Journal.writes))
 
 pub rounds_of-ended-requires-clause-teller : goal.rounds_of-ended-requires-clause-teller
 rounds_of-ended-requires-clause-teller g c =

@@ -13,7 +13,7 @@ returns-clause-ran g c =
     (wire_says g.W.Wire.waits g.W.Wire.failing g.W.Wire.lost) c.args.identity c.args.start.now _ _ _ _ c.end.new.self c.args.wire _ _ c.in_ok-wire.ensures.tapped.0
     c.end.ensures.wire (
     let_go_tapped _ c.args.capture.path.now _ c.args.wire c.end.new.self.wire c.requires.captured c.in_ok-wire.ensures.tapped.0 (
-    c.told_of_left_out.ensures.tapped c.args.start.now c.args.capture.path.now _ _ c.in_ok-wire.ensures.had (_, (_, (_, c.rounds_of-ended.ensures.runs.0))) c.end.ensures.wire
+    c.told_of_left_out.ensures.tapped c.args.start.now c.args.capture.path.now _ _ c.in_ok-wire.ensures.had (_, (_, (_, c.rounds_of-ended.ensures.runs.0))) c.end.ensures.called
     ) c.told_of_left_out.ensures.gone
     )
     c.rounds_of-ended.ensures.runs.0 c.rounds_of-ended.ensures.runs.1.0 c.rounds_of-ended.ensures.runs.1.1
@@ -29,7 +29,7 @@ returns-clause-unrun g c =
     (wire_says g.W.Wire.waits g.W.Wire.failing g.W.Wire.lost) c.args.identity c.args.start.now _ _ _ _ c.end.new.self c.args.wire _ _ c.in_ok-wire.ensures.tapped.0
     c.end.ensures.wire (
     let_go_tapped _ c.args.capture.path.now _ c.args.wire c.end.new.self.wire c.requires.captured c.in_ok-wire.ensures.tapped.0 (
-    c.told_of_left_out.ensures.tapped c.args.start.now c.args.capture.path.now _ _ c.in_ok-wire.ensures.had (_, (_, (_, c.rounds_of-ended.ensures.runs.0))) c.end.ensures.wire
+    c.told_of_left_out.ensures.tapped c.args.start.now c.args.capture.path.now _ _ c.in_ok-wire.ensures.had (_, (_, (_, c.rounds_of-ended.ensures.runs.0))) c.end.ensures.called
     ) c.told_of_left_out.ensures.gone
     )
     c.rounds_of-ended.ensures.runs.0 c.rounds_of-ended.ensures.runs.1.0 c.rounds_of-ended.ensures.runs.1.1
@@ -60,7 +60,7 @@ rounds_of-ended-requires-clause-fresh g c = rw c.moment.ensures at (new_again _ 
 
 pub rounds_of-ended-requires-clause-log : goal.rounds_of-ended-requires-clause-log
 rounds_of-ended-requires-clause-log g c = own_again g.L.Journal.passes g.L.Journal.writes c.args.start.now _ _ (sym c.teller_at-teller.ensures.new.of_log)
-    (own_like g.L.Journal.passes g.L.Journal.writes c.args.start.now _ _ c.requires.log c.lend-run.ensures.like)
+    (own_like g.L.Journal.passes g.L.Journal.writes c.args.start.now _ _ c.requires.log (c.lend-run.ensures.like g.L.Journal.passes g.L.Journal.writes))
 
 pub rounds_of-ended-requires-clause-teller : goal.rounds_of-ended-requires-clause-teller
 rounds_of-ended-requires-clause-teller g c = (_, (_, (c.requires.begun, (c.lend-run.ensures.lent, c.teller_at-teller.ensures.own))))
