@@ -22,10 +22,15 @@ import handles
 from sources import found_in
 
 # The words by which a module has the system at hand, or what it gave; one of AT_HAND in handles.py has it, too.
-WORDS_AT_HAND = ("Hand<", "Kept<", "libc::", "os::", "mio", "descriptors::")
+WORDS_AT_HAND = ("Hand<", "libc::", "os::", "mio", "descriptors::")
 
-# Modules that have at hand who has lines written, of which no clause says that he is asked: a sink, its cell, a filter over it.
-WRITTEN_BY = ("journal/desks", "journal/filtered", "journal/sink")
+# Modules that have at hand who has lines written, of which no clause says that he is asked: a sink, its desk and cell, a filter over it;
+# and what makes the values by which it is asked.
+WRITTEN_BY = ("journal/answers", "journal/desk", "journal/desks", "journal/desks/cells", "journal/filtered", "journal/offers", "journal/sink",
+              "journal/takes")
+
+# The one module within one of these.
+WITHIN = {("journal/desks", "cells")}
 
 # What calls the system itself, and the crates that may name it, in their sources and in their lines of crates.txt.
 NAMED_BY = {
@@ -289,6 +294,9 @@ def like_values_in(code):
 def called_by_none(top, crates):
     """A call of which no line of the list could tell."""
     for place, path, code in handles.of_the_program(top, crates):
+        for module in re.findall(r"\bmod (\w+)", code) if place in WRITTEN_BY else ():
+            if (place, module) not in WITHIN:
+                yield f"{path}: its module {module} sees what has lines written"
         for at, said in like_values_in(code) + (passed_in(code) if at_hand(place, code) else []):
             yield f"{path}:{line_of(code, at)}: {said}"
 

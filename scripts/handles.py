@@ -18,7 +18,8 @@ AT_HAND = {
     "captures/machine": {"Machine": "hand", "OpenedFile": "file"},
     "checks/machine": {"ThisMachine": "0", "Opened": "file"},
     "commands/machine": {"SystemCaptures": "captures", "SystemServes": "hands"},
-    "control/machine": {"Machine": "hand", "SystemLine": "stream"},
+    "control/machine": {"Machine": "hand"},
+    "descriptors/dialled": {"Dialled": "0"},
     "descriptors/inherited": {"Inherited": "0"},
     "descriptors/polling": {"Poll": "0", "Registry": "0"},
     "descriptors/udp": {"UdpSocket": "0"},
@@ -46,12 +47,13 @@ THROUGH = {
     "commands/hands": {"Hands": "system boot_files lines captures around gate passage clock"},
     "commands/hosts": {"ThisHost": "captures around"},
     "control/hearing": {"Bound": "doorway", "Control": "audience"},
-    "control/machine": {"Waits": "registry", "SystemListener": "socket", "SystemCaller": "socket"},
+    "control/machine": {"Waits": "registry", "SystemListener": "socket", "SystemCaller": "socket", "SystemLine": "line"},
     "gate/hands": {"Hands": "files boot_files captures descriptors listeners places ends environment errors seeds moments clock input"},
     "gate/machine": {"Machine": "files boot_files captures descriptors listeners places ends"},
     "gate/rest": {"Rest": "environment errors means", "Means": "seeds moments pace", "Pace": "clock input"},
     "inputs/told": {"InputEnd": "watched"},
     "journal/lines": {"Shown": "logged"},  # A record of a log, which can be asked for nothing.
+    "journal/offers": {"Offered": "logged"},  # The same.
     "loopback_run/machine": {"Socket": "0", "Waits": "0", "SystemPort": "socket waits"},
     "rounds/clocks": {"Stopwatch": "clock"},
     "rounds/teller": {"Teller": "pen"},
@@ -62,6 +64,7 @@ THROUGH = {
 
 # Functions of a module of AT_HAND that use such a field in another way, and why they may.
 OTHERWISE = {
+    ("box_words/machine", "is_bound_refused"): "the name is that of `descriptors`, of who asks by a hand",
     ("box_words/machine", "told_to_read"): "the name is that of `faults`, of who reads by a hand",
     ("captures/kept_files", "lend"): "it lends the file for an ask, and says nothing of what it is then",
     ("captures/machine", "as_raw_fd"): "it gives a number, and asks nothing",
@@ -69,13 +72,15 @@ OTHERWISE = {
     ("captures/machine", "write"): "it hands on what a buffer over it is told, and its line is trusted",
     ("commands/machine", "act"): "it makes each who asks by his own hand",
     ("control/machine", "bind"): "the name is that of `descriptors`, of who asks by a hand",
-    ("descriptors/inherited", "registered"): "it is of `Registry` alone, which has the name",
+    ("control/machine", "dial"): "the same",
+    ("descriptors/dialled", "connect"): "it asks by a hand, and has the name of that",
+    ("descriptors/inherited", "register"): "the name is that of `Registry`, which asks",
     ("descriptors/polling", "new"): "it asks by a hand, and has the name of that",
     ("descriptors/polling", "registry"): "by what it gives nothing can be asked but what has a name",
     ("descriptors/udp", "bind"): "it asks by a hand, and has the name of that",
-    ("descriptors/udp", "registered"): "it is of `Registry` alone, which has the name",
+    ("descriptors/udp", "register"): "the name is that of `Registry`, which asks",
     ("descriptors/unix", "bind"): "it asks by a hand, and has the name of that",
-    ("descriptors/unix", "registered"): "it is of `Registry` alone, which has the name",
+    ("descriptors/unix", "register"): "the name is that of `Registry`, which asks",
     ("gate/recording", "teller_at"): "the teller that it gives is the name's",
     ("inputs/standard_input", "is_reported"): "the name is that of `polls`, of who asks",
     ("loopback_run/machine", "told_to_bind"): "the name is that of `descriptors`, of who asks by a hand",
@@ -97,7 +102,7 @@ HANDS_ON = {
     "boot_file/openings": ("Blocks Lockable", "read_at=read_at write_at=write_at sync=sync sync_name=sync_name drop_cache=drop_cache "
                                               "try_lock=try_lock"),
     "captures/kept_files": ("Read Write AsRawFd", "read=read write=write flush=flush as_raw_fd=as_raw_fd"),
-    "checks/machine": ("Read OpenFile Lockable", "lock=try_lock"),
+    "checks/machine": ("Lockable", "told_to_lock=try_lock"),
 }
 
 # A module of AT_HAND that only hands on: what it is asked has the names of whom it asks, and none of its own.
@@ -134,6 +139,7 @@ HANDED = {
 # its trait, so who answers is looked at here; of a type parameter any type of std's that is bound so.
 ANSWERED = {
     "Answers": "journal/filtered:FilteredLog journal/sink:Unhindered",
+    "Asks": "inputs/standard_input:StandardInput journal/standard_error:StandardError polls/askers:Asker",
     "Binder": "box_words/ends:System",
     "Binds": "control/machine:Machine loopback_run/binding:SystemBinds",
     "Blocks": "boot_file/blocks:File boot_file/openings:Opened",
@@ -148,12 +154,14 @@ ANSWERED = {
     "Disk": "boot_file/file_disk:FileDisk boot_store/model:ModelDisk",
     "Draws": "gate/seeds:Seeds slots/draws:SystemDraws",
     "EndLine": "rounds/ends:O",
+    "Flushes": "journal/filtered:FilteredLog journal/sink:Unhindered",
     "Folders": "control/machine:Machine",
-    "Held": "checks/openings:Opened commands/letting_go:BufWriter commands/letting_go:Capture commands/letting_go:Loopback "
+    "Held": "box_words/releasing:UdpSocket checks/openings:Opened commands/letting_go:BufWriter commands/letting_go:Capture commands/letting_go:Loopback "
             "commands/letting_go:Machine commands/letting_go:Stopwatch commands/letting_go:ThisHost control/awaiting:SystemLine "
             "control/awaiting:SystemListener control/awaiting:SystemCaller gate/wires:Hand gate/wires:Machine gate/wires:Option "
             "gate/wires:Rest gate/wires:Sockets gate/wires:Stopwatch "
-            "loopback_run/loopback:Port loopback_run/loopback:Ports loopback_run/loopback:SystemPort",
+            "loopback_run/giving:Socket loopback_run/giving:Waits loopback_run/giving:SystemPort loopback_run/giving:Port "
+            "loopback_run/giving:Ports sockets/letting_go:Descriptors supervision/letting_go:Outbox",
     "Host": "commands/hosts:ThisHost",
     "Hosted": "runtimes/hosted:HostRuntime runtimes/hosted:R",
     "Journal": "journal/filtered:FilteredLog journal/sink:Unhindered",
@@ -177,13 +185,15 @@ ANSWERED = {
     "Reads": "checks/machine:ThisMachine faults/texts:Hand gate/files:FileSystem",
     "RefusalText": "frame_sim/events:WorldFault",
     "Reports": "control/machine:Waits",
-    "Sealed": "boot_file/locks:File boot_file/locks:Opened checks/openings:Opened commands/letting_go:BufWriter "
+    "Sealed": "boot_file/locks:File boot_file/locks:Opened box_words/releasing:UdpSocket checks/openings:Opened commands/letting_go:BufWriter "
               "commands/letting_go:Capture commands/letting_go:Loopback commands/letting_go:Machine commands/letting_go:Stopwatch "
               "commands/letting_go:ThisHost control/awaiting:SystemLine control/awaiting:SystemListener control/awaiting:SystemCaller "
               "gate/wires:FileDisk gate/wires:Hand gate/wires:Machine gate/wires:Option gate/wires:Rest gate/wires:Sockets "
               "gate/wires:Stopwatch journal/notes:LeftOutPackets journal/notes:Note "
-              "journal/sealed:FilteredLog loopback_run/loopback:Port loopback_run/loopback:Ports loopback_run/loopback:SystemPort "
-              "outlets/sealed:BufWriter outlets/sealed:Vec runtimes/sealed:HostRuntime runtimes/sealed:R",
+              "journal/sealed:FilteredLog loopback_run/giving:Socket loopback_run/giving:Waits loopback_run/giving:SystemPort "
+              "loopback_run/giving:Port loopback_run/giving:Ports "
+              "outlets/sealed:BufWriter outlets/sealed:Vec runtimes/sealed:HostRuntime runtimes/sealed:R "
+              "sockets/letting_go:Descriptors supervision/letting_go:Outbox",
     "Serves": "commands/serving:SystemServes",
     "Shows": "box_words/refusals:BoxFault checks/telling:WithPath command_line/faults:ValueFault faults/faults:Fault "
              "frame_sim/events:WorldFault loopback_run/ports:PortFault",
@@ -192,7 +202,8 @@ ANSWERED = {
     "Speaks": "control/machine:SystemCaller control/machine:SystemLine control/speakers:S",
     "Supervisor": "supervision/managers:Manager supervision/supervisors:Option supervision/supervisors:Unsupervised",
     "Surroundings": "checks/surroundings:ThisMachine",
-    "Takes": "control/machine:SystemCaller control/machine:SystemLine outlets/puts:O",
+    "Takes": "control/machine:SystemCaller control/machine:SystemLine journal/filtered:FilteredLog journal/sink:Unhindered "
+             "outlets/puts:O",
     "Tape": "frame_sim/tapes:Untaped simulation/tapes:Capture",
     "Tells": "outlets/tells:P",
     "Told": "inputs/told:InputEnd",
@@ -213,6 +224,16 @@ BY_NUMBER = {
 
 # What is brought in of these under its own word: a type.
 BROUGHT_IN = "libc::types::pollfd"
+
+# What may be used once, by the module that makes it: it can't be copied, and nobody else makes one.
+ONCE = {"journal/offers": ("Look", "Offered", "Turn")}
+
+# By what a call is made that no name shows, and so no list of calls has: a sign, a pair of brackets, a copy.
+BY_A_SIGN = re.compile(r"(?:Not|Neg|(?:Add|Sub|Mul|Div|Rem|BitAnd|BitOr|BitXor|Shl|Shr)(?:Assign)?|Deref(?:Mut)?|Index(?:Mut)?|PartialEq|Eq"
+                       r"|PartialOrd|Ord|Fn(?:Mut|Once)?|Try|FromResidual|RangeBounds)")
+
+# Who answers so all the same, as what: numbers that are compared.
+SIGNS = {"addresses/ethernet": "PartialEq"}
 
 # What stands for a part of the system in proofs and cases, and the one crate of the program that names it.
 MODELS = {"ModelDisk": "boot_store"}
@@ -539,6 +560,10 @@ def had_by_others(top, crates):
                 yield f"{path}: {name} has the system at hand, and may be copied"
             if name not in OPEN and any(fields.get(field, "").startswith("pub") for field in told):
                 yield f"{path}: {name} has the system at hand by a field that others see"
+            if name in ONCE.get(place, ()) and re.search(r"\b(?:Clone|Copy)\b", attributes):
+                yield f"{path}: {name} may be used once, and copied"
+        if place in ONCE and re.search(r"\bpub(?:\([^)]*\))?\s+(?:const\s+)?fn new\b", code):
+            yield f"{path}: others can make what may be used once"
         for name in (it for it, crate in OPEN.items() if it in code and place.split("/")[0] != crate):
             yield f"{path}: names {name}, whose field everybody sees"
         if place in AT_HAND:
@@ -582,6 +607,10 @@ def made_up(top, crates):
             is_ours = trait in own or trait in ANSWERED
             if (STANDARD.fullmatch(trait) or is_ours) and f"{place}:{name}" not in ANSWERED.get(trait, "").split():
                 yield f"{path}: {name} answers as {trait}, and who asks it has asked nobody"
+            if BY_A_SIGN.fullmatch(trait) and trait not in SIGNS.get(place, "").split():
+                yield f"{path}: {name} answers by a sign, as {trait}: no list of calls has that"
+            if trait in ("Clone", "Copy") and any(name in it for it in ONCE.values()):
+                yield f"{path}: {name} may be used once, and copied"
         for name in (it for it, crate in MODELS.items() if re.search(rf"\b{it}\b", code) and place.split("/")[0] != crate):
             yield f"{path}: names {name}, which only stands for a part of the system"
         for trait, word in found_in(RENAMED, without_ghost_uses(code)):

@@ -165,6 +165,10 @@ def kept(top, crates):
                 yield f"{path.relative_to(top)}: a type keeps {word}, which speaks of a name of a call"
 
 
+# The beginning of what is said of a trusted line that isn't so.
+QUOTED = "docs/THEOREM.md: trusts"
+
+
 def names_given(top):
     """The lines of scripts/names.txt: a place, a function, and the names of calls that it has."""
     return handles.lines_of(top, "names.txt")
@@ -189,6 +193,19 @@ def untold_names(top, crates):
                     yield f"{path}: {function.name} has {words[0]}, the name of a call, and no row of docs/THEOREM.md"
     for line in left:
         yield f"scripts/names.txt: {line}: nobody there has it"
+
+
+def quoted_untruly(top, crates):
+    """A trusted line of docs/THEOREM.md that stands in no source of its crate. Of a call that has a name no clause tells what it is handed:
+    so its line stands there word by word."""
+    text = (top / "docs" / "THEOREM.md").read_text(encoding="utf-8")
+    code = functools.cache(lambda crate: "".join(
+        re.sub(r"\s+", "", path.read_text(encoding="utf-8")) for path in sorted((top / "crates" / crate / "src").rglob("*.rt"))))
+    for row in text[text.index("lines of the program of which no clause speaks"):].splitlines():
+        cells = re.split(r" \| ", row.strip("| "))
+        for line in re.findall(r"`([^`]+)`", cells[2]) if row.startswith("| `") and len(cells) > 3 else ():
+            if not any(re.sub(r"\s+", "", line) in code(crate) for crate in re.findall(r"`(\w+)`", cells[0])):
+                yield f"{QUOTED} {line}: no source of its crate has it"
 
 
 def unfolded_by_none(top, crates):
@@ -252,7 +269,7 @@ def other_versions(top):
 
 def faults(top):
     crates = crates_of(top)
-    looks = (unused, past_the_door, looked_into, kept, untold_names, unfolded_by_none, never_let_go, *handles.LOOKS, *calls.LOOKS, out_of_date,
+    looks = (unused, past_the_door, looked_into, kept, untold_names, quoted_untruly, unfolded_by_none, never_let_go, *handles.LOOKS, *calls.LOOKS, out_of_date,
              without_a_sign)
     return [line for look in looks for line in look(top, crates)] + list(other_versions(top))
 
@@ -276,6 +293,8 @@ PLANTED = {
                "scripts/names.txt has no line bindings/holder planted WasRefused"),
     "named": ("gate/src/named.rt", "#[tactic(auto, unfolding(crate::specs::Named::WasAnswered))]\nfn begin()\n{}\n",
               "scripts/names.txt has no line gate/named begin WasAnswered"),
+    "sign": ("sums/src/signs.rt", "impl ops::Not for Planted {}\n", "Planted answers by a sign, as Not"),
+    "copy": ("journal/src/copies.rt", "impl Clone for Turn {}\n", "Turn may be used once"),
     "forgotten": ("sums/src/planted.rt", "use std::mem::{forget, swap};\n", "mem::{forget"),
     "field": ("box_words/src/planted.rt", "struct Planted<'a, R> {\n    count: u8,\n    rt: &'a R,\n}\n",
               "Planted has the system at hand by rt"),
@@ -331,16 +350,19 @@ CHANGED = {
              "asked_now(&mut self) -> Option<Instant>\n        ensures same { self.new ≡ self.old }\n", "asked_now says that who asks"),
     "cut": (OPENINGS, "impl<F: Blocks> Blocks for", BY_HAND + "}\n\nimpl<F: Blocks> Blocks for", "cut uses the system"),
     "otherwise": (OPENINGS, "self.file.sync()", "self.file.drop_cache()", "sync uses the system"),
-    "lock": ("checks/src/machine.rt", "self.file.try_lock()", "self.file.len();\n        self.file.try_lock()", "lock uses the system"),
+    "lock": ("checks/src/machine.rt", "self.file.try_lock()", "self.file.len();\n        self.file.try_lock()", "told_to_lock uses the system"),
     "twice": ("sockets/src/machine.rt", "impl Socket {\n", "impl Socket {\n    fn told_to_bind(&self) {\n        go(&self.0);\n    }\n",
               "has told_to_bind twice"),
+    "once": ("journal/src/offers.rt", "pub struct Look {", "#[derive(Clone)]\npub struct Look {", "Look may be used once"),
+    "maker": ("journal/src/offers.rt", "    fn new() -> Turn {", "    pub(crate) fn new() -> Turn {", "others can make what may be used once"),
+    "within": ("journal/src/filtered.rt", "", "mod asides;\n", "its module asides sees what has lines written"),
     "number": (NUMBERS, "", "fn number() {\n    libc::ftruncate(4, 0);\n}\n", "libc::ftruncate asks the system"),
     "brought": (OTHERS, "", "use os::{open_overwrite};\n", "use os::{open_overwrite}: another word"),
     "array of it": (MORE, "", "fn array_of<R: AsRef<R> + Files>(rt: [&R; 1]) {}\n", "array_of is handed the system"),
     "runtime": (MORE, "", "fn runtime<R: Runtime>(rt: &mut R) {}\n", "runtime is handed the system"),
     "any": (MORE, "", "fn any(rt: &dyn Files) {}\n", "any is handed the system"),
     "core": (MORE, "", "fn core(rt: &LibcRuntime) {}\n", "core is handed the system"),
-    "blanket": (MORE, "", "impl<T: Files> Asks for T {}\n", "whoever has a right of the system's answers here, as T"),
+    "blanket": (MORE, "", "impl<T: Files> Wants for T {}\n", "whoever has a right of the system's answers here, as T"),
     "renamed": (MORE, "", "use std::rt::Clock as Other;\n", "Clock as Other: another word"),
     "reference": (MORE, "", "impl<'a> Clock for &'a Lent {}\n", "Lent answers as Clock"),
     "path": (MORE, "", "mod inner { impl ::std::rt::Clock for Inner {} }\n", "Inner answers as Clock"),
@@ -349,7 +371,7 @@ CHANGED = {
 }
 
 LOCKS, ROUNDS, CALLERS = "boot_file/src/locks.rt", "rounds/src/asked_clock.rt", "control/src/listeners.rt"
-NOW, MOMENTS, BIND = "Instant::now(self.0.lend()).ok()", "tap/src/moments.rt", "UdpSocket::bind(self.0.lend(), address)"
+NOW, MOMENTS = "Instant::now(self.0.lend()).ok()", "tap/src/moments.rt"
 
 # A fault that scripts/calls.txt has no line for: as in CHANGED, but that the copy's list isn't made anew behind it.
 UNLISTED = {
@@ -366,8 +388,8 @@ UNLISTED = {
                     "told_to_say calls .lend env::var, and not env::var .lend,"),
     "handed on": (MOMENTS, ".duration_since(start))", ".duration_since(start).map(centiseconds))",
                   "reading calls centiseconds .duration_since .map centiseconds .unwrap_or, and not"),
-    "by a path": (WORDS, BIND, f"{BIND}.map(crate::go)",
-                  "told_to_bind calls UdpSocket::bind .lend .map crate::go .is_err, and not"),
+    "by a path": ("inputs/src/standard_input.rt", ".read(room)", ".read(room).map(crate::go)",
+                  "told_to_read calls .lend .reader .read .map crate::go, and not"),
     "nameless": (ROUNDS, "Instant::now(self.hand.lend())", "(self.go)(Instant::now(self.hand.lend()))",
                  "told_to_say calls (..) Instant::now .lend .ok, and not"),
     "told for": ("tap/src/asked_clock.rt", "Instant::now(self.hand.lend())", "go::<Vec<u8>>(Instant::now::<R>(self.hand.lend()))",
@@ -419,6 +441,10 @@ def plant(top, fault):
         path = top / "docs" / "THEOREM.md"
         path.write_text(path.read_text().replace("| `told_to_draw` |", "| `drawn` |"))
         return "crates/gate/src/seeds.rt: told_to_draw has WasDrawn"
+    if fault == "trusted":
+        path = top / "crates" / "polls" / "src" / "looks.rt"
+        path.write_text(path.read_text().replace("libc::net::poll(asked, limit)", "libc::net::poll(asked, limit + 1)"))
+        return f"{QUOTED} libc::net::poll(asked, limit):"
     if fault == "dependency":
         path = top / "crates.txt"
         path.write_text(re.sub(r"(?m)^(sums:.*)$", r"\1 slab", path.read_text()))
@@ -455,12 +481,13 @@ def self_test(top):
         copy = copy_of(top, pathlib.Path(room))
         list_anew(copy)
         before = set(faults_in(copy))
-        for planted in (PLANTED, CHANGED, UNLISTED, ["theorem"], ["dependency"], ["door"], ["version"], ["folder"]):
+        for planted in (PLANTED, CHANGED, UNLISTED, ["theorem"], ["trusted"], ["dependency"], ["door"], ["version"], ["folder"]):
             wanted = {fault: plant(copy, fault) for fault in planted}
             if planted in (PLANTED, CHANGED):
                 list_anew(copy)
             now = faults_in(copy)
-            found = [line for line in now if line not in before]
+            # What is planted in a trusted line is another fault there.
+            found = [it for it in now if it not in before and (planted == ["trusted"] or not it.startswith(QUOTED))]
             for fault, said in wanted.items():
                 if sum(line.startswith(said) for line in found) != 1:
                     sys.exit(f"house: the planted {fault} isn't found")
