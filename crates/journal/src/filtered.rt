@@ -6,7 +6,6 @@ ghost use Rattle.journal.specs.Filtered.{filtered_inner, filtered_rules, filtere
 
 use crate::answers::Answers;
 use crate::offers::{Look, Offered, Turn};
-use crate::sink::Journal;
 use crate::takes::{Flushes, Takes};
 use log::Metadata;
 use log::filter::Filter;
@@ -63,10 +62,4 @@ impl<L: Flushes, A: Allocator> Flushes for FilteredLog<L, A> {
     fn flush(&self, turn: Turn) {
         self.log.flush(turn);
     }
-}
-
-impl<L: Journal, A: Allocator> Journal for FilteredLog<L, A> {
-    ghost writes = { λ f. L.writes (filtered_inner f) };
-
-    ghost passes = { λ f. Some (filtered_rules f) };
 }

@@ -9,6 +9,7 @@ mod destinations;
 mod entries;
 mod filtered;
 mod filters;
+mod journals;
 mod laws;
 mod lines;
 mod machine;
@@ -31,6 +32,7 @@ pub use destinations::Outlet;
 pub use entries::{Entry, Role};
 pub use filtered::FilteredLog;
 pub use filters::{FilterFault, VARIABLE, environment, filter_of};
+pub use journals::Journal;
 pub use laws::{
     account_law, flushing_law, left_out_law, passing_law, put_down_law, putting_down_law, sink_law,
     taking_law, tellings_law,
@@ -42,7 +44,7 @@ pub use offers::{Look, Offered, Turn};
 pub use origins::Origin;
 pub use own_logs::OwnLog;
 pub use pens::Pen;
-pub use sink::{Journal, Unhindered};
+pub use sink::Unhindered;
 pub use standard_error::StandardError;
 pub use takes::{Flushes, Takes};
 pub use tally::Tally;

@@ -6,9 +6,9 @@ ghost use Rattle.log.specs.Record.{metadata_level, metadata_target, record_metad
 ghost use Rattle.journal.specs.Handed.{IsFlushed, IsHanded, WasAskedLines, log_of};
 ghost use Rattle.journal.specs.Offers.{WasPassedOver, offered_level, offered_note, offered_pairs, offered_record, offered_target};
 
+use crate::journals::Journal;
 use crate::notes::Loggable;
 use crate::pens::Pen;
-use crate::sink::Journal;
 use log::kv::Source;
 use log::{Metadata, Record};
 use std::fmt::Display;

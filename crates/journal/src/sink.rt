@@ -1,8 +1,6 @@
 //! A sink that never waits.
-ghost use Rattle.std.specs.Prelude.{◌≡◌, true, List, None, Option, Some};
-ghost use Rattle.log.specs.Filter.{Rule};
+ghost use Rattle.std.specs.Prelude.{◌≡◌, true, Some};
 ghost use Rattle.journal.specs.Sinks.{HasLeftOut, IsUnwrittenOver, format_of, sink_takes, sink_tells};
-ghost use Rattle.journal.specs.declared.lines.Format.{Format as Writing};
 
 use crate::answers::Answers;
 use crate::desks::SharedDesk;
@@ -63,19 +61,4 @@ impl<O: Outlet> Flushes for Unhindered<O> {
     fn flush(&self, turn: Turn) {
         self.desk.tell_left_out(self.format, turn);
     }
-}
-
-/// A log that is handed the records of a box, and answers how much of them was left out.
-pub trait Journal: Answers + Takes + Flushes {
-    /// How it writes its records, where that is known.
-    ghost writes: { Self → Option Writing } = { λ _. None };
-
-    /// By which rules they pass, where that is known.
-    ghost passes: { Self → Option (List Rule) } = { λ _. None };
-}
-
-/// Of a sink whose outlet can be let go. Where a sink takes a record, or flushes, no more is known of its outlet than that lines go
-/// there: so there it is no `Journal`, and has nobody's pen write at it.
-impl<O: Outlet + Drop> Journal for Unhindered<O> {
-    ghost writes = { λ sink. Some (format_of sink) };
 }

@@ -8,10 +8,10 @@ ghost use Rattle.journal.specs.Tally.{ended, noted, turned};
 
 use crate::causes::CAUSES;
 use crate::entries::Entry;
+use crate::journals::Journal;
 use crate::notes::{LeftOutPackets, Loggable, Note};
 use crate::origins::ORIGINS;
 use crate::pens::Pen;
-use crate::sink::Journal;
 use crate::{Cause, Origin, Tally};
 use log::{Level, Metadata};
 
