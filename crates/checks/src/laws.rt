@@ -3,7 +3,7 @@ ghost use Rattle.std.specs.Prelude.{◌≡◌};
 ghost use Rattle.checks.specs.Openings.{LocksOpened, WasBegun, WasLetGo};
 
 use crate::machine::Opened;
-use crate::openings::let_go;
+use crate::openings::{Opening, let_go};
 use boot_file::Lockable;
 use std::fs::TryLockError;
 use std::io::{self, Read};
@@ -27,6 +27,15 @@ pub(crate) fn lock_law<F: Lockable>(file: &mut Opened<F>) -> Result<(), TryLockE
     ensures { LocksOpened F.locks file.old result file.new }
 {
     file.told_to_lock()
+}
+
+/// Whoever looks into it knows no more of the file than that it can be read, and locked: he can neither cut it, nor give it a mode.
+pub(crate) fn opening_law<F: Read + Lockable>(
+    file: &mut Opened<F>,
+) -> (io::Result<[u8; 32]>, Option<u32>, Result<(), TryLockError>) {
+    let first = file.first();
+    let mode = file.mode();
+    (first, mode, file.lock())
 }
 
 /// Whoever lets a file go knows of it no more than that it can be dropped, and with it its lock.
