@@ -15,11 +15,12 @@ It reads text, and is no parser: what gets past it would have to be written to g
 import collections
 import difflib
 import functools
+import hashlib
 import itertools
 import re
 
 import handles
-from sources import found_in
+from sources import found_in, without_comments
 
 # The words by which a module has the system at hand, or what it gave; one of AT_HAND in handles.py has it, too.
 WORDS_AT_HAND = ("Hand<", "libc::", "os::", "mio", "descriptors::")
@@ -45,6 +46,21 @@ FOR_AN_IMPL = {("sockets", "mio")}
 
 # Of these what others have a word for, too: values by which nothing can be asked.
 PASSED_ON = {"descriptors/lib": "pub use mio::{Events, Interest, Token};"}
+
+
+# Where such a function binds a word of what it is handed once more: that of the value itself, or of what it holds.
+AGAIN = {
+    "box_words/sites is_past": "passed",
+    "box_words/sites passed_since": "since",
+    "loopback_run/loopback open": "settings",
+    "loopback_run/machine told_to_watch": "socket",
+    "settings_file/memory path_of": "section",
+    "simulation/simulation append": "more",
+    "sockets/sockets begun": "control",
+    "sockets/sockets beside": "made",
+    "sockets/sockets wake": "events",
+    "tap/moments reading": "start now",
+}
 
 
 def angles(depth):
@@ -167,6 +183,13 @@ def bounds_in(head):
     return [it for text in (head[1:max(behind - 1, 1)], *wheres) for it in pieces_with(BOUND, text)]
 
 
+def other_words(key, function):
+    """The words of what a function is handed that stand for something else behind that: a call by them isn't handed what it seems."""
+    changed = {word for word in TAKEN.findall(function.taken) if re.search(rf"(?<![.\w]){word}\s*[-+*/%&|^]?=(?![=>])", function.body)}
+    bound = set(SMALL.findall(" ".join(" ".join(it) for it in BINDS.findall(function.body))))
+    return sorted((changed | bound & set(TAKEN.findall(function.taken))) - set(AGAIN.get(key, "").split()))
+
+
 def bounds_of(code, function):
     """What a function knows of what it, its `impl` and its trait are told for."""
     found = []
@@ -206,11 +229,17 @@ def called_in(code, names):
     return found
 
 
-def rows_of(top, crates):
-    """Each function that is to be in the list, as the code has it."""
+def functions_named(top):
+    """The functions that have names of calls, by their modules."""
     named = collections.defaultdict(set)
     for line in handles.lines_of(top, "names.txt"):
         named[line.split()[0]].add(line.split()[1])
+    return named
+
+
+def rows_of(top, crates):
+    """Each function that is to be in the list, as the code has it."""
+    named = functions_named(top)
     for place, path, code in handles.of_the_program(top, crates):
         is_all = at_hand(place, code)
         if is_all or place in named:
@@ -221,6 +250,37 @@ def rows_of(top, crates):
 def lines_now(top, crates):
     """The list as the code has it."""
     return [told(row) for row in sorted(rows_of(top, crates), key=lambda it: it.key.split())]
+
+
+# The beginning of what is said of a function that isn't as it was read.
+READ = "scripts/bodies.txt:"
+
+
+def texts_in(text, names):
+    """The functions of these names that a source has, or all, each with a checksum of its text, without comments and white space."""
+    for it in handles.functions_in(text):
+        if it.body and (not names or it.name in names):
+            yield it.name, hashlib.sha256(re.sub(r"\s+", "", text[it.start:it.end]).encode()).hexdigest()[:12]
+
+
+def bodies_now(top, crates):
+    """A line for each function of the list of calls: what it is made of, as a checksum."""
+    named, found = functions_named(top), []
+    for place, path, code in handles.of_the_program(top, crates):
+        is_all = at_hand(place, code)
+        if is_all or place in named:
+            told = texts_in(without_comments(top / path), frozenset(() if is_all else named[place]))
+            found += [f"{place} {name} {checksum}" for name, checksum in told]
+    return sorted(found)
+
+
+def otherwise_than_read(top, crates):
+    """A function of the list of calls whose text is another than that which was read when its line was made. What it makes of an answer
+    calls nothing, and no clause tells it where the name of the call has the answer in it."""
+    read, now = (collections.Counter(lines) for lines in (handles.lines_of(top, "bodies.txt"), bodies_now(top, crates)))
+    yield from (f"{READ} {line.rpartition(' ')[0]} isn't as it was read" for line in sorted((now - read).elements()))
+    gone = {line.rpartition(" ")[0] for line in (read - now)} - {line.rpartition(" ")[0] for line in (now - read)}
+    yield from (f"{READ} {key}: there is no such function" for key in sorted(gone))
 
 
 def row_in(line, where):
@@ -291,6 +351,16 @@ def like_values_in(code):
     return [(at, f"{name} may be called, and looks like what makes a value") for at, name in found]
 
 
+def handed_otherwise(top, crates):
+    """What a call of the list is handed under the word of something else."""
+    named = functions_named(top)
+    for place, path, code in handles.of_the_program(top, crates):
+        for it in handles.functions_in(code) if at_hand(place, code) or place in named else ():
+            words = other_words(f"{place} {it.name}", it) if at_hand(place, code) or it.name in named[place] else ()
+            for word in words:
+                yield f"{path}: {it.name} has {word} stand for something else than it is handed"
+
+
 def called_by_none(top, crates):
     """A call of which no line of the list could tell."""
     for place, path, code in handles.of_the_program(top, crates):
@@ -350,4 +420,4 @@ def named_elsewhere(top, crates):
                 yield f"crates.txt: {crate} doesn't stand on {word}, and scripts/calls.py says that it may"
 
 
-LOOKS = (called_otherwise, called_by_none, named_elsewhere)
+LOOKS = (called_otherwise, handed_otherwise, otherwise_than_read, called_by_none, named_elsewhere)

@@ -164,7 +164,7 @@ ANSWERED = {
             "loopback_run/giving:Ports sockets/letting_go:Descriptors supervision/letting_go:Outbox",
     "Host": "commands/hosts:ThisHost",
     "Hosted": "runtimes/hosted:HostRuntime runtimes/hosted:R",
-    "Journal": "journal/filtered:FilteredLog journal/sink:Unhindered",
+    "Journal": "journal/journals:FilteredLog journal/journals:Unhindered",
     "Limits": "control/machine:SystemLine",
     "Loggable": "journal/notes:LeftOutPackets journal/notes:Note",
     "Line": "control/lines:S",
@@ -190,7 +190,7 @@ ANSWERED = {
               "commands/letting_go:ThisHost control/awaiting:SystemLine control/awaiting:SystemListener control/awaiting:SystemCaller "
               "gate/wires:FileDisk gate/wires:Hand gate/wires:Machine gate/wires:Option gate/wires:Rest gate/wires:Sockets "
               "gate/wires:Stopwatch journal/notes:LeftOutPackets journal/notes:Note "
-              "journal/sealed:FilteredLog loopback_run/giving:Socket loopback_run/giving:Waits loopback_run/giving:SystemPort "
+              "journal/journals:FilteredLog journal/journals:Unhindered journal/sealed:FilteredLog loopback_run/giving:Socket loopback_run/giving:Waits loopback_run/giving:SystemPort "
               "loopback_run/giving:Port loopback_run/giving:Ports "
               "outlets/sealed:BufWriter outlets/sealed:Vec runtimes/sealed:HostRuntime runtimes/sealed:R "
               "sockets/letting_go:Descriptors supervision/letting_go:Outbox",

@@ -3,6 +3,7 @@
 
     scripts/house.py [FOLDER]      this repository, or the one in FOLDER
     scripts/house.py --self-test   plants faults of each kind in a copy, and shows that each is found
+    scripts/house.py --bodies      prints the lines of scripts/bodies.txt: a checksum of each function of calls.txt, as the code has it
     scripts/house.py --calls       prints the lines of scripts/calls.txt as the code has them: to be looked at, one by one, and put
                                    there by hand. Nothing else writes them.
 
@@ -24,9 +25,13 @@ of which call stands in names.txt; as what each type shows itself to clauses, wh
 showed itself as another's value would have the names that are given of that; how often a file, a socket or a folder is asked by what
 leaves no trace in a clause, and where, in asked.txt.
 
+What a listed function calls stands in calls.txt, and that it is as it was read, in bodies.txt; and each line that docs/THEOREM.md
+trusts stands in the function that its row names.
+
 All this reads text, and is no parser: what gets past it would have to be written to get past it.
 """
 import argparse
+import collections
 import functools
 import pathlib
 import re
@@ -38,7 +43,7 @@ sys.dont_write_bytecode = True  # Nothing is left in the repository.
 import calls
 import handles
 from edits import edits_of
-from sources import CALL, FIELD, code_of, crates_of, found_in, names_of_calls, sources_of
+from sources import CALL, FIELD, code_of, crates_of, found_in, names_of_calls, sources_of, without_comments
 
 # A library that a crate's sources name nowhere, and that its check asks for all the same: a public clause of a crate
 # below, or the code of a derive, leads to it. Each was left out once, and the check was refused.
@@ -195,17 +200,27 @@ def untold_names(top, crates):
         yield f"scripts/names.txt: {line}: nobody there has it"
 
 
+def bodies_of(folder):
+    """The bodies of a crate's functions by their names, without comments and white space."""
+    found = collections.defaultdict(list)
+    for path in sorted((folder / "src").rglob("*.rt")):
+        for function in handles.functions_in(without_comments(path)):
+            found[function.name].append(re.sub(r"\s+", "", function.body))
+    return found
+
+
 def quoted_untruly(top, crates):
-    """A trusted line of docs/THEOREM.md that stands in no source of its crate. Of a call that has a name no clause tells what it is handed:
-    so its line stands there word by word."""
+    """A trusted line of docs/THEOREM.md that doesn't stand in the function that its row names. Of a call that has a name no clause tells
+    what it is handed: so its line stands there word by word."""
     text = (top / "docs" / "THEOREM.md").read_text(encoding="utf-8")
-    code = functools.cache(lambda crate: "".join(
-        re.sub(r"\s+", "", path.read_text(encoding="utf-8")) for path in sorted((top / "crates" / crate / "src").rglob("*.rt"))))
+    bodies = functools.cache(lambda crate: bodies_of(top / "crates" / crate))
     for row in text[text.index("lines of the program of which no clause speaks"):].splitlines():
         cells = re.split(r" \| ", row.strip("| "))
         for line in re.findall(r"`([^`]+)`", cells[2]) if row.startswith("| `") and len(cells) > 3 else ():
-            if not any(re.sub(r"\s+", "", line) in code(crate) for crate in re.findall(r"`(\w+)`", cells[0])):
-                yield f"{QUOTED} {line}: no source of its crate has it"
+            told = (body for crate in re.findall(r"`(\w+)`", cells[0]) for name in re.findall(r"`(\w+)`", cells[1])
+                    for body in bodies(crate)[name])
+            if not any(re.sub(r"\s+", "", line) in body for body in told):
+                yield f"{QUOTED} {line}: no function of its row has it"
 
 
 def unfolded_by_none(top, crates):
@@ -353,6 +368,9 @@ CHANGED = {
     "lock": ("checks/src/machine.rt", "self.file.try_lock()", "self.file.len();\n        self.file.try_lock()", "told_to_lock uses the system"),
     "twice": ("sockets/src/machine.rt", "impl Socket {\n", "impl Socket {\n    fn told_to_bind(&self) {\n        go(&self.0);\n    }\n",
               "has told_to_bind twice"),
+    "again": ("polls/src/looks.rt", "    libc::net::poll(", "    let limit = 60_000;\n    libc::net::poll(", "told_to_poll has limit stand for"),
+    "changed": ("journal/src/standard_error.rt", "        self.hand.lend().eprintln(", "        line = other;\n        self.hand.lend().eprintln(",
+                "told_to_write has line stand for"),
     "once": ("journal/src/offers.rt", "pub struct Look {", "#[derive(Clone)]\npub struct Look {", "Look may be used once"),
     "maker": ("journal/src/offers.rt", "    fn new() -> Turn {", "    pub(crate) fn new() -> Turn {", "others can make what may be used once"),
     "within": ("journal/src/filtered.rt", "", "mod asides;\n", "its module asides sees what has lines written"),
@@ -443,8 +461,12 @@ def plant(top, fault):
         return "crates/gate/src/seeds.rt: told_to_draw has WasDrawn"
     if fault == "trusted":
         path = top / "crates" / "polls" / "src" / "looks.rt"
-        path.write_text(path.read_text().replace("libc::net::poll(asked, limit)", "libc::net::poll(asked, limit + 1)"))
+        path.write_text(path.read_text().replace("libc::net::poll(asked, limit)", "libc::net::poll(asked, limit + 1) // libc::net::poll(asked, limit)"))
         return f"{QUOTED} libc::net::poll(asked, limit):"
+    if fault == "read":
+        path = top / "crates" / "inputs" / "src" / "standard_input.rt"
+        path.write_text(path.read_text().replace(" standard_input_is_reported(self)", " !standard_input_is_reported(self)"))
+        return f"{calls.READ} inputs/standard_input is_reported isn't as it was read"
     if fault == "dependency":
         path = top / "crates.txt"
         path.write_text(re.sub(r"(?m)^(sums:.*)$", r"\1 slab", path.read_text()))
@@ -481,13 +503,14 @@ def self_test(top):
         copy = copy_of(top, pathlib.Path(room))
         list_anew(copy)
         before = set(faults_in(copy))
-        for planted in (PLANTED, CHANGED, UNLISTED, ["theorem"], ["trusted"], ["dependency"], ["door"], ["version"], ["folder"]):
+        for planted in (PLANTED, CHANGED, UNLISTED, ["theorem"], ["trusted"], ["read"], ["dependency"], ["door"], ["version"], ["folder"]):
             wanted = {fault: plant(copy, fault) for fault in planted}
             if planted in (PLANTED, CHANGED):
                 list_anew(copy)
             now = faults_in(copy)
-            # What is planted in a trusted line is another fault there.
-            found = [it for it in now if it not in before and (planted == ["trusted"] or not it.startswith(QUOTED))]
+            # What is planted in a trusted line, or in a function that was read, is another fault there.
+            others = tuple({QUOTED: "trusted", calls.READ: "read"}[it] not in planted and it for it in (QUOTED, calls.READ))
+            found = [it for it in now if it not in before and not it.startswith(tuple(filter(None, others)))]
             for fault, said in wanted.items():
                 if sum(line.startswith(said) for line in found) != 1:
                     sys.exit(f"house: the planted {fault} isn't found")
@@ -502,9 +525,12 @@ def main():
     parser.add_argument("folder", nargs="?", type=pathlib.Path, default=pathlib.Path(__file__).resolve().parent.parent)
     parser.add_argument("--self-test", action="store_true")
     parser.add_argument("--calls", action="store_true")
+    parser.add_argument("--bodies", action="store_true")
     given = parser.parse_args()
     if given.self_test:
         return self_test(given.folder)
+    if given.bodies:
+        return print("\n".join(calls.bodies_now(given.folder, crates_of(given.folder))))
     if given.calls:
         return print("\n".join(calls.lines_now(given.folder, crates_of(given.folder))))
     found = faults(given.folder)

@@ -43,6 +43,11 @@ def code_of(path):
     return code_in(path.suffix, path.read_text(encoding="utf-8"))
 
 
+def without_comments(path):
+    """The text of a source, with what it quotes, and a gap for each comment."""
+    return NO_CODE[path.suffix].sub(lambda it: " " if it[0].startswith("/") else it[0], path.read_text(encoding="utf-8"))
+
+
 @functools.cache
 def found_in(pattern, code):
     return pattern.findall(code)
