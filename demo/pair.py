@@ -25,6 +25,10 @@ SERVER = "198.51.100.7"
 LINK_ADDRESSES = ("10.0.0.1", "10.0.0.2")
 LINK_PORT = 7000
 LINK_MTU = 4096
+# Where the link is a tunnel over its cable: the cable's addresses, its MTU, and the tunnel's port and number.
+CABLE_ADDRESSES = ("10.0.1.1", "10.0.1.2")
+CABLE_MTU = 4200
+CABLE_PORT, CABLE_NUMBER = 4790, 7
 # With --sides vxlan: the port, the number of box 0's tunnel of each side (10 more at box 1), and an MTU that leaves room
 # for a whole frame within.
 TUNNEL_PORT = 4789
@@ -75,18 +79,33 @@ class Box:
         if self.options.sides == "descriptor":
             for name in SIDES:
                 self.leave_to_natpair(name)
+        if self.options.tunnel:
+            self.dig()
         self.space.ip("link", "set", "dev", "link", "mtu", str(LINK_MTU))
         address = f"{LINK_ADDRESSES[self.number]}/24"
         self.space.ip("addr", "add", address, "dev", "link")
+
+    def dig(self):
+        """Makes the link a tunnel over the cable to the other box."""
+        own, other = CABLE_ADDRESSES[self.number], CABLE_ADDRESSES[1 - self.number]
+        self.space.ip("link", "set", "dev", "cable", "mtu", str(CABLE_MTU))
+        self.space.ip("addr", "add", f"{own}/24", "dev", "cable")
+        self.space.ip("link", "add", "name", "link", "type", "vxlan", "id", str(CABLE_NUMBER), "local", own, "remote", other,
+                      "dstport", str(CABLE_PORT), "nolearning", "dev", "cable")
+        self.space.ip("link", "set", "dev", "link", "up")
 
     def leave_to_natpair(self, name):
         """The kernel has no address at an interface, and answers nothing there by itself."""
         self.space.ip("link", "set", "dev", name, "arp", "off")
 
     @property
+    def link_port(self):
+        return LINK_PORT
+
+    @property
     def ends(self):
         """The two ends of the link, this box's first."""
-        return ",".join(f"{LINK_ADDRESSES[n]}:{LINK_PORT}" for n in (self.number, 1 - self.number))
+        return ",".join(f"{LINK_ADDRESSES[n]}:{self.link_port}" for n in (self.number, 1 - self.number))
 
     def tunnel(self, side):
         """A side's tunnel: this box's address, the switch's, and the number."""
@@ -281,7 +300,8 @@ class Networks(Surroundings):
                     switch.tunnel(f"box{box.number}", box, side)
                 else:
                     switch.plug(f"box{box.number}", box.space, side)
-        self.boxes[0].space.cable("link", self.boxes[1].space, "link")
+        cable = "cable" if self.options.tunnel else "link"
+        self.boxes[0].space.cable(cable, self.boxes[1].space, cable)
         for box in self.boxes:
             box.join()
 
