@@ -701,7 +701,9 @@ int main(int count, char **words)
         put_at(link.sock, LINK);
     if (manager >= 0)
         put_at(manager, MANAGER);
-    execvp(options.gate[0], gate_words(options.gate, link.sock >= 0, manager >= 0));
-    say("natpair-launch: %s: %s", options.gate[0], strerror(errno));
+    char **gate = gate_words(options.gate, link.sock >= 0, manager >= 0);
+    execvp(gate[0], gate);
+    say("natpair-launch: %s: %s", gate[0], strerror(errno));
+    free(gate);
     return 127;
 }
