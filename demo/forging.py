@@ -1,4 +1,4 @@
-"""Whoever sends as the other box, without being that: datagrams with the link's two ends, from places that aren't the link."""
+"""Whoever sends as the other box, without being that: datagrams with the link's two ends, from elsewhere."""
 
 import argparse
 import contextlib
@@ -26,7 +26,8 @@ FALSE_BOOT = 1 << 62
 GUESSES = range(1, 9)
 # The farthest that a TTL gets: a box that is next door sends with it, and so does whoever forges its datagrams.
 NEAR = 255
-# A host inside has a server at this port, which nobody outside is to reach, and by these ports of a box's range it would be.
+# A host inside has a server at this port, which nobody outside is to reach. By these ports, one of each box's range,
+# somebody would.
 SHUT_PORT = 22
 OPENED = (21_000, 41_000)
 SECRET = b"inside\n"
@@ -49,7 +50,8 @@ def install(sender):
 
 
 def forged(sender):
-    """What a false box says: that it starts, and then, with each guess of the boot that it speaks to, that it has a pair."""
+    """What a false box says: that it starts, and then, with each guess of the boot to which it speaks, that it has a
+    pair."""
     return [header(sender, 0, 0)] + [header(sender, guess, 1) + install(sender) for guess in GUESSES]
 
 
@@ -186,11 +188,11 @@ def as_user(current):
 
 
 class Place(NamedTuple):
-    """A place from which a false box speaks, and whether the link is a tunnel's there."""
+    """A place from which a false box speaks, and what the link runs over there."""
 
     name: str
     try_it: object
-    tunnel: bool = False
+    link_over: str = "cable"
 
 
 PLACES = (
@@ -199,12 +201,12 @@ PLACES = (
     Place("a management network, rp_filter 0", by_frames(management_way, management=0)),
     Place("a management network, rp_filter 2", by_frames(management_way, management=2)),
     Place("as another user, box 1 down", as_user),
-    Place("below a tunnel", by_frames(other_end("cable"), cable=0), tunnel=True),
+    Place("below a tunnel", by_frames(other_end("cable"), cable=0), "tunnel"),
 )
 # Who isn't next door, at the link itself.
-FAR = Place("the link, with a TTL of 254", by_frames(other_end("link"), ttl=NEAR - 1))
+FAR = Place("the link itself, TTL 254", by_frames(other_end("link"), ttl=NEAR - 1))
 # That is where the other box is: what it sends has to be heard, or all the others show nothing.
-TRUE = Place("the link, with a TTL of 255", by_frames(other_end("link")))
+TRUE = Place("the link itself, TTL 255", by_frames(other_end("link")))
 
 
 class Door:
@@ -262,7 +264,7 @@ def try_place(current, place, flows, door):
     through = bool(taken) or is_open or new < FRESH or moved + silent > 0
     took = " and ".join(f"box {number}" for number in taken) or "no box"
     current.say(f"{place.name}: {took} takes boot 2^62, {new} of {FRESH} new flows, {held} of {len(kept)} flows hold,"
-                f" port {SHUT_PORT} inside is {'open' if is_open else 'shut'} to the world")
+                f" port {SHUT_PORT} inside is {'open' if is_open else 'shut'}")
     row = (place.name, sent, took, new, f"{held} of {len(kept)}", "open" if is_open else "shut",
            THROUGH if through else HELD)
     return row, through
@@ -270,13 +272,13 @@ def try_place(current, place, flows, door):
 
 def try_until(options, places, rows):
     """Tries places at one pair until it is ruined; gives those that are left."""
-    with scene(argparse.Namespace(**{**vars(options), "tunnel": places[0].tunnel})) as current:
+    with scene(argparse.Namespace(**{**vars(options), "link_over": places[0].link_over})) as current:
         current.stations = {}
         flows = Flows(current.loop, current.networks.host, current.stack)
         flows.open(FLOWS, WINDOW, 30)
         door = Door(current)
         for number, place in enumerate(places):
-            if place.tunnel != places[0].tunnel:
+            if place.link_over != places[0].link_over:
                 return places[number:]
             row, through = try_place(current, place, flows, door)
             rows.append(row)
@@ -286,8 +288,8 @@ def try_until(options, places, rows):
 
 
 def forging(options):
-    """Tries each place; whether what is owed is so. The launcher binds its link to an interface, and owes that nobody else
-    is heard; where the gate opens the link's socket, others are."""
+    """Tries each place; whether what is owed is so. The launcher binds its link to an interface, and owes that nobody
+    else is heard; where the gate opens the link's socket, others are."""
     owed = (options.sides, options.link) == ("descriptor", "descriptor")
     places, rows = (*PLACES[:-1], FAR, TRUE, PLACES[-1]), []
     left = places
@@ -298,7 +300,7 @@ def forging(options):
     heard = {row[0] for row in rows if row[-1] == THROUGH}
     wrong = heard - {TRUE.name} if owed else set()
     if not owed:
-        print("here the gate opens the link's socket: it hears the other's address and port from any interface", flush=True)
+        print("here the gate opens the link's socket, which hears the other's address and port by any interface")
     if TRUE.name not in heard:
-        print("at the link itself it wasn't heard: the other rows show nothing", flush=True)
+        print("at the link itself it wasn't heard: the other rows show nothing")
     return not wrong and TRUE.name in heard
