@@ -40,8 +40,8 @@ TUNNELS = {"inside": 11, "outside": 12}
 TUNNEL_MTU = 1600
 # The user that the boxes run as.
 USER = "nobody"
-# The launcher of a release whose link knows neither interface nor distance, where a scene has one.
-BEFORE = "natpair-launch-before"
+# The launcher, and that of a release before, whose link knows neither interface nor distance.
+LAUNCHER, BEFORE = "natpair-launch", "natpair-launch-before"
 # A record of a box: where it belongs, and what it tells. Of drops the first of a second is one, and so are all others of it.
 RECORD = re.compile(r"\[\w+ +natpair::(\w+)\] \d+ (.*)")
 DROP = re.compile(r"(dropped \d+ \w+)(?:, (\d+) more)?")
@@ -76,11 +76,11 @@ class Box:
         self.boot = 0
         self.gate = None
         # The link's socket: which launcher opens it, by which interface, from how far, and what its port is.
-        self.launcher = "natpair-launch"
+        self.launcher = BEFORE if options.before else LAUNCHER
         self.link_interface = "link"
         self.link_hops = 1
         is_launchers = (options.sides, options.link) == ("descriptor", "descriptor")
-        self.link_port = LINK_PORT if is_launchers else OPEN_PORT
+        self.link_port = LINK_PORT if is_launchers and not options.before else OPEN_PORT
         # What stands before the words by which it is started.
         self.before = ()
 
@@ -303,7 +303,7 @@ class Networks(Surroundings):
         # The user of the boxes needn't be able to read the clone.
         folder.chmod(0o711)
         shutil.copy(options.program, folder / "natpair")
-        shutil.copy(options.launcher, folder / "natpair-launch")
+        shutil.copy(options.launcher, folder / LAUNCHER)
         if options.before:
             shutil.copy(options.before, folder / BEFORE)
         shutil.copy(settings, folder / SETTINGS.name)
