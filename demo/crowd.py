@@ -1,4 +1,4 @@
-"""Busy processes beside the boxes, on the same processor, and what the boxes are given over them, as their units say it."""
+"""Busy processes beside the boxes, on the same processor, and what the boxes are given over them, as by their units."""
 
 import os
 import pathlib
@@ -21,7 +21,7 @@ def remove(folder):
 
 
 class Groups:
-    """Groups of processes that share a processor by weight: those of cgroup2 where it has the processors, or of cgroup."""
+    """Groups of processes that share a processor by weight: cgroup2's where it has the processors, else cgroup's."""
 
     def __init__(self, stack):
         self.stack = stack
