@@ -1,7 +1,7 @@
 #!/usr/bin/env python3
 """Tries the commands of docs/OPERATING.md, "Joining the boxes", as they stand there, on two machines made of namespaces.
 
-    sudo demo/joining.py [--program FILE] [--root FOLDER] [--wireguard] [--list]
+    sudo demo/joining.py [--program FILE] [--before FILE] [--root FOLDER] [--wireguard] [--list]
 
 A machine is a network namespace with the interfaces eth1, eth2 and eth3, and a copy of this system's files in which
 what it writes stays its own. Each command of the page is run there, and has to end well. In place of some there stands
@@ -13,6 +13,8 @@ runs at box 0, with a command that only says that it has switched a machine off:
 hangs besides, and its systemd has to start it again. At last the package is removed and purged on both machines, and both boot files have to be there still.
 
     --program FILE  the program, if it isn't crates/natpair/out/natpair
+    --before FILE   a package of a release before, by which the pair is founded: both boxes come to the new one at
+                    "A new release"
     --root FOLDER   a machine is a copy of this root of Debian, with its own systemd as its first process: of the
                     commands above only `./build`, `scp` and `sudo` are something else then. packaging/test makes it.
                     FOLDER may be layers with colons between, the upper one first
@@ -50,7 +52,7 @@ TOP = FOLDER.parent
 PAGE = TOP / "docs" / "OPERATING.md"
 PLACES = {"where you build": ("builder",), "on both machines": ("box 0", "box 1"), "on box 0": ("box 0",),
           "on box 1": ("box 1",)}
-TUNNEL = "What the link trusts"
+TUNNEL, RELEASE = "What the link trusts", "A new release"
 FLOWS = 20
 # What the page says of a journal, by the section in which it says so: the machine, its unit, and what is in a line there.
 SAID = {
@@ -63,7 +65,7 @@ SAID = {
         ("box 0", "natpair@0", ["boot 3", "keeper inside cable out", " away", "keeper inside cable in", " back"]),
         ("box 1", "natpair@1", ["inside.* Active", "outside.* Active", "inside.* Backup", "outside.* Backup"]),
     ],
-    "A new release": [
+    RELEASE: [
         ("box 0", "natpair@0", [r"\bend$", "boot {}", "synced"]),
         ("box 1", "natpair@1", [r"\bend$", "boot {}", "synced"]),
     ],
@@ -249,8 +251,8 @@ class Machine:
             raise SystemExit(f"joining: {self.name}: {command!r} ends with {done.returncode}: {done.stdout}")
         return done.stdout
 
-    def receive(self, file):
-        shutil.copy(file, self.root() / "home/user")
+    def receive(self, file, name):
+        shutil.copy(file, self.root() / "home/user" / name)
 
     def write(self, path, text):
         target = self.root() / path[1:]
@@ -299,8 +301,14 @@ class Site:
         if not copied:
             raise SystemExit(f"joining: {command!r} isn't a command that is known where one builds")
         for file in self.work.glob(copied[1]):
-            self.machines[f"box {copied[2]}"].receive(file)
+            self.machines[f"box {copied[2]}"].receive(self.options.before or file, file.name)
         return ""
+
+    def bring_new(self):
+        """The new package lies where that of the release before is."""
+        for file in self.work.glob("natpair_*.deb"):
+            for machine in self.machines.values():
+                machine.receive(file, file.name)
 
     def rest(self, seconds):
         """Lets the flows be while time passes."""
@@ -360,6 +368,8 @@ class Site:
         """Runs the page. After each part of a section that does something to the boxes, the flows ask. At the end fresh
         flows are opened: the boxes have to agree on them by the link."""
         for number, block in enumerate(page):
+            if block.section == RELEASE:
+                self.bring_new()
             if block.section == TUNNEL and not self.options.wireguard:
                 continue
             if block.kind == "ini":
@@ -378,6 +388,13 @@ class Site:
                 if block.section.startswith("8."):
                     self.open_flows()
         self.open_flows()
+
+    def expect_conf(self):
+        """A pair of the release before has its link's port still, and hears no farther than any other."""
+        for name, machine in self.machines.items():
+            conf = machine.do("cat /etc/natpair/box.conf").splitlines()
+            if "LINK_PORT=7000" not in conf or "LINK_HOPS=1" not in conf:
+                raise SystemExit(f"joining: {name} has another box.conf:\n{conf}")
 
     def fence(self):
         """Box 1 is stopped, and is silent as if it were dead: box 0 fences it, and is told that it is off."""
@@ -434,6 +451,7 @@ class Site:
 def options_of(words):
     parser = argparse.ArgumentParser(prog="joining.py", description=__doc__.split("\n")[0])
     parser.add_argument("--program", type=pathlib.Path, default=TOP / "crates/natpair/out/natpair")
+    parser.add_argument("--before", type=pathlib.Path)
     parser.add_argument("--root", type=pathlib.Path)
     parser.add_argument("--wireguard", action="store_true")
     parser.add_argument("--list", action="store_true")
@@ -450,6 +468,8 @@ def main():
         return 0
     if os.geteuid() != 0:
         raise SystemExit("joining: it makes namespaces, and has to be root for that")
+    if options.before and options.wireguard:
+        raise SystemExit("joining: a pair of the release before can't be moved to a tunnel as the page says it")
     if not options.program.is_file():
         raise SystemExit(f"joining: no program at {options.program}, where ./build puts it")
     catch_signals()
@@ -457,6 +477,8 @@ def main():
     with contextlib.ExitStack() as stack:
         site = Site(options, stack)
         site.follow(page)
+        if options.before:
+            site.expect_conf()
         site.fence()
         if options.root:
             site.hang()
