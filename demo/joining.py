@@ -9,16 +9,17 @@ something else: `./build` (the program is there), `scp` (the package is copied),
 dpkg, what it depends on has to be there), `sudo`, `systemctl` and `journalctl` (demo/machine: a machine has no systemd).
 Beside them hosts, a router and a server are made, as for demo/run; flows from a host stay open through all that the
 page does to the boxes, and what the page says of the journals is looked for. Then box 1 is stopped while the fence's unit
-runs at box 0, with a command that only says that it has switched a machine off: new flows have to go on. With --root box 1
-hangs besides, and its systemd has to start it again; and the pair is founded once more while it runs, which has to fail and
-to change nothing. At last the package is removed and purged on both machines, and both boot files have to be there still.
+runs at box 0, with a command that only says that it has switched a machine off: new flows have to go on. With --root
+box 1 hangs besides, and its systemd has to start it again; and the pair is founded once more while it runs, which has to
+fail and to change nothing. At last the package is removed and purged on both machines, and both boot files have to be
+there still.
 
     --program FILE  the program, if it isn't crates/natpair/out/natpair
     --root FOLDER   a machine is a copy of this root of Debian, with its own systemd as its first process: of the
                     commands above only `./build`, `scp` and `sudo` are something else then. packaging/test makes it.
                     FOLDER may be layers with colons between, the upper one first
-    --before FILE   the package of the release before: the page is followed with that one to the working pair, and then its
-                    "A new release" with the new one, and no further
+    --before FILE   the package of the release before: the page is followed with that one to the working pair, and then
+                    its "A new release" with the new one, and no further
     --wireguard     tries the link's tunnel too
     --list          prints the commands, and runs none
 
