@@ -408,8 +408,10 @@ class Site:
         print("box 0    $ systemctl start natpair-found@0", flush=True)
         status = first.do("systemctl start natpair-found@0; echo status $?").splitlines()[-1]
         journal = first.do("journalctl -u natpair-found@0 -n 20")
-        if status == "status 0" or "box 0 runs already" not in journal:
+        why = [line for line in journal.splitlines() if "box 0 runs already" in line]
+        if status == "status 0" or not why:
             raise SystemExit(f"joining: founding at a box that runs ends with {status}, and says:\n{journal}")
+        print(f"founding = {status}, {why[-1].partition(': ')[2]}", flush=True)
         if boot.read_bytes() != before or first.do("pidof natpair") != runs:
             raise SystemExit("joining: founding at a box that runs changes it")
         self.run("box 0", "systemctl is-active natpair@0")
