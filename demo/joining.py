@@ -393,12 +393,22 @@ class Site:
 
     def expect(self, section):
         """What has to hold at the end of a section."""
-        if self.options.before is None or section != RELEASE:
+        if self.options.before and section == RELEASE:
+            self.expect_new_release()
+        else:
             self.expect_said(section)
         if section.startswith("11."):
             self.expect_metrics()
         if section.startswith("8."):
             self.open_flows()
+
+    def expect_new_release(self):
+        """The link has the port that it had, no longer hears the release before, and is heard by its interface alone."""
+        for number, (name, machine) in enumerate(self.machines.items()):
+            lines = machine.do("cat /etc/natpair/box.conf").splitlines()
+            sockets = machine.do("ss -Huan").split()
+            if not {"LINK_PORT=7000", "LINK_HOPS=1"} <= set(lines) or f"10.0.0.{number + 1}%eth3:7000" not in sockets:
+                raise SystemExit(f"joining: {name}: box.conf says {lines}, and its sockets are {sockets}")
 
     def found_again(self):
         """Founding is begun at a box that runs: it fails, says why, and the box goes on as it is."""
