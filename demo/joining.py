@@ -248,6 +248,9 @@ class Machine:
             raise SystemExit(f"joining: {self.name}: {command!r} ends with {done.returncode}: {done.stdout}")
         return done.stdout
 
+    def runs_no_box(self):
+        return "natpair" not in self.do("ps -e -o comm=").splitlines()
+
     def receive(self, file):
         shutil.copy(file, self.root() / "home/user")
 
@@ -466,13 +469,12 @@ class Site:
             before = boot.read_bytes()
             if not self.options.root:
                 # Without a systemd the package stops nothing.
-                self.run(name, f"systemctl stop natpair@{number}")
+                self.run(name, f"systemctl stop natpair@{number} natpair-metrics@{number}.timer")
             for command in ("dpkg --remove natpair", "dpkg --purge natpair"):
                 self.run(name, command)
                 if not boot.exists() or boot.read_bytes() != before:
                     raise SystemExit(f"joining: {name}: {command} touches {boot.name}")
-                if "natpair" in machine.do("ps -e -o comm=").splitlines():
-                    raise SystemExit(f"joining: {name}: {command} stops no box")
+                wait_until(machine.runs_no_box, 5, f"{name}: {command} stops the box")
             if number == 0:
                 self.rest(1)
                 self.expect_flows("box 0 has no package")
