@@ -25,7 +25,7 @@ of which call stands in names.txt; as what each type shows itself to clauses, wh
 showed itself as another's value would have the names that are given of that; how often a file, a socket or a folder is asked by what
 leaves no trace in a clause, and where, in asked.txt.
 
-What a listed function calls stands in calls.txt, and that it is as it was read, in bodies.txt; and each line that docs/THEOREM.md
+No function of the core calls itself (recursion.py). What a listed function calls stands in calls.txt, and that it is as it was read, in bodies.txt; and each line that docs/THEOREM.md
 trusts stands in the function that its row names.
 
 All this reads text, and is no parser: what gets past it would have to be written to get past it.
@@ -42,6 +42,7 @@ import tempfile
 sys.dont_write_bytecode = True  # Nothing is left in the repository.
 import calls
 import handles
+import recursion
 from edits import edits_of
 from sources import CALL, FIELD, code_of, crates_of, found_in, names_of_calls, sources_of, without_comments
 
@@ -528,12 +529,13 @@ def main():
     parser.add_argument("--bodies", action="store_true")
     given = parser.parse_args()
     if given.self_test:
-        return self_test(given.folder)
+        self_test(given.folder)
+        return recursion.self_test(given.folder)
     if given.bodies:
         return print("\n".join(calls.bodies_now(given.folder, crates_of(given.folder))))
     if given.calls:
         return print("\n".join(calls.lines_now(given.folder, crates_of(given.folder))))
-    found = faults(given.folder)
+    found = [*faults(given.folder), *recursion.faults(given.folder)]
     for line in found:
         print(line)
     if found:
