@@ -2,8 +2,8 @@
 
 A line is `natpair WORDS`, perhaps with words in front: `? PORT` the first datagram that comes to a port, `! FILE` a boot
 file that is held, `@ FILE` what is said at a control socket, `> PORT OTHER HEX` a descriptor into which bytes came, and
-NAME=VALUE for its environment. A line `+ NAME;OLD;NEW` makes other settings, a line `= NAME` is passed over: each file is
-looked at behind each run. A word in quotes may have gaps.
+NAME=VALUE for its environment. A line `+ NAME;OLD;NEW` makes other settings, a line `= NAME` is passed over: each file
+is looked at behind each run. A word in quotes may have gaps.
 """
 
 import fcntl

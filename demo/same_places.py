@@ -204,6 +204,8 @@ def memory(trial):
 def refused(trial, shim, words):
     """What is told, and with which status, over all runs of which one request is refused."""
     last = int(requests(trial, shim, words, 0)[1].split()[-1])
+    if not last:
+        raise SystemExit("same: the shim sees no request for memory: a program that `rt try` makes has a malloc of its own")
     return sorted({(status, masked(b"\n".join(errors.split(b"\n")[:-3])))
                    for status, errors in (requests(trial, shim, words, number) for number in range(1, last + 1))})
 
