@@ -32,6 +32,7 @@ import sys
 sys.dont_write_bytecode = True
 
 import argparse
+import collections
 import contextlib
 import functools
 import os
@@ -68,10 +69,12 @@ SAID = {
         ("box 1", "natpair@1", ["inside.* Active", "outside.* Active", "inside.* Backup", "outside.* Backup"]),
     ],
     RELEASE: [
-        ("box 0", "natpair@0", [r"\bend$", "boot 4", "synced"]),
-        ("box 1", "natpair@1", [r"\bend$", "boot 2", "synced"]),
+        ("box 0", "natpair@0", [r"\bend$", "boot {}", "synced"]),
+        ("box 1", "natpair@1", [r"\bend$", "boot {}", "synced"]),
     ],
 }
+# How often each box has begun before the page restarts it for the first time.
+BEGUN = {"box 0": 3, "box 1": 1}
 
 
 # A fence command for a machine that is off already. Of what it is handed it keeps a copy where the unit lets it write.
@@ -138,8 +141,10 @@ mkdir -p home/user
 shift 2
 cp -P "$@" usr/local/bin/
 """
-# It has the system's devices, and a first process that does nothing.
+# A unit names systemctl by its path. It has the system's devices, and a first process that does nothing.
 STILL = FILES + """
+rm -f usr/bin/systemctl
+cp -P usr/local/bin/systemctl usr/bin/
 mount --rbind /dev dev
 echo ready
 exec chroot . sleep infinity
@@ -149,8 +154,9 @@ exec chroot . sleep infinity
 BOOTED = FILES + """
 mount -t cgroup2 cgroup2 sys/fs/cgroup
 mount -t tmpfs -o mode=755 tmpfs dev
-mkdir dev/pts dev/shm ../net
-for device in null zero full random urandom tty; do
+mkdir dev/pts dev/shm dev/net ../net
+for device in null zero full random urandom tty net/tun; do
+    test -e "/dev/$device" || continue
     touch "dev/$device"
     mount --bind "/dev/$device" "dev/$device"
 done
@@ -282,6 +288,8 @@ class Site:
         self.serve()
         self.loop = Loop()
         self.flows = Flows(self.loop, self.around.host, stack)
+        # How often the page has restarted each box.
+        self.restarts = collections.Counter()
 
     def serve(self):
         server = self.around.server.start(*PYTHON, str(FOLDER / "server.py"), SERVER, str(PORT), stdout=subprocess.PIPE)
@@ -323,6 +331,7 @@ class Site:
         if command.startswith("sleep "):
             self.rest(float(command.split()[1]))
             return
+        self.restarts[place] += bool(re.fullmatch(r"sudo systemctl restart natpair@\d", command))
         said = self.build(command) if place == "builder" else self.machines[place].do(command)
         for line in said.splitlines():
             print(f"{place:8}   {line}", flush=True)
@@ -361,6 +370,7 @@ class Site:
         for name, unit, lines in SAID.get(section, []):
             journal = self.machines[name].do(f"journalctl -u {unit} -n 1000")
             for line in lines:
+                line = line.format(BEGUN[name] + self.restarts[name])
                 if not re.search(line, journal, re.MULTILINE):
                     raise SystemExit(f"joining: {section}: {name} doesn't say {line!r}:\n{journal}")
 
