@@ -1,9 +1,8 @@
 #!/usr/bin/env python3
 """Says of the wrong bodies in crates/*/must-fail which clause refuses each.
 
-    scripts/edits.py gate LOG                   what the gate said of each, from its output in a file: the table of
-                                                docs/WRONG_BODIES.md; status 1 where that page has another row, or an edit
-                                                isn't refused
+    scripts/edits.py gate LOG                   what the gate said of each, from its output in a file; status 1 where
+                                                docs/WRONG_BODIES.md has another goal, or an edit isn't refused
     scripts/edits.py clauses CRATE[/EDIT]..     tries these, and says which clause refuses each
     scripts/edits.py list                       the edits, a line each
 
@@ -175,15 +174,17 @@ def goal(top, crate, said):
 
 
 def told_by_gate(top, log):
-    """A line of a table for each edit that the gate tried. Gives the status: 1 where one isn't refused, where none was
-    tried, or where the page has no such line."""
-    page = (top / "docs" / "WRONG_BODIES.md").read_text(encoding="utf-8")
-    rows = [f"| `{name}` | `{crate}` | {goal(top, crate, said)} |" for crate, name, said in sorted(SAID.findall(log))]
-    print("\n".join(rows))
-    strange = [row for row in rows if row not in page]
-    for row in strange:
-        print(f"edits: docs/WRONG_BODIES.md hasn't the row {row}", file=sys.stderr)
-    return int(not rows or bool(strange) or any("NOT REFUSED" in row for row in rows))
+    """A line for each edit that the gate tried, with its goal. Gives the status: 1 where one isn't refused, where none was
+    tried, or where the page's row of it has another goal, or isn't there."""
+    page = (top / "docs" / "WRONG_BODIES.md").read_text(encoding="utf-8").splitlines()
+    bad = 0
+    tried = sorted(SAID.findall(log))
+    for crate, name, said in tried:
+        where = goal(top, crate, said)
+        is_told = any(row.startswith(f"| `{name}` | `{crate}` |") and row.endswith(f"| {where} |") for row in page)
+        bad += not is_told or where == "NOT REFUSED"
+        print(f"{crate}/{name}: {where}{'' if is_told else ' (docs/WRONG_BODIES.md says something else)'}")
+    return int(bad > 0 or not tried)
 
 
 def clauses_of(edits):
