@@ -23,7 +23,8 @@ def remove(folder):
 class Groups:
     """Groups of processes that share a processor by weight: cgroup2's where it has the processors, else cgroup's."""
 
-    def __init__(self, stack):
+    def __init__(self, stack, count):
+        """Groups of so many, which have together what so many processes without groups have."""
         self.stack = stack
         self.place, self.file, self.unit = self.found()
         with undisturbed():
@@ -32,6 +33,7 @@ class Groups:
         if self.file == "cpu.weight":
             for folder in (self.place, self.folder):
                 (folder / "cgroup.subtree_control").write_text("+cpu", encoding="ascii")
+        (self.folder / self.file).write_text(str(count * self.unit), encoding="ascii")
 
     @staticmethod
     def found():
@@ -57,7 +59,7 @@ class Groups:
 def crowd(networks, options, stack):
     """Puts both boxes and so many busy processes on the last processor; those run until the networks are closed."""
     processor = str(max(os.sched_getaffinity(0)))
-    groups = Groups(stack) if options.weight else None
+    groups = Groups(stack, options.busy + len(networks.boxes)) if options.weight else None
 
     def lead(name, weight, nice):
         file = groups.add(name, weight) if groups else os.devnull
