@@ -1,7 +1,7 @@
 #!/usr/bin/env python3
 """Tries the commands of docs/OPERATING.md, "Joining the boxes", as they stand there, on two machines made of namespaces.
 
-    sudo demo/joining.py [--program FILE] [--before FILE] [--root FOLDER] [--wireguard] [--list]
+    sudo demo/joining.py [--program FILE] [--root FOLDER] [--before FILE] [--wireguard] [--list]
 
 A machine is a network namespace with the interfaces eth1, eth2 and eth3, and a copy of this system's files in which
 what it writes stays its own. Each command of the page is run there, and has to end well. In place of some there stands
@@ -9,15 +9,17 @@ something else: `./build` (the program is there), `scp` (the package is copied),
 dpkg, what it depends on has to be there), `sudo`, `systemctl` and `journalctl` (demo/machine: a machine has no systemd).
 Beside them hosts, a router and a server are made, as for demo/run; flows from a host stay open through all that the
 page does to the boxes, and what the page says of the journals is looked for. Then box 1 is stopped while the fence's unit
-runs at box 0, with a command that only says that it has switched a machine off: new flows have to go on. With --root box 1
-hangs besides, and its systemd has to start it again. At last the package is removed and purged on both machines, and both boot files have to be there still.
+runs at box 0, with a command that only says that it has switched a machine off: new flows have to go on. With --root
+box 1 hangs besides, and its systemd has to start it again; and the pair is founded once more while it runs, which has to
+fail and to change nothing. At last the package is removed and purged on both machines, and both boot files have to be
+there still.
 
     --program FILE  the program, if it isn't crates/natpair/out/natpair
-    --before FILE   a package of a release before, by which the pair is founded: both boxes come to the new one at
-                    "A new release"
     --root FOLDER   a machine is a copy of this root of Debian, with its own systemd as its first process: of the
                     commands above only `./build`, `scp` and `sudo` are something else then. packaging/test makes it.
                     FOLDER may be layers with colons between, the upper one first
+    --before FILE   the package of the release before: the page is followed with that one to the working pair, and then
+                    its "A new release" with the new one, and no further
     --wireguard     tries the link's tunnel too
     --list          prints the commands, and runs none
 
@@ -52,7 +54,8 @@ TOP = FOLDER.parent
 PAGE = TOP / "docs" / "OPERATING.md"
 PLACES = {"where you build": ("builder",), "on both machines": ("box 0", "box 1"), "on box 0": ("box 0",),
           "on box 1": ("box 1",)}
-TUNNEL, RELEASE = "What the link trusts", "A new release"
+TUNNEL = "What the link trusts"
+RELEASE = "A new release"
 FLOWS = 20
 # What the page says of a journal, by the section in which it says so: the machine, its unit, and what is in a line there.
 SAID = {
@@ -251,8 +254,11 @@ class Machine:
             raise SystemExit(f"joining: {self.name}: {command!r} ends with {done.returncode}: {done.stdout}")
         return done.stdout
 
-    def receive(self, file, name):
-        shutil.copy(file, self.root() / "home/user" / name)
+    def runs_no_box(self):
+        return "natpair" not in self.do("ps -e -o comm=").splitlines()
+
+    def receive(self, file):
+        shutil.copy(file, self.root() / "home/user")
 
     def write(self, path, text):
         target = self.root() / path[1:]
@@ -297,18 +303,22 @@ class Site:
         if command == "packaging/deb/build":
             words = (TOP / command, "--program", self.options.program, "--out", self.work)
             return subprocess.run(words, check=True, capture_output=True, text=True).stdout
-        copied = re.fullmatch(r"scp packaging/deb/out/(natpair_\S+) box(\d):", command)
+        copied = re.fullmatch(r"scp packaging/deb/out/natpair_\S+ box(\d):", command)
         if not copied:
             raise SystemExit(f"joining: {command!r} isn't a command that is known where one builds")
-        for file in self.work.glob(copied[1]):
-            self.machines[f"box {copied[2]}"].receive(self.options.before or file, file.name)
+        self.machines[f"box {copied[1]}"].receive(self.options.before or self.package())
         return ""
 
-    def bring_new(self):
-        """The new package lies where that of the release before is."""
-        for file in self.work.glob("natpair_*.deb"):
-            for machine in self.machines.values():
-                machine.receive(file, file.name)
+    def package(self):
+        """The new package, once it is made."""
+        found, = self.work.glob("natpair_*.deb")
+        return found
+
+    def new_release(self):
+        """The new package takes the place of the one before on both machines."""
+        for machine in self.machines.values():
+            (machine.root() / "home/user" / self.options.before.name).unlink()
+            machine.receive(self.package())
 
     def rest(self, seconds):
         """Lets the flows be while time passes."""
@@ -364,37 +374,74 @@ class Site:
                 if not re.search(line, journal, re.MULTILINE):
                     raise SystemExit(f"joining: {section}: {name} doesn't say {line!r}:\n{journal}")
 
+    def is_left_out(self, block):
+        if self.options.before is None:
+            return block.section == TUNNEL and not self.options.wireguard
+        number = block.section.partition(".")[0]
+        return block.section != RELEASE and not (number.isdigit() and int(number) <= 8)
+
     def follow(self, page):
         """Runs the page. After each part of a section that does something to the boxes, the flows ask. At the end fresh
         flows are opened: the boxes have to agree on them by the link."""
+        page = [block for block in page if not self.is_left_out(block)]
         for number, block in enumerate(page):
-            if block.section == RELEASE:
-                self.bring_new()
-            if block.section == TUNNEL and not self.options.wireguard:
-                continue
-            if block.kind == "ini":
-                self.write(block)
-                continue
-            for command in block.commands():
-                for place in block.places:
-                    self.run(place, command)
+            begins = number == 0 or page[number - 1].section != block.section
+            if self.options.before and block.section == RELEASE and begins:
+                self.new_release()
+            self.do(block)
             if self.flows.flows:
                 self.rest(1)
                 self.expect_flows(block.section)
             if number + 1 == len(page) or page[number + 1].section != block.section:
-                self.expect_said(block.section)
-                if block.section.startswith("11."):
-                    self.expect_metrics()
-                if block.section.startswith("8."):
-                    self.open_flows()
+                self.expect(block.section)
         self.open_flows()
 
-    def expect_conf(self):
-        """A pair of the release before has its link's port still, and hears no farther than any other."""
-        for name, machine in self.machines.items():
-            conf = machine.do("cat /etc/natpair/box.conf").splitlines()
-            if "LINK_PORT=7000" not in conf or "LINK_HOPS=1" not in conf:
-                raise SystemExit(f"joining: {name} has another box.conf:\n{conf}")
+    def do(self, block):
+        if block.kind == "ini":
+            self.write(block)
+            return
+        for command in block.commands():
+            for place in block.places:
+                self.run(place, command)
+
+    def expect(self, section):
+        """What has to hold at the end of a section."""
+        if self.options.before and section == RELEASE:
+            self.expect_new_release()
+        else:
+            self.expect_said(section)
+        if section.startswith("11."):
+            self.expect_metrics()
+        if section.startswith("8."):
+            self.open_flows()
+
+    def expect_new_release(self):
+        """The link has the port that it had, hears one hop alone, and its interface alone."""
+        for number, (name, machine) in enumerate(self.machines.items()):
+            lines = machine.do("cat /etc/natpair/box.conf").splitlines()
+            sockets = machine.do("ss -Huan").split()
+            own = f"10.0.0.{number + 1}%eth3:7000"
+            if not {"LINK_PORT=7000", "LINK_HOPS=1"} <= set(lines) or own not in sockets:
+                raise SystemExit(f"joining: {name}: box.conf says {lines}, and its sockets are {sockets}")
+
+    def found_again(self):
+        """Founding is begun at a box that runs: it fails, says why, and the box goes on as it is."""
+        first = self.machines["box 0"]
+        boot = first.root() / "var/lib/natpair/boot0"
+        before, runs = boot.read_bytes(), first.do("pidof natpair")
+        print("box 0    $ systemctl start natpair-found@0", flush=True)
+        status = first.do("systemctl start natpair-found@0; echo status $?").splitlines()[-1]
+        journal = first.do("journalctl -u natpair-found@0 -n 20")
+        why = [line for line in journal.splitlines() if "box 0 runs already" in line]
+        if status == "status 0" or not why:
+            raise SystemExit(f"joining: founding at a box that runs ends with {status}, and says:\n{journal}")
+        print(f"founding = {status}, {why[-1].partition(': ')[2]}", flush=True)
+        if boot.read_bytes() != before or first.do("pidof natpair") != runs:
+            raise SystemExit("joining: founding at a box that runs changes it")
+        self.run("box 0", "systemctl is-active natpair@0")
+        self.run("box 0", "natpair-box --id 0 status --until synced --seconds 5")
+        self.expect_flows("box 0 was to be founded again")
+        self.open_flows()
 
     def fence(self):
         """Box 1 is stopped, and is silent as if it were dead: box 0 fences it, and is told that it is off."""
@@ -433,13 +480,12 @@ class Site:
             before = boot.read_bytes()
             if not self.options.root:
                 # Without a systemd the package stops nothing.
-                self.run(name, f"systemctl stop natpair@{number}")
+                self.run(name, f"systemctl stop natpair@{number} natpair-metrics@{number}.timer")
             for command in ("dpkg --remove natpair", "dpkg --purge natpair"):
                 self.run(name, command)
                 if not boot.exists() or boot.read_bytes() != before:
                     raise SystemExit(f"joining: {name}: {command} touches {boot.name}")
-                if "natpair" in machine.do("ps -e -o comm=").splitlines():
-                    raise SystemExit(f"joining: {name}: {command} stops no box")
+                wait_until(machine.runs_no_box, 5, f"{name}: {command} stops the box")
             if number == 0:
                 self.rest(1)
                 self.expect_flows("box 0 has no package")
@@ -451,8 +497,8 @@ class Site:
 def options_of(words):
     parser = argparse.ArgumentParser(prog="joining.py", description=__doc__.split("\n")[0])
     parser.add_argument("--program", type=pathlib.Path, default=TOP / "crates/natpair/out/natpair")
-    parser.add_argument("--before", type=pathlib.Path)
     parser.add_argument("--root", type=pathlib.Path)
+    parser.add_argument("--before", type=pathlib.Path)
     parser.add_argument("--wireguard", action="store_true")
     parser.add_argument("--list", action="store_true")
     return parser.parse_args(words)
@@ -468,8 +514,8 @@ def main():
         return 0
     if os.geteuid() != 0:
         raise SystemExit("joining: it makes namespaces, and has to be root for that")
-    if options.before and options.wireguard:
-        raise SystemExit("joining: a pair of the release before can't be moved to a tunnel as the page says it")
+    if options.before and not options.root:
+        raise SystemExit("joining: --before is for machines with a systemd: --root")
     if not options.program.is_file():
         raise SystemExit(f"joining: no program at {options.program}, where ./build puts it")
     catch_signals()
@@ -478,10 +524,12 @@ def main():
         site = Site(options, stack)
         site.follow(page)
         if options.before:
-            site.expect_conf()
+            print("every command of the page ended well, and no flow was lost by the new release")
+            return 0
         site.fence()
         if options.root:
             site.hang()
+            site.found_again()
         site.remove()
     print("every command of the page ended well, no flow was lost, and the boot files are there")
     return 0
