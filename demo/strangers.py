@@ -17,6 +17,8 @@ FLOWS = 100
 WINDOW = 48
 # The pair has this time to go through what is there.
 REST = 1.0
+# So late the demo may see what passed the switches, on a machine that has other work.
+LAG = 10
 # Addresses and users that are nobody's.
 STRANGE_ADDRESS = "10.0.0.9"
 STRANGE_PORT = 7999
@@ -215,7 +217,9 @@ class Watch:
         news = [line for line in lines if line not in self.before]
         self.before = lines
         running = all(box.gate.poll() is None for box in self.current.boxes)
-        changed = len(news) + (not running) + (not self.current.observer.active(0))
+        # The demo sees what passed the switches some time after it did.
+        active = self.current.loop.until(lambda: self.current.observer.active(0), LAG)
+        changed = len(news) + (not running) + (not active)
         for number, line in news[:5]:
             self.current.say(f"box {number} says: {line}")
         self.current.say(f"{name}: {taken:,} of {tried:,} sent, {held} of {len(self.flows.flows)} flows hold")
