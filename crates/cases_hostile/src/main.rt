@@ -6,7 +6,7 @@
 mod benches;
 mod desks;
 mod gates;
-mod scripts;
+mod runs;
 mod tallies;
 mod telling;
 
@@ -14,7 +14,7 @@ use anyhow::Result;
 use cases_words::{Case, play};
 use desks::Desk;
 use gateway::Gateway;
-use scripts::Scripts;
+use runs::Scripts;
 
 fn try_vectors(rt: &HostRuntime, case: &mut Case) -> Result<()> {
     let mut desk = Desk::<Gateway>::new(*rt);
