@@ -1,7 +1,7 @@
 #!/usr/bin/env python3
 """Tries the commands of docs/OPERATING.md, "Joining the boxes", as they stand there, on two machines made of namespaces.
 
-    sudo demo/joining.py [--program FILE] [--root FOLDER] [--wireguard] [--list]
+    sudo demo/joining.py [--program FILE] [--root FOLDER] [--before FILE] [--wireguard] [--list]
 
 A machine is a network namespace with the interfaces eth1, eth2 and eth3, and a copy of this system's files in which
 what it writes stays its own. Each command of the page is run there, and has to end well. In place of some there stands
@@ -9,13 +9,17 @@ something else: `./build` (the program is there), `scp` (the package is copied),
 dpkg, what it depends on has to be there), `sudo`, `systemctl` and `journalctl` (demo/machine: a machine has no systemd).
 Beside them hosts, a router and a server are made, as for demo/run; flows from a host stay open through all that the
 page does to the boxes, and what the page says of the journals is looked for. Then box 1 is stopped while the fence's unit
-runs at box 0, with a command that only says that it has switched a machine off: new flows have to go on. With --root box 1
-hangs besides, and its systemd has to start it again. At last the package is removed and purged on both machines, and both boot files have to be there still.
+runs at box 0, with a command that only says that it has switched a machine off: new flows have to go on. With --root
+box 1 hangs besides, and its systemd has to start it again; and the pair is founded once more while it runs, which has to
+fail and to change nothing. At last the package is removed and purged on both machines, and both boot files have to be
+there still.
 
     --program FILE  the program, if it isn't crates/natpair/out/natpair
     --root FOLDER   a machine is a copy of this root of Debian, with its own systemd as its first process: of the
                     commands above only `./build`, `scp` and `sudo` are something else then. packaging/test makes it.
                     FOLDER may be layers with colons between, the upper one first
+    --before FILE   the package of the release before: the page is followed with that one to the working pair, and then
+                    its "A new release" with the new one, and no further
     --wireguard     tries the link's tunnel too
     --list          prints the commands, and runs none
 
@@ -28,6 +32,7 @@ import sys
 sys.dont_write_bytecode = True
 
 import argparse
+import collections
 import contextlib
 import functools
 import os
@@ -50,6 +55,7 @@ PAGE = TOP / "docs" / "OPERATING.md"
 PLACES = {"where you build": ("builder",), "on both machines": ("box 0", "box 1"), "on box 0": ("box 0",),
           "on box 1": ("box 1",)}
 TUNNEL = "What the link trusts"
+RELEASE = "A new release"
 FLOWS = 20
 # What the page says of a journal, by the section in which it says so: the machine, its unit, and what is in a line there.
 SAID = {
@@ -62,11 +68,13 @@ SAID = {
         ("box 0", "natpair@0", ["boot 3", "keeper inside cable out", " away", "keeper inside cable in", " back"]),
         ("box 1", "natpair@1", ["inside.* Active", "outside.* Active", "inside.* Backup", "outside.* Backup"]),
     ],
-    "A new release": [
-        ("box 0", "natpair@0", [r"\bend$", "boot 4", "synced"]),
-        ("box 1", "natpair@1", [r"\bend$", "boot 2", "synced"]),
+    RELEASE: [
+        ("box 0", "natpair@0", [r"\bend$", "boot {}", "synced"]),
+        ("box 1", "natpair@1", [r"\bend$", "boot {}", "synced"]),
     ],
 }
+# How often each box has begun before the page restarts it for the first time.
+BEGUN = {"box 0": 3, "box 1": 1}
 
 
 # A fence command for a machine that is off already. Of what it is handed it keeps a copy where the unit lets it write.
@@ -133,8 +141,10 @@ mkdir -p home/user
 shift 2
 cp -P "$@" usr/local/bin/
 """
-# It has the system's devices, and a first process that does nothing.
+# A unit names systemctl by its path. It has the system's devices, and a first process that does nothing.
 STILL = FILES + """
+rm -f usr/bin/systemctl
+cp -P usr/local/bin/systemctl usr/bin/
 mount --rbind /dev dev
 echo ready
 exec chroot . sleep infinity
@@ -144,8 +154,9 @@ exec chroot . sleep infinity
 BOOTED = FILES + """
 mount -t cgroup2 cgroup2 sys/fs/cgroup
 mount -t tmpfs -o mode=755 tmpfs dev
-mkdir dev/pts dev/shm ../net
-for device in null zero full random urandom tty; do
+mkdir dev/pts dev/shm dev/net ../net
+for device in null zero full random urandom tty net/tun; do
+    test -e "/dev/$device" || continue
     touch "dev/$device"
     mount --bind "/dev/$device" "dev/$device"
 done
@@ -243,6 +254,9 @@ class Machine:
             raise SystemExit(f"joining: {self.name}: {command!r} ends with {done.returncode}: {done.stdout}")
         return done.stdout
 
+    def runs_no_box(self):
+        return "natpair" not in self.do("ps -e -o comm=").splitlines()
+
     def receive(self, file):
         shutil.copy(file, self.root() / "home/user")
 
@@ -274,6 +288,8 @@ class Site:
         self.serve()
         self.loop = Loop()
         self.flows = Flows(self.loop, self.around.host, stack)
+        # How often the page has restarted each box.
+        self.restarts = collections.Counter()
 
     def serve(self):
         server = self.around.server.start(*PYTHON, str(FOLDER / "server.py"), SERVER, str(PORT), stdout=subprocess.PIPE)
@@ -287,12 +303,22 @@ class Site:
         if command == "packaging/deb/build":
             words = (TOP / command, "--program", self.options.program, "--out", self.work)
             return subprocess.run(words, check=True, capture_output=True, text=True).stdout
-        copied = re.fullmatch(r"scp packaging/deb/out/(natpair_\S+) box(\d):", command)
+        copied = re.fullmatch(r"scp packaging/deb/out/natpair_\S+ box(\d):", command)
         if not copied:
             raise SystemExit(f"joining: {command!r} isn't a command that is known where one builds")
-        for file in self.work.glob(copied[1]):
-            self.machines[f"box {copied[2]}"].receive(file)
+        self.machines[f"box {copied[1]}"].receive(self.options.before or self.package())
         return ""
+
+    def package(self):
+        """The new package, once it is made."""
+        found, = self.work.glob("natpair_*.deb")
+        return found
+
+    def new_release(self):
+        """The new package takes the place of the one before on both machines."""
+        for machine in self.machines.values():
+            (machine.root() / "home/user" / self.options.before.name).unlink()
+            machine.receive(self.package())
 
     def rest(self, seconds):
         """Lets the flows be while time passes."""
@@ -305,6 +331,7 @@ class Site:
         if command.startswith("sleep "):
             self.rest(float(command.split()[1]))
             return
+        self.restarts[place] += bool(re.fullmatch(r"sudo systemctl restart natpair@\d", command))
         said = self.build(command) if place == "builder" else self.machines[place].do(command)
         for line in said.splitlines():
             print(f"{place:8}   {line}", flush=True)
@@ -343,30 +370,77 @@ class Site:
         for name, unit, lines in SAID.get(section, []):
             journal = self.machines[name].do(f"journalctl -u {unit} -n 1000")
             for line in lines:
+                line = line.format(BEGUN[name] + self.restarts[name])
                 if not re.search(line, journal, re.MULTILINE):
                     raise SystemExit(f"joining: {section}: {name} doesn't say {line!r}:\n{journal}")
+
+    def is_left_out(self, block):
+        if self.options.before is None:
+            return block.section == TUNNEL and not self.options.wireguard
+        number = block.section.partition(".")[0]
+        return block.section != RELEASE and not (number.isdigit() and int(number) <= 8)
 
     def follow(self, page):
         """Runs the page. After each part of a section that does something to the boxes, the flows ask. At the end fresh
         flows are opened: the boxes have to agree on them by the link."""
+        page = [block for block in page if not self.is_left_out(block)]
         for number, block in enumerate(page):
-            if block.section == TUNNEL and not self.options.wireguard:
-                continue
-            if block.kind == "ini":
-                self.write(block)
-                continue
-            for command in block.commands():
-                for place in block.places:
-                    self.run(place, command)
+            begins = number == 0 or page[number - 1].section != block.section
+            if self.options.before and block.section == RELEASE and begins:
+                self.new_release()
+            self.do(block)
             if self.flows.flows:
                 self.rest(1)
                 self.expect_flows(block.section)
             if number + 1 == len(page) or page[number + 1].section != block.section:
-                self.expect_said(block.section)
-                if block.section.startswith("11."):
-                    self.expect_metrics()
-                if block.section.startswith("8."):
-                    self.open_flows()
+                self.expect(block.section)
+        self.open_flows()
+
+    def do(self, block):
+        if block.kind == "ini":
+            self.write(block)
+            return
+        for command in block.commands():
+            for place in block.places:
+                self.run(place, command)
+
+    def expect(self, section):
+        """What has to hold at the end of a section."""
+        if self.options.before and section == RELEASE:
+            self.expect_new_release()
+        else:
+            self.expect_said(section)
+        if section.startswith("11."):
+            self.expect_metrics()
+        if section.startswith("8."):
+            self.open_flows()
+
+    def expect_new_release(self):
+        """The link has the port that it had, hears one hop alone, and its interface alone."""
+        for number, (name, machine) in enumerate(self.machines.items()):
+            lines = machine.do("cat /etc/natpair/box.conf").splitlines()
+            sockets = machine.do("ss -Huan").split()
+            own = f"10.0.0.{number + 1}%eth3:7000"
+            if not {"LINK_PORT=7000", "LINK_HOPS=1"} <= set(lines) or own not in sockets:
+                raise SystemExit(f"joining: {name}: box.conf says {lines}, and its sockets are {sockets}")
+
+    def found_again(self):
+        """Founding is begun at a box that runs: it fails, says why, and the box goes on as it is."""
+        first = self.machines["box 0"]
+        boot = first.root() / "var/lib/natpair/boot0"
+        before, runs = boot.read_bytes(), first.do("pidof natpair")
+        print("box 0    $ systemctl start natpair-found@0", flush=True)
+        status = first.do("systemctl start natpair-found@0; echo status $?").splitlines()[-1]
+        journal = first.do("journalctl -u natpair-found@0 -n 20")
+        why = [line for line in journal.splitlines() if "box 0 runs already" in line]
+        if status == "status 0" or not why:
+            raise SystemExit(f"joining: founding at a box that runs ends with {status}, and says:\n{journal}")
+        print(f"founding = {status}, {why[-1].partition(': ')[2]}", flush=True)
+        if boot.read_bytes() != before or first.do("pidof natpair") != runs:
+            raise SystemExit("joining: founding at a box that runs changes it")
+        self.run("box 0", "systemctl is-active natpair@0")
+        self.run("box 0", "natpair-box --id 0 status --until synced --seconds 5")
+        self.expect_flows("box 0 was to be founded again")
         self.open_flows()
 
     def fence(self):
@@ -406,13 +480,12 @@ class Site:
             before = boot.read_bytes()
             if not self.options.root:
                 # Without a systemd the package stops nothing.
-                self.run(name, f"systemctl stop natpair@{number}")
+                self.run(name, f"systemctl stop natpair@{number} natpair-metrics@{number}.timer")
             for command in ("dpkg --remove natpair", "dpkg --purge natpair"):
                 self.run(name, command)
                 if not boot.exists() or boot.read_bytes() != before:
                     raise SystemExit(f"joining: {name}: {command} touches {boot.name}")
-                if "natpair" in machine.do("ps -e -o comm=").splitlines():
-                    raise SystemExit(f"joining: {name}: {command} stops no box")
+                wait_until(machine.runs_no_box, 5, f"{name}: {command} stops the box")
             if number == 0:
                 self.rest(1)
                 self.expect_flows("box 0 has no package")
@@ -425,6 +498,7 @@ def options_of(words):
     parser = argparse.ArgumentParser(prog="joining.py", description=__doc__.split("\n")[0])
     parser.add_argument("--program", type=pathlib.Path, default=TOP / "crates/natpair/out/natpair")
     parser.add_argument("--root", type=pathlib.Path)
+    parser.add_argument("--before", type=pathlib.Path)
     parser.add_argument("--wireguard", action="store_true")
     parser.add_argument("--list", action="store_true")
     return parser.parse_args(words)
@@ -440,6 +514,8 @@ def main():
         return 0
     if os.geteuid() != 0:
         raise SystemExit("joining: it makes namespaces, and has to be root for that")
+    if options.before and not options.root:
+        raise SystemExit("joining: --before is for machines with a systemd: --root")
     if not options.program.is_file():
         raise SystemExit(f"joining: no program at {options.program}, where ./build puts it")
     catch_signals()
@@ -447,9 +523,13 @@ def main():
     with contextlib.ExitStack() as stack:
         site = Site(options, stack)
         site.follow(page)
+        if options.before:
+            print("every command of the page ended well, and no flow was lost by the new release")
+            return 0
         site.fence()
         if options.root:
             site.hang()
+            site.found_again()
         site.remove()
     print("every command of the page ended well, no flow was lost, and the boot files are there")
     return 0

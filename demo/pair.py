@@ -23,8 +23,16 @@ ROUTER = "192.0.2.254"
 BEYOND = "198.51.100.1"
 SERVER = "198.51.100.7"
 LINK_ADDRESSES = ("10.0.0.1", "10.0.0.2")
-LINK_PORT = 7000
+# No ordinary user can have the first of these. A gate that opens the link's socket itself has no privilege for it, and
+# a pair of a release before stays at the other one.
+LINK_PORT, OPEN_PORT = 340, 7000
 LINK_MTU = 4096
+# By what the link's interfaces are joined: one cable, a tunnel over a cable, or a switch.
+LINKS = ("cable", "tunnel", "switch")
+# Of a tunnel: the cable's addresses, its MTU, and the tunnel's port and number.
+CABLE_ADDRESSES = ("10.0.1.1", "10.0.1.2")
+CABLE_MTU = 4200
+CABLE_PORT, CABLE_NUMBER = 4790, 7
 # With --sides vxlan: the port, the number of box 0's tunnel of each side (10 more at box 1), and an MTU that leaves room
 # for a whole frame within.
 TUNNEL_PORT = 4789
@@ -32,6 +40,8 @@ TUNNELS = {"inside": 11, "outside": 12}
 TUNNEL_MTU = 1600
 # The user that the boxes run as.
 USER = "nobody"
+# The launcher, and that of a release before, whose link knows neither interface nor distance.
+LAUNCHER, BEFORE = "natpair-launch", "natpair-launch-before"
 # A record of a box: where it belongs, and what it tells. Of drops the first of a second is one, and so are all others of it.
 RECORD = re.compile(r"\[\w+ +natpair::(\w+)\] \d+ (.*)")
 DROP = re.compile(r"(dropped \d+ \w+)(?:, (\d+) more)?")
@@ -65,6 +75,14 @@ class Box:
         self.starts = 0
         self.boot = 0
         self.gate = None
+        # The link's socket: which launcher opens it, by which interface, from how far, and what its port is.
+        self.launcher = BEFORE if options.before else LAUNCHER
+        self.link_interface = "link"
+        self.link_hops = 1
+        is_launchers = (options.sides, options.link) == ("descriptor", "descriptor")
+        self.link_port = LINK_PORT if is_launchers and not options.before else OPEN_PORT
+        # What stands before the words by which it is started.
+        self.before = ()
 
     def natpair(self, *words):
         program = str(self.top / "natpair")
@@ -75,9 +93,22 @@ class Box:
         if self.options.sides == "descriptor":
             for name in SIDES:
                 self.leave_to_natpair(name)
-        self.space.ip("link", "set", "dev", "link", "mtu", str(LINK_MTU))
-        address = f"{LINK_ADDRESSES[self.number]}/24"
-        self.space.ip("addr", "add", address, "dev", "link")
+        if self.options.link_over == "tunnel":
+            self.dig("link", "cable")
+        self.set_link_up("link")
+
+    def set_link_up(self, name):
+        """Gives an interface the link's address."""
+        self.space.ip("link", "set", "dev", name, "mtu", str(LINK_MTU), "up")
+        self.space.ip("addr", "add", f"{LINK_ADDRESSES[self.number]}/24", "dev", name)
+
+    def dig(self, name, cable):
+        """Makes a tunnel over the cable to the other box."""
+        own, other = CABLE_ADDRESSES[self.number], CABLE_ADDRESSES[1 - self.number]
+        self.space.ip("link", "set", "dev", cable, "mtu", str(CABLE_MTU))
+        self.space.ip("addr", "add", f"{own}/24", "dev", cable)
+        self.space.ip("link", "add", "name", name, "type", "vxlan", "id", str(CABLE_NUMBER), "local", own,
+                      "remote", other, "dstport", str(CABLE_PORT), "nolearning", "dev", cable)
 
     def leave_to_natpair(self, name):
         """The kernel has no address at an interface, and answers nothing there by itself."""
@@ -86,7 +117,7 @@ class Box:
     @property
     def ends(self):
         """The two ends of the link, this box's first."""
-        return ",".join(f"{LINK_ADDRESSES[n]}:{LINK_PORT}" for n in (self.number, 1 - self.number))
+        return ",".join(f"{LINK_ADDRESSES[n]}:{self.link_port}" for n in (self.number, 1 - self.number))
 
     def tunnel(self, side):
         """A side's tunnel: this box's address, the switch's, and the number."""
@@ -102,7 +133,7 @@ class Box:
         """The words that start the box: the launcher's, and the gate's. By VXLAN no launcher is needed."""
         number = str(self.number)
         program, settings = str(self.top / "natpair"), str(self.top / SETTINGS.name)
-        launcher = [str(self.top / "natpair-launch"), "--inside", "inside", "--outside", "outside",
+        launcher = [str(self.top / self.launcher), "--inside", "inside", "--outside", "outside",
                     "--boot-file", f"boot{number}", "--user", USER]
         gate = [program, "gate", settings, "--id", number, "--log", LEVEL]
         if self.options.no_track:
@@ -113,8 +144,16 @@ class Box:
         if self.options.link == "udp":
             gate += ["--link", f"udp:{self.ends}"]
         else:
-            launcher += ["--link-udp", self.ends]
+            launcher += ["--link-udp", self.ends, *self.link_words]
         return (*launcher, "--", *gate)
+
+    @property
+    def link_words(self):
+        """By which interface the launcher's link is heard, and from how far. The launcher before knows neither."""
+        if self.launcher == BEFORE:
+            return ()
+        hops = () if self.link_hops == 1 else ("--link-hops", str(self.link_hops))
+        return ("--link-interface", self.link_interface, *hops)
 
     @property
     def starter(self):
@@ -129,7 +168,7 @@ class Box:
     def start(self, *words):
         """Starts `natpair gate`, and waits until it has printed its boot number."""
         self.starts += 1
-        line = (*self.words, *words)
+        line = (*self.before, *self.words, *words)
         with open(self.output, "wb") as output, self.lines() as log:
             self.gate = self.space.start(*line, user=self.starter, cwd=self.folder, stdout=output, stderr=log)
         wait_until(lambda: self.output.read_text().endswith("\n"), 10,
@@ -260,10 +299,13 @@ class Networks(Surroundings):
             stack.callback(shutil.rmtree, folder, ignore_errors=True)
         self.folder = folder
         self.options = options
+        self.stack = stack
         # The user of the boxes needn't be able to read the clone.
         folder.chmod(0o711)
         shutil.copy(options.program, folder / "natpair")
-        shutil.copy(options.launcher, folder / "natpair-launch")
+        shutil.copy(options.launcher, folder / LAUNCHER)
+        if options.before:
+            shutil.copy(options.before, folder / BEFORE)
         shutil.copy(settings, folder / SETTINGS.name)
         with open(settings, "rb") as file:
             super().__init__(tomllib.load(file))
@@ -281,9 +323,19 @@ class Networks(Surroundings):
                     switch.tunnel(f"box{box.number}", box, side)
                 else:
                     switch.plug(f"box{box.number}", box.space, side)
-        self.boxes[0].space.cable("link", self.boxes[1].space, "link")
+        self.join_links()
         for box in self.boxes:
             box.join()
+
+    def join_links(self):
+        if self.options.link_over == "switch":
+            self.switch = Switch("link")
+            self.stack.callback(self.switch.space.close)
+            for box in self.boxes:
+                self.switch.plug(f"box{box.number}", box.space, "link")
+            return
+        cable = "cable" if self.options.link_over == "tunnel" else "link"
+        self.boxes[0].space.cable(cable, self.boxes[1].space, cable)
 
     def found(self):
         """Makes both boot files, founds the pair on box 0, and waits until box 1 has its table."""

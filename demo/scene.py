@@ -6,6 +6,7 @@ import signal
 import subprocess
 import time
 
+from crowd import crowd
 from flows import PORT, Flow, Loop
 from observer import NAMES, Observer
 from pair import FOLDER, PYTHON, SERVER, SETTINGS, Networks
@@ -33,6 +34,8 @@ class Scene:
         self.observer = Observer(self.networks, stack, capture, all_frames)
         self.observer.join(self.loop)
         self.serve()
+        if options.busy or options.nice or options.weight:
+            crowd(self.networks, options, stack)
         self.networks.found()
         self.expect_active(0)
         self.say("box 0 is Active on both sides, box 1 has its table")

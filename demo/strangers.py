@@ -9,7 +9,8 @@ import subprocess
 import time
 
 from flows import PATIENCE, Flows, verdict
-from pair import DROP, LINK_ADDRESSES, LINK_PORT, SIDES, TUNNEL_PORT
+from forging import forging
+from pair import DROP, LINK_ADDRESSES, SIDES, TUNNEL_PORT
 from scene import audit, scene, show
 
 FLOWS = 100
@@ -233,11 +234,11 @@ def at_links(current, watch, chance, count):
     current.networks.boxes[1].space.ip("addr", "add", f"{STRANGE_ADDRESS}/24", "dev", "link")
     for box in current.boxes:
         other = current.boxes[1 - box.number]
-        to = (LINK_ADDRESSES[box.number], LINK_PORT)
+        to = (LINK_ADDRESSES[box.number], box.link_port)
         sources = [(other.space, (LINK_ADDRESSES[other.number], STRANGE_PORT)),
-                   (box.space, (LINK_ADDRESSES[box.number], STRANGE_PORT)), (box.space, ("127.0.0.1", LINK_PORT))]
+                   (box.space, (LINK_ADDRESSES[box.number], STRANGE_PORT)), (box.space, ("127.0.0.1", box.link_port))]
         if box.number == 0:
-            sources.append((other.space, (STRANGE_ADDRESS, LINK_PORT)))
+            sources.append((other.space, (STRANGE_ADDRESS, box.link_port)))
         share = count // len(sources)
         taken = sum(send_datagrams(space, own, to, both(chance, known), share) for space, own in sources)
         watch.after(f"the link of box {box.number}", share * len(sources), taken)
@@ -329,4 +330,4 @@ def strangers(options):
     heads = ["sent at", "tried", "sent", "changes", f"held of {FLOWS}", "lost"]
     show("strangers", heads, watch.rows)
     changed = sum(row[3] + row[5] for row in watch.rows)
-    return changed == 0 and twice == 0 and shared == 0
+    return forging(options) and changed == 0 and twice == 0 and shared == 0

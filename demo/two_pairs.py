@@ -10,7 +10,7 @@ import tomllib
 from cards import card
 from flows import PATIENCE, Flows, verdict
 from packets import Station, arp_request, is_advert, is_arp
-from pair import FOLDER, ROUTER, SETTINGS, SIDES, Box, wait_until
+from pair import FOLDER, LAUNCHER, ROUTER, SETTINGS, SIDES, Box, wait_until
 from pair import HOSTS as FIRST_HOSTS
 from scene import scene, show
 
@@ -38,7 +38,7 @@ class SecondPair:
         folder = current.networks.folder / "second"
         folder.mkdir()
         folder.chmod(0o711)
-        for name in ("natpair", "natpair-launch"):
+        for name in ("natpair", LAUNCHER):
             shutil.copy(current.networks.folder / name, folder / name)
         shutil.copy(SECOND, folder / SETTINGS.name)
         with open(SECOND, "rb") as file:

@@ -10,6 +10,7 @@
 #include <errno.h>
 #include <fcntl.h>
 #include <grp.h>
+#include <limits.h>
 #include <linux/capability.h>
 #include <linux/filter.h>
 #include <linux/if_packet.h>
@@ -17,6 +18,7 @@
 #include <linux/rtnetlink.h>
 #include <net/ethernet.h>
 #include <net/if.h>
+#include <netinet/in.h>
 #include <poll.h>
 #include <pwd.h>
 #include <signal.h>
@@ -38,6 +40,12 @@
 #ifndef PACKET_IGNORE_OUTGOING
 #define PACKET_IGNORE_OUTGOING 23
 #endif
+#ifndef SO_BINDTOIFINDEX
+#define SO_BINDTOIFINDEX 62
+#endif
+#ifndef SYS_close_range
+#define SYS_close_range 436
+#endif
 
 enum { INSIDE, OUTSIDE, SIDES };
 
@@ -49,8 +57,14 @@ enum { FIRST = 3, LINK = FIRST + SIDES, MANAGER, ABOVE = 10 };
 // The longest packet of the two networks, behind its Ethernet header a frame of 1,514 bytes.
 enum { LONGEST_PACKET = 1500 };
 
-// The room for frames that wait, in bytes, and a frame counts about twice its length.
-enum { ROOM = 8 << 20 };
+// The room for frames that wait, in bytes, and a frame counts about twice its length. The kernel doubles the number.
+enum { ROOM = 8 << 20, MOST_ROOM = INT_MAX / 2 };
+
+// The link's datagrams leave with this TTL, which each router on the way makes less by one. Its place in an IP header.
+enum { MOST_HOPS = 255, TTL_PLACE = 8 };
+
+// In place of the link's interface: the link's datagrams may come by each.
+static const char *const ANY = "any";
 
 // A cable that is out is told once it was out for so long; one that is in, at once. In milliseconds.
 enum { HELD_BACK = 1000 };
@@ -58,16 +72,24 @@ enum { HELD_BACK = 1000 };
 // How long the keeper sleeps at most, and how soon it tries again where nobody heard it. In milliseconds.
 enum { NAP = 1000, AGAIN = 100 };
 
-// How long the gate may take to hear a word, in seconds.
-enum { PATIENCE = 2 };
+// How long the gate may take to hear a word, in seconds, and to end once it was told to, in milliseconds.
+enum { PATIENCE = 2, LAST_ROUND = 5000 };
 
 struct options {
     const char *interface[SIDES];
     const char *link;
+    const char *link_interface;
     const char *boot_file;
     const char *user;
     int room;
+    int hops;
     char **gate;
+};
+
+// The link's socket, and the number of the interface that it is bound to: 0 where it is bound to none.
+struct link {
+    int sock;
+    int interface;
 };
 
 // One line on standard error, by one write, so that the lines of two programs don't mix. It never waits: where nobody
@@ -93,9 +115,26 @@ __attribute__((format(printf, 1, 2))) static void say(const char *format, ...)
 
 static void usage(void)
 {
-    say("usage: natpair-launch --inside IF --outside IF [--boot-file FILE] [--link-udp OWN:PORT,OTHER:PORT]\n"
-        "                      [--user NAME] [--room BYTES] -- natpair gate SETTINGS ..");
+    say("usage: natpair-launch --inside IF --outside IF [--boot-file FILE] [--user NAME] [--room BYTES]\n"
+        "                      [--link-udp OWN:PORT,OTHER:PORT --link-interface IF|any [--link-hops N]]\n"
+        "                      -- natpair gate SETTINGS ..");
     exit(2);
+}
+
+// Descriptors of whoever started it are none of the gate's.
+static void close_inherited(void)
+{
+    if (syscall(SYS_close_range, FIRST, ~0U, 0) < 0)
+        refuse("descriptors: %s", strerror(errno));
+}
+
+// Reads a number from 1 to `most`, of decimal digits alone, which ends at `end`.
+static bool read_number(const char *text, const char *end, long most, long *found)
+{
+    char *rest = NULL;
+    errno = 0;
+    *found = strtol(text, &rest, 10);
+    return *text >= '0' && *text <= '9' && rest == end && errno == 0 && *found >= 1 && *found <= most;
 }
 
 // The sockets
@@ -145,6 +184,19 @@ static void make_room(int sock, const char *place, int room)
     // The kernel gives twice what was asked for, since it counts its own bookkeeping too.
     if (had / 2 < room)
         say("natpair-launch: %s: room for %d bytes and not %d: net.core.rmem_max is smaller", place, had / 2, room);
+}
+
+// Takes only what comes with the TTL of a sender that is so near. It takes the place of the filter that was there.
+static int pass_near(int sock, int hops)
+{
+    struct sock_filter lines[] = {
+        BPF_STMT(BPF_LD | BPF_B | BPF_ABS, (uint32_t)(SKF_NET_OFF + TTL_PLACE)),
+        BPF_JUMP(BPF_JMP | BPF_JGE | BPF_K, (uint32_t)(MOST_HOPS + 1 - hops), 0, 1),
+        BPF_STMT(BPF_RET | BPF_K, 0x7fffffff),
+        BPF_STMT(BPF_RET | BPF_K, 0),
+    };
+    struct sock_fprog filter = {sizeof lines / sizeof lines[0], lines};
+    return setsockopt(sock, SOL_SOCKET, SO_ATTACH_FILTER, &filter, sizeof filter);
 }
 
 // Makes a socket's descriptor one that none of the gate's can be.
@@ -200,44 +252,60 @@ static int open_side(const char *side, const char *interface, int room)
 static bool read_end(const char *text, const char *end, struct sockaddr_in *found)
 {
     char address[INET_ADDRSTRLEN] = {0};
+    long port = 0;
     const char *colon = memchr(text, ':', end - text);
-    if (colon == NULL || colon - text >= INET_ADDRSTRLEN || end - colon < 2 || end - colon > 6)
+    if (colon == NULL || colon - text >= INET_ADDRSTRLEN || !read_number(colon + 1, end, UINT16_MAX, &port))
         return false;
     memcpy(address, text, colon - text);
-    long port = 0;
-    for (const char *digit = colon + 1; digit < end; digit++) {
-        if (*digit < '0' || *digit > '9')
-            return false;
-        port = port * 10 + (*digit - '0');
-    }
     found->sin_family = AF_INET;
     found->sin_port = htons((uint16_t)port);
-    return port > 0 && port < 65536 && inet_pton(AF_INET, address, &found->sin_addr) == 1;
+    return inet_pton(AF_INET, address, &found->sin_addr) == 1;
+}
+
+// Binds the link's socket to an interface: by an address alone the kernel hands on what comes to it by any. Gives the
+// interface's number, or 0 where any was said.
+static int bind_link(int sock, const char *interface)
+{
+    int number = 0;
+    socklen_t size = sizeof number;
+    bool is_there = number_of(interface) >= 0;
+    if (strcmp(interface, ANY) == 0) {
+        if (is_there)
+            refuse("link: an interface has the name %s, which stands for each", ANY);
+        return 0;
+    }
+    if (!is_there)
+        refuse("link: no interface %s", interface);
+    if (setsockopt(sock, SOL_SOCKET, SO_BINDTODEVICE, interface, (socklen_t)strlen(interface) + 1) < 0
+        || getsockopt(sock, SOL_SOCKET, SO_BINDTOIFINDEX, &number, &size) < 0 || number <= 0)
+        refuse("link: %s: %s", interface, strerror(errno));
+    return number;
 }
 
 // A connected UDP socket: the kernel hands on only what comes from the other end, and what came before it was
-// connected is dropped.
-static int open_link(const char *text, int room)
+// connected is dropped. It has a filter at each moment: one that passes nothing, and then that of the TTL.
+static struct link open_link(const struct options *options)
 {
     struct sockaddr_in own = {0}, other = {0};
-    const char *comma = strchr(text, ',');
+    const char *text = options->link, *comma = strchr(text, ',');
+    const int ttl = MOST_HOPS;
     if (comma == NULL || !read_end(text, comma, &own) || !read_end(comma + 1, text + strlen(text), &other))
         refuse("link: %s isn't OWN:PORT,OTHER:PORT", text);
     int sock = socket(AF_INET, SOCK_DGRAM | SOCK_CLOEXEC, 0);
     if (sock < 0)
         refuse("link: %s", strerror(errno));
-    sock = out_of_the_way(sock);
-    make_room(sock, "link", room);
-    int none = 0;
-    if (pass_nothing(sock) < 0 || bind(sock, (struct sockaddr *)&own, sizeof own) < 0
-        || connect(sock, (struct sockaddr *)&other, sizeof other) < 0
-        || setsockopt(sock, SOL_SOCKET, SO_DETACH_FILTER, &none, sizeof none) < 0)
+    struct link link = {.sock = out_of_the_way(sock)};
+    make_room(link.sock, "link", options->room);
+    link.interface = bind_link(link.sock, options->link_interface);
+    if (pass_nothing(link.sock) < 0 || setsockopt(link.sock, IPPROTO_IP, IP_TTL, &ttl, sizeof ttl) < 0
+        || bind(link.sock, (struct sockaddr *)&own, sizeof own) < 0
+        || connect(link.sock, (struct sockaddr *)&other, sizeof other) < 0 || pass_near(link.sock, options->hops) < 0)
         refuse("link: %s: %s", text, strerror(errno));
-    return sock;
+    return link;
 }
 
-// Where a service manager wants to be told: a path, or behind an @ a name of the abstract namespace. Gives the address's
-// length, or 0 for what is none.
+// Where a service manager wants to be told: a path, or behind an @ a name of the abstract namespace. Gives the length
+// of the address, or 0 for what is none.
 static socklen_t manager_at(const char *text, struct sockaddr_un *place)
 {
     size_t length = strlen(text);
@@ -252,8 +320,8 @@ static socklen_t manager_at(const char *text, struct sockaddr_un *place)
     return (socklen_t)(offsetof(struct sockaddr_un, sun_path) + length);
 }
 
-// A datagram socket that is connected to the service manager, if there is one. A box that can't tell it anything runs all
-// the same.
+// A datagram socket that is connected to the service manager, if there is one. A box that can't tell it anything runs
+// all the same.
 static int open_manager(void)
 {
     struct sockaddr_un place = {0};
@@ -278,12 +346,21 @@ static int open_manager(void)
 
 // Privileges
 
+static const struct passwd *user_of(const char *name)
+{
+    const struct passwd *user = getpwnam(name);
+    if (user == NULL)
+        refuse("no user %s", name);
+    // Root's files are open to root whatever privileges it has given up.
+    if (user->pw_uid == 0)
+        refuse("--user %s: the gate doesn't run as root", name);
+    return user;
+}
+
 static void become(const char *name)
 {
     int dies_with_parent = 0;
-    struct passwd *user = getpwnam(name);
-    if (user == NULL)
-        refuse("no user %s", name);
+    const struct passwd *user = user_of(name);
     prctl(PR_GET_PDEATHSIG, &dies_with_parent);
     if (initgroups(name, user->pw_gid) < 0 || setresgid(user->pw_gid, user->pw_gid, user->pw_gid) < 0
         || setresuid(user->pw_uid, user->pw_uid, user->pw_uid) < 0)
@@ -323,6 +400,11 @@ struct keeper {
     struct side side[SIDES];
     struct sockaddr_un place;
     pid_t gate;
+    // The link's interface, and the number of that to which its socket is bound: 0 where it is bound to none.
+    const char *link;
+    int link_number;
+    // When the gate was told to end: 0 before that.
+    int64_t told_to_end;
 };
 
 static int64_t now(void)
@@ -408,6 +490,28 @@ static int tell(struct keeper *keeper, int number)
     return NAP;
 }
 
+// Whether another interface than the one that the link's socket is bound to has its name: then nothing comes to that
+// socket any more, and without privileges it can't be bound anew.
+static bool has_lost_link(const struct keeper *keeper)
+{
+    int number = keeper->link_number == 0 ? -1 : number_of(keeper->link);
+    return number >= 0 && number != keeper->link_number;
+}
+
+// Ends a gate that has lost its link: it is told to, so that it resigns, and is killed where it doesn't end.
+static void look_at_link(struct keeper *keeper, int gate)
+{
+    static const uint8_t stop[] = {'N', 'E'};
+    if (keeper->told_to_end != 0 && now() - keeper->told_to_end > LAST_ROUND)
+        syscall(SYS_pidfd_send_signal, gate, SIGKILL, NULL, 0);
+    if (keeper->told_to_end != 0 || !has_lost_link(keeper))
+        return;
+    say("keeper link %s was made again, and the link's socket is bound to the old one: the gate ends", keeper->link);
+    keeper->told_to_end = now();
+    if (keeper->place.sun_path[0] == '\0' || !is_heard(keeper, stop, sizeof stop))
+        syscall(SYS_pidfd_send_signal, gate, SIGTERM, NULL, 0);
+}
+
 // A socket at which the kernel says that some interface has changed.
 static int bell(void)
 {
@@ -430,6 +534,7 @@ static void keep(struct keeper *keeper, int changes, int end)
             int wait = tell(keeper, number);
             nap = wait < nap ? wait : nap;
         }
+        look_at_link(keeper, end);
         poll(waited, 2, nap);
         // What was said of an interface doesn't matter: all are looked at.
         while (recv(changes, rest, sizeof rest, 0) > 0)
@@ -437,8 +542,20 @@ static void keep(struct keeper *keeper, int changes, int end)
     }
 }
 
-// Leaves a keeper behind, as a child of the process that becomes the gate.
-static void leave_keeper(const struct options *options, const int *socks, int manager)
+static struct keeper keeper_of(const struct options *options, const int *socks, struct link link, pid_t gate)
+{
+    struct keeper keeper = {.place = {.sun_family = AF_UNIX}, .gate = gate, .link = options->link_interface,
+        .link_number = link.interface};
+    for (int number = 0; number < SIDES; number++)
+        keeper.side[number] = (struct side){NAMES[number], options->interface[number], socks[number],
+            has_carrier(options->interface[number]), now(), -1};
+    if (options->boot_file != NULL)
+        snprintf(keeper.place.sun_path, sizeof keeper.place.sun_path, "%s.control/socket", options->boot_file);
+    return keeper;
+}
+
+// Leaves a keeper behind, as a child of the process that becomes the gate. Of the sockets it keeps the sides'.
+static void leave_keeper(const struct options *options, const int *socks, struct link link, int manager)
 {
     pid_t gate = getpid();
     int changes = bell();
@@ -453,14 +570,11 @@ static void leave_keeper(const struct options *options, const int *socks, int ma
     prctl(PR_SET_PDEATHSIG, SIGKILL);
     prctl(PR_SET_NAME, "natpair-keeper");
     signal(SIGPIPE, SIG_IGN);
-    struct keeper keeper = {.place = {.sun_family = AF_UNIX}, .gate = gate};
-    for (int number = 0; number < SIDES; number++)
-        keeper.side[number] = (struct side){NAMES[number], options->interface[number], socks[number],
-            has_carrier(options->interface[number]), now(), -1};
-    if (options->boot_file != NULL)
-        snprintf(keeper.place.sun_path, sizeof keeper.place.sun_path, "%s.control/socket", options->boot_file);
+    struct keeper keeper = keeper_of(options, socks, link, gate);
     close(STDIN_FILENO);
     close(STDOUT_FILENO);
+    if (link.sock >= 0)
+        close(link.sock);
     if (manager >= 0)
         close(manager);
     if (getppid() == gate)
@@ -470,29 +584,57 @@ static void leave_keeper(const struct options *options, const int *socks, int ma
 
 // The start
 
+// A word that has to be a number from 1 to `most`.
+static int number_in(const char *name, const char *value, long most)
+{
+    long found = 0;
+    if (!read_number(value, value + strlen(value), most, &found)) {
+        say("natpair-launch: %s %s isn't a number from 1 to %ld", name, value, most);
+        exit(2);
+    }
+    return (int)found;
+}
+
+static void take_option(struct options *found, const char *name, const char *value)
+{
+    if (strcmp(name, "--inside") == 0)
+        found->interface[INSIDE] = value;
+    else if (strcmp(name, "--outside") == 0)
+        found->interface[OUTSIDE] = value;
+    else if (strcmp(name, "--link-udp") == 0)
+        found->link = value;
+    else if (strcmp(name, "--link-interface") == 0)
+        found->link_interface = value;
+    else if (strcmp(name, "--link-hops") == 0)
+        found->hops = number_in(name, value, MOST_HOPS);
+    else if (strcmp(name, "--boot-file") == 0)
+        found->boot_file = value;
+    else if (strcmp(name, "--user") == 0)
+        found->user = value;
+    else if (strcmp(name, "--room") == 0)
+        found->room = number_in(name, value, MOST_ROOM);
+    else
+        usage();
+}
+
 static struct options read_words(int count, char **words)
 {
     struct options found = {.room = ROOM};
     int next = 1;
-    for (; next + 1 < count && strcmp(words[next], "--") != 0; next += 2) {
-        const char *name = words[next], *value = words[next + 1];
-        if (strcmp(name, "--inside") == 0)
-            found.interface[INSIDE] = value;
-        else if (strcmp(name, "--outside") == 0)
-            found.interface[OUTSIDE] = value;
-        else if (strcmp(name, "--link-udp") == 0)
-            found.link = value;
-        else if (strcmp(name, "--boot-file") == 0)
-            found.boot_file = value;
-        else if (strcmp(name, "--user") == 0)
-            found.user = value;
-        else if (strcmp(name, "--room") == 0 && atoi(value) > 0)
-            found.room = atoi(value);
-        else
-            usage();
-    }
+    for (; next + 1 < count && strcmp(words[next], "--") != 0; next += 2)
+        take_option(&found, words[next], words[next + 1]);
     if (next + 1 >= count || found.interface[INSIDE] == NULL || found.interface[OUTSIDE] == NULL)
         usage();
+    if (found.link != NULL && found.link_interface == NULL) {
+        say("natpair-launch: --link-udp wants --link-interface too: IF, by which alone the link is heard, or %s", ANY);
+        exit(2);
+    }
+    if (found.link == NULL && (found.link_interface != NULL || found.hops != 0)) {
+        say("natpair-launch: --link-interface and --link-hops belong to --link-udp");
+        exit(2);
+    }
+    if (found.hops == 0)
+        found.hops = 1;
     found.gate = words + next + 1;
     return found;
 }
@@ -503,10 +645,14 @@ static void check(const struct options *options)
     for (int number = 0; number < SIDES; number++)
         if (strlen(options->interface[number]) >= IFNAMSIZ)
             refuse("%s: no interface %s", NAMES[number], options->interface[number]);
+    if (options->link != NULL && strlen(options->link_interface) >= IFNAMSIZ)
+        refuse("link: no interface %s", options->link_interface);
     if (options->boot_file != NULL && strlen(options->boot_file) + strlen(".control/socket") >= sizeof place.sun_path)
         refuse("the boot file's path is too long for a socket beside it");
     if (geteuid() == 0 && options->user == NULL)
         refuse("as root it wants --user NAME, the user that the gate runs as");
+    if (options->user != NULL)
+        user_of(options->user);
     if (options->boot_file == NULL)
         say("natpair-launch: without --boot-file the gate isn't told of its cables");
 }
@@ -539,22 +685,25 @@ static void put_at(int sock, int place)
 
 int main(int count, char **words)
 {
+    close_inherited();
     struct options options = read_words(count, words);
     int socks[SIDES];
     check(&options);
     for (int number = 0; number < SIDES; number++)
         socks[number] = open_side(NAMES[number], options.interface[number], options.room);
-    int link = options.link == NULL ? -1 : open_link(options.link, options.room);
+    struct link link = options.link == NULL ? (struct link){-1, 0} : open_link(&options);
     int manager = open_manager();
     give_up_privileges(options.user);
-    leave_keeper(&options, socks, manager);
+    leave_keeper(&options, socks, link, manager);
     for (int number = 0; number < SIDES; number++)
         put_at(socks[number], FIRST + number);
-    if (link >= 0)
-        put_at(link, LINK);
+    if (link.sock >= 0)
+        put_at(link.sock, LINK);
     if (manager >= 0)
         put_at(manager, MANAGER);
-    execvp(options.gate[0], gate_words(options.gate, link >= 0, manager >= 0));
-    say("natpair-launch: %s: %s", options.gate[0], strerror(errno));
+    char **gate = gate_words(options.gate, link.sock >= 0, manager >= 0);
+    execvp(gate[0], gate);
+    say("natpair-launch: %s: %s", gate[0], strerror(errno));
+    free(gate);
     return 127;
 }

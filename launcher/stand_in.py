@@ -3,9 +3,10 @@
     stand_in.py CONTROL [WORD..]
 
 It prints its words, what /proc says of its privileges, whether NOTIFY_SOCKET is in its environment, and a line for each
-frame (`frame DESCRIPTOR HEX`) and each word of the control socket (`word HEX`). A frame of the experimental EtherType 88b5
-is written to the other side as it came. A service manager's descriptor (`--notify descriptor:N`) is told that it is ready.
-CONTROL is the folder of its control socket, or `-` for none.
+frame (`frame DESCRIPTOR HEX`) and each word of the control socket (`word HEX`). A frame of the experimental EtherType
+88b5 is written to the other side as it came, and a datagram that begins with `back` to the link. A service manager's
+descriptor (`--notify descriptor:N`) is told that it is ready. The word that it is to end ends it, but with `deaf` among
+its words. CONTROL is the folder of its control socket, or `-` for none.
 """
 
 import os
@@ -14,6 +15,7 @@ import socket
 import sys
 
 OTHER = {3: 4, 4: 3}
+LINK = 5
 
 
 def say(*words):
@@ -37,6 +39,8 @@ def take_frame(number):
     say("frame", number, frame.hex())
     if frame[12:14] == b"\x88\xb5" and number in OTHER:
         os.write(OTHER[number], frame)
+    if frame.startswith(b"back") and number == LINK:
+        os.write(LINK, frame)
 
 
 def take_word(listener):
@@ -46,6 +50,8 @@ def take_word(listener):
         word = caller.recv(64)
         say("word", word.hex())
         caller.sendall(b"heard")
+    if word == b"NE" and "deaf" not in sys.argv:
+        sys.exit(0)
 
 
 def descriptors():

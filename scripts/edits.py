@@ -1,22 +1,16 @@
 #!/usr/bin/env python3
-"""Says of the wrong bodies in crates/*/must-fail and wrong-bodies/* what refuses each, and what each changes.
+"""Says of the wrong bodies in crates/*/must-fail which clause refuses each.
 
-    scripts/edits.py refused CRATE[/EDIT]..     whether the prover refuses those of wrong-bodies/, which no gate tries
-    scripts/edits.py clauses CRATE[/EDIT]..     which clause refuses it: the gate says only that something does
-    scripts/edits.py behaviour CRATE[/EDIT]..   the first line that a program of cases prints otherwise
-    scripts/edits.py gate LOG                   what the gate said of each, from its output in a file: the table of
-                                                docs/WRONG_BODIES.md
+    scripts/edits.py gate LOG                   what the gate said of each, from its output in a file; status 1 where
+                                                docs/WRONG_BODIES.md has another goal, or an edit isn't refused
+    scripts/edits.py clauses CRATE[/EDIT]..     tries these, and says which clause refuses each
     scripts/edits.py list                       the edits, a line each
-
-The gate tries crates/CRATE/must-fail/*.edit. A crate's first edit costs a whole check of it, so the other wrong bodies
-that were thought of stand in wrong-bodies/CRATE/*.edit, in the same form, and are tried by `refused` where their crate's
-contracts change.
 
 An edit is refused by a clause where the prover's search leaves that clause open, or where, with the proof text of the
 functions that failed set aside, it is open at the wrong body and proved at the right one. What is open at both has to be
-decided by hand: by an input at which the clause's two sides differ. Behaviour is that of the unproved program (`rt try`).
-All is done in a copy of the repository, one edit after another, over what earlier checks kept in out/ of the crates that
-are looked at and of those below: so prove these first. An edit takes from half a minute to ten.
+decided by hand: by an input at which the clause's two sides differ. All is done in a copy of the repository, one edit
+after another, over what earlier checks kept in out/ of the crates that are looked at and of those below: so prove these
+first. An edit takes from half a minute to ten.
 """
 import argparse
 import pathlib
@@ -26,9 +20,10 @@ import subprocess
 import sys
 import tempfile
 
+sys.dont_write_bytecode = True  # Nothing is left in the repository.
+from sources import crates_of
+
 TOP = pathlib.Path(__file__).resolve().parent.parent
-# What a program of cases may take with one wrong body, which may stand still: the slowest takes a minute and a half.
-LONGEST_RUN = "300"
 PROOF_TEXT = ("Answers.antt", "Invariants.antt", "Proof.antt")
 
 
@@ -38,8 +33,7 @@ class Edit:
 
     def __init__(self, path):
         self.path, self.name = path, path.stem
-        self.is_gated = path.parent.name == "must-fail"
-        self.crate = (path.parent.parent if self.is_gated else path.parent).name
+        self.crate = path.parent.parent.name
         self.files, at = [], None
         for line in path.read_text(encoding="utf-8").splitlines():
             word, _, rest = line.partition(":")
@@ -84,8 +78,7 @@ def put_back(had):
 
 
 def edits_of(top, wanted):
-    paths = [*top.glob("crates/*/must-fail/*.edit"), *top.glob("wrong-bodies/*/*.edit")]
-    found = sorted((Edit(path) for path in paths), key=lambda it: (it.crate, it.name))
+    found = sorted(map(Edit, top.glob("crates/*/must-fail/*.edit")), key=lambda it: (it.crate, it.name))
     return [it for it in found if not wanted or it.crate in wanted or f"{it.crate}/{it.name}" in wanted]
 
 
@@ -138,84 +131,22 @@ def refusal(crate, edit):
         shutil.rmtree(aside, ignore_errors=True)
 
 
-def verdict(report):
-    """What came of a check of a crate with an edit, in one line. What doesn't compile was no trial, but where its head says so."""
-    if "logic=proved" in report:
-        return "PROVED"
-    if "logic=not-proved" in report:
-        found = re.findall(r"(?m)^(?:note: )?\S+:\d+:\d+: .*$", report)
-        return f"refused: {next(iter(found), report[-200:])[:300]}"
-    found = re.findall(r"(?m)^\S+:\d+:\d+: error\[[\w-]+\]: .*$", report)
-    return f"DOESN'T COMPILE: {found[0][:300]}" if found else f"NO VERDICT: {report[-300:]!r}"
-
-
-def tried(top, edits):
-    """Tries these edits, one after another, and says of each what refuses it: a check of the crate with the edit in it."""
-    bad = 0
-    for edit in edits:
-        had = edit.put_into(top / "crates" / edit.crate)
-        said = verdict(check(top / "crates" / edit.crate))
-        put_back(had)
-        print(f"{edit.crate}/{edit.name}: {said}", flush=True)
-        is_meant = said.startswith("DOESN'T COMPILE") and "by the compiler" in edit.path.read_text(encoding="utf-8")
-        bad += not said.startswith("refused") and not is_meant
-    return 1 if bad else 0
-
-
-def stands_on(top):
-    """Each crate, with all crates of the repository below it."""
-    lines = [it.split("#")[0] for it in (top / "crates.txt").read_text(encoding="utf-8").splitlines()]
-    direct = {it.split(":")[0].split()[0]: it.split(":")[1].split() for it in lines if ":" in it}
-
-    def below(name, found):
-        for low in direct.get(name, []):
-            if low in direct and low not in found:
-                found.add(low)
-                below(low, found)
-        return found
-
-    return {name: below(name, set()) for name in direct}
+def needed_for(top, crates):
+    """These crates, and all crates of the repository below them."""
+    direct, found, more = crates_of(top), set(), set(crates)
+    while more:
+        found |= more
+        more = {low for name in more for low in direct[name] if low in direct} - found
+    return found
 
 
 def copy_of(top, folder, crates):
     """The repository's files in a folder, with what was proved of these crates and of those below them."""
     shutil.copytree(top, folder, ignore=shutil.ignore_patterns("out", ".git"))
-    below = stands_on(top)
-    for crate in set(crates).union(*(below[it] for it in crates)):
+    for crate in needed_for(top, crates):
         kept = top / "crates" / crate / "out"
         if kept.is_dir():
             shutil.copytree(kept, folder / "crates" / crate / "out")
-
-
-def printed(folder):
-    """What a program of cases prints, unproved, on its data."""
-    data = sorted((folder / "data").glob("*")) if (folder / "data").is_dir() else []
-    words = [word for it in data for word in ("--data", f"{it.name}=data/{it.name}")]
-    arguments = (folder / "args").read_text(encoding="utf-8").split("\n") if (folder / "args").exists() else []
-    given = [it for it in arguments if it]
-    call = ["rt", "try", "--seconds", LONGEST_RUN, *words, *(["--", *given] if given else [])]
-    ran = subprocess.run(call, cwd=folder, capture_output=True, check=False)
-    return ran.stdout
-
-
-def change(top, edit):
-    """The first line that a program of cases prints otherwise than it must, those that stand on the fewest crates first."""
-    had = edit.put_into(top / "crates" / edit.crate)
-    below = stands_on(top)
-    programs = [it for it in below if edit.crate in below[it] and (top / "crates" / it / "stdout").exists()]
-    programs.sort(key=lambda it: len(below[it]))
-    try:
-        for name in programs:
-            owed = (top / "crates" / name / "stdout").read_bytes().split(b"\n")
-            got = printed(top / "crates" / name).split(b"\n")
-            for number, (one, other) in enumerate(zip(owed, got), 1):
-                if one != other:
-                    return f"{name}, line {number}: {other.decode(errors='replace').strip()!r} for {one.decode(errors='replace').strip()!r}"
-            if len(owed) != len(got):
-                return f"{name}: it ends behind line {len(got) - 1} of {len(owed) - 1}"
-        return "NO CASE: " + (", ".join(programs) or "no program of cases stands on it")
-    finally:
-        put_back(had)
 
 
 FUNCTION = re.compile(r"^\s*(?:pub(?:\([a-z]+\))? )?(?:const )?fn (\w+)")
@@ -243,16 +174,35 @@ def goal(top, crate, said):
 
 
 def told_by_gate(top, log):
-    """A line of a table for each edit that the gate tried. Gives the status: 1 where one isn't refused, or none was tried."""
-    said = sorted(SAID.findall(log))
-    rows = [(name, crate, goal(top, crate, words)) for crate, name, words in said]
-    print("\n".join(f"| `{name}` | `{crate}` | {where} |" for name, crate, where in rows))
-    return int(not rows or any(where == "NOT REFUSED" for _, _, where in rows))
+    """A line for each edit that the gate tried, with its goal. Gives the status: 1 where one isn't refused, where none was
+    tried, or where the page's row of it has another goal, or isn't there."""
+    page = (top / "docs" / "WRONG_BODIES.md").read_text(encoding="utf-8").splitlines()
+    bad = 0
+    tried = sorted(SAID.findall(log))
+    for crate, name, said in tried:
+        where = goal(top, crate, said)
+        is_told = any(row.startswith(f"| `{name}` | `{crate}` |") and row.endswith(f"| {where} |") for row in page)
+        bad += not is_told or where == "NOT REFUSED"
+        print(f"{crate}/{name}: {where}{'' if is_told else ' (docs/WRONG_BODIES.md says something else)'}")
+    return int(bad > 0 or not tried)
+
+
+def clauses_of(edits):
+    """Tries these edits, and says of each which clause refuses it. Gives the status: 1 where one is proved."""
+    bad = 0
+    with tempfile.TemporaryDirectory(prefix="edits-") as folder:
+        top = pathlib.Path(folder) / "copy"
+        copy_of(TOP, top, {it.crate for it in edits})
+        for edit in edits:
+            said = refusal(top / "crates" / edit.crate, edit)
+            bad += said == "PROVED"
+            print(f"{edit.crate}/{edit.name}: {said}", flush=True)
+    return int(bad > 0)
 
 
 def main():
     parser = argparse.ArgumentParser(description=__doc__, formatter_class=argparse.RawDescriptionHelpFormatter)
-    parser.add_argument("part", choices=("refused", "clauses", "behaviour", "gate", "list"))
+    parser.add_argument("part", choices=("gate", "clauses", "list"))
     parser.add_argument("wanted", nargs="*", metavar="CRATE[/EDIT]")
     words = parser.parse_args()
     if words.part == "gate":
@@ -260,20 +210,10 @@ def main():
             parser.error("gate takes one file, the gate's output")
         return told_by_gate(TOP, pathlib.Path(words.wanted[0]).read_text(encoding="utf-8", errors="replace"))
     found = edits_of(TOP, words.wanted)
-    if words.part == "list" or not found:
-        print("\n".join(f"{it.crate}/{it.name}" for it in found))
-        return 0 if found else 1
-    with tempfile.TemporaryDirectory(prefix="edits-") as folder:
-        top = pathlib.Path(folder) / "copy"
-        copy_of(TOP, top, {it.crate for it in found})
-        if words.part == "refused":
-            return tried(top, [it for it in found if not it.is_gated])
-        bad = 0
-        for edit in found:
-            said = refusal(top / "crates" / edit.crate, edit) if words.part == "clauses" else change(top, edit)
-            bad += said.startswith(("PROVED", "NO CASE"))
-            print(f"{edit.crate}/{edit.name}: {said}", flush=True)
-    return 1 if bad else 0
+    if words.part == "clauses" and found:
+        return clauses_of(found)
+    print("\n".join(f"{it.crate}/{it.name}" for it in found))
+    return 0 if found else 1
 
 
 if __name__ == "__main__":

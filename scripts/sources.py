@@ -9,12 +9,6 @@ NO_CODE = {
     ".antt": re.compile(r"(?<!\S)--[^\n]*|\{-.*?-\}|" + QUOTED, re.S),
 }
 
-FIELD = re.compile(r"(?ms)^    ghost \w+: \{(.*?)\},$")
-
-# The name of a call, which may say more of it: behind `Unit {0} ×`.
-CALL = re.compile(r"(?m)^unfoldable pub (\w+) :[^\n]*\n\1(?: [^\n]*)? = Unit \{0\}(?: ×|$)")
-
-
 def crates_of(top):
     """The crates of crates.txt, each with what it stands on."""
     found = {}
@@ -41,19 +35,3 @@ def code_in(suffix, text):
 
 def code_of(path):
     return code_in(path.suffix, path.read_text(encoding="utf-8"))
-
-
-def without_comments(path):
-    """The text of a source, with what it quotes, and a gap for each comment."""
-    return NO_CODE[path.suffix].sub(lambda it: " " if it[0].startswith("/") else it[0], path.read_text(encoding="utf-8"))
-
-
-@functools.cache
-def found_in(pattern, code):
-    return pattern.findall(code)
-
-
-def names_of_calls(top, crates):
-    for name in crates:
-        for path in sorted((top / "crates" / name / "specs").rglob("*.antt")):
-            yield from CALL.findall(code_of(path))

@@ -7,7 +7,8 @@
 -- what comes in a frame of EtherType 0x88b5, as at link0 and link1 of a capture of `natpair sim`.
 
 local VERSION = 3
-local LINK_PORT = 7000
+-- The link's port as a new box.conf has it, and the one that older pairs keep.
+local LINK_PORTS = { 340, 7000 }
 local LOCAL_EXPERIMENTS = 0x88b5
 local MOST_RECORDS = 64
 local MOST_PORTS = 16
@@ -182,8 +183,10 @@ link:register_heuristic("udp", function(buffer, packet, tree)
   return link.dissector(buffer, packet, tree) > 0
 end)
 
--- Wireshark has another protocol at the port that the examples use.
-DissectorTable.get("udp.port"):add(LINK_PORT, link)
+-- Wireshark has another protocol at the second one.
+for _, port in ipairs(LINK_PORTS) do
+  DissectorTable.get("udp.port"):add(port, link)
+end
 
 -- The link's interfaces in a capture that natpair wrote.
 DissectorTable.get("ethertype"):add(LOCAL_EXPERIMENTS, link)

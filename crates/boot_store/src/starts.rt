@@ -48,6 +48,21 @@ pub fn zero_file() -> [u8; 32]
     file
 }
 
+/// What was written before, and not synced, is lost or outlasts a crash.
+fn settle<D: Disk>(disk: &mut D) -> Result<(), DeviceFault>
+    ensures synced { D.honest disk.old
+        → OnOk result (D.now disk.new ≡ synced (D.now disk.old)) }
+    ensures passes { D.honest disk.old
+        → D.past disk.new ≡ D.past disk.old ++ D.now disk.old ∷ [] }
+    ensures unsynced { D.honest disk.old
+        → OnErr result (StillKept (D.now disk.old) (D.now disk.new)) }
+    ensures honesty { D.honest disk.old ↔ D.honest disk.new }
+    ensures ok { OnOk result (D.failures disk.new ≡ D.failures disk.old) }
+    ensures failed { OnErr result (D.failures disk.new ≡ D.failures disk.old + 1) }
+{
+    disk.sync() // a call that failed may have left its bytes loose
+}
+
 /// The file as the device has it and a crash from now on leaves it, where it has 32 bytes.
 fn settled_file<D: Disk>(disk: &mut D) -> Result<Option<[u8; 32]>, DeviceFault>
     ensures any_moment { D.honest disk.old
@@ -65,7 +80,7 @@ fn settled_file<D: Disk>(disk: &mut D) -> Result<Option<[u8; 32]>, DeviceFault>
     ensures stops { D.honest disk.old → OnErr result (Since (D.past disk.old) (D.past disk.new)
         (LookStopped (D.now disk.old) (D.now disk.new))) }
 {
-    disk.sync()?; // a call that failed may have left its bytes loose
+    settle(disk)?;
     let mut file = [0; 32];
     let count = disk.read(&mut file)?;
     if count < 32 {

@@ -32,4 +32,8 @@ mod MoreRuns
 mod Taking
 mod Forged
 mod Counted
+mod Living
+mod Behind
+mod Nexting
+mod Hellos
 pub mod Offered

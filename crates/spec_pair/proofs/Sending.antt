@@ -1,5 +1,5 @@
 -- A datagram is sent.
-use Rattle.std.proofs.Common.{◌≡◌, ℕ, zero, suc, true, false, List, [], ◌∷◌, ◌++◌, ◌+◌, ◌<◌, take, drop, ◌≤◌, Some, sym, ap, subst, ◌∙◌, inl, inr, arith, le_refl}
+use Rattle.std.proofs.Common.{◌≡◌, ℕ, zero, suc, true, false, List, [], ◌∷◌, ◌++◌, ◌<◌, take, drop, ◌≤◌, Some, sym, ap, subst, ◌∙◌, inl, inr, arith, le_refl}
 use Rattle.std.proofs.lemmas.Bool.{cases_Bool}
 use Rattle.nat_types.specs.Same.{other}
 use Rattle.nat_types.specs.declared.gateways.GatewayId.{GatewayId}
@@ -44,7 +44,7 @@ module _ (r : Ranges) where
           up_synced = here.up_synced;
           goes = here.goes;
           letters = λ u alone l inside boot to. elim inside [ inl e ↦ subst (λ (x : Letter). Within x s.mine.sent) (sym e) (letter_within s.mine first count) | inr old ↦ here.letters u alone l old boot to ];
-          barred = λ m p l inside boot to n q h. elim inside [ inl e ↦ (let c : first + count ≤ m = can.0.1 m p in let less : n < count = nth_less count (drop first s.mine.sent) n q (ap (λ (x : Letter). nth x.records n) (sym e) ∙ h) in let f : l.first ≡ first = ap (λ (x : Letter). x.first) e in omega arith) | inr old ↦ here.barred m p l old boot to n q h ];
+          barred = λ m p l inside boot to n q h. elim inside [ inl e ↦ (let c = can.0.1 m p in let less : n < count = nth_less count (drop first s.mine.sent) n q (ap (λ (x : Letter). nth x.records n) (sym e) ∙ h) in let f : l.first ≡ first = ap (λ (x : Letter). x.first) e in omega arith) | inr old ↦ here.barred m p l old boot to n q h ];
           boots = λ l inside. elim inside [ inl e ↦ subst (λ (x : Letter). (x.boot ≤ s.mine.boot) × (x.to ≤ s.theirs.boot)) (sym e) (le_refl s.mine.boot, here.peer_at) | inr old ↦ here.boots l old ];
           known = λ u l inside boot. elim inside [ inl e ↦ subst (λ (x : Letter). x.to ≤ s.mine.peer) (sym e) (le_refl s.mine.peer) | inr old ↦ here.known u l old boot ];
           peer_at = here.peer_at;

@@ -8,3 +8,4 @@ pub mod RecordTable
 pub mod Batch
 pub mod Rows
 pub mod Mapped
+pub mod Live

@@ -1,6 +1,6 @@
 //! What holds of every pair. Each law is the contract of a function that does nothing.
 
-ghost use Rattle.std.specs.Prelude.{◌≡◌, ◌≤◌, ℕ, Bool, false, ◌&&◌, ◌++◌, List, [], ◌∷◌, Some, IsTrue, filter, true, reverse};
+ghost use Rattle.std.specs.Prelude.{◌≡◌, ◌≤◌, ◌<◌, ◌+◌, length, ℕ, Bool, false, ◌&&◌, ◌++◌, List, [], ◌∷◌, Some, IsTrue, filter, true, reverse};
 ghost use Rattle.nat_types.specs.Same.{other, same};
 ghost use Rattle.nat_types.specs.declared.gateways.GatewayId.{GatewayId};
 ghost use Rattle.nat_types.specs.declared.notes.Note.{Note};
@@ -8,15 +8,16 @@ ghost use Rattle.nat_types.specs.declared.pairs.Key.{Key};
 ghost use Rattle.nat_types.specs.declared.pairs.Pair.{Pair};
 ghost use Rattle.spec_trace.specs.Past.{is_synced};
 ghost use Rattle.spec_trace.specs.Trace.{Fits, GoesOn, Kept, Silent};
-ghost use Rattle.spec_pair.specs.Acts.{Act, AreGot, MayAct, box_after, letters_by, act_notes};
+ghost use Rattle.spec_pair.specs.Acts.{Act, AreGot, Hear, HearAnew, MayAct, Send, box_after, letters_by, act_notes};
 ghost use Rattle.spec_pair.specs.Batch.{AreApart, AreThose, LieWithin};
-ghost use Rattle.spec_pair.specs.Box.{AreMirrored, AreLoadable, AreSame, Box, In, StandsNext, Letter, empty, nth};
-ghost use Rattle.spec_pair.specs.Ownership.{LeaveRest, Ranges, Run, fixed, in_runs, moving};
+ghost use Rattle.spec_pair.specs.Box.{AreBack, AreMirrored, AreLoadable, AreSame, revived, Box, In, StandsNext, Letter, empty, nth};
+ghost use Rattle.spec_pair.specs.Live.{AreTogether, IsNext, hello_of, hello_sent, unheard, next_letter, next_sent, outstanding};
+ghost use Rattle.spec_pair.specs.Ownership.{AreRising, LeaveRest, Ranges, Run, keyed, left_to, fixed, in_runs, moving};
 ghost use Rattle.spec_pair.specs.Rows.{live_first, held_first, LeadsTo, LeavesPorts, alone, alone_notes, promising, promising_notes, naming, naming_notes, returning, returning_notes, six_ports, asked_no, asked_no_notes, asked_yes, asked_yes_notes, crossing, crossing_notes, doomed, doomed_notes, granting, host, loading, loading_notes, losing, losing_notes, peer_off, peer_off_notes, slot_on, revival, revival_notes, sharing, two_ranges, using, using_notes, wanting};
 ghost use Rattle.spec_pair.specs.RecordTable.{AreFacts, DoesTake, Facts, act_by_table, becomes_owned};
 ghost use Rattle.spec_pair.specs.Step.{IsOff, IsStep, ReadsOnly, WasSent};
 ghost use Rattle.spec_pair.specs.Talk.{Free, Held, Live, MachineRecord, Slot};
-ghost use Rattle.spec_pair.specs.World.{AreAllowed, Can, EndsBy, MachineEvent, HasOwners, TableHolds, IsKept, IsWorld, Scene, TableTranslates, box_in, after_event, mail_in, after_events, seen_by, founding, tables_of, with_step};
+ghost use Rattle.spec_pair.specs.World.{AreAllowed, Can, EndsBy, MachineEvent, HasOwners, TableHolds, IsKept, IsWorld, Scene, TableTranslates, box_in, after_act, after_event, flip, mail_in, after_events, seen_by, founding, tables_of, with_step};
 
 /// The headline. Whatever is lost, repeated or reordered, and whenever a gateway crashes and boots: no outside port of
 /// an open pair serves another endpoint, no endpoint gets another port, every open pair is held by each synced gateway,
@@ -154,6 +155,71 @@ pub fn any_record_is_taken()
         AreFacts r a q f → DoesTake r i a l (act_by_table r i a l offset f q) }
     ensures granted { (r : Ranges) (a : Box) (ports : List ℕ) →
         AreGot r a ports (filter (becomes_owned r a) ports) }
+{}
+
+/// Nothing is stuck: where a record that the other pushed stands next, the other may send it, the act that the record
+/// table names may then be done and takes it, and less is left to do. So without loss all is taken in the end.
+pub fn never_stuck()
+    ensures sent { (r : Ranges) (i : GatewayId) (v : Scene) (q : MachineRecord) → IsNext v q →
+        Can r (other i) (flip v) (Send v.mine.taken 1) }
+    ensures taken { (r : Ranges) (i : GatewayId) (v : Scene) (f : Facts) (q : MachineRecord) →
+        IsNext v q → AreFacts r v.mine q f →
+        Can r i (next_sent v) (act_by_table r i v.mine (next_letter v) 0 f q) }
+    ensures less { (r : Ranges) (i : GatewayId) (moment : ℕ) (v : Scene) (f : Facts)
+        (q : MachineRecord) → IsNext v q → AreFacts r v.mine q f →
+        outstanding (after_act r i moment (next_sent v)
+        (act_by_table r i v.mine (next_letter v) 0 f q)) < outstanding v }
+{}
+
+/// Of two that are up, where one hasn't heard the other's boot, the other may say it (`said`), and the one may hear it:
+/// unsynced (`anew`), or synced with the pairs and runs of its batch (`heard`). Then one fewer hasn't (`fewer_anew`,
+/// `fewer_heard`). Where both have, they are in one session, and neither is lone (`together`).
+pub fn hears_next()
+    ensures said { (r : Ranges) (i : GatewayId) (v : Scene) → v.theirs.up ≡ true →
+        Can r (other i) (flip v) (Send 0 0) }
+    ensures anew { (r : Ranges) (i : GatewayId) (v : Scene) → v.mine.up ≡ true →
+        v.mine.synced ≡ false → v.mine.peer < v.theirs.boot →
+        Can r i (hello_sent v) (HearAnew (hello_of v)) }
+    ensures heard { (r : Ranges) (i : GatewayId) (v : Scene) (back : List Pair) (os : List Run)
+        (ps : List Pair) (part : Bool) → v.mine.synced ≡ true → v.mine.peer < v.theirs.boot →
+        AreBack v.mine.table back → AreRising r.in_ranges 0 os → LeaveRest r i v.mine.owned os →
+        AreLoadable r (keyed (left_to r (other i) os)) empty ps →
+        AreMirrored (keyed (left_to r (other i) os)) (λ k. revived (v.mine.table k)) ps →
+        Can r i (hello_sent v) (Hear (hello_of v) back os ps part) }
+    ensures fewer_anew { (r : Ranges) (i : GatewayId) (moment : ℕ) (v : Scene) →
+        v.mine.peer < v.theirs.boot →
+        unheard (after_act r i moment (hello_sent v) (HearAnew (hello_of v))) < unheard v }
+    ensures fewer_heard { (r : Ranges) (i : GatewayId) (moment : ℕ) (v : Scene)
+        (back : List Pair) (os : List Run) (ps : List Pair) (part : Bool) →
+        v.mine.peer < v.theirs.boot →
+        unheard (after_act r i moment (hello_sent v) (Hear (hello_of v) back os ps part))
+        < unheard v }
+    ensures together { (r : Ranges) (s : Scene) (i : GatewayId) → IsWorld r s →
+        let v = seen_by i s in v.mine.up ≡ true → v.theirs.up ≡ true → unheard v ≡ 0 →
+        AreTogether v }
+{}
+
+/// In one session neither took more than the other pushed (`counts`). Where one took less, and a promise doesn't keep
+/// back what is next, a record stands next (`next`), so that `never_stuck` speaks of it. Where nothing is left to do
+/// both are synced (`done`).
+pub fn some_is_next()
+    ensures done { (r : Ranges) (s : Scene) (i : GatewayId) → IsWorld r s →
+        let v = seen_by i s in AreTogether v → outstanding v ≡ 0 → v.mine.synced ≡ true }
+    ensures counts { (r : Ranges) (s : Scene) (i : GatewayId) → IsWorld r s →
+        let v = seen_by i s in AreTogether v → v.theirs.taken ≤ length v.mine.sent }
+    ensures next { (r : Ranges) (s : Scene) (i : GatewayId) → IsWorld r s →
+        let v = seen_by i s in AreTogether v → v.mine.taken < length v.theirs.sent →
+        ((m : ℕ) → v.theirs.promised ≡ Some m → v.mine.taken + 1 ≤ m) →
+        (q : MachineRecord) × IsNext v q }
+{}
+
+/// A gateway that isn't synced, in a session with one that is, has not taken all that the other pushed. So where all is
+/// taken it is synced.
+pub fn unsynced_is_behind()
+    ensures { (r : Ranges) (s : Scene) (i : GatewayId) → IsWorld r s → let v = seen_by i s in
+        v.mine.synced ≡ true → v.mine.lone ≡ false → v.theirs.synced ≡ false →
+        v.theirs.up ≡ true → v.mine.peer ≡ v.theirs.boot →
+        v.theirs.taken < length v.mine.sent }
 {}
 
 /// A list of the pairs of a table, each once and on ports of the ranges, may be put into a batch: each pair is new

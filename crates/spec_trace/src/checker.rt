@@ -1,14 +1,16 @@
 //! The checker of traces: it goes through the notes once, and keeps the open pairs and who is synced.
-ghost use Rattle.std.specs.Prelude.{◌≡◌, ◌+◌, not, List, ◌∷◌, filter, reverse, ◌&&◌, IsTrue, ◌↔◌, OnOk, IfErr, All, Contains};
+ghost use Rattle.std.specs.Prelude.{◌≡◌, ◌+◌, not, List, ◌∷◌, filter, reverse, ◌&&◌, IsTrue, ◌↔◌, OnOk, OnErr, IfErr, All, Contains};
 ghost use Rattle.nat_types.specs.Same.{other, same, same_pair};
 ghost use Rattle.nat_types.specs.declared.notes.Note.{Note as Noted};
 ghost use Rattle.spec_trace.specs.Past as past;
 ghost use Rattle.spec_trace.specs.Trace.{Fits, Silent, Kept};
-ghost use Rattle.spec_trace.specs.Audit.{ListsHold, FaultSays, AreOpen, Judged, by_gateway};
+ghost use Rattle.memory.specs.Memory.{WasRefused};
+ghost use Rattle.spec_trace.specs.Audit.{ListsHold, FaultSays, AreOpen, IsFound, Judged, by_gateway};
 ghost use Rattle.spec_trace.specs.declared.checker.AuditFault.TheVariants as faults;
 
+use memory::push;
 use nat_types::{GatewayId, Note, NoteKind, Pair};
-use std::alloc::{AllocFailed, Global};
+use std::alloc::{AllocError, Global};
 use thiserror::Error;
 
 /// What is wrong with a trace and two tables. Positions in the trace count from 1.
@@ -26,13 +28,13 @@ pub enum AuditFault {
     NotSilent(usize),
 }
 
-impl<T: Drop> From<AllocFailed<T>> for AuditFault {
+impl From<AllocError> for AuditFault {
     ghost use Rattle.std.specs.Prelude.{◌≡◌};
     ghost use Rattle.spec_trace.specs.declared.checker.AuditFault.TheVariants as faults;
 
     ghost from_gives = { λ _ e. e ≡ faults.NoMemory };
 
-    fn from(_: AllocFailed<T>) -> AuditFault {
+    fn from(_: AllocError) -> AuditFault {
         AuditFault::NoMemory
     }
 }
@@ -156,6 +158,7 @@ fn judge(opens: &[Pair], synced: bool, note: &Note, position: usize) -> Result<(
     ensures err { IfErr result
         (λ f. (t : List Noted) → AreOpen opens.now t → synced ≡ past.is_synced note.now.by t →
         Judged t note.now position f) }
+    ensures found { IfErr result IsFound }
 {
     match note.what {
         NoteKind::Used(pair) => {
@@ -182,11 +185,12 @@ fn follow(
     requires alone { alone ≡ not (past.is_synced (other note.now.by) (reverse before.now)) }
     ensures ok { OnOk result (AreOpen opens.new.items (note.now ∷ reverse before.now)) }
     ensures err { IfErr result (λ f. f ≡ faults.NoMemory) }
+    ensures refused { OnErr result (WasRefused 1) }
 {
     match note.what {
         NoteKind::Used(pair) => {
             if !has(opens, pair) {
-                opens.push(pair)?;
+                push(opens, pair)?;
             }
             Ok(())
         }
@@ -207,6 +211,8 @@ pub fn audit(alloc: Global, trace: &[Note], zero: &[Pair], one: &[Pair]) -> Resu
     ensures silent { OnOk result (Silent trace.now) }
     ensures kept { OnOk result (Kept (ListsHold zero.now one.now) trace.now) }
     ensures fault { IfErr result (FaultSays trace.now zero.now one.now) }
+    // Want of memory is told only where it was refused.
+    ensures short { IfErr result (λ f. f ≡ faults.NoMemory → WasRefused 1) }
 {
     let mut opens = Vec::new(alloc);
     let mut zero_synced = true;

@@ -1,0 +1,102 @@
+-- What is still to come of it that records were pushed, and what stands next.
+use Rattle.std.specs.Prelude.{Bool, List, Some, [], drop, false, nat_lt, length, true, ℕ, ◌+◌, ◌≤◌, ◌∷◌, ◌≡◌}
+use Rattle.spec_pair.specs.Acts.{Act, Do, Take, Hear, HandIn, Ignore, HearAnew, PeerOff, LoadBegin, LoadOwner, LoadPut, LoadDone, LoadSkip, WantPorts, GrantPorts, TakePorts, LosePorts, Send, LoneNew, LoneUse, LoneDrop, Crash, Boot}
+use Rattle.spec_pair.specs.Box.{Letter, letter, nth}
+use Rattle.spec_pair.specs.Talk.{MachineRecord, Install, Accept, Refuse, Ask, Yes, No, Begin, Put, Done, Want, Grant, Owner}
+use Rattle.spec_pair.specs.World.{Scene}
+
+-- how many takings a record brings about: its own, and that of its answer
+abbrev pub weight : MachineRecord → ℕ
+weight (Install k e) = 2
+weight (Accept k) = 1
+weight (Refuse k) = 1
+weight (Ask k) = 2
+weight (Yes k) = 1
+weight (No k) = 1
+weight Begin = 1
+weight (Put k e) = 1
+weight Done = 1
+weight Want = 2
+weight (Grant ports) = 1
+weight (Owner first last) = 1
+
+-- how many takings these bring about
+abbrev pub to_do : List MachineRecord → ℕ
+to_do [] = 0
+to_do (q ∷ qs) = weight q + to_do qs
+
+-- the record that an act takes
+abbrev pub taken_now : Act → List MachineRecord
+taken_now (Do d) = []
+taken_now (Take l n q d) = q ∷ []
+taken_now (Hear l back os ps part) = []
+taken_now HandIn = []
+taken_now (Ignore l n q) = q ∷ []
+taken_now (HearAnew l) = []
+taken_now (PeerOff number back) = []
+taken_now (LoadBegin l n) = Begin ∷ []
+taken_now (LoadOwner l n first last) = Owner first last ∷ []
+taken_now (LoadPut l n p) = Put p.key p.endpoint ∷ []
+taken_now (LoadDone l n) = Done ∷ []
+taken_now (LoadSkip l n q) = q ∷ []
+taken_now WantPorts = []
+taken_now (GrantPorts l n ports) = Want ∷ []
+taken_now (TakePorts l n ports got) = Grant ports ∷ []
+taken_now (LosePorts l n ports) = Grant ports ∷ []
+taken_now (Send first count) = []
+taken_now (LoneNew k e) = []
+taken_now (LoneUse k e) = []
+taken_now (LoneDrop k e) = []
+taken_now Crash = []
+taken_now (Boot number) = []
+
+-- The records that each pushed and the other hasn't taken yet, by the takings that they bring about: what a run without
+-- loss has to do. Both are in one session.
+abbrev pub outstanding : Scene → ℕ
+outstanding v =
+    to_do (drop v.theirs.taken v.mine.sent) + to_do (drop v.mine.taken v.theirs.sent)
+
+-- Both are up and in one session, and the other pushed the record that is to be taken next here; it may be sent.
+pub record IsNext (v : Scene) (q : MachineRecord) : Type 0 where
+  pub up : v.mine.up ≡ true
+  pub their_up : v.theirs.up ≡ true
+  pub known : v.mine.peer ≡ v.theirs.boot
+  pub back : v.theirs.peer ≡ v.mine.boot
+  pub together : v.mine.synced ≡ true → v.mine.lone ≡ false
+  pub behind : v.theirs.taken ≤ length v.mine.sent
+  pub next : nth v.theirs.sent v.mine.taken ≡ Some q
+  pub free : (m : ℕ) → v.theirs.promised ≡ Some m → v.mine.taken + 1 ≤ m
+
+-- the letter with that one record
+abbrev pub next_letter : Scene → Letter
+next_letter v = letter v.theirs v.mine.taken 1
+
+-- the other has sent it
+abbrev pub next_sent : Scene → Scene
+next_sent v = record v { their_mail = next_letter v ∷ v.their_mail }
+
+-- Both are up and in one session, and neither is lone.
+pub record AreTogether (v : Scene) : Type 0 where
+  pub up : v.mine.up ≡ true
+  pub their_up : v.theirs.up ≡ true
+  pub known : v.mine.peer ≡ v.theirs.boot
+  pub back : v.theirs.peer ≡ v.mine.boot
+  pub together : v.mine.synced ≡ true → v.mine.lone ≡ false
+  pub their_together : v.theirs.synced ≡ true → v.theirs.lone ≡ false
+
+-- a datagram without records, which tells the sender's boot
+abbrev pub hello_of : Scene → Letter
+hello_of v = letter v.theirs 0 0
+
+-- the other has sent it
+abbrev pub hello_sent : Scene → Scene
+hello_sent v = record v { their_mail = hello_of v ∷ v.their_mail }
+
+-- 1 where it is so
+abbrev pub as_one : Bool → ℕ
+as_one true = 1
+as_one false = 0
+
+-- how many of the two haven't heard the other's boot
+abbrev pub unheard : Scene → ℕ
+unheard v = as_one (nat_lt v.mine.peer v.theirs.boot) + as_one (nat_lt v.theirs.peer v.mine.boot)
