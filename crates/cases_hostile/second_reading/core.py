@@ -1,0 +1,210 @@
+"""The binding protocol of one gateway: by docs/PROTOCOL.md. Each part answers the endpoints whose packets need wait no
+longer, and notes by `note(name, pair)`."""
+
+from link import ACCEPT, ASK, BEGIN, DONE, GRANT, INSTALL, NO, OWNER, PUT, REFUSE, WANT, YES
+from table import CLOSING, DOOMED, HELD, LIVE, PENDING, Table
+
+
+class Core:
+    """The table, and what is agreed of it over the link."""
+
+    def __init__(self, number, ranges, limit, is_founder, link, note):
+        self.number, self.limit, self.link, self.note = number, limit, link, note
+        self.ranges = set(ranges[0]) | set(ranges[1])
+        self.table = Table()
+        self.synced = self.lone = is_founder
+        self.wants, self.loading, self.named = False, None, set()
+        if is_founder:
+            self.table.owned = set(ranges[0])
+
+    def look(self, endpoint):
+        """What a packet from this endpoint meets: an entry that translates, `wait`, `new`, or a reason."""
+        entry = self.table.of_endpoint(endpoint)
+        if entry is not None:
+            return {LIVE: entry, HELD: entry, PENDING: "wait", CLOSING: 15}[entry.state]
+        if self.limit is not None and self.table.pairs_of(endpoint[1]) >= self.limit:
+            return 18
+        if self.table.free_port(endpoint[0], endpoint[2]) is None:
+            return 14
+        return 15 if not self.lone and self.link.is_full() else "new"
+
+    def lacks_port(self):
+        """A packet finds no port: one is asked for."""
+        if not self.lone and not self.wants and not self.link.is_full():
+            self.wants = True
+            self.link.push((WANT,))
+
+    def make(self, endpoint, now):
+        """A new pair: one that translates at once where nobody need agree, else one that is proposed."""
+        port = self.table.free_port(endpoint[0], endpoint[2])
+        pair = (endpoint[0], port, *endpoint[1:])
+        if self.lone:
+            entry = self.table.add(pair, LIVE, False, now)
+            self.note("Retaken", pair)
+            return entry
+        self.link.push((INSTALL, pair))
+        return self.table.add(pair, PENDING, False, now)
+
+    def take(self, record, now):
+        """A record of the other gateway; the endpoints whose packets are taken again."""
+        if not self.synced:
+            return self.load(record, now)
+        tag = record[0]
+        if tag == INSTALL:
+            return self.take_install(record[1])(now)
+        if tag == ASK:
+            return self.take_ask(record[1], now)
+        if tag in (ACCEPT, REFUSE, YES, NO):
+            return self.take_answer(tag, self.table.entries.get(record[1]), now)
+        if tag == WANT:
+            self.grant()
+        if tag == GRANT and self.wants:
+            self.wants = False
+            taken = {key[1] for key in self.table.entries}
+            self.table.owned |= {port for port in record[1] if port in self.ranges and port not in taken}
+        return []
+
+    def take_install(self, pair):
+        """What an Install comes to."""
+        own = self.table.of_endpoint((pair[0], *pair[2:]))
+        of_sender = pair[1] in self.ranges and pair[1] not in self.table.owned
+        if not of_sender or pair[:2] in self.table.entries:
+            return lambda now: self.refuse(pair)
+        if own is None:
+            return lambda now: self.hold(pair, now)
+        if own.state == PENDING and self.number == 1:
+            own.state = DOOMED
+            return lambda now: self.hold(pair, now)
+        return lambda now: self.refuse(pair)
+
+    def refuse(self, pair):
+        self.link.push((REFUSE, pair[:2]))
+        return []
+
+    def hold(self, pair, now):
+        entry = self.table.add(pair, HELD, True, now)
+        self.note("Retaken", pair)
+        self.link.push((ACCEPT, pair[:2]))
+        return [entry.endpoint]
+
+    def take_ask(self, key, now):
+        entry = self.table.entries.get(key)
+        if entry is not None and entry.state == HELD:
+            if not entry.is_idle(now) and not (entry.by_install and not entry.was_used):
+                self.link.push((NO, key))
+                return []
+            self.table.remove(entry)
+            self.note("Released", entry.pair)
+        self.link.push((YES, key))
+        return []
+
+    def take_answer(self, tag, entry, now):
+        if entry is None:
+            return []
+        if tag == ACCEPT and entry.state == PENDING:
+            entry.state = LIVE
+            self.note("Retaken", entry.pair)
+            return [entry.endpoint]
+        if tag == REFUSE and entry.state in (PENDING, DOOMED):
+            self.table.remove(entry)
+            return [entry.endpoint] if entry.state == PENDING else []
+        if tag == YES and entry.state == CLOSING:
+            self.table.remove(entry)
+        if tag == NO and entry.state == CLOSING:
+            entry.state = LIVE
+            entry.renew(now)
+            self.note("Retaken", entry.pair)
+        return []
+
+    def grant(self):
+        bare = self.table.bare_ports()
+        given = bare[::-1][: min(16, len(bare) // 2)]
+        self.link.push((GRANT, given))
+        self.table.owned -= set(given)
+
+    def load(self, record, now):
+        """A record at a gateway that isn't synced."""
+        tag = record[0]
+        if tag == BEGIN:
+            self.empty()
+            self.loading = "owners"
+        elif tag == OWNER and self.loading == "owners":
+            first, last = record[1:]
+            is_next = not self.named or first > max(self.named)
+            if is_next and all(port in self.ranges for port in range(first, last + 1)):
+                self.named |= set(range(first, last + 1))
+        elif tag == PUT and self.loading:
+            self.loading = "puts"
+            self.put(record[1], now)
+        elif tag == DONE and self.loading:
+            self.finish()
+        return []
+
+    def empty(self):
+        self.table, self.loading, self.named = Table(), None, set()
+
+    def put(self, pair, now):
+        is_new = pair[:2] not in self.table.entries and self.table.of_endpoint((pair[0], *pair[2:])) is None
+        if pair[1] in self.ranges and is_new:
+            self.table.add(pair, HELD, False, now)
+            self.note("Retaken", pair)
+
+    def finish(self):
+        self.table.owned = self.ranges - self.named
+        for entry in self.table.entries.values():
+            if entry.key[1] in self.table.owned:
+                entry.state = LIVE
+        self.synced, self.lone, self.loading = True, False, None
+        self.note("Synced", None)
+
+    def revive(self):
+        """Proposals and deletions under way end; the endpoints of the pairs that translate by that."""
+        revived = []
+        for entry in self.table.ordered():
+            if entry.state == DOOMED:
+                self.table.remove(entry)
+            elif entry.state in (PENDING, CLOSING):
+                entry.state = LIVE
+                self.note("Retaken", entry.pair)
+                revived.append(entry.endpoint)
+        self.wants = False
+        return revived
+
+    def peer_restarted(self):
+        """A greater boot of the other gateway is heard."""
+        if not self.synced:
+            self.empty()
+            return []
+        revived = self.revive()
+        self.lone = False
+        self.link.push((BEGIN,))
+        for first, last in self.table.runs():
+            self.link.push((OWNER, first, last))
+        for entry in self.table.ordered():
+            self.link.push((PUT, entry.pair))
+        self.link.push((DONE,))
+        return revived
+
+    def peer_off(self, boot, now):
+        """The operator's word."""
+        self.link.close(boot)
+        revived = self.revive()
+        self.lone = True
+        for entry in self.table.entries.values():
+            entry.renew(now)
+        return revived
+
+    def tick(self, now):
+        """Idle pairs: asked for, or dropped where nobody need agree."""
+        if not self.synced:
+            return
+        for entry in self.table.ordered():
+            if not entry.is_idle(now):
+                continue
+            if self.lone and entry.translates():
+                self.table.remove(entry)
+                self.note("Released", entry.pair)
+            elif not self.lone and entry.state == LIVE and self.link.hears(now) and not self.link.is_full():
+                entry.state = CLOSING
+                self.note("Released", entry.pair)
+                self.link.push((ASK, entry.key))

@@ -1,0 +1,28 @@
+"""The settings of a file, as far as a world needs them."""
+
+import tomllib
+
+from wire import address, mac
+
+
+def read(path):
+    with open(path, "rb") as file:
+        text = tomllib.load(file)
+    settings = {"ranges": [text["ports"]["zero"], text["ports"]["one"]]}
+    settings["host_limit"] = text["ports"].get("host_limit")
+    for side in ("inside", "outside"):
+        settings[side] = dict(text[side], virtual=address(text[side]["virtual"]), neighbours={})
+    settings["outside"]["router"] = address(text["outside"]["router"])
+    for row in text.get("neighbour", []):
+        settings[row["side"]]["neighbours"].setdefault(address(row["ip"]), mac(row["mac"]))
+    settings["gateways"] = [box_of(text["gateway_0"]), box_of(text["gateway_1"])]
+    return settings
+
+
+def box_of(rows):
+    box = {"priority": rows.get("priority", 100), "interval": rows.get("interval", 100)}
+    box["preempt"] = rows.get("preempt", True)
+    for side in ("inside", "outside"):
+        box[side + "_ip"] = address(rows[side + "_ip"])
+        box[side + "_mac"] = mac(rows[side + "_mac"])
+    return box

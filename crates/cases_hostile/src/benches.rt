@@ -1,0 +1,215 @@
+//! A gateway behind some events, to which a vector is handed again and again, cut and changed.
+
+use crate::gates::{Gate, Seen};
+use crate::tallies::{Run, Tally};
+use crate::telling::{digest_of, write_step};
+use cases_words::Case;
+use gateway::{Event, Out, Outcome};
+use nat_types::{GatewayId, Side};
+use settings::Settings;
+use std::alloc::Global;
+use std::mem;
+
+/// Where bytes come in.
+#[derive(Clone, Copy)]
+pub(crate) enum Way {
+    Wire(Side),
+    Link,
+}
+
+/// What happens to a gateway before a vector comes.
+#[derive(Drop)]
+pub(crate) enum Before {
+    Tick(u64),
+    Bytes(Way, Vec<u8>),
+}
+
+fn event_of(way: Way, bytes: &[u8]) -> Event<'_> {
+    match way {
+        Way::Wire(side) => Event::Frame(side, bytes),
+        Way::Link => Event::Datagram(bytes),
+    }
+}
+
+/// Which gateway it is, and what happened to it.
+#[derive(Drop)]
+pub(crate) struct Start {
+    pub(crate) settings: Settings,
+    pub(crate) id: GatewayId,
+    pub(crate) boot: u64,
+    pub(crate) found: bool,
+    pub(crate) events: Vec<Before>,
+}
+
+/// How a vector comes in, and from which byte on a gateway begins anew for each byte that is changed.
+#[derive(Clone, Copy)]
+pub(crate) struct Plan {
+    pub(crate) way: Way,
+    pub(crate) anew: usize,
+}
+
+/// A gateway behind its events, and what came of the bytes that were handed to it since. It goes by `end`.
+pub(crate) struct Bench<G> {
+    pub(crate) start: Start,
+    gateway: Option<G>,
+    out: Out,
+    /// What shows of it behind the last step.
+    seen: Seen,
+    told: Vec<u8>,
+    drops: u32,
+    changed: u32,
+}
+
+impl<G: Gate> Bench<G> {
+    pub(crate) fn new(alloc: Global, start: Start) -> Bench<G> {
+        Bench {
+            start,
+            gateway: None,
+            out: Out::new(alloc),
+            seen: Seen::new(alloc),
+            told: Vec::new(alloc),
+            drops: 0,
+            changed: 0,
+        }
+    }
+
+    pub(crate) fn end(self) {
+        let Bench {
+            start,
+            gateway,
+            out,
+            seen,
+            told,
+            drops: _,
+            changed: _,
+        } = self;
+        drop(start);
+        end_if_there(gateway);
+        drop(out);
+        drop(seen);
+        drop(told);
+    }
+
+    /// More happens to it before a vector comes.
+    pub(crate) fn add(&mut self, event: Before, case: &mut Case) {
+        case.keep(self.start.events.push(event));
+    }
+
+    /// A gateway begins, and all happens to it that happened before.
+    fn begin(&mut self, case: &mut Case) {
+        let start = &self.start;
+        let begun = G::begun(
+            case.alloc,
+            &start.settings,
+            start.id,
+            start.boot,
+            start.found,
+        );
+        end_if_there(mem::replace(&mut self.gateway, begun));
+        match self.gateway.as_mut() {
+            Some(gateway) => {
+                for event in self.start.events.as_slice() {
+                    live(gateway, event, &mut self.out, case);
+                }
+                self.seen = gateway.seen(case);
+            }
+            None => case.fault(),
+        }
+    }
+
+    /// Bytes come. Behind a drop the gateway is to stand as before.
+    fn hand_in(&mut self, way: Way, bytes: &[u8], case: &mut Case) -> Outcome {
+        match self.gateway.as_mut() {
+            Some(gateway) => {
+                let outcome = gateway.step(event_of(way, bytes), &mut self.out, case);
+                case.keep(write_step(&mut self.told, outcome, &self.out));
+                let seen = gateway.seen(case);
+                if let Outcome::Dropped(_) = outcome {
+                    self.drops = self.drops.saturating_add(1);
+                    if !seen.is_same(&self.seen) {
+                        self.changed = self.changed.saturating_add(1);
+                    }
+                }
+                self.seen = seen;
+                outcome
+            }
+            None => Outcome::Done,
+        }
+    }
+
+    /// Hands in a vector cut at every length, whole, and with every byte changed to every other value, and prints what came.
+    pub(crate) fn try_vector(&mut self, plan: Plan, vector: &mut [u8], case: &mut Case) {
+        self.told.clear();
+        self.drops = 0;
+        self.changed = 0;
+        self.begin(case);
+        self.cut(plan, vector, case);
+        self.change(plan, vector, case);
+        case.keep(self.seen.write(&mut self.told));
+        case.say("  dropped ", self.drops);
+        case.say(", changed behind a drop ", self.changed);
+        case.say(", told ", self.told.len());
+        case.hex(" ", &digest_of(self.told.as_slice()).to_be_bytes());
+        case.end();
+    }
+
+    /// From no byte to the whole vector.
+    fn cut(&mut self, plan: Plan, vector: &[u8], case: &mut Case) {
+        let mut run = Run::new("  cut to ");
+        for length in 0..=vector.len() {
+            let mut tally = Tally::new();
+            tally.count(self.hand_in(plan.way, &vector[..length], case));
+            run.add(length, tally, case);
+        }
+        run.tell(case);
+    }
+
+    /// From the last byte to the first, so that each boot that is heard is greater than those before.
+    fn change(&mut self, plan: Plan, vector: &mut [u8], case: &mut Case) {
+        let mut run = Run::new("  byte ");
+        for behind in 1..=vector.len() {
+            let at = vector.len().saturating_sub(behind);
+            if plan.anew <= at {
+                self.begin(case);
+            }
+            let tally = self.change_at(plan.way, vector, at, case);
+            run.add(at, tally, case);
+        }
+        run.tell(case);
+    }
+
+    /// One byte becomes each other value, rising. Afterwards it is as it was.
+    fn change_at(&mut self, way: Way, vector: &mut [u8], at: usize, case: &mut Case) -> Tally {
+        let mut tally = Tally::new();
+        let byte = vector.get(at).copied().unwrap_or(0);
+        for value in 0..=255u8 {
+            if value != byte {
+                set(vector, at, value);
+                tally.count(self.hand_in(way, vector, case));
+            }
+        }
+        set(vector, at, byte);
+        tally
+    }
+}
+
+fn set(bytes: &mut [u8], at: usize, value: u8) {
+    if let Some(byte) = bytes.get_mut(at) {
+        *byte = value;
+    }
+}
+
+/// Lets a gateway go, if it is there.
+fn end_if_there<G: Gate>(gateway: Option<G>) {
+    if let Some(gateway) = gateway {
+        gateway.end();
+    }
+}
+
+/// What happened before happens to a gateway.
+fn live<G: Gate>(gateway: &mut G, event: &Before, out: &mut Out, case: &mut Case) {
+    match event {
+        Before::Tick(moment) => gateway.step(Event::Tick(*moment), out, case),
+        Before::Bytes(way, bytes) => gateway.step(event_of(*way, bytes.as_slice()), out, case),
+    };
+}

@@ -1,0 +1,36 @@
+//! Bytes that were cut and changed, and scripts that mean harm. Each vector of `vectors.cases` is handed to a gateway cut at
+//! every length and with every byte changed; each script of `scripts.list` is run event by event, with `audit` after each.
+//! It prints what came of all that, and a digest of what was told meanwhile.
+#![tactic(auto)]
+
+mod benches;
+mod desks;
+mod gates;
+mod runs;
+mod tallies;
+mod telling;
+
+use anyhow::Result;
+use cases_words::{Case, play};
+use desks::Desk;
+use gateway::Gateway;
+use runs::Scripts;
+
+fn try_vectors(rt: &HostRuntime, case: &mut Case) -> Result<()> {
+    let mut desk = Desk::<Gateway>::new(*rt);
+    let tried = play(rt, "vectors.cases", &mut desk, case);
+    desk.end();
+    tried
+}
+
+fn try_all(rt: &HostRuntime, case: &mut Case) -> Result<()> {
+    try_vectors(rt, case)?;
+    play(rt, "scripts.list", Scripts { rt: *rt }, case)
+}
+
+fn main(rt: HostRuntime) -> Result<()> {
+    let mut case = Case::new(rt.alloc());
+    let tried = try_all(&rt, &mut case);
+    case.flush(&rt);
+    tried
+}

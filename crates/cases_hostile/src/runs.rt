@@ -1,0 +1,171 @@
+//! Scripts, run event by event on a new world, with the audit after each event.
+
+use crate::telling::{digest_of, write_pairs, write_refusal, write_step};
+use anyhow::Result;
+use cases_words::{Actor, Case};
+use faults::{Fault, Job, job_of};
+use frame_sim::{AuditFault, Step, World, audit};
+use gateway::Outcome;
+use nat_types::{GatewayId, NoMemory, WorldEvent};
+use settings::Settings;
+use std::alloc::Global;
+use std::fs;
+use std::io::{self, Write};
+
+#[derive(Drop)]
+pub(crate) struct Scripts {
+    pub(crate) rt: HostRuntime,
+}
+
+impl Actor for Scripts {
+    /// `NAME SETTINGS`: runs NAME.script by the settings of SETTINGS.toml. It prints how many events were refused, how many
+    /// frames were sent on, how many notes there are, and a digest of all that was told; and that the audit passed so many
+    /// times, or the first event behind which it doesn't.
+    fn act(&mut self, case: &mut Case) {
+        case.title("", ": ");
+        let script = text_at(&self.rt, case.word(), "script");
+        let script = case.or_empty(script);
+        let settings = text_at(&self.rt, case.word(), "toml");
+        let settings = case.or_empty(settings);
+        match read(case.alloc, settings.as_str(), script.as_str()) {
+            Ok(job) => {
+                run(&job.settings, job.events.as_slice(), case);
+                drop(job);
+            }
+            Err(_) => case.fault(),
+        }
+    }
+}
+
+/// The text of the file of a name and a kind.
+fn text_at(rt: &HostRuntime, name: &str, kind: &str) -> Result<String> {
+    let path = format!(in rt.alloc(); "{name}.{kind}")?;
+    Ok(fs::read_to_string(rt, path.as_str())?)
+}
+
+/// The job of two texts, of which nothing is said, so that what a caller has to show stays small.
+fn read(alloc: Global, settings: &str, script: &str) -> Result<Job, Fault> {
+    job_of(alloc, settings, script)
+}
+
+/// A new world, of which nothing is said either.
+fn founded(alloc: Global, settings: &Settings) -> Result<World<'_>, NoMemory> {
+    World::founded(alloc, settings)
+}
+
+fn run(settings: &Settings, events: &[WorldEvent], case: &mut Case) {
+    match founded(case.alloc, settings) {
+        Ok(mut world) => {
+            let mut watch = Watch::new(case.alloc);
+            watch.follow(&mut world, events, case);
+            watch.tell(&world, case);
+            world.end();
+        }
+        Err(_) => case.fault(),
+    }
+}
+
+/// What came of a script's events so far.
+#[derive(Drop)]
+struct Watch {
+    told: Vec<u8>,
+    refused: u32,
+    sent: u32,
+    passed: u32,
+    wrong: Option<(u32, AuditFault)>,
+}
+
+impl Watch {
+    fn new(alloc: Global) -> Watch {
+        Watch {
+            told: Vec::new(alloc),
+            refused: 0,
+            sent: 0,
+            passed: 0,
+            wrong: None,
+        }
+    }
+
+    fn follow(&mut self, world: &mut World<'_>, events: &[WorldEvent], case: &mut Case) {
+        for event in events.chunks(1) {
+            match step(world, event) {
+                Ok(steps) => {
+                    for step in steps.as_slice() {
+                        case.keep(self.take(step));
+                    }
+                }
+                Err(_) => case.fault(),
+            }
+            self.audit(world, case);
+        }
+    }
+
+    fn take(&mut self, step: &Step) -> io::Result<()> {
+        match step.answer {
+            Ok(outcome) => {
+                if outcome == Outcome::Sent {
+                    self.sent = self.sent.saturating_add(1);
+                }
+                write_step(&mut self.told, outcome, &step.out)
+            }
+            Err(fault) => {
+                self.refused = self.refused.saturating_add(1);
+                write_refusal(&mut self.told, fault)
+            }
+        }
+    }
+
+    fn audit(&mut self, world: &World<'_>, case: &mut Case) {
+        match (world.table(GatewayId::Zero), world.table(GatewayId::One)) {
+            (Ok(zero), Ok(one)) => {
+                let judged = audit(case.alloc, world.trace(), zero.as_slice(), one.as_slice());
+                self.keep(judged);
+            }
+            _ => case.fault(),
+        }
+    }
+
+    /// The audit's answer, once nothing was wrong before.
+    fn keep(&mut self, judged: Result<(), AuditFault>) {
+        if self.wrong.is_none() {
+            match judged {
+                Ok(()) => self.passed = self.passed.saturating_add(1),
+                Err(fault) => self.wrong = Some((self.passed.saturating_add(1), fault)),
+            }
+        }
+    }
+
+    fn tell(&mut self, world: &World<'_>, case: &mut Case) {
+        case.keep(write_end(&mut self.told, world));
+        case.say("refused ", self.refused);
+        case.say(", sent ", self.sent);
+        case.say(", notes ", world.trace().len());
+        case.say(", told ", self.told.len());
+        case.hex(" ", &digest_of(self.told.as_slice()).to_be_bytes());
+        match self.wrong {
+            Some((event, fault)) => {
+                case.say(", audit after event ", event);
+                case.say(": ", fault);
+            }
+            None => case.say(", audit passed ", self.passed),
+        }
+        case.end();
+    }
+}
+
+/// The step of one event, of which nothing is said.
+fn step(world: &mut World<'_>, event: &[WorldEvent]) -> Result<Vec<Step>, NoMemory> {
+    world.run(event)
+}
+
+/// How both gateways stand: whether they are synced, and the pairs that they hold.
+fn write_end(told: &mut Vec<u8>, world: &World<'_>) -> io::Result<()> {
+    for id in [GatewayId::Zero, GatewayId::One] {
+        let synced = world.synced(id);
+        writeln!(told, "{id} {synced}")?;
+        if let Ok(pairs) = world.table(id) {
+            write_pairs(told, pairs.as_slice())?;
+        }
+    }
+    Ok(())
+}
