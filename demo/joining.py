@@ -392,6 +392,25 @@ class Site:
                 self.machines[name].do_in_time(f"journalctl -u {unit} -n 1000 > /tmp/said\n"
                                                f"grep -q -- '{wanted}' /tmp/said || {{ cat /tmp/said; false; }}")
 
+    def go(self, page):
+        """All that is tried; gives what came of it."""
+        self.follow(page)
+        if self.options.before:
+            return "every command of the page ended well, and no flow was lost by the new release"
+        self.fence()
+        if self.options.root:
+            self.hang()
+            self.found_again()
+        self.remove()
+        return "every command of the page ended well, no flow was lost, and the boot files are there"
+
+    def show_journals(self):
+        """What the boxes said last, where something isn't as it has to be."""
+        for number, (name, machine) in enumerate(self.machines.items()):
+            said = subprocess.run((*machine.words(), "sh", "-c", f"journalctl -u natpair@{number} -n 40; ps -e"),
+                                  stdout=subprocess.PIPE, stderr=subprocess.STDOUT, text=True)
+            print(f"{name}: its journal's end, and what runs there:\n{said.stdout}", flush=True)
+
     def is_left_out(self, block):
         if self.options.before is None:
             return block.section == TUNNEL and not self.options.wireguard
@@ -540,16 +559,11 @@ def main():
     many_files()
     with contextlib.ExitStack() as stack:
         site = Site(options, stack)
-        site.follow(page)
-        if options.before:
-            print("every command of the page ended well, and no flow was lost by the new release")
-            return 0
-        site.fence()
-        if options.root:
-            site.hang()
-            site.found_again()
-        site.remove()
-    print("every command of the page ended well, no flow was lost, and the boot files are there")
+        try:
+            print(site.go(page))
+        except SystemExit:
+            site.show_journals()
+            raise
     return 0
 
 
