@@ -57,6 +57,8 @@ PLACES = {"where you build": ("builder",), "on both machines": ("box 0", "box 1"
 TUNNEL = "What the link trusts"
 RELEASE = "A new release"
 FLOWS = 20
+# What the page says comes within some seconds, and on a busy machine within so many more.
+PATIENCE = 30
 # What the page says of a journal, by the section in which it says so: the machine, its unit, and what is in a line there.
 SAID = {
     "6. Founding": [("box 0", "natpair-found@0", ["boot 1", "inside.* Active", "outside.* Active"])],
@@ -243,6 +245,17 @@ class Machine:
     def root(self):
         return pathlib.Path(f"/proc/{self.inner}/root")
 
+    def do_in_time(self, command):
+        """Runs a command before which the page lets time pass: a busy machine may need more of it than the page says."""
+        end = time.monotonic() + PATIENCE
+        while True:
+            try:
+                return self.do(command)
+            except SystemExit:
+                if time.monotonic() > end:
+                    raise
+            time.sleep(0.5)
+
     def do(self, command):
         """Runs a command of the page in the folder that the last one left; gives what it printed."""
         line = f"cd {self.folder}\n{command}\nstatus=$?\npwd > /tmp/folder\nexit $status"
@@ -290,6 +303,8 @@ class Site:
         self.flows = Flows(self.loop, self.around.host, stack)
         # How often the page has restarted each box.
         self.restarts = collections.Counter()
+        # Where the last command let time pass.
+        self.rested = set()
 
     def serve(self):
         server = self.around.server.start(*PYTHON, str(FOLDER / "server.py"), SERVER, str(PORT), stdout=subprocess.PIPE)
@@ -330,9 +345,15 @@ class Site:
         print(f"{place:8} $ {command}", flush=True)
         if command.startswith("sleep "):
             self.rest(float(command.split()[1]))
+            self.rested.add(place)
             return
         self.restarts[place] += bool(re.fullmatch(r"sudo systemctl restart natpair@\d", command))
-        said = self.build(command) if place == "builder" else self.machines[place].do(command)
+        if place == "builder":
+            said = self.build(command)
+        else:
+            machine = self.machines[place]
+            said = machine.do_in_time(command) if place in self.rested else machine.do(command)
+        self.rested.discard(place)
         for line in said.splitlines():
             print(f"{place:8}   {line}", flush=True)
 
@@ -361,18 +382,34 @@ class Site:
     def expect_metrics(self):
         """Each box's state is where node_exporter reads it."""
         for number, machine in enumerate(self.machines.values()):
-            text = machine.do(f"cat /var/lib/prometheus/node-exporter/natpair{number}.prom")
             for line in (f'natpair_box_answers{{box="{number}"}} 1', "natpair_synced 1", "natpair_peer_heard 1"):
-                if line not in text.splitlines():
-                    raise SystemExit(f"joining: box {number}: {line!r} isn't in its metrics:\n{text}")
+                machine.do_in_time(f"grep -qxF '{line}' /var/lib/prometheus/node-exporter/natpair{number}.prom")
 
     def expect_said(self, section):
         for name, unit, lines in SAID.get(section, []):
-            journal = self.machines[name].do(f"journalctl -u {unit} -n 1000")
             for line in lines:
-                line = line.format(BEGUN[name] + self.restarts[name])
-                if not re.search(line, journal, re.MULTILINE):
-                    raise SystemExit(f"joining: {section}: {name} doesn't say {line!r}:\n{journal}")
+                wanted = line.format(BEGUN[name] + self.restarts[name])
+                self.machines[name].do_in_time(f"journalctl -u {unit} -n 1000 > /tmp/said\n"
+                                               f"grep -q -- '{wanted}' /tmp/said || {{ cat /tmp/said; false; }}")
+
+    def go(self, page):
+        """All that is tried; gives what came of it."""
+        self.follow(page)
+        if self.options.before:
+            return "every command of the page ended well, and no flow was lost by the new release"
+        self.fence()
+        if self.options.root:
+            self.hang()
+            self.found_again()
+        self.remove()
+        return "every command of the page ended well, no flow was lost, and the boot files are there"
+
+    def show_journals(self):
+        """What the boxes said last, where something isn't as it has to be."""
+        for number, (name, machine) in enumerate(self.machines.items()):
+            said = subprocess.run((*machine.words(), "sh", "-c", f"journalctl -u natpair@{number} -n 40; ps -e"),
+                                  stdout=subprocess.PIPE, stderr=subprocess.STDOUT, text=True)
+            print(f"{name}: its journal's end, and what runs there:\n{said.stdout}", flush=True)
 
     def is_left_out(self, block):
         if self.options.before is None:
@@ -522,16 +559,11 @@ def main():
     many_files()
     with contextlib.ExitStack() as stack:
         site = Site(options, stack)
-        site.follow(page)
-        if options.before:
-            print("every command of the page ended well, and no flow was lost by the new release")
-            return 0
-        site.fence()
-        if options.root:
-            site.hang()
-            site.found_again()
-        site.remove()
-    print("every command of the page ended well, no flow was lost, and the boot files are there")
+        try:
+            print(site.go(page))
+        except SystemExit:
+            site.show_journals()
+            raise
     return 0
 
 
