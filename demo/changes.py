@@ -1,4 +1,4 @@
-"""The link of a pair that runs is changed box by box: by another launcher, to a tunnel, and as its interface is made anew.
+"""The link of a pair that runs changes box by box: by another launcher, to a tunnel, and as its interface is made anew.
 
 Each box is synced before the next one is touched, and no flow that had an answer is lost.
 """

@@ -12,7 +12,7 @@ from cards import card
 from flows import PATIENCE, Flows, verdict
 from namespaces import Namespace
 from packets import EVERYBODY, IPV4, UDP, Header, ethernet, ip_bytes, ipv4, udp
-from pair import HOSTS, LINK_ADDRESSES, SETTINGS
+from pair import HOSTS, LINK_ADDRESSES, SETTINGS, SIDES
 from scene import scene, show
 
 FLOWS = 20
@@ -84,6 +84,19 @@ def filters(box, **values):
     """Whether the kernel asks for the way back of what comes in, by interface: for none where it isn't said."""
     for name in ("all", "link", *values):
         box.space.sysctl(f"ipv4/conf/{name}/rp_filter", values.get(name, 0))
+
+
+def shut(box):
+    """By nftables, what is for an address of the box comes by the interface of that address alone, as OPERATING has it
+    for sockets that the gate opens."""
+    own = {"link": LINK_ADDRESSES[box.number]}
+    if box.options.sides == "vxlan":
+        own |= {side: box.tunnel(side)[0] for side in SIDES}
+    box.space.run("nft", "add", "table", "ip", "natpair")
+    box.space.run("nft", "add", "chain", "ip", "natpair", "early", "{ type filter hook prerouting priority -450; }")
+    for name, address in own.items():
+        box.space.run("nft", "add", "rule", "ip", "natpair", "early",
+                      f'iifname != {{ "{name}", "lo" }} ip daddr {address} drop')
 
 
 def side_way(current, box, side):
@@ -195,12 +208,13 @@ class Place(NamedTuple):
     link_over: str = "cable"
 
 
+USER = Place("as another user, box 1 down", as_user)
 PLACES = (
     Place("the inside network", at_side("inside")),
     Place("the outside network", at_side("outside")),
     Place("a management network, rp_filter 0", by_frames(management_way, management=0)),
     Place("a management network, rp_filter 2", by_frames(management_way, management=2)),
-    Place("as another user, box 1 down", as_user),
+    USER,
     Place("below a tunnel", by_frames(other_end("cable"), cable=0), "tunnel"),
 )
 # Who isn't next door, at the link itself.
@@ -274,6 +288,8 @@ def try_until(options, places, rows):
     """Tries places at one pair until it is ruined; gives those that are left."""
     with scene(argparse.Namespace(**{**vars(options), "link_over": places[0].link_over})) as current:
         current.stations = {}
+        for box in current.boxes if options.nft else ():
+            shut(box)
         flows = Flows(current.loop, current.networks.host, current.stack)
         flows.open(FLOWS, WINDOW, 30)
         door = Door(current)
@@ -289,8 +305,10 @@ def try_until(options, places, rows):
 
 def forging(options):
     """Tries each place; whether what is owed is so. The launcher binds its link to an interface, and owes that nobody
-    else is heard; where the gate opens the link's socket, others are."""
+    else is heard; where the gate opens the link's socket others are, and with nftables those at the link itself and who
+    has its end."""
     owed = (options.sides, options.link) == ("descriptor", "descriptor")
+    allowed = {TRUE.name} if owed else {TRUE.name, FAR.name, USER.name} if options.nft else None
     places, rows = (*PLACES[:-1], FAR, TRUE, PLACES[-1]), []
     left = places
     while left:
@@ -298,9 +316,8 @@ def forging(options):
     heads = ["as the other box, from", "sent", "false boot at", f"new of {FRESH}", "held", "inside port", "outcome"]
     show("the link's two ends, from elsewhere", heads, rows)
     heard = {row[0] for row in rows if row[-1] == THROUGH}
-    wrong = heard - {TRUE.name} if owed else set()
-    if not owed:
+    if allowed is None:
         print("here the gate opens the link's socket, which hears the other's address and port by any interface")
     if TRUE.name not in heard:
         print("at the link itself it wasn't heard: the other rows show nothing")
-    return not wrong and TRUE.name in heard
+    return TRUE.name in heard and (allowed is None or heard <= allowed)

@@ -1,4 +1,4 @@
-"""Questions through the pair at one rate after the other: how many are lost, and how much of a processor box 0 takes."""
+"""Questions through the pair at one rate after the other: how many are lost, and what of a processor box 0 takes."""
 
 import os
 import subprocess

@@ -30,7 +30,8 @@ from sources import code_of, crates_of, sources_of
 # below, or the code of a derive, leads to it.
 LED_TO = {"sockets": ("mio",)}
 # What may stand in a crate's folder.
-LAYOUT = {"src", "specs", "proofs", "must-fail", "data", "README.md", "stdin", "stdout", "args", "status", "out"}
+LAYOUT = {"src", "specs", "proofs", "must-fail", "data", "second_reading", "README.md", "stdin", "stdout", "args",
+          "status", "out"}
 CITED = re.compile(r"\bRattle\.(\w+)\.proofs\.(\w+)")
 
 
