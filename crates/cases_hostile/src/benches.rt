@@ -123,14 +123,14 @@ impl<G: Gate> Bench<G> {
             Some(gateway) => {
                 let outcome = gateway.step(event_of(way, bytes), &mut self.out, case);
                 case.keep(write_step(&mut self.told, outcome, &self.out));
-                let seen = gateway.seen(case);
-                if let Outcome::Dropped(_) = outcome {
+                let is_drop = matches!(&outcome, Outcome::Dropped(_));
+                if is_drop {
                     self.drops = self.drops.saturating_add(1);
-                    if !seen.is_same(&self.seen) {
-                        self.changed = self.changed.saturating_add(1);
-                    }
                 }
-                self.seen = seen;
+                if !gateway.shows(&self.seen) {
+                    self.seen = gateway.seen(case);
+                    self.changed = self.changed.saturating_add(u32::from(is_drop));
+                }
                 outcome
             }
             None => Outcome::Done,

@@ -3,15 +3,16 @@
 use crate::telling::write_pairs;
 use cases_words::Case;
 use gateway::{Event, Gateway, Hashers, Out, Outcome};
-use nat_types::{GatewayId, Pair, Side};
+use nat_types::{EntryState, GatewayId, Pair, Side};
 use settings::Settings;
 use std::alloc::Global;
 use std::io::{self, Write};
 
-/// What shows of a gateway: its pairs, whether it is synced, and where it is Active.
+/// What shows of a gateway: its pairs, how many entries it has (these and proposals given up), whether it is synced, and where it is Active.
 #[derive(Drop)]
 pub(crate) struct Seen {
     pairs: Vec<Pair>,
+    entries: usize,
     synced: bool,
     inside_active: bool,
     outside_active: bool,
@@ -21,17 +22,11 @@ impl Seen {
     pub(crate) fn new(alloc: Global) -> Seen {
         Seen {
             pairs: Vec::new(alloc),
+            entries: 0,
             synced: false,
             inside_active: false,
             outside_active: false,
         }
-    }
-
-    pub(crate) fn is_same(&self, other: &Seen) -> bool {
-        self.synced == other.synced
-            && self.inside_active == other.inside_active
-            && self.outside_active == other.outside_active
-            && self.pairs.as_slice() == other.pairs.as_slice()
     }
 
     /// Writes the pairs, a line each, and then whether it is synced, and Active inside and outside.
@@ -59,6 +54,9 @@ pub(crate) trait Gate: Sized {
 
     /// What shows of it.
     fn seen(&self, case: &mut Case) -> Seen;
+
+    /// Whether it shows what was seen. To look for each pair is cheaper than to list all.
+    fn shows(&self, seen: &Seen) -> bool;
 
     /// Gives its memory back.
     fn end(self);
@@ -90,13 +88,33 @@ impl Gate for Gateway {
             Ok(pairs) => seen.pairs = pairs,
             Err(_) => case.fault(),
         }
+        seen.entries = self.entry_count();
         seen.synced = self.synced();
         seen.inside_active = self.is_active(Side::Inside);
         seen.outside_active = self.is_active(Side::Outside);
         seen
     }
 
+    fn shows(&self, seen: &Seen) -> bool {
+        self.synced() == seen.synced
+            && self.is_active(Side::Inside) == seen.inside_active
+            && self.is_active(Side::Outside) == seen.outside_active
+            && self.entry_count() == seen.entries
+            && has_all(self, seen.pairs.as_slice())
+    }
+
     fn end(self) {
         Gateway::end(self);
     }
+}
+
+/// Whether these pairs are at their keys.
+fn has_all(gateway: &Gateway, pairs: &[Pair]) -> bool {
+    for pair in pairs {
+        match gateway.entry(pair.key) {
+            Some(entry) if entry.pair == *pair && entry.state != EntryState::Doomed => {}
+            _ => return false,
+        }
+    }
+    true
 }
