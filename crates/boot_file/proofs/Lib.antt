@@ -1,5 +1,1 @@
 mod Filling
-mod Locking
-mod Placing
-mod Reading
-mod Slashes

@@ -1,8 +1,6 @@
 // A boot file and its folder as the disk of boot_store.
 ghost use Rattle.std.specs.Prelude.{◌≡◌, ◌+◌, ◌≤◌, ◌↔◌, ◌++◌, ◌∷◌, [], None, Ok, take, IfErr, IfOk, IfSome, OnErr, OnOk};
 ghost use Rattle.boot_store.specs.Moment.{StillKept, bytes_of, synced};
-ghost use Rattle.boot_file.specs.Calls.{IsBothSynced, IsFilled, ReadsDisk, SyncsDisk, WritesDisk};
-ghost use Rattle.boot_file.specs.Locks.{IsOfOpening, IsUnlocked, WasLetGo};
 
 use crate::locks::{let_go, not_locked};
 use crate::{Blocks, FileFault, Lockable};
@@ -23,11 +21,7 @@ pub struct FileDisk<F> {
 
 impl<F: Drop> FileDisk<F> {
     /// The file, and the folder that has its name.
-    pub fn new(file: F, folder: F) -> Self
-        ensures file { result.file ≡ file }
-        ensures folder { result.folder ≡ folder }
-        ensures none_failed { result.failures ≡ 0 }
-    {
+    pub fn new(file: F, folder: F) -> Self {
         FileDisk {
             file,
             folder,
@@ -43,13 +37,6 @@ impl<F: Drop> FileDisk<F> {
     pub fn locked(mut file: F, folder: F) -> Result<Self, FileFault>
     where
         F: Lockable,
-        ensures locked { IfOk result (λ d. F.locked d.file) }
-        ensures file { IfOk result (λ d. F.locks file (Ok tt) d.file) }
-        ensures folder { IfOk result (λ d. d.folder ≡ folder) }
-        ensures err { IfErr result (IsUnlocked F.locks file) }
-        ensures gone { IfErr result (λ _. WasLetGo folder) }
-        ensures opening { IfErr result IsOfOpening }
-        ensures none_failed { IfOk result (λ d. d.failures ≡ 0) }
     {
         match file.try_lock() {
             Ok(()) => Ok(FileDisk::new(file, folder)),
@@ -62,9 +49,7 @@ impl<F: Drop> FileDisk<F> {
     }
 
     /// The file.
-    pub fn into_file(self) -> F
-        ensures { result ≡ self.file }
-    {
+    pub fn into_file(self) -> F {
         let FileDisk {
             file,
             folder: _,
@@ -78,7 +63,6 @@ impl<F: Blocks + Drop> FileDisk<F> {
     /// A call of the system failed.
     fn failed(&mut self) -> DeviceFault
         ensures file { self.new.file ≡ self.old.file }
-        ensures folder { self.new.folder ≡ self.old.folder }
         ensures failures { self.new.failures ≡ self.old.failures + 1 }
     {
         self.failures.count();
@@ -98,12 +82,6 @@ impl<F: Blocks + Drop> Disk for FileDisk<F> {
     ghost named = { λ d. F.named d.file };
 
     ghost honest = { λ d. F.honest d.file };
-
-    ghost reads = { ReadsDisk F.drops F.reads };
-
-    ghost writes = { WritesDisk F.writes };
-
-    ghost syncs = { SyncsDisk F.syncs F.names };
 
     fn read(&mut self, room: &mut [u8; 32]) -> Result<usize, DeviceFault> {
         let Ok(()) = self.file.drop_cache() else {
@@ -144,7 +122,6 @@ fn sync_both<F: Blocks>(file: &mut F, folder: &F) -> io::Result<()>
     ensures taken { F.honest file.old → OnOk result (F.refusals file.new ≡ F.refusals file.old) }
     ensures refused { F.honest file.old
         → OnErr result (F.refusals file.new ≡ F.refusals file.old + 1) }
-    ensures asked { IsBothSynced F.syncs F.names folder.now file.old result file.new }
 {
     file.sync()?;
     file.sync_name(folder)?;
@@ -164,7 +141,6 @@ fn fill<F: Blocks>(file: &mut F, room: &mut [u8; 32]) -> Option<usize>
         → IfSome result (λ _. F.refusals file.new ≡ F.refusals file.old) }
     ensures refused { F.honest file.old → result ≡ None
         → F.refusals file.new ≡ F.refusals file.old + 1 }
-    ensures asked { IsFilled F.reads file.old result room.new file.new }
 {
     let mut filled = 0;
     while filled < LENGTH {

@@ -1,22 +1,18 @@
 // A file that this machine opened, as it is at hand everywhere else.
-ghost use Rattle.std.specs.Prelude.{◌≡◌};
-ghost use Rattle.boot_file.specs.Openings.{LocksOpened, ReadsOpened, SyncsOpenedName, TriesOpened, WritesOpened};
 
 use crate::{Blocks, Lockable};
 use std::fs::TryLockError;
 use std::io;
 
 /// A file that was opened. Nobody sees it but this module, so that it can be asked by the calls of `Blocks` and
-/// `Lockable` alone, of each of which a clause speaks.
+/// `Lockable` alone.
 #[derive(Drop)]
 pub struct Opened<F> {
     file: F,
 }
 
 impl<F> Opened<F> {
-    pub(crate) fn new(file: F) -> Opened<F>
-        ensures { result.file ≡ file }
-    {
+    pub(crate) fn new(file: F) -> Opened<F> {
         Opened { file }
     }
 }
@@ -31,16 +27,6 @@ impl<F: Blocks> Blocks for Opened<F> {
     ghost refusals = { λ opened. F.refusals opened.file };
 
     ghost honest = { λ opened. F.honest opened.file };
-
-    ghost reads = { ReadsOpened F.reads };
-
-    ghost writes = { WritesOpened F.writes };
-
-    ghost syncs = { TriesOpened F.syncs };
-
-    ghost names = { SyncsOpenedName F.names };
-
-    ghost drops = { TriesOpened F.drops };
 
     fn read_at(&mut self, at: usize, room: &mut [u8]) -> io::Result<usize> {
         self.file.read_at(at, room)
@@ -64,10 +50,6 @@ impl<F: Blocks> Blocks for Opened<F> {
 }
 
 impl<F: Lockable> Lockable for Opened<F> {
-    ghost locked = { λ opened. F.locked opened.file };
-
-    ghost locks = { LocksOpened F.locks };
-
     fn try_lock(&mut self) -> Result<(), TryLockError> {
         self.file.try_lock()
     }

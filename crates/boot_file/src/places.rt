@@ -1,12 +1,4 @@
 // Where a boot file lies.
-ghost use Rattle.std.specs.Prelude.{◌≡◌, string_bytes, IfErr, IfOk, OnErr};
-ghost use Rattle.std.specs.IoError.{error_kind};
-ghost use Rattle.boot_store.specs.Crash.{LeavesNumber};
-ghost use Rattle.boot_file.specs.Folders.{IsFolderOf};
-ghost use Rattle.boot_file.specs.Locks.{IsOfMaking, IsOfOpening};
-ghost use Rattle.boot_file.specs.Made.{IsAnew, IsFinished, IsMade, IsMadeIn, IsNamed, IsPlaced, IsUnplaced, IsWhole, WasShort, beside};
-ghost use Rattle.boot_file.specs.Opened.{AreOpened, IsAsItIs, IsFolder, IsNoFolder, IsToRead, IsUnopened};
-ghost use Rattle.boot_file.specs.declared.faults.FileFault.TheVariants as faults;
 
 use crate::founding::written;
 use crate::locks::let_go;
@@ -22,9 +14,7 @@ use std::os::unix::fs::OpenOptionsExt;
 const MODE: u32 = 0o600;
 
 /// The folder that has a path's name.
-fn folder_of(path: &str) -> &str
-    ensures { IsFolderOf path.now result.now }
-{
+fn folder_of(path: &str) -> &str {
     match path.rsplit_once('/') {
         None => ".",
         Some((front, _)) if front.is_empty() => "/",
@@ -33,19 +23,12 @@ fn folder_of(path: &str) -> &str
 }
 
 /// Why a file or its folder isn't opened.
-fn not_opened(error: io::Error) -> FileFault
-    ensures cause { result ≡ faults.NoFile (error_kind error) }
-    ensures opening { IsOfOpening result }
-    ensures making { IsOfMaking result }
-{
+fn not_opened(error: io::Error) -> FileFault {
     FileFault::NoFile(error.kind())
 }
 
 /// Why a file isn't put in its place.
-fn not_placed(error: io::Error) -> FileFault
-    ensures unplaced { IsUnplaced error result }
-    ensures making { IsOfMaking result }
-{
+fn not_placed(error: io::Error) -> FileFault {
     match error.kind() {
         ErrorKind::AlreadyExists => FileFault::Exists,
         _ => FileFault::NotWritten,
@@ -53,27 +36,21 @@ fn not_placed(error: io::Error) -> FileFault
 }
 
 /// How a folder is opened.
-fn to_read() -> OpenOptions
-    ensures { IsToRead result }
-{
+fn to_read() -> OpenOptions {
     let mut options = OpenOptions::new();
     options.read(true);
     options
 }
 
 /// How a boot file is opened that is there: it isn't made, and keeps what it has.
-fn as_it_is() -> OpenOptions
-    ensures { IsAsItIs result }
-{
+fn as_it_is() -> OpenOptions {
     let mut options = OpenOptions::new();
     options.read(true).write(true);
     options
 }
 
 /// How a boot file is made: what is there is refused.
-fn anew() -> OpenOptions
-    ensures { IsAnew result }
-{
+fn anew() -> OpenOptions {
     let mut options = OpenOptions::new();
     options.mode(MODE);
     options
@@ -85,12 +62,7 @@ fn anew() -> OpenOptions
 }
 
 /// The name under which a file is written before it has its own.
-#[tactic(auto, unfolding(crate::specs::Made::WasShort))]
-fn name_beside(alloc: Global, path: &str) -> Result<String, FileFault>
-    ensures beside { IfOk result (λ other. string_bytes other ≡ beside path.now) }
-    ensures short { OnErr result (WasShort path.now) }
-    ensures err { IfErr result (λ why. why ≡ faults.NoMemory) }
-{
+fn name_beside(alloc: Global, path: &str) -> Result<String, FileFault> {
     match format!(in alloc; "{path}.new") {
         Ok(other) => Ok(other),
         Err(_) => Err(FileFault::NoMemory),
@@ -101,12 +73,7 @@ fn name_beside(alloc: Global, path: &str) -> Result<String, FileFault>
 fn folder_at<R: Files>(
     machine: &mut Machine<'_, R>,
     path: &str,
-) -> Result<Opened<R::File>, FileFault>
-    ensures opened { IfOk result (λ folder. IsFolder machine.old path.now folder machine.new) }
-    ensures err { IfErr result (λ why. IsNoFolder machine.old path.now why machine.new) }
-    ensures opening { IfErr result IsOfOpening }
-    ensures making { IfErr result IsOfMaking }
-{
+) -> Result<Opened<R::File>, FileFault> {
     match machine.told_to_open(&to_read(), folder_of(path)) {
         Ok(folder) => Ok(folder),
         Err(error) => Err(not_opened(error)),
@@ -127,18 +94,6 @@ pub fn create<R: Files + AllocGlobal>(
 ) -> Result<FileDisk<Opened<R::File>>, FileFault>
 where
     R::File: Blocks,
-    ensures zero { IfOk result (λ d. ⟦<Opened<R::File> as Blocks>⟧.honest d.file
-        → LeavesNumber 0 (⟦<Opened<R::File> as Blocks>⟧.now d.file)) }
-    ensures named { IfOk result (λ d. ⟦<Opened<R::File> as Blocks>⟧.honest d.file
-        → ⟦<Opened<R::File> as Blocks>⟧.named d.file) }
-    ensures none_failed { IfOk result (λ d. d.failures ≡ 0) }
-    ensures made { IsMade (IsWhole ⟦<Opened<R::File> as Blocks>⟧.honest
-        ⟦<Opened<R::File> as Blocks>⟧.now)
-        ⟦<FileDisk<Opened<R::File>> as Disk>⟧.reads
-        ⟦<FileDisk<Opened<R::File>> as Disk>⟧.writes
-        ⟦<FileDisk<Opened<R::File>> as Disk>⟧.syncs
-        machine.old path.now result machine.new }
-    ensures err { IfErr result IsOfMaking }
 {
     let folder = folder_at(machine, path)?;
     made_in(machine, folder, path)
@@ -152,18 +107,6 @@ fn made_in<R: Files + AllocGlobal>(
 ) -> Result<FileDisk<Opened<R::File>>, FileFault>
 where
     R::File: Blocks,
-    ensures zero { IfOk result (λ d. ⟦<Opened<R::File> as Blocks>⟧.honest d.file
-        → LeavesNumber 0 (⟦<Opened<R::File> as Blocks>⟧.now d.file)) }
-    ensures named { IfOk result (λ d. ⟦<Opened<R::File> as Blocks>⟧.honest d.file
-        → ⟦<Opened<R::File> as Blocks>⟧.named d.file) }
-    ensures none_failed { IfOk result (λ d. d.failures ≡ 0) }
-    ensures made { IsMadeIn (IsWhole ⟦<Opened<R::File> as Blocks>⟧.honest
-        ⟦<Opened<R::File> as Blocks>⟧.now)
-        ⟦<FileDisk<Opened<R::File>> as Disk>⟧.reads
-        ⟦<FileDisk<Opened<R::File>> as Disk>⟧.writes
-        ⟦<FileDisk<Opened<R::File>> as Disk>⟧.syncs
-        folder machine.old path.now result machine.new }
-    ensures err { IfErr result IsOfMaking }
 {
     if machine.told_to_look(path) {
         return Err(FileFault::Exists);
@@ -183,19 +126,6 @@ fn placed<R: Files>(
 ) -> Result<FileDisk<Opened<R::File>>, FileFault>
 where
     R::File: Blocks,
-    requires beside { other.now ≡ beside path.now }
-    ensures zero { IfOk result (λ d. ⟦<Opened<R::File> as Blocks>⟧.honest d.file
-        → LeavesNumber 0 (⟦<Opened<R::File> as Blocks>⟧.now d.file)) }
-    ensures named { IfOk result (λ d. ⟦<Opened<R::File> as Blocks>⟧.honest d.file
-        → ⟦<Opened<R::File> as Blocks>⟧.named d.file) }
-    ensures none_failed { IfOk result (λ d. d.failures ≡ 0) }
-    ensures made { IsPlaced (IsWhole ⟦<Opened<R::File> as Blocks>⟧.honest
-        ⟦<Opened<R::File> as Blocks>⟧.now)
-        ⟦<FileDisk<Opened<R::File>> as Disk>⟧.reads
-        ⟦<FileDisk<Opened<R::File>> as Disk>⟧.writes
-        ⟦<FileDisk<Opened<R::File>> as Disk>⟧.syncs
-        folder machine.old path.now result machine.new }
-    ensures err { IfErr result IsOfMaking }
 {
     machine.told_to_remove(other);
     match machine.told_to_open(&anew(), other) {
@@ -213,20 +143,6 @@ fn finished<R: Files>(
 ) -> Result<FileDisk<Opened<R::File>>, FileFault>
 where
     R::File: Blocks,
-    requires beside { other.now ≡ beside path.now }
-    requires none_failed { disk.failures ≡ 0 }
-    ensures zero { IfOk result (λ d. ⟦<Opened<R::File> as Blocks>⟧.honest d.file
-        → LeavesNumber 0 (⟦<Opened<R::File> as Blocks>⟧.now d.file)) }
-    ensures named { IfOk result (λ d. ⟦<Opened<R::File> as Blocks>⟧.honest d.file
-        → ⟦<Opened<R::File> as Blocks>⟧.named d.file) }
-    ensures none_failed { IfOk result (λ d. d.failures ≡ 0) }
-    ensures made { IsFinished (IsWhole ⟦<Opened<R::File> as Blocks>⟧.honest
-        ⟦<Opened<R::File> as Blocks>⟧.now)
-        ⟦<FileDisk<Opened<R::File>> as Disk>⟧.reads
-        ⟦<FileDisk<Opened<R::File>> as Disk>⟧.writes
-        ⟦<FileDisk<Opened<R::File>> as Disk>⟧.syncs
-        machine.old path.now disk result machine.new }
-    ensures err { IfErr result IsOfMaking }
 {
     match written(&mut disk) {
         Ok(_) => named(machine, disk, other, path),
@@ -243,19 +159,6 @@ fn named<R: Files>(
 ) -> Result<FileDisk<Opened<R::File>>, FileFault>
 where
     R::File: Blocks,
-    requires beside { other.now ≡ beside path.now }
-    requires none_failed { disk.failures ≡ 0 }
-    requires whole { ⟦<Opened<R::File> as Blocks>⟧.honest disk.file
-        → LeavesNumber 0 (⟦<Opened<R::File> as Blocks>⟧.now disk.file) }
-    ensures zero { IfOk result (λ d. ⟦<Opened<R::File> as Blocks>⟧.honest d.file
-        → LeavesNumber 0 (⟦<Opened<R::File> as Blocks>⟧.now d.file)) }
-    ensures named { IfOk result (λ d. ⟦<Opened<R::File> as Blocks>⟧.honest d.file
-        → ⟦<Opened<R::File> as Blocks>⟧.named d.file) }
-    ensures none_failed { IfOk result (λ d. d.failures ≡ 0) }
-    ensures made { IsNamed (IsWhole ⟦<Opened<R::File> as Blocks>⟧.honest
-        ⟦<Opened<R::File> as Blocks>⟧.now)
-        ⟦<FileDisk<Opened<R::File>> as Disk>⟧.syncs machine.old path.now disk result machine.new }
-    ensures err { IfErr result IsOfMaking }
 {
     if let Err(error) = machine.told_to_link(&disk, other, path) {
         return Err(not_placed(error));
@@ -281,14 +184,6 @@ pub fn open<R: Files>(
 ) -> Result<FileDisk<Opened<R::File>>, FileFault>
 where
     R::File: Blocks + Lockable,
-    ensures locked { IfOk result (λ d. ⟦<Opened<R::File> as Lockable>⟧.locked d.file) }
-    ensures opened { IfOk result
-        (λ d. AreOpened ⟦<Opened<R::File> as Lockable>⟧.locks
-        machine.old path.now d.file d.folder machine.new) }
-    ensures none_failed { IfOk result (λ d. d.failures ≡ 0) }
-    ensures err { IfErr result IsOfOpening }
-    ensures cause { IfErr result (λ why. IsUnopened ⟦<Opened<R::File> as Lockable>⟧.locks
-        machine.old path.now why machine.new) }
 {
     let folder = folder_at(machine, path)?;
     match machine.told_to_open(&as_it_is(), path) {

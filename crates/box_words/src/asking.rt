@@ -1,19 +1,5 @@
 //! What an operator asks of a running box.
-ghost use Rattle.std.specs.Prelude.{◌≡◌, ◌⊎◌, ◌≤◌, Err, IfErr, IfOk, None, Ok, OnOk, OnErr, Some, string_bytes, take};
-ghost use Rattle.std.specs.Io.KnownBytes.{Appends};
-ghost use Rattle.control.specs.Answers.{answer_of};
-ghost use Rattle.control.specs.Paths.{IsBeside};
-ghost use Rattle.control.specs.Words.{word_of};
-ghost use Rattle.outlets.specs.Telling.{IsToldOf};
-ghost use Rattle.box_words.specs.Deeds.{HasListed, HasPage, HasPages, HasReported, HasSynced};
-ghost use Rattle.box_words.specs.Deeds.{HasUnlisted, HasUnreported, HasUnsynced, IsAwaited, IsAwaitedInVain, IsBroken};
-ghost use Rattle.box_words.specs.Deeds.{IsCutShort, IsNotSynced, IsSyncedAt, IsUnheard, IsUnlisted, IsUnpaged, IsUnprinted, IsUnreported};
-ghost use Rattle.box_words.specs.Deeds.{Lists, Reports, asked as deed_asked, next_of, page_lines, text_of};
-ghost use Rattle.box_words.specs.Faults.{fault_text};
-ghost use Rattle.box_words.specs.Memory.{LacksText};
-ghost use Rattle.outlets.specs.Outputs.{IsFlushed, WasPut};
-ghost use Rattle.outlets.specs.Written.{IsWrittenTo};
-ghost use Rattle.box_words.specs.Said.{said_status};
+ghost use Rattle.std.specs.Prelude.{◌≤◌, IfOk};
 
 use crate::refusals::BoxFault;
 use crate::saying::{Line, line_to};
@@ -48,16 +34,7 @@ pub fn status<S: Site, O: Output, E: Tells>(
     form: Form,
     output: &mut O,
     errors: &mut E,
-) -> u8
-    ensures status { (result ≡ 0) ⊎ (result ≡ 1) }
-    ensures reported { result ≡ 0 → HasReported S.does settings.now id form (O.contents output.old)
-        (O.contents output.new) site.old site.new }
-    ensures flushed { result ≡ 0 → IsFlushed output.new }
-    ensures quiet { result ≡ 0 → errors.new ≡ errors.old }
-    ensures failed { result ≡ 1 → IsToldOf E.tells fault_text (λ fault. HasUnreported S.does
-        O.contents settings.now id form fault output.old output.new site.old site.new)
-        errors.old errors.new }
-{
+) -> u8 {
     match written(alloc, site, settings, id, form, output) {
         Ok(()) => 0,
         Err(fault) => fault.tell(alloc, errors),
@@ -71,13 +48,7 @@ fn written<S: Site, O: Output>(
     id: GatewayId,
     form: Form,
     output: &mut O,
-) -> Result<(), BoxFault>
-    ensures reported { OnOk result (HasReported S.does settings.now id form
-        (O.contents output.old) (O.contents output.new) site.old site.new) }
-    ensures flushed { OnOk result (IsFlushed output.new) }
-    ensures failed { IfErr result (λ fault. HasUnreported S.does O.contents settings.now id form
-        fault output.old output.new site.old site.new) }
-{
+) -> Result<(), BoxFault> {
     let line = line_to(alloc, site, settings, id)?;
     let report = reported(alloc, site, &line)?;
     print_report(alloc, form, &report, output)
@@ -89,25 +60,15 @@ fn print_report<O: Output>(
     form: Form,
     report: &Report,
     output: &mut O,
-) -> Result<(), BoxFault>
-    ensures written { OnOk result (Appends (O.contents output.old) (O.contents output.new)
-        (text_of form report.now)) }
-    ensures flushed { OnOk result (IsFlushed output.new) }
-    ensures cut { IfErr result (λ fault. IsUnprinted O.contents (text_of form report.now) fault
-        output.old output.new) }
-{
+) -> Result<(), BoxFault> {
     let text = report_text(alloc, form, report)?;
     told_to_put(output, text.as_slice())?;
     told_to_flush(output)?;
     Ok(())
 }
 
-/// The text of a report in a form. It has the name for memory that was refused for it.
-#[tactic(auto, unfolding(crate::specs::Memory::LacksText))]
-fn report_text(alloc: Global, form: Form, report: &Report) -> Result<Vec<u8>, NoMemory>
-    ensures text { IfOk result (λ text. text.items ≡ text_of form report.now) }
-    ensures short { OnErr result (LacksText (text_of form report.now)) }
-{
+/// The text of a report in a form.
+fn report_text(alloc: Global, form: Form, report: &Report) -> Result<Vec<u8>, NoMemory> {
     let mut text = Vec::new(alloc);
     match write_report(&mut text, form, report) {
         Ok(()) => Ok(text),
@@ -116,9 +77,7 @@ fn report_text(alloc: Global, form: Form, report: &Report) -> Result<Vec<u8>, No
 }
 
 /// Writes a report in a form.
-fn write_report<O: Output>(output: &mut O, form: Form, report: &Report) -> io::Result<()>
-    ensures { IsWrittenTo O.contents output.old (text_of form report.now) result output.new }
-{
+fn write_report<O: Output>(output: &mut O, form: Form, report: &Report) -> io::Result<()> {
     match form {
         Form::Plain => write_people(output, report),
         Form::Json => write_json(output, report),
@@ -127,13 +86,7 @@ fn write_report<O: Output>(output: &mut O, form: Form, report: &Report) -> io::R
 }
 
 /// The report of the box at a line's end.
-fn reported<S: Site>(alloc: Global, site: &mut S, line: &Line) -> Result<Report, BoxFault>
-    requires beside { IsBeside (string_bytes line.now.boot_file) line.now.path }
-    ensures reports { IfOk result
-        (λ report. Reports S.does line.now.path report site.old site.new) }
-    ensures unreported { IfErr result
-        (λ fault. IsUnreported S.does line.now.path fault site.old site.new) }
-{
+fn reported<S: Site>(alloc: Global, site: &mut S, line: &Line) -> Result<Report, BoxFault> {
     let mut room = [0; ROOM];
     let count = asked(alloc, site, line, &spelled_status(), &mut room)?;
     match Answer::read(&room[..count]) {
@@ -150,12 +103,7 @@ pub(crate) fn asked<S: Site>(
     word: &[u8],
     room: &mut [u8; ROOM],
 ) -> Result<usize, BoxFault>
-    requires beside { IsBeside (string_bytes line.now.boot_file) line.now.path }
-    ensures within { IfOk result (λ count. count ≤ 4096) }
-    ensures asked { IfOk result (λ count. S.does site.old (deed_asked line.now.path
-        (word_of word.now) (answer_of (take count room.new))) site.new) }
-    ensures unheard { IfErr result (λ fault. IsUnheard S.does line.now.path (word_of word.now)
-        fault site.old site.new) }
+    ensures small { IfOk result (λ count. count ≤ 4096) }
 {
     match site.ask(&line.path, word, room) {
         Ok(count) => Ok(count),
@@ -172,13 +120,7 @@ pub fn await_synced<S: Site, E: Tells>(
     id: GatewayId,
     seconds: u32,
     errors: &mut E,
-) -> u8
-    ensures status { (result ≡ 0) ⊎ (result ≡ 1) }
-    ensures synced { result ≡ 0 → HasSynced S.does settings.now id seconds site.old site.new }
-    ensures quiet { result ≡ 0 → errors.new ≡ errors.old }
-    ensures failed { result ≡ 1 → IsToldOf E.tells fault_text (λ fault. HasUnsynced S.does
-        settings.now id seconds fault site.old site.new) errors.old errors.new }
-{
+) -> u8 {
     match awaited(alloc, site, settings, id, seconds) {
         Ok(()) => 0,
         Err(fault) => fault.tell(alloc, errors),
@@ -192,12 +134,7 @@ fn awaited<S: Site>(
     settings: &str,
     id: GatewayId,
     seconds: u32,
-) -> Result<(), BoxFault>
-    ensures synced { OnOk result
-        (HasSynced S.does settings.now id seconds site.old site.new) }
-    ensures failed { IfErr result
-        (λ fault. HasUnsynced S.does settings.now id seconds fault site.old site.new) }
-{
+) -> Result<(), BoxFault> {
     let line = line_to(alloc, site, settings, id)?;
     awaited_at(alloc, site, &line, seconds)
 }
@@ -208,12 +145,7 @@ fn awaited_at<S: Site>(
     site: &mut S,
     line: &Line,
     seconds: u32,
-) -> Result<(), BoxFault>
-    requires beside { IsBeside (string_bytes line.now.boot_file) line.now.path }
-    ensures synced { OnOk result (IsAwaited S.does line.now.path seconds site.old site.new) }
-    ensures failed { IfErr result
-        (λ fault. IsAwaitedInVain S.does line.now.path seconds fault site.old site.new) }
-{
+) -> Result<(), BoxFault> {
     site.begin_wait(seconds);
     for _ in 0..u64::MAX {
         let is_past = site.has_passed();
@@ -228,12 +160,7 @@ fn awaited_at<S: Site>(
 }
 
 /// Asks the box at a line's end whether it is synced.
-fn synced<S: Site>(alloc: Global, site: &mut S, line: &Line) -> Result<(), BoxFault>
-    requires beside { IsBeside (string_bytes line.now.boot_file) line.now.path }
-    ensures synced { OnOk result (IsSyncedAt S.does line.now.path site.old site.new) }
-    ensures unsynced { IfErr result
-        (λ fault. IsNotSynced S.does line.now.path fault site.old site.new) }
-{
+fn synced<S: Site>(alloc: Global, site: &mut S, line: &Line) -> Result<(), BoxFault> {
     let report = reported(alloc, site, line)?;
     if report.is_synced() {
         Ok(())
@@ -252,16 +179,7 @@ pub fn pairs<S: Site, O: Output, E: Tells>(
     filter: &Filter,
     output: &mut O,
     errors: &mut E,
-) -> u8
-    ensures status { (result ≡ 0) ⊎ (result ≡ 1) }
-    ensures listed { result ≡ 0 → HasListed S.does O.contents settings.now id filter.now
-        output.old output.new site.old site.new }
-    ensures flushed { result ≡ 0 → IsFlushed output.new }
-    ensures quiet { result ≡ 0 → errors.new ≡ errors.old }
-    ensures failed { result ≡ 1 → IsToldOf E.tells fault_text (λ fault. HasUnlisted S.does
-        O.contents settings.now id filter.now fault output.old output.new site.old site.new)
-        errors.old errors.new }
-{
+) -> u8 {
     match listed(alloc, site, settings, id, filter, output) {
         Ok(()) => 0,
         Err(fault) => fault.tell(alloc, errors),
@@ -275,13 +193,7 @@ fn listed<S: Site, O: Output>(
     id: GatewayId,
     filter: &Filter,
     output: &mut O,
-) -> Result<(), BoxFault>
-    ensures listed { OnOk result (HasListed S.does O.contents settings.now id filter.now
-        output.old output.new site.old site.new) }
-    ensures flushed { OnOk result (IsFlushed output.new) }
-    ensures failed { IfErr result (λ fault. HasUnlisted S.does O.contents settings.now id
-        filter.now fault output.old output.new site.old site.new) }
-{
+) -> Result<(), BoxFault> {
     let line = line_to(alloc, site, settings, id)?;
     listed_at(alloc, site, &line, filter, output)?;
     told_to_flush(output)?;
@@ -295,13 +207,7 @@ fn listed_at<S: Site, O: Output>(
     line: &Line,
     filter: &Filter,
     output: &mut O,
-) -> Result<(), BoxFault>
-    requires beside { IsBeside (string_bytes line.now.boot_file) line.now.path }
-    ensures listed { OnOk result (HasPages S.does O.contents line.now.path None filter.now
-        output.old output.new site.old site.new) }
-    ensures broken { IfErr result (λ fault. IsBroken S.does O.contents filter.now output.old
-        output.new line.now.path fault site.old site.new) }
-{
+) -> Result<(), BoxFault> {
     let mut next = written_page(alloc, site, line, None, filter, output)?;
     for _ in 0..u64::MAX {
         if next.is_none() {
@@ -320,13 +226,7 @@ fn written_page<S: Site, O: Output>(
     behind: Option<Key>,
     filter: &Filter,
     output: &mut O,
-) -> Result<Option<Key>, BoxFault>
-    requires beside { IsBeside (string_bytes line.now.boot_file) line.now.path }
-    ensures page { IfOk result (λ next. HasPage S.does O.contents line.now.path behind next
-        filter.now output.old output.new site.old site.new) }
-    ensures failed { IfErr result (λ fault. IsUnpaged S.does O.contents filter.now behind
-        output.old output.new line.now.path fault site.old site.new) }
-{
+) -> Result<Option<Key>, BoxFault> {
     let page = page_behind(alloc, site, line, behind)?;
     print_page(alloc, &page, filter, output)?;
     Ok(next_key(&page))
@@ -338,25 +238,14 @@ fn print_page<O: Output>(
     page: &Page,
     filter: &Filter,
     output: &mut O,
-) -> Result<(), BoxFault>
-    ensures put { OnOk result
-        (WasPut output.old (page_lines filter.now page.now) (Ok tt) output.new) }
-    ensures written { OnOk result (Appends (O.contents output.old) (O.contents output.new)
-        (page_lines filter.now page.now)) }
-    ensures cut { IfErr result (λ fault. IsCutShort O.contents (page_lines filter.now page.now)
-        fault output.old output.new) }
-{
+) -> Result<(), BoxFault> {
     let lines = page_text(alloc, page, filter)?;
     told_to_put(output, lines.as_slice())?;
     Ok(())
 }
 
 /// The lines of a page's pairs that pass a filter. It has the same name for them.
-#[tactic(auto, unfolding(crate::specs::Memory::LacksText))]
-fn page_text(alloc: Global, page: &Page, filter: &Filter) -> Result<Vec<u8>, NoMemory>
-    ensures text { IfOk result (λ text. text.items ≡ page_lines filter.now page.now) }
-    ensures short { OnErr result (LacksText (page_lines filter.now page.now)) }
-{
+fn page_text(alloc: Global, page: &Page, filter: &Filter) -> Result<Vec<u8>, NoMemory> {
     let mut text = Vec::new(alloc);
     match write_pairs(&mut text, page, filter) {
         Ok(()) => Ok(text),
@@ -365,9 +254,7 @@ fn page_text(alloc: Global, page: &Page, filter: &Filter) -> Result<Vec<u8>, NoM
 }
 
 /// The key behind which the next page begins, where others follow.
-fn next_key(page: &Page) -> Option<Key>
-    ensures { result ≡ next_of page.now }
-{
+fn next_key(page: &Page) -> Option<Key> {
     if page.has_more() { page.last() } else { None }
 }
 
@@ -377,13 +264,7 @@ fn page_behind<S: Site>(
     site: &mut S,
     line: &Line,
     behind: Option<Key>,
-) -> Result<Page, BoxFault>
-    requires beside { IsBeside (string_bytes line.now.boot_file) line.now.path }
-    ensures lists { IfOk result
-        (λ page. Lists S.does line.now.path behind page site.old site.new) }
-    ensures unlisted { IfErr result
-        (λ fault. IsUnlisted S.does behind line.now.path fault site.old site.new) }
-{
+) -> Result<Page, BoxFault> {
     let mut room = [0; ROOM];
     let count = match behind {
         Some(key) => asked(alloc, site, line, &spelled_pairs_after(key), &mut room)?,

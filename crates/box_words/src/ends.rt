@@ -1,7 +1,7 @@
 //! The end of its own that a box can't have.
 ghost use Rattle.std.specs.Fmt.{WritesOnOk};
-ghost use Rattle.std.specs.Prelude.{◌≡◌, ◌∷◌, [], OnErr, Some};
-ghost use Rattle.box_words.specs.Ends.{AsksSystem, IsAsked, IsAt, IsFirstRefused, own_end, own_ends, refused_text};
+ghost use Rattle.std.specs.Prelude.{OnErr, Some};
+ghost use Rattle.box_words.specs.Texts.{refused_text};
 ghost use Rattle.outlets.specs.Showing.{HasRefused};
 
 use crate::machine::System;
@@ -11,21 +11,12 @@ use std::net::{Ipv4Addr, Net, SocketAddr, SocketAddrV4};
 
 /// Who says which ends a box can have.
 pub trait Binder {
-    ghost use Rattle.std.specs.Prelude.{Bool};
-    ghost use Rattle.sockets.specs.declared.ends.End.{End};
-
-    /// Whether an end is refused, as it may be answered, and who says so then.
-    ghost answers: { Self → End → Bool → Self → Type 0 };
-
     /// Whether a socket is refused at this end.
-    fn is_refused(&mut self, end: End) -> bool
-        ensures { answers self.old end result self.new };
+    fn is_refused(&mut self, end: End) -> bool;
 }
 
-/// The system, of whose answers nothing is known but that they came of the call.
+/// The system says it.
 impl<R: Net> Binder for System<'_, R> {
-    ghost answers = { AsksSystem };
-
     fn is_refused(&mut self, end: End) -> bool {
         self.told_to_bind(address_of(end))
     }
@@ -33,10 +24,7 @@ impl<R: Net> Binder for System<'_, R> {
 
 /// The first of a box's own ends that is refused, of those that its ways need: the link's, the inside's, the outside's. It
 /// is looked for once a box's sockets were refused; where each can be had by itself, there is none.
-pub fn refused_end<B: Binder>(binder: &mut B, ways: &Ways, ports: Ports) -> Refused
-    ensures first { IsFirstRefused B.answers (own_ends ways.now ports) binder.old result.0
-        binder.new }
-{
+pub fn refused_end<B: Binder>(binder: &mut B, ways: &Ways, ports: Ports) -> Refused {
     let link = own_end(ways.link, ports.link);
     let inside = own_end(ways.inside, ports.inside);
     let outside = own_end(ways.outside, ports.outside);
@@ -44,16 +32,12 @@ pub fn refused_end<B: Binder>(binder: &mut B, ways: &Ways, ports: Ports) -> Refu
 }
 
 /// The first of these ends that is refused.
-#[tactic(auto, using(crate::proofs::Refusing::asked_last))]
 fn first_refused<B: Binder>(
     binder: &mut B,
     link: Option<End>,
     inside: Option<End>,
     outside: Option<End>,
-) -> Option<End>
-    ensures { IsFirstRefused B.answers (link ∷ inside ∷ outside ∷ []) binder.old result
-        binder.new }
-{
+) -> Option<End> {
     if let Some(end) = refused_one(binder, link) {
         return Some(end);
     }
@@ -64,9 +48,7 @@ fn first_refused<B: Binder>(
 }
 
 /// An end that is refused, where there is one.
-fn refused_one<B: Binder>(binder: &mut B, end: Option<End>) -> Option<End>
-    ensures { IsAsked B.answers end binder.old result binder.new }
-{
+fn refused_one<B: Binder>(binder: &mut B, end: Option<End>) -> Option<End> {
     let end = end?;
     if binder.is_refused(end) {
         Some(end)
@@ -76,9 +58,7 @@ fn refused_one<B: Binder>(binder: &mut B, end: Option<End>) -> Option<End>
 }
 
 /// The box's own end of a way; a descriptor has none.
-fn own_end(way: Way, ports: (u16, u16)) -> Option<End>
-    ensures { result ≡ own_end way ports }
-{
+fn own_end(way: Way, ports: (u16, u16)) -> Option<End> {
     match way {
         Way::Loopback => Some(Ends::on_loopback(ports).own),
         Way::Udp(ends) | Way::Vxlan(ends, _) => Some(ends.own),
@@ -87,9 +67,7 @@ fn own_end(way: Way, ports: (u16, u16)) -> Option<End>
 }
 
 /// The address of an end's socket.
-fn address_of(end: End) -> SocketAddr
-    ensures { IsAt end result }
-{
+fn address_of(end: End) -> SocketAddr {
     SocketAddr::V4(SocketAddrV4::new(Ipv4Addr::from_bits(end.address.0), end.port))
 }
 
@@ -111,7 +89,7 @@ impl fmt::Display for Refused {
     }
 }
 
-/// Has a formatter write an end, behind a space. It has the name for a refusal.
+/// Has a formatter write an end, behind a space.
 #[tactic(auto, unfolding(std::specs::Net::Addr::IsIpv4OfBits, outlets::specs::Showing::HasRefused))]
 fn told_to_show_end<W: fmt::Write>(f: &mut Formatter<W>, end: End) -> fmt::Result
     ensures shown { WritesOnOk W.write_str_gives f.old result (refused_text (Some end)) f.new }

@@ -3,7 +3,6 @@
 
 mod asking;
 mod ends;
-mod laws;
 mod machine;
 mod refusals;
 mod releasing;
@@ -12,7 +11,6 @@ mod sites;
 
 pub use asking::{Form, await_synced, pairs, status};
 pub use ends::{Binder, Refused, refused_end};
-pub use laws::{bind_law, let_go_law, moment_law, rest_law, since_law};
 pub use machine::System;
 pub use refusals::{BoxFault, Explained};
 pub use saying::{peer_off, side, stop};

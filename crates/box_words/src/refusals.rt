@@ -1,19 +1,8 @@
 //! Why a box ends without its work done.
-ghost use Rattle.std.specs.Prelude.{◌≡◌, ◌≢◌, ◌⊎◌, ◌++◌, IfOk, None, OnErr, Some, string_bytes};
+ghost use Rattle.std.specs.Prelude.{◌≡◌, ◌++◌, OnErr, Some, string_bytes};
 ghost use Rattle.std.specs.Fmt.{WritesOnOk};
-ghost use Rattle.std.specs.IoError.{error_kind};
-ghost use Rattle.std.specs.declared.io.ErrorKind.TheVariants as causes;
-ghost use Rattle.box_words.specs.Faults.{IsOfCapture, IsOfFilter, IsOfSocket};
-ghost use Rattle.box_words.specs.Faults.{TellsBootFile, TellsCapture, TellsFilter, TellsSocket};
-ghost use Rattle.box_words.specs.Faults.{explained_text, fault_text, words_of};
-ghost use Rattle.box_words.specs.Memory.{WasShort};
-ghost use Rattle.box_words.specs.declared.refusals.BoxFault.TheVariants as faults;
-ghost use Rattle.control.specs.Paths.{socket_of};
-ghost use Rattle.boot_file.specs.declared.faults.FileFault.TheVariants as files;
-ghost use Rattle.faults.specs.declared.faults.Fault.TheVariants as reasons;
-ghost use Rattle.faults.specs.declared.files.Refusal.TheVariants as refusals;
+ghost use Rattle.box_words.specs.Texts.{explained_text, fault_text, words_of};
 ghost use Rattle.outlets.specs.Showing.{HasRefused};
-ghost use Rattle.outlets.specs.Telling.{IsTold};
 
 use crate::ends::Refused;
 use boot_file::FileFault;
@@ -111,12 +100,7 @@ impl Shows for BoxFault {
 
 /// The same text.
 impl fmt::Display for BoxFault {
-    ghost output = { λ fault. Some (fault_text fault) };
-
-    fn fmt<W: fmt::Write>(&self, f: &mut fmt::Formatter<W>) -> fmt::Result
-        ensures writes { WritesOnOk W.write_str_gives f.old result (fault_text self.now) f.new }
-        ensures refused { OnErr result (HasRefused f.new) }
-    {
+    fn fmt<W: fmt::Write>(&self, f: &mut fmt::Formatter<W>) -> fmt::Result {
         self.show(f)
     }
 }
@@ -168,10 +152,7 @@ fn words_of(why: PeerOffRefusal) -> &'static str
 
 impl BoxFault {
     /// Of what is no filter, or for which memory is refused.
-    pub fn of_filter(alloc: Global, fault: FilterFault<'_>) -> BoxFault
-        ensures kind { IsOfFilter result }
-        ensures told { TellsFilter fault.entry result }
-    {
+    pub fn of_filter(alloc: Global, fault: FilterFault<'_>) -> BoxFault {
         match fault {
             FilterFault::NoFilter(part) => match copied(alloc, part) {
                 Ok(part) => BoxFault::NoFilter(part),
@@ -182,10 +163,7 @@ impl BoxFault {
     }
 
     /// Nobody hears at the control socket beside this boot file, or it can't be had.
-    pub fn no_control(alloc: Global, boot_file: &str) -> BoxFault
-        ensures kind { IsOfSocket result }
-        ensures told { TellsSocket (socket_of boot_file.now) result }
-    {
+    pub fn no_control(alloc: Global, boot_file: &str) -> BoxFault {
         match socket_beside(alloc, boot_file) {
             Ok(path) => BoxFault::NoControl(path),
             Err(_) => BoxFault::Run(Fault::NoMemory),
@@ -193,11 +171,7 @@ impl BoxFault {
     }
 
     /// Of a boot file that can't be had.
-    pub fn of_boot_file(alloc: Global, path: &str, fault: FileFault) -> BoxFault
-        ensures told { TellsBootFile path.now fault result }
-        ensures short { result ≡ faults.Run reasons.NoMemory
-            → (fault ≡ files.NoMemory) ⊎ WasShort path.now }
-    {
+    pub fn of_boot_file(alloc: Global, path: &str, fault: FileFault) -> BoxFault {
         let (refusal, cause) = match fault {
             FileFault::NoFile(cause) => (Refusal::NoFile, Some(cause)),
             FileFault::Exists => (Refusal::Exists, None),
@@ -210,47 +184,25 @@ impl BoxFault {
     }
 
     /// Of the file of a capture that can't be opened, or holds something else, or in which no capture can be begun.
-    pub fn no_capture(alloc: Global, path: &str, error: &io::Error) -> BoxFault
-        ensures kind { IsOfCapture result }
-        ensures memory { error_kind error.now ≡ causes.OutOfMemory
-            → result ≡ faults.NoCapture reasons.NoMemory }
-        ensures exists { error_kind error.now ≡ causes.AlreadyExists
-            → TellsCapture refusals.Exists path.now None result }
-        ensures told { error_kind error.now ≢ causes.OutOfMemory
-            → error_kind error.now ≢ causes.AlreadyExists
-            → TellsCapture refusals.NotWritten path.now (Some (error_kind error.now)) result }
-        ensures short { result ≡ faults.NoCapture reasons.NoMemory
-            → (error_kind error.now ≡ causes.OutOfMemory) ⊎ WasShort path.now }
-    {
+    pub fn no_capture(alloc: Global, path: &str, error: &io::Error) -> BoxFault {
         BoxFault::NoCapture(Fault::of_capture(alloc, path, error))
     }
 
     /// Tells of the fault on a line behind `natpair: `, and gives its exit status. Where even that
     /// can't be told, the status alone tells.
-    pub fn tell<E: Tells>(&self, alloc: Global, errors: &mut E) -> u8
-        ensures status { result ≡ 1 }
-        ensures told { IsTold E.tells errors.old (fault_text self.now) errors.new }
-    {
+    pub fn tell<E: Tells>(&self, alloc: Global, errors: &mut E) -> u8 {
         tell(alloc, self, errors);
         1
     }
 }
 
 /// A text of its own.
-#[tactic(auto, unfolding(faults::specs::Memory::WasShort))]
-pub(crate) fn copied(alloc: Global, text: &str) -> Result<String, AllocError>
-    ensures same { IfOk result (λ copy. string_bytes copy ≡ text.now) }
-    ensures short { OnErr result (WasShort text.now) }
-{
+pub(crate) fn copied(alloc: Global, text: &str) -> Result<String, AllocError> {
     String::from_str(alloc, text)
 }
 
 /// The path of the control socket beside a boot file, to be told.
-#[tactic(auto, unfolding(faults::specs::Memory::WasShort))]
-fn socket_beside(alloc: Global, boot_file: &str) -> Result<String, AllocError>
-    ensures beside { IfOk result (λ path. string_bytes path ≡ socket_of boot_file.now) }
-    ensures short { OnErr result (WasShort (socket_of boot_file.now)) }
-{
+fn socket_beside(alloc: Global, boot_file: &str) -> Result<String, AllocError> {
     match format!(in alloc; "{boot_file}.control/socket") {
         Ok(path) => Ok(path),
         Err(error) => Err(error),
@@ -258,45 +210,24 @@ fn socket_beside(alloc: Global, boot_file: &str) -> Result<String, AllocError>
 }
 
 impl From<Fault> for BoxFault {
-    ghost use Rattle.std.specs.Prelude.{◌≡◌};
-    ghost use Rattle.box_words.specs.declared.refusals.BoxFault.TheVariants as faults;
-
-    ghost from_gives = { λ fault gives. gives ≡ faults.Run fault };
-
     fn from(fault: Fault) -> BoxFault {
         BoxFault::Run(fault)
     }
 }
 
 impl From<SettingFault> for BoxFault {
-    ghost use Rattle.std.specs.Prelude.{◌≡◌};
-    ghost use Rattle.faults.specs.Faults.{of_setting};
-    ghost use Rattle.box_words.specs.declared.refusals.BoxFault.TheVariants as faults;
-
-    ghost from_gives = { λ fault gives. gives ≡ faults.Run (of_setting fault) };
-
     fn from(fault: SettingFault) -> BoxFault {
         BoxFault::Run(Fault::from(fault))
     }
 }
 
 impl From<NoDescriptor> for BoxFault {
-    ghost use Rattle.std.specs.Prelude.{◌≡◌};
-    ghost use Rattle.box_words.specs.declared.refusals.BoxFault.TheVariants as faults;
-
-    ghost from_gives = { λ fault gives. gives ≡ faults.NoDescriptor fault };
-
     fn from(fault: NoDescriptor) -> BoxFault {
         BoxFault::NoDescriptor(fault)
     }
 }
 
 impl From<PathFault> for BoxFault {
-    ghost use Rattle.std.specs.Prelude.{◌≡◌};
-    ghost use Rattle.box_words.specs.Faults.{of_path};
-
-    ghost from_gives = { λ fault gives. gives ≡ of_path fault };
-
     fn from(fault: PathFault) -> BoxFault {
         match fault {
             PathFault::LongPath => BoxFault::LongPath,
@@ -306,11 +237,6 @@ impl From<PathFault> for BoxFault {
 }
 
 impl From<BootFault> for BoxFault {
-    ghost use Rattle.std.specs.Prelude.{◌≡◌};
-    ghost use Rattle.box_words.specs.Faults.{of_boot};
-
-    ghost from_gives = { λ fault gives. gives ≡ of_boot fault };
-
     fn from(fault: BootFault) -> BoxFault {
         match fault {
             BootFault::Device => BoxFault::Device,
@@ -322,58 +248,30 @@ impl From<BootFault> for BoxFault {
 }
 
 impl From<NotOpen> for BoxFault {
-    ghost use Rattle.std.specs.Prelude.{◌≡◌};
-    ghost use Rattle.box_words.specs.declared.refusals.BoxFault.TheVariants as faults;
-
-    ghost from_gives = { λ fault gives. gives ≡ faults.NotOpen fault };
-
     fn from(fault: NotOpen) -> BoxFault {
         BoxFault::NotOpen(fault)
     }
 }
 
 impl From<ReadFault> for BoxFault {
-    ghost use Rattle.std.specs.Prelude.{◌≡◌};
-    ghost use Rattle.box_words.specs.declared.refusals.BoxFault.TheVariants as faults;
-
-    ghost from_gives = { λ fault gives. gives ≡ faults.NoReport fault };
-
     fn from(fault: ReadFault) -> BoxFault {
         BoxFault::NoReport(fault)
     }
 }
 
 impl From<AllocError> for BoxFault {
-    ghost use Rattle.std.specs.Prelude.{◌≡◌};
-    ghost use Rattle.faults.specs.declared.faults.Fault.TheVariants as reasons;
-    ghost use Rattle.box_words.specs.declared.refusals.BoxFault.TheVariants as faults;
-
-    ghost from_gives = { λ _ gives. gives ≡ faults.Run reasons.NoMemory };
-
     fn from(_: AllocError) -> BoxFault {
         BoxFault::Run(Fault::NoMemory)
     }
 }
 
 impl From<NoMemory> for BoxFault {
-    ghost use Rattle.std.specs.Prelude.{◌≡◌};
-    ghost use Rattle.faults.specs.declared.faults.Fault.TheVariants as reasons;
-    ghost use Rattle.box_words.specs.declared.refusals.BoxFault.TheVariants as faults;
-
-    ghost from_gives = { λ _ gives. gives ≡ faults.Run reasons.NoMemory };
-
     fn from(_: NoMemory) -> BoxFault {
         BoxFault::Run(Fault::NoMemory)
     }
 }
 
 impl From<io::Error> for BoxFault {
-    ghost use Rattle.std.specs.Prelude.{◌≡◌};
-    ghost use Rattle.faults.specs.declared.faults.Fault.TheVariants as reasons;
-    ghost use Rattle.box_words.specs.declared.refusals.BoxFault.TheVariants as faults;
-
-    ghost from_gives = { λ _ gives. gives ≡ faults.Run reasons.NotWritten };
-
     fn from(_: io::Error) -> BoxFault {
         BoxFault::Run(Fault::NotWritten)
     }

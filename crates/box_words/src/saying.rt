@@ -1,13 +1,4 @@
 //! The words that an operator says to a running box.
-ghost use Rattle.std.specs.Prelude.{◌≡◌, ◌<◌, ◌⊎◌, IfErr, IfOk, IsErrOf, OnOk, Some, length, option_map, string_bytes};
-ghost use Rattle.control.specs.Answers.{content_of, heard};
-ghost use Rattle.control.specs.Paths.{IsBeside, LacksSocketPath, socket_of};
-ghost use Rattle.control.specs.Words.{word_of};
-ghost use Rattle.outlets.specs.Telling.{IsToldOf};
-ghost use Rattle.box_words.specs.Deeds.{HasSaid, HasTaken, HasUnsaid, HasUntaken, IsBoxOf, IsUnreached};
-ghost use Rattle.box_words.specs.Faults.{TellsSocket, TellsUntaken, fault_text};
-ghost use Rattle.box_words.specs.Said.{off_bytes, said_off as meaning_off, said_side, said_stop};
-ghost use Rattle.settings.specs.Parts.{gateway_of};
 
 use crate::asking::asked;
 use crate::refusals::{BoxFault, Explained, copied};
@@ -31,15 +22,7 @@ pub fn peer_off<S: Site, E: Tells>(
     boot: Option<u64>,
     forced: bool,
     errors: &mut E,
-) -> u8
-    ensures status { (result ≡ 0) ⊎ (result ≡ 1) }
-    ensures quiet { result ≡ 0 → errors.new ≡ errors.old }
-    ensures taken { result ≡ 0 → HasTaken S.does settings.now id
-        (Some (meaning_off boot forced)) site.old site.new }
-    ensures failed { result ≡ 1 → IsToldOf E.tells fault_text (λ fault. HasUntaken S.does
-        settings.now id (Some (meaning_off boot forced)) fault site.old site.new)
-        errors.old errors.new }
-{
+) -> u8 {
     let word = OffWord::of(boot, forced);
     match said_off(alloc, site, settings, id, word.bytes()) {
         Ok(()) => 0,
@@ -58,18 +41,14 @@ enum OffWord {
 
 impl OffWord {
     /// The word of this boot, or of the known one. Only a boot that is named is forced.
-    fn of(boot: Option<u64>, forced: bool) -> OffWord
-        ensures { word_of (off_bytes result) ≡ Some (meaning_off boot forced) }
-    {
+    fn of(boot: Option<u64>, forced: bool) -> OffWord {
         match boot {
             Some(boot) => OffWord::Boot(spelled_off(boot, forced)),
             None => OffWord::Known(spelled_known_off()),
         }
     }
 
-    fn bytes(&self) -> &[u8]
-        ensures { result.now ≡ off_bytes self.now }
-    {
+    fn bytes(&self) -> &[u8] {
         match self {
             OffWord::Known(bytes) => bytes,
             OffWord::Boot(bytes) => bytes,
@@ -84,12 +63,7 @@ fn said_off<S: Site>(
     settings: &str,
     id: GatewayId,
     word: &[u8],
-) -> Result<(), BoxFault>
-    ensures taken { OnOk result
-        (HasTaken S.does settings.now id (word_of word.now) site.old site.new) }
-    ensures failed { IfErr result (λ fault. HasUntaken S.does settings.now id (word_of word.now)
-        fault site.old site.new) }
-{
+) -> Result<(), BoxFault> {
     let line = line_to(alloc, site, settings, id)?;
     let mut room = [0; 4_096];
     let count = asked(alloc, site, &line, word, &mut room)?;
@@ -97,12 +71,7 @@ fn said_off<S: Site>(
 }
 
 /// Whether a box has taken a word, by its answer; or why it doesn't.
-fn taken_by(alloc: Global, line: &Line, answer: Option<Answer<'_>>) -> Result<(), BoxFault>
-    requires beside { IsBeside (string_bytes line.now.boot_file) line.now.path }
-    ensures taken { OnOk result (option_map content_of answer.entry ≡ Some heard) }
-    ensures untaken { IfErr result
-        (TellsUntaken line.now.path.socket (option_map content_of answer.entry)) }
-{
+fn taken_by(alloc: Global, line: &Line, answer: Option<Answer<'_>>) -> Result<(), BoxFault> {
     match answer {
         Some(Answer::Heard) => Ok(()),
         Some(Answer::Refused(refusal)) => Err(BoxFault::PeerOff(Explained(refusal))),
@@ -118,14 +87,7 @@ pub fn stop<S: Site, E: Tells>(
     settings: &str,
     id: GatewayId,
     errors: &mut E,
-) -> u8
-    ensures status { (result ≡ 0) ⊎ (result ≡ 1) }
-    ensures said { result ≡ 0
-        → HasSaid S.does settings.now id (Some said_stop) site.old site.new }
-    ensures quiet { result ≡ 0 → errors.new ≡ errors.old }
-    ensures failed { result ≡ 1 → IsToldOf E.tells fault_text (λ fault. HasUnsaid S.does
-        settings.now id (Some said_stop) fault site.old site.new) errors.old errors.new }
-{
+) -> u8 {
     match said(alloc, site, settings, id, &spelled_stop()) {
         Ok(()) => 0,
         Err(fault) => fault.tell(alloc, errors),
@@ -142,15 +104,7 @@ pub fn side<S: Site, E: Tells>(
     side: Side,
     up: bool,
     errors: &mut E,
-) -> u8
-    ensures status { (result ≡ 0) ⊎ (result ≡ 1) }
-    ensures said { result ≡ 0
-        → HasSaid S.does settings.now id (Some (said_side side up)) site.old site.new }
-    ensures quiet { result ≡ 0 → errors.new ≡ errors.old }
-    ensures failed { result ≡ 1 → IsToldOf E.tells fault_text (λ fault. HasUnsaid S.does
-        settings.now id (Some (said_side side up)) fault site.old site.new)
-        errors.old errors.new }
-{
+) -> u8 {
     match said(alloc, site, settings, id, &side_word(side, up)) {
         Ok(()) => 0,
         Err(fault) => fault.tell(alloc, errors),
@@ -158,9 +112,7 @@ pub fn side<S: Site, E: Tells>(
 }
 
 /// The word of a side, as an operator says it.
-fn side_word(side: Side, up: bool) -> [u8; 5]
-    ensures { word_of result ≡ Some (said_side side up) }
-{
+fn side_word(side: Side, up: bool) -> [u8; 5] {
     spelled_side(side, up, false)
 }
 
@@ -171,12 +123,7 @@ fn said<S: Site>(
     settings: &str,
     id: GatewayId,
     word: &[u8],
-) -> Result<(), BoxFault>
-    ensures said { OnOk result
-        (HasSaid S.does settings.now id (word_of word.now) site.old site.new) }
-    ensures failed { IfErr result (λ fault. HasUnsaid S.does settings.now id (word_of word.now)
-        fault site.old site.new) }
-{
+) -> Result<(), BoxFault> {
     let line = line_to(alloc, site, settings, id)?;
     match site.say(&line.path, word) {
         Ok(()) => Ok(()),
@@ -193,10 +140,7 @@ pub(crate) struct Line {
 
 impl Line {
     /// Nobody hears there.
-    pub(crate) fn unheard(&self, alloc: Global) -> BoxFault
-        requires beside { IsBeside (string_bytes self.now.boot_file) self.now.path }
-        ensures { TellsSocket self.now.path.socket result }
-    {
+    pub(crate) fn unheard(&self, alloc: Global) -> BoxFault {
         BoxFault::no_control(alloc, self.boot_file.as_str())
     }
 }
@@ -207,13 +151,7 @@ pub(crate) fn line_to<S: Site>(
     site: &mut S,
     settings: &str,
     id: GatewayId,
-) -> Result<Line, BoxFault>
-    ensures reached { IfOk result (λ line. IsBoxOf S.does settings.now id
-        (string_bytes line.boot_file) site.old site.new) }
-    ensures beside { IfOk result (λ line. IsBeside (string_bytes line.boot_file) line.path) }
-    ensures unreached { IfErr result
-        (λ fault. IsUnreached S.does settings.now id fault site.old site.new) }
-{
+) -> Result<Line, BoxFault> {
     let text = site.text(settings)?;
     let settings = settings_file::read(alloc, text.as_str())?;
     let path = control_path(alloc, &settings, id)?;
@@ -222,13 +160,10 @@ pub(crate) fn line_to<S: Site>(
 }
 
 /// Where the gateway's control socket lies: beside its boot file.
-fn control_path(alloc: Global, settings: &Settings, id: GatewayId) -> Result<ControlPath, PathFault>
-    ensures beside { IfOk result
-        (IsBeside (string_bytes (gateway_of settings.now id).boot_file)) }
-    ensures long { IsErrOf result PathFault.LongPath
-        → 107 < length (socket_of (string_bytes (gateway_of settings.now id).boot_file)) }
-    ensures memory { IsErrOf result PathFault.NoMemory
-        → LacksSocketPath (string_bytes (gateway_of settings.now id).boot_file) }
-{
+fn control_path(
+    alloc: Global,
+    settings: &Settings,
+    id: GatewayId,
+) -> Result<ControlPath, PathFault> {
     ControlPath::beside(alloc, settings.gateway(id).boot_file.as_str())
 }

@@ -20,13 +20,7 @@ impl Memory {
 }
 
 impl Channel for Memory {
-    ghost opens = { λ _ _ _. Unit {0} };
-
     /// It has no ports that could be refused.
-    ghost refuses = { λ _ _ _ _. ⊥ };
-
-    ghost passes = { λ _ _ _ _. Unit {0} };
-
     fn open(&mut self, _settings: &Settings) -> Result<(), PortFault> {
         Ok(())
     }

@@ -1,5 +1,4 @@
 //! A page that the cases decide of, and a clock on the wall.
-ghost use Rattle.std.specs.Prelude.{⊤, None};
 
 use crate::words::shown;
 use std::cell::Cell;
@@ -31,10 +30,6 @@ impl<'a> Page<'a> {
 }
 
 impl Outlet for Page<'_> {
-    ghost contents = { λ _. None };
-
-    ghost IsRoomy = { λ _. ⊤ };
-
     fn has_room(&mut self) -> bool {
         !matches!(self.paper.get(), Paper::None)
     }

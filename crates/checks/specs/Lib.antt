@@ -1,14 +1,1 @@
-pub mod Counts
-pub mod Differences
-pub mod Digests
-pub mod Doubts
-pub mod BootFiles
-pub mod Interfaces
-pub mod Saying
-pub mod Ends
-pub mod Sights
-pub mod Memory
-pub mod Reports
-pub mod Comparing
-pub mod Openings
-pub mod Pieces
+pub mod Texts

@@ -1,13 +1,4 @@
 //! Says what there is of a box's boot file.
-ghost use Rattle.std.specs.Prelude.{◌≡◌, ◌++◌, false, string_bytes, IfOk, OnErr, OnOk};
-ghost use Rattle.boot_store.specs.BootFile.{boot_answer};
-ghost use Rattle.checks.specs.BootFiles.{boot_file_faults, boot_file_text, boot_file_warnings};
-ghost use Rattle.checks.specs.BootFiles.{faults_of, found_text, is_open_to_others, key_of, mode_line};
-ghost use Rattle.checks.specs.BootFiles.{mode_text, number_line, open_count, open_to, seen_text};
-ghost use Rattle.checks.specs.BootFiles.{start_line, use_text};
-ghost use Rattle.checks.specs.Counts.{faults_of_start, one_if};
-ghost use Rattle.checks.specs.Memory.{IsCutShort};
-ghost use Rattle.checks.specs.Saying.{fault_at};
 
 use crate::pieces::{Piece, put};
 use crate::tallies::{FAULT, NOTHING, Tally, WARNING};
@@ -16,9 +7,7 @@ use nat_types::GatewayId;
 use settings_file::{Key, Name, Section};
 use std::alloc::AllocError;
 
-fn key_of(id: GatewayId) -> Key
-    ensures { result ≡ key_of id }
-{
+fn key_of(id: GatewayId) -> Key {
     let section = match id {
         GatewayId::Zero => Section::GatewayZero,
         GatewayId::One => Section::GatewayOne,
@@ -27,13 +16,7 @@ fn key_of(id: GatewayId) -> Key
 }
 
 /// Says a fault of a boot file.
-fn say_fault(fault: &str, key: Key, text: &mut String) -> Result<Tally, AllocError>
-    ensures text { OnOk result
-        (string_bytes text.new ≡ string_bytes text.old ++ fault_at fault.now key) }
-    ensures faults { IfOk result (λ tally. tally.faults ≡ 1) }
-    ensures warnings { IfOk result (λ tally. tally.warnings ≡ 0) }
-    ensures short { OnErr result (IsCutShort (string_bytes text.old ++ fault_at fault.now key)) }
-{
+fn say_fault(fault: &str, key: Key, text: &mut String) -> Result<Tally, AllocError> {
     put(
         text,
         &[
@@ -48,11 +31,7 @@ fn say_fault(fault: &str, key: Key, text: &mut String) -> Result<Tally, AllocErr
 }
 
 /// Says which was the last start, if one was.
-fn say_start(boot: u64, key: Key, text: &mut String) -> Result<(), AllocError>
-    ensures text { OnOk result
-        (string_bytes text.new ≡ string_bytes text.old ++ start_line boot key) }
-    ensures short { OnErr result (IsCutShort (string_bytes text.old ++ start_line boot key)) }
-{
+fn say_start(boot: u64, key: Key, text: &mut String) -> Result<(), AllocError> {
     match boot {
         0 => put(
             text,
@@ -76,14 +55,7 @@ fn say_start(boot: u64, key: Key, text: &mut String) -> Result<(), AllocError>
 }
 
 /// Says what number a boot file has. It is a fault where no box starts with it.
-fn say_number(number: Option<u64>, key: Key, text: &mut String) -> Result<Tally, AllocError>
-    ensures text { OnOk result
-        (string_bytes text.new ≡ string_bytes text.old ++ number_line number key) }
-    ensures faults { IfOk result
-        (λ tally. tally.faults ≡ faults_of_start (boot_answer false number)) }
-    ensures warnings { IfOk result (λ tally. tally.warnings ≡ 0) }
-    ensures short { OnErr result (IsCutShort (string_bytes text.old ++ number_line number key)) }
-{
+fn say_number(number: Option<u64>, key: Key, text: &mut String) -> Result<Tally, AllocError> {
     match number {
         None => say_fault("boot 2 Damaged", key, text),
         Some(u64::MAX) => say_fault("boot 3 BootsUsedUp", key, text),
@@ -95,18 +67,12 @@ fn say_number(number: Option<u64>, key: Key, text: &mut String) -> Result<Tally,
 }
 
 /// Whether others than its owner may use a file of this mode: its last six bits are theirs.
-fn is_open_to_others(mode: u32) -> bool
-    ensures { result ≡ is_open_to_others mode }
-{
+fn is_open_to_others(mode: u32) -> bool {
     mode % 0o100 != 0
 }
 
 /// Says what mode a file has.
-fn say_mode_line(mode: u32, key: Key, text: &mut String) -> Result<(), AllocError>
-    ensures text { OnOk result
-        (string_bytes text.new ≡ string_bytes text.old ++ mode_line mode key) }
-    ensures short { OnErr result (IsCutShort (string_bytes text.old ++ mode_line mode key)) }
-{
+fn say_mode_line(mode: u32, key: Key, text: &mut String) -> Result<(), AllocError> {
     let mode = mode % 0o1000;
     put(
         text,
@@ -121,13 +87,7 @@ fn say_mode_line(mode: u32, key: Key, text: &mut String) -> Result<(), AllocErro
 }
 
 /// Says who else may use a file, where its mode is known.
-fn say_mode(mode: Option<u32>, key: Key, text: &mut String) -> Result<Tally, AllocError>
-    ensures text { OnOk result
-        (string_bytes text.new ≡ string_bytes text.old ++ mode_text mode key) }
-    ensures faults { IfOk result (λ tally. tally.faults ≡ 0) }
-    ensures warnings { IfOk result (λ tally. tally.warnings ≡ open_to mode) }
-    ensures short { OnErr result (IsCutShort (string_bytes text.old ++ mode_text mode key)) }
-{
+fn say_mode(mode: Option<u32>, key: Key, text: &mut String) -> Result<Tally, AllocError> {
     match mode {
         Some(mode) if is_open_to_others(mode) => {
             say_mode_line(mode, key, text)?;
@@ -138,11 +98,7 @@ fn say_mode(mode: Option<u32>, key: Key, text: &mut String) -> Result<Tally, All
 }
 
 /// Says whether a box runs on it.
-fn say_use(is_used: bool, key: Key, text: &mut String) -> Result<(), AllocError>
-    ensures text { OnOk result
-        (string_bytes text.new ≡ string_bytes text.old ++ use_text is_used key) }
-    ensures short { OnErr result (IsCutShort (string_bytes text.old ++ use_text is_used key)) }
-{
+fn say_use(is_used: bool, key: Key, text: &mut String) -> Result<(), AllocError> {
     if is_used {
         put(
             text,
@@ -158,14 +114,7 @@ fn say_use(is_used: bool, key: Key, text: &mut String) -> Result<(), AllocError>
 }
 
 /// Says what was seen of a boot file: its number, who else may use it, and whether a box runs on it.
-fn say_seen(seen: Seen, key: Key, text: &mut String) -> Result<Tally, AllocError>
-    ensures text { OnOk result
-        (string_bytes text.new ≡ string_bytes text.old ++ seen_text seen key) }
-    ensures faults { IfOk result
-        (λ tally. tally.faults ≡ faults_of_start (boot_answer false seen.number)) }
-    ensures warnings { IfOk result (λ tally. tally.warnings ≡ open_to seen.mode) }
-    ensures short { OnErr result (IsCutShort (string_bytes text.old ++ seen_text seen key)) }
-{
+fn say_seen(seen: Seen, key: Key, text: &mut String) -> Result<Tally, AllocError> {
     let number = say_number(seen.number, key, text)?;
     let mode = say_mode(seen.mode, key, text)?;
     say_use(seen.is_used, key, text)?;
@@ -176,13 +125,7 @@ fn say_seen(seen: Seen, key: Key, text: &mut String) -> Result<Tally, AllocError
 }
 
 /// Says what there is of a boot file. It is a fault where there is none, or it is no regular file.
-fn say_found(found: Found, key: Key, text: &mut String) -> Result<Tally, AllocError>
-    ensures text { OnOk result
-        (string_bytes text.new ≡ string_bytes text.old ++ found_text found key) }
-    ensures faults { IfOk result (λ tally. tally.faults ≡ faults_of found) }
-    ensures warnings { IfOk result (λ tally. tally.warnings ≡ open_count found) }
-    ensures short { OnErr result (IsCutShort (string_bytes text.old ++ found_text found key)) }
-{
+fn say_found(found: Found, key: Key, text: &mut String) -> Result<Tally, AllocError> {
     match found {
         Found::Nothing => say_fault("file 1 NoFile", key, text),
         Found::NoFile => say_number(None, key, text),
@@ -195,13 +138,7 @@ pub(crate) fn say_boot_file(
     id: Option<GatewayId>,
     found: Option<Found>,
     text: &mut String,
-) -> Result<Tally, AllocError>
-    ensures text { OnOk result
-        (string_bytes text.new ≡ string_bytes text.old ++ boot_file_text id found) }
-    ensures faults { IfOk result (λ tally. tally.faults ≡ boot_file_faults id found) }
-    ensures warnings { IfOk result (λ tally. tally.warnings ≡ boot_file_warnings id found) }
-    ensures short { OnErr result (IsCutShort (string_bytes text.old ++ boot_file_text id found)) }
-{
+) -> Result<Tally, AllocError> {
     match (id, found) {
         (Some(id), Some(found)) => say_found(found, key_of(id), text),
         (Some(_), None) | (None, _) => Ok(NOTHING),

@@ -1,12 +1,4 @@
 //! Says every fault and every warning of settings.
-ghost use Rattle.std.specs.Prelude.{◌≡◌, ◌⊎◌, ◌++◌, IfOk, None, OnErr, OnOk, string_bytes, true};
-ghost use Rattle.toml.specs.Parse.{parse_document};
-ghost use Rattle.checks.specs.Counts.{IsCleanText, IsGoodText};
-ghost use Rattle.checks.specs.Memory.{IsCutShort, IsUnwarned, IsUnwarnedOf};
-ghost use Rattle.checks.specs.Reports.{HasChecked, IsReport, IsReportOn, IsShortFor, IsShortOn};
-ghost use Rattle.checks.specs.Reports.{faults_in, held_faults, held_text, held_warnings};
-ghost use Rattle.checks.specs.Reports.{more_faults, more_text};
-ghost use Rattle.checks.specs.Reports.{more_warnings, report_text};
 
 use crate::boots::say_boot_file;
 use crate::ends::{refuse, say};
@@ -30,13 +22,7 @@ pub fn check<P: Surroundings, O: Output, E: Tells>(
     request: &Request<'_>,
     output: &mut O,
     errors: &mut E,
-) -> u8
-    ensures status { (result ≡ 0) ⊎ (result ≡ 1) }
-    ensures accepts { result ≡ 0 → IsGoodText text.now }
-    ensures strict { request.now.strict ≡ true → result ≡ 0 → IsCleanText text.now }
-    ensures said { HasChecked P.finds P.takes O.contents E.tells around.old text.now
-        request.now around.new output.old output.new errors.old errors.new result }
-{
+) -> u8 {
     match report_of(alloc, around, text, request) {
         Ok(report) => {
             let status = report.tally.status(request.strict);
@@ -59,19 +45,7 @@ fn report_of<P: Surroundings>(
     around: &mut P,
     text: &str,
     request: &Request<'_>,
-) -> Result<Report, AllocError>
-    ensures accepts { IfOk result
-        (λ report. report.tally.faults ≡ 0 → IsGoodText text.now) }
-    ensures clean { IfOk result
-        (λ report. report.tally.faults ≡ 0 → report.tally.warnings ≡ 0 → IsCleanText text.now) }
-    ensures good { request.now.id ≡ None → request.now.link ≡ None → IsGoodText text.now
-        → IfOk result (λ report. report.tally.faults ≡ 0) }
-    ensures report { IfOk result (λ report. IsReport P.finds P.takes around.old
-        (parse_document text.now) request.now around.new (string_bytes report.text)
-        report.tally.faults report.tally.warnings) }
-    ensures short { OnErr result
-        (IsShortFor P.finds P.takes around.old text.now request.now around.new) }
-{
+) -> Result<Report, AllocError> {
     let look = look(alloc, text)?;
     report_on(alloc, around, &look, request)
 }
@@ -82,13 +56,7 @@ fn report_on<P: Surroundings>(
     around: &mut P,
     seen: &Look,
     request: &Request<'_>,
-) -> Result<Report, AllocError>
-    ensures report { IfOk result (λ report. IsReportOn P.finds P.takes around.old seen.now
-        request.now around.new (string_bytes report.text) report.tally.faults
-        report.tally.warnings) }
-    ensures short { OnErr result
-        (IsShortOn P.finds P.takes around.old seen.now request.now around.new) }
-{
+) -> Result<Report, AllocError> {
     let sights = sights_for(around, seen, request)?;
     let mut text = String::new(alloc);
     let tally = say_all(alloc, seen, request, &sights, &mut text)?;
@@ -102,16 +70,7 @@ fn say_all(
     request: &Request<'_>,
     sights: &Sights,
     text: &mut String,
-) -> Result<Tally, AllocError>
-    ensures text { OnOk result (string_bytes text.new
-        ≡ string_bytes text.old ++ report_text seen.now request.now sights.now) }
-    ensures faults { IfOk result
-        (λ tally. tally.faults ≡ faults_in seen.now request.now sights.now) }
-    ensures warnings { IfOk result
-        (λ tally. tally.warnings ≡ more_warnings seen.now request.now sights.now) }
-    ensures short { OnErr result (IsUnwarnedOf seen.now ⊎ IsCutShort
-        (string_bytes text.old ++ report_text seen.now request.now sights.now)) }
-{
+) -> Result<Tally, AllocError> {
     say_faults(seen, text)?;
     let more = say_more(alloc, seen, request, sights, text)?;
     let tally = Tally {
@@ -129,16 +88,7 @@ fn say_more(
     request: &Request<'_>,
     sights: &Sights,
     text: &mut String,
-) -> Result<Tally, AllocError>
-    ensures text { OnOk result (string_bytes text.new
-        ≡ string_bytes text.old ++ more_text seen.now request.now sights.now) }
-    ensures faults { IfOk result
-        (λ tally. tally.faults ≡ more_faults seen.now request.now sights.now) }
-    ensures warnings { IfOk result
-        (λ tally. tally.warnings ≡ more_warnings seen.now request.now sights.now) }
-    ensures short { OnErr result (IsUnwarnedOf seen.now ⊎ IsCutShort
-        (string_bytes text.old ++ more_text seen.now request.now sights.now)) }
-{
+) -> Result<Tally, AllocError> {
     match seen {
         Look::Held(settings, _) => say_held(alloc, settings, request, sights, text),
         Look::NotToml
@@ -151,23 +101,13 @@ fn say_more(
 }
 
 /// Says each warning of settings, and what was found of the places and the boot file that the request names.
-#[tactic(auto, unfolding(crate::specs::Reports::held_text, crate::specs::Reports::held_faults, crate::specs::Reports::held_warnings))]
 fn say_held(
     alloc: Global,
     settings: &Settings,
     request: &Request<'_>,
     sights: &Sights,
     text: &mut String,
-) -> Result<Tally, AllocError>
-    ensures text { OnOk result (string_bytes text.new
-        ≡ string_bytes text.old ++ held_text settings.now request.now sights.now) }
-    ensures faults { IfOk result
-        (λ tally. tally.faults ≡ held_faults settings.now request.now sights.now) }
-    ensures warnings { IfOk result
-        (λ tally. tally.warnings ≡ held_warnings settings.now request.now sights.now) }
-    ensures short { OnErr result (IsUnwarned settings.now ⊎ IsCutShort
-        (string_bytes text.old ++ held_text settings.now request.now sights.now)) }
-{
+) -> Result<Tally, AllocError> {
     let warnings = say_warnings(alloc, settings, request.id, text)?;
     let places = say_places(settings, request, sights, text)?;
     let boot_file = say_boot_file(request.id, sights.boot_file, text)?;

@@ -1,12 +1,4 @@
 //! Says in what the settings of two files differ.
-ghost use Rattle.std.specs.Prelude.{◌≡◌, ◌⊎◌, ◌++◌, IfOk, OnErr, OnOk, flat_map, length, string_bytes};
-ghost use Rattle.checks.specs.Comparing.{AreCompared, AreComparedIf, AreUncompared, HasCompared};
-ghost use Rattle.checks.specs.Comparing.{IsReadOf};
-ghost use Rattle.checks.specs.Comparing.{differing_line, differing_total, keys_text};
-ghost use Rattle.checks.specs.Comparing.{status_of_keys};
-ghost use Rattle.checks.specs.Differences.{differing, word_of};
-ghost use Rattle.checks.specs.Counts.{AreAlike, AreTwoAlike, must_not};
-ghost use Rattle.checks.specs.Memory.{IsCutShort};
 
 use crate::ends::{refuse, say};
 use crate::pieces::{Piece, put};
@@ -26,21 +18,14 @@ pub fn compare<O: Output, E: Tells>(
     other: Source<'_>,
     output: &mut O,
     errors: &mut E,
-) -> u8
-    ensures status { (result ≡ 0) ⊎ (result ≡ 1) }
-    ensures alike { result ≡ 0 → AreAlike one.entry.text.now other.entry.text.now }
-    ensures said { HasCompared O.contents E.tells one.entry other.entry output.old output.new
-        errors.old errors.new result }
-{
+) -> u8 {
     let first = settings_in(alloc, one, errors);
     let second = settings_in(alloc, other, errors);
     compare_if(alloc, first, second, output, errors)
 }
 
 /// The settings of a text; why there are none is told on `errors`.
-fn settings_in<E: Tells>(alloc: Global, source: Source<'_>, errors: &mut E) -> Option<Settings>
-    ensures { IsReadOf E.tells source.entry result errors.old errors.new }
-{
+fn settings_in<E: Tells>(alloc: Global, source: Source<'_>, errors: &mut E) -> Option<Settings> {
     match read(alloc, source.text) {
         Ok(settings) => Some(settings),
         Err(fault) => {
@@ -57,12 +42,7 @@ fn compare_if<O: Output, E: Tells>(
     other: Option<Settings>,
     output: &mut O,
     errors: &mut E,
-) -> u8
-    ensures status { (result ≡ 0) ⊎ (result ≡ 1) }
-    ensures alike { result ≡ 0 → AreTwoAlike one other }
-    ensures said { AreComparedIf O.contents E.tells one other output.old output.new errors.old
-        errors.new result }
-{
+) -> u8 {
     match (one, other) {
         (Some(one), Some(other)) => compare_settings(alloc, &one, &other, output, errors),
         (Some(_), None) | (None, _) => 1,
@@ -76,12 +56,7 @@ fn compare_settings<O: Output, E: Tells>(
     other: &Settings,
     output: &mut O,
     errors: &mut E,
-) -> u8
-    ensures status { (result ≡ 0) ⊎ (result ≡ 1) }
-    ensures alike { result ≡ 0 → must_not (differing one.now other.now) ≡ 0 }
-    ensures said { AreCompared O.contents E.tells one.now other.now output.old output.new
-        errors.old errors.new result }
-{
+) -> u8 {
     match differences_of(alloc, one, other) {
         Ok(found) => say(found.text.as_str(), found.status, output, errors),
         Err(_) => refuse(errors),
@@ -100,23 +75,13 @@ fn differences_of(
     alloc: Global,
     one: &Settings,
     other: &Settings,
-) -> Result<Differences, AllocError>
-    ensures text { IfOk result
-        (λ found. string_bytes found.text ≡ keys_text (differing one.now other.now)) }
-    ensures status { IfOk result
-        (λ found. found.status ≡ status_of_keys (differing one.now other.now)) }
-    ensures short { OnErr result (AreUncompared one.now other.now) }
-{
+) -> Result<Differences, AllocError> {
     let keys = differing_keys(alloc, one, other)?;
     differences_in(alloc, keys.as_slice())
 }
 
 /// The same of these keys.
-fn differences_in(alloc: Global, keys: &[Key]) -> Result<Differences, AllocError>
-    ensures text { IfOk result (λ found. string_bytes found.text ≡ keys_text keys.now) }
-    ensures status { IfOk result (λ found. found.status ≡ status_of_keys keys.now) }
-    ensures short { OnErr result (IsCutShort (keys_text keys.now)) }
-{
+fn differences_in(alloc: Global, keys: &[Key]) -> Result<Differences, AllocError> {
     let count = must_not(keys);
     let mut text = String::new(alloc);
     say_all(keys, count, &mut text)?;
@@ -125,9 +90,7 @@ fn differences_in(alloc: Global, keys: &[Key]) -> Result<Differences, AllocError
 }
 
 /// How many of the keys must not differ.
-fn must_not(keys: &[Key]) -> usize
-    ensures { result ≡ must_not keys.now }
-{
+fn must_not(keys: &[Key]) -> usize {
     let mut count = 0;
     for key in keys {
         if !may_differ(*key) {
@@ -138,12 +101,7 @@ fn must_not(keys: &[Key]) -> usize
 }
 
 /// Says each key, and how many they are, and how many of them must not differ.
-fn say_all(keys: &[Key], count: usize, text: &mut String) -> Result<(), AllocError>
-    ensures text { OnOk result (string_bytes text.new ≡ string_bytes text.old
-        ++ (flat_map differing_line keys.now ++ differing_total (length keys.now) count)) }
-    ensures short { OnErr result (IsCutShort (string_bytes text.old
-        ++ (flat_map differing_line keys.now ++ differing_total (length keys.now) count))) }
-{
+fn say_all(keys: &[Key], count: usize, text: &mut String) -> Result<(), AllocError> {
     say_keys(keys, text)?;
     let all = keys.len();
     put(
@@ -158,23 +116,14 @@ fn say_all(keys: &[Key], count: usize, text: &mut String) -> Result<(), AllocErr
 }
 
 /// Says each key, and whether it may differ.
-fn say_keys(keys: &[Key], text: &mut String) -> Result<(), AllocError>
-    ensures text { OnOk result
-        (string_bytes text.new ≡ string_bytes text.old ++ flat_map differing_line keys.now) }
-    ensures short { OnErr result
-        (IsCutShort (string_bytes text.old ++ flat_map differing_line keys.now)) }
-{
+fn say_keys(keys: &[Key], text: &mut String) -> Result<(), AllocError> {
     for key in keys {
         say_key(*key, text)?;
     }
     Ok(())
 }
 
-fn say_key(key: Key, text: &mut String) -> Result<(), AllocError>
-    ensures text { OnOk result
-        (string_bytes text.new ≡ string_bytes text.old ++ differing_line key) }
-    ensures short { OnErr result (IsCutShort (string_bytes text.old ++ differing_line key)) }
-{
+fn say_key(key: Key, text: &mut String) -> Result<(), AllocError> {
     let word = word_of(key);
     put(
         text,
@@ -188,8 +137,6 @@ fn say_key(key: Key, text: &mut String) -> Result<(), AllocError>
 }
 
 /// Whether a key may differ, in a word.
-fn word_of(key: Key) -> &'static str
-    ensures { result.now ≡ word_of key.name }
-{
+fn word_of(key: Key) -> &'static str {
     if may_differ(key) { "may" } else { "must not" }
 }

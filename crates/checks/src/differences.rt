@@ -1,23 +1,15 @@
 //! In what two settings differ.
-ghost use Rattle.std.specs.Prelude.{◌≡◌, ◌++◌, IfOk, OnErr};
-ghost use Rattle.settings_file.specs.declared.keys.Section.TheVariants as sections;
-ghost use Rattle.checks.specs.Differences.{same_range, same_limit, same_neighbour, same_neighbours, same_ports, same_interface, same_router, same_mtu, same_icmp, same_addresses, same_role, same_sockets, same_list, differing, may_differ};
-ghost use Rattle.checks.specs.Memory.{IsCutShort};
 
 use crate::warnings::same_host;
 use settings::{GatewaySettings, Neighbour, PortRange, Settings};
 use settings_file::{Key, Name, Section, add_bad};
 use std::alloc::{AllocError, Global};
 
-fn same_range(one: PortRange, other: PortRange) -> bool
-    ensures { result ≡ same_range one other }
-{
+fn same_range(one: PortRange, other: PortRange) -> bool {
     one.lowest.0 == other.lowest.0 && one.highest.0 == other.highest.0
 }
 
-fn same_limit(one: Option<u16>, other: Option<u16>) -> bool
-    ensures { result ≡ same_limit one other }
-{
+fn same_limit(one: Option<u16>, other: Option<u16>) -> bool {
     match (one, other) {
         (None, None) => true,
         (Some(one), Some(other)) => one == other,
@@ -25,15 +17,11 @@ fn same_limit(one: Option<u16>, other: Option<u16>) -> bool
     }
 }
 
-fn same_neighbour(one: &Neighbour, other: &Neighbour) -> bool
-    ensures { result ≡ same_neighbour one.now other.now }
-{
+fn same_neighbour(one: &Neighbour, other: &Neighbour) -> bool {
     same_host(one, other) && one.mac == other.mac
 }
 
-fn same_neighbours(one: &[Neighbour], other: &[Neighbour]) -> bool
-    ensures { result ≡ same_neighbours one.now other.now }
-{
+fn same_neighbours(one: &[Neighbour], other: &[Neighbour]) -> bool {
     let mut rest = other;
     for neighbour in one {
         let [first, behind @ ..] = rest else {
@@ -48,11 +36,7 @@ fn same_neighbours(one: &[Neighbour], other: &[Neighbour]) -> bool
 }
 
 /// The ports, and the inside network.
-fn same_front(one: &Settings, other: &Settings) -> [(Key, bool); 8]
-    ensures { result ≡ same_ports one.now other.now
-        ++ (same_interface sections.Inside one.now.inside other.now.inside
-        ++ same_mtu sections.Inside one.now.inside other.now.inside) }
-{
+fn same_front(one: &Settings, other: &Settings) -> [(Key, bool); 8] {
     let (ports, inside) = (Section::Ports, Section::Inside);
     let same_zero = same_range(one.ports.zero, other.ports.zero);
     let same_one = same_range(one.ports.one, other.ports.one);
@@ -74,12 +58,7 @@ fn same_front(one: &Settings, other: &Settings) -> [(Key, bool); 8]
 }
 
 /// The outside network, the router, and what is said by ICMP.
-fn same_behind(one: &Settings, other: &Settings) -> [(Key, bool); 8]
-    ensures { result ≡ same_interface sections.Outside one.now.outside other.now.outside
-        ++ (same_router one.now other.now
-        ++ (same_mtu sections.Outside one.now.outside other.now.outside
-        ++ same_icmp one.now.icmp other.now.icmp)) }
-{
+fn same_behind(one: &Settings, other: &Settings) -> [(Key, bool); 8] {
     let (outside, icmp) = (Section::Outside, Section::Icmp);
     let same_router = one.router.0 == other.router.0;
     let same_echo = one.icmp.echo == other.icmp.echo;
@@ -105,10 +84,7 @@ fn same_gateway(
     section: Section,
     one: &GatewaySettings,
     other: &GatewaySettings,
-) -> [(Key, bool); 11]
-    ensures { result ≡ same_addresses section one.now other.now
-        ++ (same_role section one.now other.now ++ same_sockets section one.now other.now) }
-{
+) -> [(Key, bool); 11] {
     let same_inside_ip = one.inside_ip.0 == other.inside_ip.0;
     let same_inside_mac = one.inside_mac == other.inside_mac;
     let same_outside_ip = one.outside_ip.0 == other.outside_ip.0;
@@ -134,9 +110,7 @@ fn same_gateway(
     ]
 }
 
-fn same_list(one: &Settings, other: &Settings) -> [(Key, bool); 1]
-    ensures { result ≡ same_list one.now other.now }
-{
+fn same_list(one: &Settings, other: &Settings) -> [(Key, bool); 1] {
     let whole = Key::whole(Section::Neighbour);
     let same = same_neighbours(one.neighbours.as_slice(), other.neighbours.as_slice());
     [(whole, same)]
@@ -147,10 +121,7 @@ pub fn differing_keys(
     alloc: Global,
     one: &Settings,
     other: &Settings,
-) -> Result<Vec<Key>, AllocError>
-    ensures keys { IfOk result (λ keys. keys.items ≡ differing one.now other.now) }
-    ensures short { OnErr result (IsCutShort (differing one.now other.now)) }
-{
+) -> Result<Vec<Key>, AllocError> {
     let mut found = Vec::new(alloc);
     add_bad(&same_front(one, other), &mut found)?;
     add_bad(&same_behind(one, other), &mut found)?;
@@ -164,9 +135,7 @@ pub fn differing_keys(
 
 /// Whether the settings of the two boxes may differ there: one box alone reads it, or it is of the machine that a box
 /// runs on.
-pub fn may_differ(key: Key) -> bool
-    ensures { result ≡ may_differ key.name }
-{
+pub fn may_differ(key: Key) -> bool {
     match key.name {
         Some(
             Name::Wire

@@ -1,6 +1,4 @@
 //! Warnings.
-ghost use Rattle.std.specs.Prelude.{◌≡◌};
-ghost use Rattle.checks.specs.Saying.{doubt_text};
 
 use settings_file::Key;
 
@@ -39,10 +37,7 @@ pub enum Doubt {
 
 impl Doubt {
     /// What a user is told.
-    #[tactic(auto, unfolding(crate::specs::Saying::doubt_text))]
-    pub fn as_str(self) -> &'static str
-        ensures { result.now ≡ doubt_text self }
-    {
+    pub fn as_str(self) -> &'static str {
         match self {
             Doubt::OnePort => "the range has one port, for one UDP and one TCP pair",
             Doubt::Martian =>

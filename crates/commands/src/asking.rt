@@ -1,12 +1,4 @@
 //! What is asked of settings, and of a running gateway.
-ghost use Rattle.std.specs.Prelude.{◌≡◌, ◌⊎◌, false, option_map, string_bytes, true, unwrap_or};
-ghost use Rattle.outlets.specs.Telling.{IsToldOf};
-ghost use Rattle.commands.specs.Acts.{HasChecked, HasCompared, HasLooked, IsAsked, IsAskedFor, IsAskedInVain};
-ghost use Rattle.commands.specs.Asked.{filter_of, form_of};
-ghost use Rattle.commands.specs.Hosts.{scene, scope_in};
-ghost use Rattle.box_words.specs.Deeds.{HasListed, HasUnlisted};
-ghost use Rattle.box_words.specs.Faults.{fault_text};
-ghost use Rattle.outlets.specs.Outputs.{IsFlushed};
 
 use crate::commands::text_of;
 use crate::hosts::Host;
@@ -28,13 +20,7 @@ pub(crate) fn look_at<S: Site, H: Host, O: Output, E: Tells>(
     words: &CheckWords,
     output: &mut O,
     errors: &mut E,
-) -> u8
-    ensures status { (result ≡ 0) ⊎ (result ≡ 1) }
-    ensures quiet { result ≡ 0 → errors.new ≡ errors.old }
-    ensures looked { HasLooked S.does H.works O.contents E.tells words.now result
-        (scene site.old host.old output.old errors.old)
-        (scene site.new host.new output.new errors.new) }
-{
+) -> u8 {
     let settings = words.settings.as_str();
     match &words.other {
         Some(other) => look_at_both(alloc, site, host, settings, other.as_str(), output, errors),
@@ -59,13 +45,7 @@ fn look_at_one<S: Site, H: Host, O: Output, E: Tells>(
     request: &Request<'_>,
     output: &mut O,
     errors: &mut E,
-) -> u8
-    ensures status { (result ≡ 0) ⊎ (result ≡ 1) }
-    ensures quiet { result ≡ 0 → errors.new ≡ errors.old }
-    ensures checked { HasChecked S.does H.works O.contents E.tells settings.now
-        (scope_in request.now) result (scene site.old host.old output.old errors.old)
-        (scene site.new host.new output.new errors.new) }
-{
+) -> u8 {
     match site.text(settings) {
         Ok(text) => host.look(text.as_str(), request, output, errors),
         Err(fault) => fault.tell(alloc, errors),
@@ -81,13 +61,7 @@ fn look_at_both<S: Site, H: Host, O: Output, E: Tells>(
     other: &str,
     output: &mut O,
     errors: &mut E,
-) -> u8
-    ensures status { (result ≡ 0) ⊎ (result ≡ 1) }
-    ensures quiet { result ≡ 0 → errors.new ≡ errors.old }
-    ensures compared { HasCompared S.does H.works O.contents E.tells settings.now
-        other.now result (scene site.old host.now output.old errors.old)
-        (scene site.new host.now output.new errors.new) }
-{
+) -> u8 {
     let one = text_at(alloc, site, settings, errors);
     let two = text_at(alloc, site, other, errors);
     let (Some(one), Some(two)) = (one, two) else {
@@ -110,10 +84,7 @@ fn text_at<S: Site, E: Tells>(
     site: &mut S,
     path: &str,
     errors: &mut E,
-) -> Option<String>
-    ensures { IsAskedFor S.does E.tells path.now (option_map string_bytes result) site.old site.new
-        errors.old errors.new }
-{
+) -> Option<String> {
     match site.text(path) {
         Ok(text) => Some(text),
         Err(fault) => {
@@ -124,15 +95,7 @@ fn text_at<S: Site, E: Tells>(
 }
 
 /// What these words ask to be looked at.
-fn request_of(words: &CheckWords) -> Request<'_>
-    ensures id { result.id ≡ words.now.id }
-    ensures strict { result.strict ≡ words.now.strict }
-    ensures inside { option_map (λ t. t.now) result.inside
-        ≡ option_map string_bytes words.now.inside }
-    ensures outside { option_map (λ t. t.now) result.outside
-        ≡ option_map string_bytes words.now.outside }
-    ensures link { option_map (λ t. t.now) result.link ≡ option_map string_bytes words.now.link }
-{
+fn request_of(words: &CheckWords) -> Request<'_> {
     Request {
         id: words.id,
         strict: words.strict,
@@ -149,16 +112,7 @@ pub(crate) fn state_of<S: Site, O: Output, E: Tells>(
     words: &StatusWords,
     output: &mut O,
     errors: &mut E,
-) -> u8
-    ensures status { (result ≡ 0) ⊎ (result ≡ 1) }
-    ensures asked { result ≡ 0 → IsAsked S.does words.now (O.contents output.old)
-        (O.contents output.new) site.old site.new }
-    ensures quiet { result ≡ 0 → errors.new ≡ errors.old }
-    ensures failed { result ≡ 1 → IsToldOf E.tells fault_text (λ why. IsAskedInVain S.does
-        O.contents words.now why output.old output.new site.old site.new) errors.old errors.new }
-    ensures unprinted { words.now.until_synced ≡ true → output.new ≡ output.old }
-    ensures flushed { words.now.until_synced ≡ false → result ≡ 0 → IsFlushed output.new }
-{
+) -> u8 {
     let settings = words.settings.as_str();
     if words.until_synced {
         let seconds = seconds_of(words.seconds);
@@ -170,16 +124,12 @@ pub(crate) fn state_of<S: Site, O: Output, E: Tells>(
 }
 
 /// How long a gateway is waited for.
-fn seconds_of(seconds: Option<u32>) -> u32
-    ensures { result ≡ unwrap_or seconds 60 }
-{
+fn seconds_of(seconds: Option<u32>) -> u32 {
     seconds.unwrap_or(PATIENCE)
 }
 
 /// The form of a report.
-fn form_of(form: command_line::Form) -> box_words::Form
-    ensures { result ≡ form_of form }
-{
+fn form_of(form: command_line::Form) -> box_words::Form {
     match form {
         command_line::Form::Plain => box_words::Form::Plain,
         command_line::Form::Json => box_words::Form::Json,
@@ -194,25 +144,13 @@ pub(crate) fn pairs_of<S: Site, O: Output, E: Tells>(
     words: &PairsWords,
     output: &mut O,
     errors: &mut E,
-) -> u8
-    ensures status { (result ≡ 0) ⊎ (result ≡ 1) }
-    ensures listed { result ≡ 0
-        → HasListed S.does O.contents (string_bytes words.now.settings) words.now.id
-        (filter_of words.now) output.old output.new site.old site.new }
-    ensures flushed { result ≡ 0 → IsFlushed output.new }
-    ensures quiet { result ≡ 0 → errors.new ≡ errors.old }
-    ensures failed { result ≡ 1 → IsToldOf E.tells fault_text (λ why. HasUnlisted S.does
-        O.contents (string_bytes words.now.settings) words.now.id (filter_of words.now) why
-        output.old output.new site.old site.new) errors.old errors.new }
-{
+) -> u8 {
     let (settings, filter) = (words.settings.as_str(), filter_of(words));
     pairs(alloc, site, settings, words.id, &filter, output, errors)
 }
 
 /// Which pairs these words ask for.
-fn filter_of(words: &PairsWords) -> Filter
-    ensures { result ≡ filter_of words.now }
-{
+fn filter_of(words: &PairsWords) -> Filter {
     Filter {
         protocol: words.protocol,
         address: words.address,

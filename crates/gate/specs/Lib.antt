@@ -1,14 +1,1 @@
-pub mod Asked
-pub mod Asking
 pub mod Boots
-pub mod Failing
-pub mod Logs
-pub mod Named
-pub mod Orders
-pub mod Served
-pub mod Sparing
-pub mod Starts
-pub mod Told
-pub mod Wires
-pub mod Printing
-pub mod Rests

@@ -1,5 +1,4 @@
 //! The hands by which a box asks the system.
-ghost use Rattle.gate.specs.Named.{AreLentToStart};
 
 use runtimes::{Hand, Hosted};
 use std::alloc::Global;
@@ -58,10 +57,7 @@ impl<'a, R: Hosted> Hands<'a, R> {
 
 impl<'a, R> Hands<'a, R> {
     /// Hands for a start that asks for these.
-    #[tactic(auto, unfolding(crate::specs::Named::AreLentToStart))]
-    pub fn lent(&mut self) -> Hands<'a, R>
-        ensures { AreLentToStart self.old result self.new }
-    {
+    pub fn lent(&mut self) -> Hands<'a, R> {
         Hands {
             files: self.files.lent(),
             boot_files: self.boot_files.lent(),

@@ -4,7 +4,6 @@
 mod capturing;
 mod files;
 mod hands;
-mod laws;
 mod machine;
 mod making;
 mod reading;

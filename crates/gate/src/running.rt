@@ -1,23 +1,6 @@
 //! How a box is run.
-ghost use Rattle.std.specs.Prelude.{◌≡◌, ◌⊎◌, IfErr, IsTrue, None, Ok, OnOk, Some};
+ghost use Rattle.std.specs.Prelude.{◌≡◌, IsTrue};
 ghost use Rattle.nat_types.specs.declared.gateways.GatewayId.TheVariants.{Zero};
-ghost use Rattle.control.specs.Paths.{IsBeside, socket_of};
-ghost use Rattle.sockets.specs.Inheriting.{AreUnblocked};
-ghost use Rattle.rounds.specs.Rounds.{calls, wire_says};
-ghost use Rattle.box_words.specs.Faults.{fault_text};
-ghost use Rattle.outlets.specs.Telling.{IsToldOf};
-ghost use Rattle.gate.specs.Asking.{AsksApart, AsksBy, AsksFor, AsksUpTo, AsksWatched, IsAskedFrom, captures, listeners, openings, places};
-ghost use Rattle.gate.specs.Asked.{IsFilter, IsNotified, boot_file_of, path_in};
-ghost use Rattle.gate.specs.Logs.{IsOwnLog, IsRecordedToEnd, IsToldAtRefusal};
-ghost use Rattle.gate.specs.Named.{IsLeft, IsUntold, WasClosed, WasGiven, WasHad, all_sockets, control_socket, locked_file};
-ghost use Rattle.gate.specs.Orders.{IsInOrder, IsInSomeOrder, IsNumbered, IsSilentOrTaken, IsUnrun};
-ghost use Rattle.gate.specs.Rests.{AsksRest, UsesMeans, UsesRest};
-ghost use Rattle.gate.specs.Served.{HasRun, HasServed, RunsLocked, RunsOpened, RunsWired};
-ghost use Rattle.gate.specs.Sparing.{FailsHeard, FailsHeld, FailsInherited, FailsLocked, FailsLogged, FailsOpening, FailsWatched, FailsWired, IsRefusal};
-ghost use Rattle.gate.specs.Starts.{AreHeld, AreRead, AreWatched, AreWays, CanOpen};
-ghost use Rattle.gate.specs.Told.{IsUnheard};
-ghost use Rattle.gate.specs.declared.recording.Records.{Records};
-ghost use Rattle.gate.specs.Wires.{IsOfSockets, IsSpared, does_at, says_at};
 
 use crate::Hands;
 use crate::capturing::capture_at;
@@ -83,18 +66,6 @@ pub fn gate<
 where
     R::File: Blocks + Lockable + AsRawFd,
     requires found { IsTrue start.now.found → start.now.id ≡ Zero }
-    ensures status { (result ≡ 0) ⊎ (result ≡ 1) }
-    ensures served { result ≡ 0 → HasServed O.contents start.now output.old output.new }
-    ensures order { result ≡ 1 → IsSilentOrTaken
-        ⟦<FileDisk<Opened<R::File>> as Disk>⟧.honest ⟦<FileDisk<Opened<R::File>> as Disk>⟧.now
-        start.now.found output.old output.new }
-    ensures asks { IsAskedFrom hands.entry start.now }
-    ensures quiet { result ≡ 0 → errors.new ≡ errors.old }
-    ensures failed { result ≡ 1 → IsToldOf E.tells fault_text (λ why. IsRefusal O.contents
-        start.now output.old output.new why
-        × IsInSomeOrder O.contents (path_in start.now.capture)
-        ⟦<FileDisk<Opened<R::File>> as Disk>⟧.honest ⟦<FileDisk<Opened<R::File>> as Disk>⟧.now
-        start.now.found why output.old output.new) errors.old errors.new }
 {
     let alloc = hands.alloc();
     let (mut machine, mut rest) = parts_of(hands);
@@ -128,13 +99,6 @@ fn served<
 where
     R::File: Blocks + Lockable + AsRawFd,
     requires found { IsTrue start.now.found → start.now.id ≡ Zero }
-    ensures asks { AsksFor machine.old start.now machine.new }
-    ensures rest { AsksRest start.now rest.old rest.new }
-    ensures ok { OnOk result (HasServed O.contents start.now output.old output.new) }
-    ensures err { IfErr result (IsRefusal O.contents start.now output.old output.new) }
-    ensures order { IfErr result (λ why. IsInSomeOrder O.contents (path_in start.now.capture)
-        ⟦<FileDisk<Opened<R::File>> as Disk>⟧.honest ⟦<FileDisk<Opened<R::File>> as Disk>⟧.now
-        start.now.found why output.old output.new) }
 {
     let settings = settings_at(machine, start.settings)?;
     let ended = reached(machine, rest, start, &settings, output);
@@ -157,15 +121,6 @@ fn reached<
 where
     R::File: Blocks + Lockable + AsRawFd,
     requires found { IsTrue start.now.found → start.now.id ≡ Zero }
-    requires held { AreHeld start.now.settings.now settings.now }
-    ensures asks { AsksBy machine.old start.now settings.now machine.new }
-    ensures rest { AsksRest start.now rest.old rest.new }
-    ensures ok { OnOk result (HasServed O.contents start.now output.old output.new) }
-    ensures err { IfErr result (FailsHeld O.contents start.now settings.now
-        output.old output.new) }
-    ensures order { IfErr result (λ why. IsInSomeOrder O.contents (path_in start.now.capture)
-        ⟦<FileDisk<Opened<R::File>> as Disk>⟧.honest ⟦<FileDisk<Opened<R::File>> as Disk>⟧.now
-        start.now.found why output.old output.new) }
 {
     let ways = ways_of(start.ways)?;
     machine.told_to_inherit(&ways)?;
@@ -188,16 +143,6 @@ fn watched<
 where
     R::File: Blocks + Lockable + AsRawFd,
     requires found { IsTrue start.now.found → start.now.id ≡ Zero }
-    requires read { AreRead start.now settings.now ways.now }
-    requires inherited { AreUnblocked ways.now None }
-    ensures asks { AsksWatched machine.old start.now settings.now ways.now machine.new }
-    ensures rest { AsksRest start.now rest.old rest.new }
-    ensures ok { OnOk result (HasServed O.contents start.now output.old output.new) }
-    ensures err { IfErr result (FailsInherited O.contents start.now settings.now ways.now
-        output.old output.new) }
-    ensures order { IfErr result (λ why. IsInSomeOrder O.contents (path_in start.now.capture)
-        ⟦<FileDisk<Opened<R::File>> as Disk>⟧.honest ⟦<FileDisk<Opened<R::File>> as Disk>⟧.now
-        start.now.found why output.old output.new) }
 {
     let mut manager = manager_of(machine, start.notify)?;
     let ended = apart(machine, rest, start, settings, ways, &mut manager, output);
@@ -222,19 +167,6 @@ fn apart<
 where
     R::File: Blocks + Lockable + AsRawFd,
     requires found { IsTrue start.now.found → start.now.id ≡ Zero }
-    requires watched { AreWatched start.now settings.now ways.now }
-    requires notified { IsNotified start.now.notify manager.old }
-    ensures asks { AsksApart machine.old start.now settings.now ways.now machine.new }
-    ensures rest { AsksRest start.now rest.old rest.new }
-    ensures ok { OnOk result (CanOpen start.now settings.now ways.now × RunsOpened O.contents
-        start.now settings.now ways.now manager.old manager.new output.old output.new) }
-    ensures err { IfErr result (FailsWatched O.contents start.now settings.now ways.now
-        manager.old manager.new output.old output.new) }
-    ensures unheard { IfErr result (IsUnheard O.contents output.old output.new
-        manager.old manager.new) }
-    ensures order { IfErr result (λ why. IsInSomeOrder O.contents (path_in start.now.capture)
-        ⟦<FileDisk<Opened<R::File>> as Disk>⟧.honest ⟦<FileDisk<Opened<R::File>> as Disk>⟧.now
-        start.now.found why output.old output.new) }
 {
     without_clash(settings, start.id, ways)?;
     let path = machine.told_to_give_path(settings, start.id)?;
@@ -259,21 +191,6 @@ fn locked<
 where
     R::File: Blocks + Lockable + AsRawFd,
     requires found { IsTrue start.now.found → start.now.id ≡ Zero }
-    requires can { CanOpen start.now settings.now ways.now }
-    requires notified { IsNotified start.now.notify manager.old }
-    requires beside { IsBeside (boot_file_of settings.now start.now.id) path.now }
-    ensures asks { AsksUpTo machine.old start.now
-        (openings start.now settings.now ways.now) machine.new }
-    ensures rest { AsksRest start.now rest.old rest.new }
-    ensures ok { OnOk result (RunsOpened O.contents start.now settings.now ways.now
-        manager.old manager.new output.old output.new) }
-    ensures err { IfErr result (FailsOpening O.contents start.now settings.now ways.now
-        manager.old manager.new output.old output.new) }
-    ensures unheard { IfErr result (IsUnheard O.contents output.old output.new
-        manager.old manager.new) }
-    ensures order { IfErr result (λ why. IsInSomeOrder O.contents (path_in start.now.capture)
-        ⟦<FileDisk<Opened<R::File>> as Disk>⟧.honest ⟦<FileDisk<Opened<R::File>> as Disk>⟧.now
-        start.now.found why output.old output.new) }
 {
     match machine.told_to_lock(start, settings, ways) {
         Ok(mut disk) => {
@@ -306,33 +223,6 @@ fn connected<
 where
     R::File: Blocks + Lockable + AsRawFd,
     requires found { IsTrue start.now.found → start.now.id ≡ Zero }
-    requires notified { IsNotified start.now.notify manager.old }
-    requires locked { ⟦<Opened<R::File> as Lockable>⟧.locked disk.old.file }
-    requires given { WasGiven (locked_file (boot_file_of settings.now start.now.id)) }
-    requires had { WasHad (locked_file (boot_file_of settings.now start.now.id)) disk.old }
-    requires written { AreWays start.now.ways ways.now }
-    requires beside { IsBeside (boot_file_of settings.now start.now.id) path.now }
-    ensures asks { AsksUpTo machine.old start.now
-        (listeners start.now settings.now ways.now) machine.new }
-    ensures rest { AsksRest start.now rest.old rest.new }
-    ensures ok { OnOk result (RunsLocked O.contents start.now settings.now ways.now
-        manager.old manager.new output.old output.new) }
-    ensures err { IfErr result (FailsLocked O.contents start.now settings.now ways.now
-        manager.old manager.new output.old output.new) }
-    ensures untouched { IfErr result (λ why. IsUnrun O.contents (path_in start.now.capture)
-        settings.now start.now.id output.old output.new why
-        ⊎ ((disk.new ≡ disk.old) × (manager.new ≡ manager.old))) }
-    ensures left { IsLeft disk.old disk.new }
-    ensures decided { ⟦<FileDisk<Opened<R::File>> as Disk>⟧.honest disk.old
-        → OnOk result (IsNumbered start.now.found
-        (⟦<FileDisk<Opened<R::File>> as Disk>⟧.now disk.old)
-        (⟦<FileDisk<Opened<R::File>> as Disk>⟧.now disk.new)) }
-    ensures unheard { IfErr result (IsUnheard O.contents output.old output.new
-        manager.old manager.new) }
-    ensures order { IfErr result (λ why. IsInOrder O.contents (path_in start.now.capture)
-        (⟦<FileDisk<Opened<R::File>> as Disk>⟧.honest disk.old) start.now.found
-        (⟦<FileDisk<Opened<R::File>> as Disk>⟧.now disk.old)
-        (⟦<FileDisk<Opened<R::File>> as Disk>⟧.now disk.new) why output.old output.new) }
 {
     let control = machine.told_to_hear(settings, start.id, path)?;
     wired(
@@ -360,29 +250,6 @@ fn wired<
 where
     R::File: AsRawFd,
     requires found { IsTrue start.now.found → start.now.id ≡ Zero }
-    requires notified { IsNotified start.now.notify manager.old }
-    requires had { WasHad (locked_file (boot_file_of settings.now start.now.id)) disk.old }
-    requires heard { WasHad (control_socket (socket_of (boot_file_of settings.now start.now.id)))
-        control }
-    requires written { AreWays start.now.ways ways.now }
-    ensures asks { AsksUpTo machine.old start.now
-        (places start.now settings.now ways.now) machine.new }
-    ensures rest { AsksRest start.now rest.old rest.new }
-    ensures ok { OnOk result (RunsWired O.contents start.now settings.now ways.now
-        manager.old manager.new output.old output.new) }
-    ensures err { IfErr result (FailsHeard O.contents start.now settings.now ways.now
-        manager.old manager.new output.old output.new) }
-    ensures untouched { IfErr result (λ why. IsUnrun O.contents (path_in start.now.capture)
-        settings.now start.now.id output.old output.new why
-        ⊎ ((disk.new ≡ disk.old) × (manager.new ≡ manager.old))) }
-    ensures left { IsLeft disk.old disk.new }
-    ensures decided { D.honest disk.old
-        → OnOk result (IsNumbered start.now.found (D.now disk.old) (D.now disk.new)) }
-    ensures unheard { IfErr result (IsUnheard O.contents output.old output.new
-        manager.old manager.new) }
-    ensures order { IfErr result (λ why. IsInOrder O.contents (path_in start.now.capture)
-        (D.honest disk.old) start.now.found (D.now disk.old) (D.now disk.new)
-        why output.old output.new) }
 {
     let wire = machine.told_to_wire(settings, start.id, ways, control)?;
     logged(machine, rest, start, settings, manager, disk, wire, output)
@@ -407,31 +274,6 @@ fn logged<
 where
     R::File: AsRawFd,
     requires found { IsTrue start.now.found → start.now.id ≡ Zero }
-    requires notified { IsNotified start.now.notify manager.old }
-    requires had { WasHad (locked_file (boot_file_of settings.now start.now.id)) disk.old }
-    requires wired { WasGiven all_sockets }
-    requires own { IsOfSockets settings.now start.now wire }
-    ensures asks { AsksUpTo machine.old start.now (captures (path_in start.now.capture))
-        machine.new }
-    ensures rest { UsesRest start.now rest.old rest.new }
-    ensures ok { OnOk result (HasRun O.contents does_at says_at settings.now start.now wire
-        manager.old manager.new output.old output.new) }
-    ensures closed { OnOk result (WasClosed (path_in start.now.capture) (Ok tt) output.new) }
-    ensures err { IfErr result (FailsWired O.contents start.now settings.now
-        output.old output.new) }
-    ensures spared { IfErr result (IsSpared O.contents does_at says_at settings.now start.now
-        wire manager.old manager.new output.old output.new) }
-    ensures untouched { IfErr result (λ why. IsUnrun O.contents (path_in start.now.capture)
-        settings.now start.now.id output.old output.new why
-        ⊎ ((disk.new ≡ disk.old) × (manager.new ≡ manager.old))) }
-    ensures left { IsLeft disk.old disk.new }
-    ensures decided { D.honest disk.old
-        → OnOk result (IsNumbered start.now.found (D.now disk.old) (D.now disk.new)) }
-    ensures unheard { IfErr result (IsUnheard O.contents output.old output.new
-        manager.old manager.new) }
-    ensures order { IfErr result (λ why. IsInOrder O.contents (path_in start.now.capture)
-        (D.honest disk.old) start.now.found (D.now disk.old) (D.now disk.new)
-        why output.old output.new) }
 {
     match filter_by(&mut rest.environment, machine.alloc(), start.log) {
         Ok(filter) => {
@@ -479,39 +321,6 @@ fn captured<
 where
     R::File: AsRawFd,
     requires found { IsTrue start.now.found → start.now.id ≡ Zero }
-    requires notified { IsNotified start.now.notify manager.old }
-    requires valid { IsFilter start.now.log }
-    requires had { WasHad (locked_file (boot_file_of settings.now start.now.id)) disk.old }
-    requires own { IsOfSockets settings.now start.now wire }
-    requires wired { WasGiven all_sockets }
-    requires log { IsOwnLog L.passes L.writes start.now records.old.log }
-    requires untold { IsUntold records.old }
-    ensures asks { AsksUpTo machine.old start.now (captures (path_in start.now.capture))
-        machine.new }
-    ensures means { UsesMeans (path_in start.now.capture) means.old means.new }
-    ensures ok { OnOk result (HasRun O.contents (calls W.does W.answers)
-        (wire_says W.waits W.failing W.lost) settings.now start.now wire
-        manager.old manager.new output.old output.new) }
-    ensures err { IfErr result (FailsLogged O.contents start.now settings.now
-        output.old output.new) }
-    ensures spared { IfErr result (IsSpared O.contents (calls W.does W.answers)
-        (wire_says W.waits W.failing W.lost) settings.now start.now wire
-        manager.old manager.new output.old output.new) }
-    ensures untouched { IfErr result (λ why. IsUnrun O.contents (path_in start.now.capture)
-        settings.now start.now.id output.old output.new why
-        ⊎ ((disk.new ≡ disk.old) × (manager.new ≡ manager.old))) }
-    ensures recorded { OnOk result (IsRecordedToEnd O.contents (path_in start.now.capture)
-        output.old output.new records.old records.new) }
-    ensures told { IfErr result (IsToldAtRefusal O.contents (path_in start.now.capture)
-        settings.now start.now.id output.old output.new records.old records.new) }
-    ensures left { IsLeft disk.old disk.new }
-    ensures decided { D.honest disk.old
-        → OnOk result (IsNumbered start.now.found (D.now disk.old) (D.now disk.new)) }
-    ensures unheard { IfErr result (IsUnheard O.contents output.old output.new
-        manager.old manager.new) }
-    ensures order { IfErr result (λ why. IsInOrder O.contents (path_in start.now.capture)
-        (D.honest disk.old) start.now.found (D.now disk.old) (D.now disk.new)
-        why output.old output.new) }
 {
     match capture_at(machine, start) {
         Ok(Some(capture)) => tapped(

@@ -1,20 +1,6 @@
 //! A gateway is started, and has its rounds.
-ghost use Rattle.std.specs.Prelude.{◌≡◌, ◌⊎◌, IfErr, IsTrue, None, Ok, OnOk, Some, false, is_some};
+ghost use Rattle.std.specs.Prelude.{◌≡◌, IsTrue};
 ghost use Rattle.nat_types.specs.declared.gateways.GatewayId.TheVariants.{Zero};
-ghost use Rattle.rounds.specs.Rounds.{calls, wire_says};
-ghost use Rattle.rounds.specs.Tellings.{IsNewTeller};
-ghost use Rattle.gate.specs.Asked.{IsFilter, IsNotified, boot_file_of, path_in};
-ghost use Rattle.gate.specs.Boots.{IsIdentity};
-ghost use Rattle.gate.specs.Failing.{IsUnbegun, LacksEnd};
-ghost use Rattle.gate.specs.Logs.{IsOwnLog, IsOwnTeller, IsRecordedToEnd, IsToldAtRefusal, IsToldOfRun, IsToldOfThis, WasToldRun};
-ghost use Rattle.gate.specs.Named.{IsLeft, IsUntold, LendsPace, WasGiven, WasHad, WasLetGo, begun_capture, boot_number, capture_file, locked_file};
-ghost use Rattle.gate.specs.Orders.{IsInOrder, IsNumbered, IsSparing, IsUnstarted};
-ghost use Rattle.gate.specs.Printing.{HasEnded};
-ghost use Rattle.gate.specs.Rests.{LendsRun, UsesSeed};
-ghost use Rattle.gate.specs.Served.{HasRun};
-ghost use Rattle.gate.specs.Told.{HearsAll, IsUnheard};
-ghost use Rattle.gate.specs.declared.recording.Records.{Records};
-ghost use Rattle.gate.specs.Wires.{IsOfSockets, IsOwnWire, IsSpared, RanOn, RunsOn};
 
 use crate::capturing::CaptureAt;
 use crate::recording::{Records, put_away};
@@ -59,38 +45,6 @@ pub(crate) fn tapped<
     records: &mut Records<L>,
 ) -> Result<(), BoxFault>
     requires found { IsTrue start.now.found → start.now.id ≡ Zero }
-    requires notified { IsNotified start.now.notify manager.old }
-    requires valid { IsFilter start.now.log }
-    requires captured { path_in start.now.capture ≡ Some capture.path.now }
-    requires own { IsOfSockets settings.now start.now wire }
-    requires had { WasHad (locked_file (boot_file_of settings.now start.now.id)) disk.old }
-    requires file { WasHad (capture_file capture.path.now) capture.file }
-    requires log { IsOwnLog L.passes L.writes start.now records.old.log }
-    requires untold { IsUntold records.old }
-    ensures means { UsesSeed (Some capture.entry.path.now) means.old means.new }
-    ensures ok { OnOk result (HasRun O.contents (calls W.does W.answers)
-        (wire_says W.waits W.failing W.lost) settings.now start.now wire
-        manager.old manager.new output.old output.new) }
-    ensures err { IfErr result (IsUnstarted O.contents (path_in start.now.capture) settings.now
-        start.now.id ((disk.new ≡ disk.old) × (manager.new ≡ manager.old))
-        output.old output.new) }
-    ensures kept { IfErr result (λ why. IsSparing O.contents (path_in start.now.capture) why
-        output.old output.new) }
-    ensures spared { IfErr result (IsSpared O.contents (calls W.does W.answers)
-        (wire_says W.waits W.failing W.lost) settings.now start.now wire
-        manager.old manager.new output.old output.new) }
-    ensures recorded { OnOk result (IsRecordedToEnd O.contents (path_in start.now.capture)
-        output.old output.new records.old records.new) }
-    ensures told { IfErr result (IsToldAtRefusal O.contents (path_in start.now.capture)
-        settings.now start.now.id output.old output.new records.old records.new) }
-    ensures left { IsLeft disk.old disk.new }
-    ensures decided { D.honest disk.old
-        → OnOk result (IsNumbered start.now.found (D.now disk.old) (D.now disk.new)) }
-    ensures unheard { IfErr result (IsUnheard O.contents output.old output.new
-        manager.old manager.new) }
-    ensures order { IfErr result (λ why. IsInOrder O.contents (path_in start.now.capture)
-        (D.honest disk.old) start.now.found (D.now disk.old) (D.now disk.new)
-        why output.old output.new) }
 {
     match started(
         alloc,
@@ -147,34 +101,7 @@ fn tapped_rounds<
     manager: &mut Option<Manager>,
     output: &mut O,
     records: &mut Records<L>,
-) -> Result<(), BoxFault>
-    requires notified { IsNotified start.now.notify manager.old }
-    requires numbered { WasGiven boot_number }
-    requires captured { path_in start.now.capture ≡ Some capture.path.now }
-    requires identity { IsIdentity settings.now start.now.id identity gateway.old }
-    requires had { WasHad (capture_file capture.path.now) capture.file }
-    requires log { IsOwnLog L.passes L.writes start.now records.old.log }
-    requires begun { IsToldOfThis identity.boot records.old }
-    ensures seeds { means.new.seeds ≡ means.old.seeds }
-    ensures means { LendsRun (Some capture.entry.path.now) means.old means.new }
-    ensures ran { OnOk result (RanOn (calls W.does W.answers) (wire_says W.waits W.failing W.lost)
-        identity start.now gateway.old gateway.new wire manager.old manager.new) }
-    ensures ended { OnOk result (HasEnded O.contents gateway.new output.old output.new) }
-    ensures begun { OnOk result (WasGiven (begun_capture capture.entry.path.now)) }
-    ensures recorded { OnOk result
-        (IsToldOfRun (Some capture.entry.path.now) records.old records.new) }
-    ensures told { IfErr result (λ why. (LacksEnd O.contents output.old output.new why
-        × IsToldOfRun (Some capture.entry.path.now) records.old records.new)
-        ⊎ (IsUnbegun (Some capture.entry.path.now) why
-        × ((output.new ≡ output.old) × (records.new ≡ records.old)))) }
-    ensures unrun { IfErr result (λ why.
-        (LacksEnd O.contents output.old output.new why
-        × RanOn (calls W.does W.answers) (wire_says W.waits W.failing W.lost) identity start.now
-        gateway.old gateway.new wire manager.old manager.new)
-        ⊎ ((IsUnbegun (Some capture.entry.path.now) why × WasLetGo wire)
-        × ((output.new ≡ output.old)
-        × ((manager.new ≡ manager.old) × (gateway.new ≡ gateway.old))))) }
-{
+) -> Result<(), BoxFault> {
     let mut wire = capture.begin(alloc, wire, start.id, timed(&mut means.moments))?;
     let run = records.lend();
     let teller = records.teller_at(run, gateway.moment());
@@ -214,35 +141,6 @@ pub(crate) fn run<
     records: &mut Records<L>,
 ) -> Result<(), BoxFault>
     requires found { IsTrue start.now.found → start.now.id ≡ Zero }
-    requires notified { IsNotified start.now.notify manager.old }
-    requires valid { IsFilter start.now.log }
-    requires uncaptured { is_some start.now.capture ≡ false }
-    requires had { WasHad (locked_file (boot_file_of settings.now start.now.id)) disk.old }
-    requires own { IsOfSockets settings.now start.now wire }
-    requires log { IsOwnLog L.passes L.writes start.now records.old.log }
-    requires untold { IsUntold records.old }
-    ensures means { UsesSeed None means.old means.new }
-    ensures ok { OnOk result (HasRun O.contents (calls W.does W.answers)
-        (wire_says W.waits W.failing W.lost) settings.now start.now wire
-        manager.old manager.new output.old output.new) }
-    ensures err { IfErr result (IsUnstarted O.contents (path_in start.now.capture) settings.now
-        start.now.id ((disk.new ≡ disk.old) × (manager.new ≡ manager.old))
-        output.old output.new) }
-    ensures spared { IfErr result (IsSpared O.contents (calls W.does W.answers)
-        (wire_says W.waits W.failing W.lost) settings.now start.now wire
-        manager.old manager.new output.old output.new) }
-    ensures recorded { OnOk result (IsRecordedToEnd O.contents (path_in start.now.capture)
-        output.old output.new records.old records.new) }
-    ensures told { IfErr result (IsToldAtRefusal O.contents (path_in start.now.capture)
-        settings.now start.now.id output.old output.new records.old records.new) }
-    ensures left { IsLeft disk.old disk.new }
-    ensures decided { D.honest disk.old
-        → OnOk result (IsNumbered start.now.found (D.now disk.old) (D.now disk.new)) }
-    ensures unheard { IfErr result (IsUnheard O.contents output.old output.new
-        manager.old manager.new) }
-    ensures order { IfErr result (λ why. IsInOrder O.contents (path_in start.now.capture)
-        (D.honest disk.old) start.now.found (D.now disk.old) (D.now disk.new)
-        why output.old output.new) }
 {
     match started(
         alloc,
@@ -293,23 +191,7 @@ fn rounds_of<C: Clock + Input + AllocGlobal, W: Wire, O: Output, L: Journal + Ow
     manager: &mut Option<Manager>,
     output: &mut O,
     mut teller: Teller<'_, L>,
-) -> Result<(), BoxFault>
-    requires notified { IsNotified start.now.notify manager.old }
-    requires own { IsOwnWire (path_in start.now.capture) settings.now start.now wire.old }
-    requires identity { IsIdentity settings.now start.now.id identity gateway.old }
-    requires log { IsOwnLog L.passes L.writes start.now teller.log }
-    requires fresh { IsNewTeller teller.log gateway.old.moment teller }
-    requires teller { IsOwnTeller (Records L) identity.boot teller }
-    ensures pace { LendsPace pace.old pace.new }
-    ensures runs { (run : RunsOn (calls W.does W.answers)
-        (wire_says W.waits W.failing W.lost) identity
-        start.now.rounds start.now.track start.now.until_eof
-        gateway.old gateway.new wire.old wire.new)
-        × (HearsAll identity.boot run.had.all.moments manager.old manager.new
-        × WasToldRun start.now identity.boot gateway.old.moment run.last.told) }
-    ensures ended { OnOk result (HasEnded O.contents gateway.new output.old output.new) }
-    ensures err { IfErr result (LacksEnd O.contents output.old output.new) }
-{
+) -> Result<(), BoxFault> {
     let moment = gateway.moment();
     manager.ready(identity.boot);
     let (mut clock, mut until) = pace.begun(start.until_eof);

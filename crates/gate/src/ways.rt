@@ -1,7 +1,4 @@
 //! The ways of a box's places, as its operator wrote them.
-ghost use Rattle.std.specs.Prelude.{◌≡◌, MatchOption, IfErr, IfOk};
-ghost use Rattle.sockets.specs.Ways.{IsWayText, IsNoWayText};
-ghost use Rattle.gate.specs.Starts.{AreWays, LackWay};
 
 use box_words::BoxFault;
 use nat_types::Side;
@@ -16,10 +13,7 @@ pub struct WayTexts<'a> {
 }
 
 /// The ways that texts write. The first of them that writes none is told of: the inside's, the outside's, the link's.
-pub(crate) fn ways_of(texts: WayTexts<'_>) -> Result<Ways, BoxFault>
-    ensures ok { IfOk result (AreWays texts.entry) }
-    ensures err { IfErr result (LackWay texts.entry) }
-{
+pub(crate) fn ways_of(texts: WayTexts<'_>) -> Result<Ways, BoxFault> {
     let Some(inside) = Way::read(texts.inside) else {
         return Err(BoxFault::NoWay(Side::Inside));
     };

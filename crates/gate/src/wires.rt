@@ -1,11 +1,4 @@
 //! What a start has is let go.
-ghost use Rattle.std.specs.Prelude.{OnOk};
-ghost use Rattle.boot_file.specs.declared.file_disk.FileDisk.{FileDisk};
-ghost use Rattle.boot_file.specs.declared.openings.Opened.{Opened};
-ghost use Rattle.gate.specs.Asked.{boot_file_of, path_in};
-ghost use Rattle.gate.specs.Named.{IsLeft, WasHad, WasLetGo, WasUnlocked, locked_file};
-ghost use Rattle.gate.specs.Orders.{IsUntaken};
-ghost use Rattle.gate.specs.Served.{RanLocked};
 
 use crate::machine::Machine;
 use crate::rest::Rest;
@@ -66,42 +59,28 @@ impl<F: Drop> closed::Sealed for FileDisk<Opened<F>> {}
 impl<F: Blocks + Drop> OwnDisk for FileDisk<Opened<F>> {}
 
 /// Lets a wire, a service manager, what asks the system, or a clock with what tells a run to end, go, as it is.
-#[tactic(auto, unfolding(crate::specs::Named::WasLetGo))]
-pub(crate) fn let_go<A: Held>(it: A)
-    ensures { WasLetGo it }
-{
+pub(crate) fn let_go<A: Held>(it: A) {
     drop(it);
 }
 
 /// Lets a wire go whose packets were captured, as it is, and with it what says their moments, and the capture's file.
-#[tactic(auto, unfolding(crate::specs::Named::WasLetGo))]
-pub(crate) fn untap<W: Held, M: Drop, O: Drop>(tapped: Tapped<W, M, O>)
-    ensures whole { WasLetGo tapped }
-    ensures wire { WasLetGo tapped.wire }
-{
+pub(crate) fn untap<W: Held, M: Drop, O: Drop>(tapped: Tapped<W, M, O>) {
     drop(tapped);
 }
 
-/// Lets go who tells of a run, as it is. Of the log nothing is known here, so it can be told nothing.
-#[tactic(auto, unfolding(crate::specs::Named::WasLetGo))]
-pub(crate) fn dismiss<L>(teller: Teller<'_, L>)
-    ensures { WasLetGo teller.entry }
-{
+/// Lets go who tells of a run, as it is.
+pub(crate) fn dismiss<L>(teller: Teller<'_, L>) {
     drop(teller);
 }
 
 /// Lets what asked the system for a start go, as it is.
-pub(crate) fn put_down<R>(machine: Machine<'_, R>, rest: Rest<'_, R>)
-    ensures machine { WasLetGo machine.entry }
-    ensures rest { WasLetGo rest.entry }
-{
+pub(crate) fn put_down<R>(machine: Machine<'_, R>, rest: Rest<'_, R>) {
     let_go(machine);
     let_go(rest);
 }
 
 /// Lets the boot file of a start's box go: as it was when it was locked, or as its number has left it, which is taken behind the
 /// seed; and where the start was served, behind its run.
-#[tactic(auto, unfolding(crate::specs::Named::WasUnlocked))]
 pub(crate) fn unlock<F: Drop, O: Output>(
     disk: FileDisk<Opened<F>>,
     _start: &Start<'_>,
@@ -109,14 +88,6 @@ pub(crate) fn unlock<F: Drop, O: Output>(
     _ways: &Ways,
     _output: &O,
     _ended: &Result<(), BoxFault>,
-)
-    requires left { (first : FileDisk (Opened F))
-        × (WasHad (locked_file (boot_file_of _settings.now _start.now.id)) first
-        × (IsLeft first disk × IsUntaken O.contents (path_in _start.now.capture)
-        _settings.now _start.now.id _ended.now first disk _output.now)) }
-    requires ran { OnOk _ended.now (RanLocked O.contents _start.now _settings.now _ways.now
-        _output.now) }
-    ensures { WasUnlocked (boot_file_of _settings.now _start.now.id) _ended.now _output.now }
-{
+) {
     drop(disk);
 }

@@ -1,8 +1,2 @@
-mod Turning
 mod Looping
-mod Telling
-mod Stopping
-mod Taping
-mod Holding
-mod Looking
-mod Opening
+mod Turning

@@ -1,15 +1,3 @@
-pub mod Turns
-pub mod Texts
 pub mod Runs
-pub mod Loops
-pub mod Stops
-pub mod Outputs
-pub mod Tapes
-pub mod Fails
-pub mod Parcels
-pub mod Carrying
-pub mod Reaches
-pub mod Held
-pub mod Binding
-pub mod Standings
-pub mod Holds
+pub mod Texts
+pub mod Turns

@@ -1,5 +1,4 @@
 //! How ports of the system's are had.
-ghost use Rattle.loopback_run.specs.Binding.{Watches};
 
 use crate::carriers::{Binds, Unbound};
 use crate::giving::give_up;
@@ -10,10 +9,6 @@ use std::net::Net;
 
 /// Which ports are had is the system's answer.
 impl<R: Net + AllocGlobal> Binds<SystemPort> for SystemBinds<'_, R> {
-    ghost use Rattle.loopback_run.specs.Binding.{HasBound};
-
-    ghost binds = { HasBound };
-
     fn bind(&mut self, number: u16) -> Result<SystemPort, Unbound> {
         match self.told_to_make_room(1) {
             Some(room) => watched(self, number, room),
@@ -28,9 +23,7 @@ fn watched<R: Net>(
     system: &mut SystemBinds<'_, R>,
     number: u16,
     room: Events<Global>,
-) -> Result<SystemPort, Unbound>
-    ensures { Watches number room system.old result system.new }
-{
+) -> Result<SystemPort, Unbound> {
     let Ok(socket) = system.told_to_bind(address_of(number)) else {
         return Err(Unbound::NoSocket);
     };

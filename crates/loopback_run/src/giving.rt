@@ -1,5 +1,4 @@
 //! What was had is given up.
-ghost use Rattle.loopback_run.specs.Binding.{WasGivenUp};
 
 use crate::loopback::{Port, Ports};
 use crate::machine::{Socket, SystemPort, Waits};
@@ -34,8 +33,5 @@ impl<S: Held> closed::Sealed for Ports<S> {}
 
 impl<S: Held> Held for Ports<S> {}
 
-/// Gives up what was had. Of what it is nothing is known here, so nothing else can be done with it.
-#[tactic(auto, unfolding(crate::specs::Binding::WasGivenUp))]
-pub(crate) fn give_up<X: Held>(_had: X)
-    ensures { WasGivenUp _had }
-{}
+/// Gives up what was had.
+pub(crate) fn give_up<X: Held>(_had: X) {}

@@ -5,7 +5,6 @@ mod binding;
 mod carriers;
 mod carrying;
 mod giving;
-mod laws;
 mod loopback;
 mod machine;
 mod passage;

@@ -1,8 +1,4 @@
 //! A passage through UDP sockets on the loopback address.
-ghost use Rattle.std.specs.Prelude.{◌≡◌, IfOk};
-ghost use Rattle.loopback_run.specs.Held.{AreOf, AreOfBoth, AsksOne, AsksOneOf, AsksPort};
-ghost use Rattle.loopback_run.specs.Binding.{BindsBoth, BindsPort, BindsPorts};
-ghost use Rattle.loopback_run.specs.Reaches.{reach};
 
 use crate::carriers::{Binds, Carries, Unbound};
 use crate::giving::{Held, give_up};
@@ -23,10 +19,7 @@ pub(crate) struct Port<S> {
 
 impl<S> Port<S> {
     /// The port of this number. Where it isn't had, it is the one that is named.
-    fn bind<B: Binds<S>>(system: &mut B, number: u16) -> Result<Port<S>, PortFault>
-        ensures number { IfOk result (λ port. port.number ≡ number) }
-        ensures bound { BindsPort B.binds number system.old result system.new }
-    {
+    fn bind<B: Binds<S>>(system: &mut B, number: u16) -> Result<Port<S>, PortFault> {
         match system.bind(number) {
             Ok(carrier) => Ok(Port { number, carrier }),
             Err(Unbound::NoSocket) => Err(PortFault::NoPort(number)),
@@ -37,10 +30,7 @@ impl<S> Port<S> {
 
 impl<S> Port<S> {
     /// Sends bytes to itself, once, and says whether just these came.
-    fn pass<B: Carries<S>>(&mut self, system: &mut B, bytes: &[u8]) -> Passed
-        ensures { AsksPort B.asks bytes.now result (reach system.old self.old)
-            (reach system.new self.new) }
-    {
+    fn pass<B: Carries<S>>(&mut self, system: &mut B, bytes: &[u8]) -> Passed {
         system.carry(&mut self.carrier, self.number, bytes)
     }
 }
@@ -55,10 +45,7 @@ pub(crate) struct Ports<S> {
 
 impl<S: Held> Ports<S> {
     /// Those of a gateway's settings, one after the other up to the first that isn't had.
-    fn bind<B: Binds<S>>(system: &mut B, own: &GatewaySettings) -> Result<Ports<S>, PortFault>
-        ensures numbers { IfOk result (AreOf own.now) }
-        ensures bound { BindsPorts B.binds own.now system.old result system.new }
-    {
+    fn bind<B: Binds<S>>(system: &mut B, own: &GatewaySettings) -> Result<Ports<S>, PortFault> {
         let link = Port::bind(system, own.link)?;
         let inside = match Port::bind(system, own.inside_port) {
             Ok(inside) => inside,
@@ -85,10 +72,7 @@ impl<S: Held> Ports<S> {
 
 impl<S> Ports<S> {
     /// Sends bytes through the port of a place, once, and through no other; the operator's has none, and loses them.
-    fn pass<B: Carries<S>>(&mut self, system: &mut B, place: Place, bytes: &[u8]) -> Passed
-        ensures { AsksOne B.asks place bytes.now result (reach system.old self.old)
-            (reach system.new self.new) }
-    {
+    fn pass<B: Carries<S>>(&mut self, system: &mut B, place: Place, bytes: &[u8]) -> Passed {
         match place {
             Place::Link => self.link.pass(system, bytes),
             Place::Side(Side::Inside) => self.inside.pass(system, bytes),
@@ -107,10 +91,7 @@ struct Both<S> {
 
 impl<S: Held> Both<S> {
     /// Those of both gateways' settings, gateway 0's first, up to the first that isn't had.
-    fn bind<B: Binds<S>>(system: &mut B, settings: &Settings) -> Result<Both<S>, PortFault>
-        ensures numbers { IfOk result (AreOfBoth settings.now) }
-        ensures bound { BindsBoth B.binds settings.now system.old result system.new }
-    {
+    fn bind<B: Binds<S>>(system: &mut B, settings: &Settings) -> Result<Both<S>, PortFault> {
         let zero = Ports::bind(system, settings.gateway(GatewayId::Zero))?;
         match Ports::bind(system, settings.gateway(GatewayId::One)) {
             Ok(one) => Ok(Both { zero, one }),
@@ -130,10 +111,7 @@ impl<S> Both<S> {
         id: GatewayId,
         place: Place,
         bytes: &[u8],
-    ) -> Passed
-        ensures { AsksOneOf B.asks id place bytes.now result (reach system.old self.old)
-            (reach system.new self.new) }
-    {
+    ) -> Passed {
         match id {
             GatewayId::Zero => self.zero.pass(system, place, bytes),
             GatewayId::One => self.one.pass(system, place, bytes),
@@ -146,7 +124,6 @@ impl<S> Both<S> {
 pub(crate) struct BoundPorts<S> {
     both: Both<S>,
     settings: Snapshot<Settings>,
-    ghost numbered: { AreOfBoth settings.value both },
 }
 
 impl<S> BoundPorts<S> {
@@ -157,12 +134,7 @@ impl<S> BoundPorts<S> {
         id: GatewayId,
         place: Place,
         bytes: &[u8],
-    ) -> Passed
-        ensures asked { AsksOneOf B.asks id place bytes.now result (reach system.old self.old.both)
-            (reach system.new self.new.both) }
-        ensures settings { self.new.settings.value ≡ self.old.settings.value }
-        ensures numbered { AreOfBoth self.old.settings.value self.old.both }
-    {
+    ) -> Passed {
         self.both.pass(system, id, place, bytes)
     }
 }
@@ -177,23 +149,15 @@ pub(crate) enum Hold<S> {
 }
 
 impl<S: Held> Hold<S> {
-    ghost use Rattle.std.specs.Prelude.{◌≡◌};
-    ghost use Rattle.loopback_run.specs.Holds.{standing_of};
-    ghost use Rattle.loopback_run.specs.Standings.{WasLetGo, unasked};
-
     /// Lets go what was answered, and the ports, if they are had, as they are, before who binds others is asked for these.
-    #[tactic(auto, unfolding(crate::specs::Standings::WasLetGo))]
-    pub(crate) fn let_go<B>(&mut self, system: &mut B)
-        ensures let_go { WasLetGo system.old (standing_of self.old) system.new }
-        ensures unasked { standing_of self.new ≡ unasked }
-    {
+    pub(crate) fn let_go<B>(&mut self, system: &mut B) {
         let _system = system;
         *self = Hold::Unasked;
     }
 }
 
 /// Who binds ports and has bytes go through them, and which are held: a passage through them. Where they aren't had, all is
-/// lost. Of him no more is known here than that he can be asked for that; so nobody else can be asked.
+/// lost.
 #[derive(Drop)]
 pub struct Holding<B, S> {
     system: B,
@@ -201,14 +165,6 @@ pub struct Holding<B, S> {
 }
 
 impl<B: Binds<S> + Carries<S>, S: Held> Channel for Holding<B, S> {
-    ghost use Rattle.loopback_run.specs.Holds.{HoldsNoPorts, HoldsPorts, PassesOn};
-
-    ghost opens = { HoldsPorts B.binds };
-
-    ghost refuses = { HoldsNoPorts B.binds };
-
-    ghost passes = { PassesOn B.asks };
-
     /// Asks for the ports of settings, each once, after those that it had are let go. After an Err it has none.
     fn open(&mut self, settings: &Settings) -> Result<(), PortFault> {
         self.hold.let_go(&mut self.system);
@@ -239,13 +195,9 @@ impl<B: Binds<S> + Carries<S>, S: Held> Channel for Holding<B, S> {
 pub type Loopback<'a, R> = Holding<SystemBinds<'a, R>, SystemPort>;
 
 impl<'a, R> Loopback<'a, R> {
-    ghost use Rattle.loopback_run.specs.Holds.{IsPassageOf};
-
     /// It asks by this hand, and was never asked for its ports. Nothing is asked of the system here: of an `R` alone nothing
     /// can be.
-    pub fn new(hand: Hand<'a, R>) -> Loopback<'a, R>
-        ensures { IsPassageOf hand.entry result }
-    {
+    pub fn new(hand: Hand<'a, R>) -> Loopback<'a, R> {
         Holding {
             system: SystemBinds::new(hand),
             hold: Hold::Unasked,

@@ -1,9 +1,5 @@
-//! The system's ports. What it is asked has names, and no more is known of it.
-ghost use Rattle.std.specs.Prelude.{◌≡◌, ◌≤◌, IfOk};
-ghost use Rattle.sockets.specs.Ends.{IsSocketOf, on_loopback};
-ghost use Rattle.loopback_run.specs.Binding.{WasBound, WasGivenRoom, WasPollMade, WasWatched};
-ghost use Rattle.loopback_run.specs.Carrying.{WasAwaited, WasNow, WasReceived, WasSent, WasSince};
-ghost use Rattle.loopback_run.specs.Reaches.{reach};
+//! The system's ports.
+ghost use Rattle.std.specs.Prelude.{◌≤◌, IfOk};
 
 use crate::giving::give_up;
 use descriptors::{Events, Interest, Poll, Token, UdpSocket};
@@ -11,7 +7,6 @@ use runtimes::Hand;
 use sockets::LONGEST;
 use std::alloc::Global;
 use std::io;
-use std::marker::Model;
 use std::net::{Ipv4Addr, Net, SocketAddr, SocketAddrV4};
 use std::rt::Clock;
 use std::time::{Duration, Instant};
@@ -33,9 +28,7 @@ pub struct SystemPort {
 }
 
 /// The address of the port of this number.
-pub(crate) fn address_of(number: u16) -> SocketAddr
-    ensures { IsSocketOf (on_loopback number) result }
-{
+pub(crate) fn address_of(number: u16) -> SocketAddr {
     SocketAddr::V4(SocketAddrV4::new(Ipv4Addr::LOCALHOST, number))
 }
 
@@ -45,45 +38,28 @@ pub struct SystemBinds<'a, R> {
     hand: Hand<'a, R>,
 }
 
-impl<'a, R> Model for SystemBinds<'a, R> {
-    ghost use Rattle.polls.specs.declared.askers.Asker.{Asker};
-
-    ghost Value = { Asker };
-
-    ghost view = { λ system. system.hand };
-}
-
 impl<'a, R> SystemBinds<'a, R> {
     /// It asks by this hand.
-    pub(crate) fn new(hand: Hand<'a, R>) -> SystemBinds<'a, R>
-        ensures { result ≡ hand.entry }
-    {
+    pub(crate) fn new(hand: Hand<'a, R>) -> SystemBinds<'a, R> {
         SystemBinds { hand }
     }
 }
 
 impl<R: AllocGlobal> SystemBinds<'_, R> {
     /// Asks for memory in which a wait reports so many events.
-    #[tactic(auto, unfolding(crate::specs::Binding::WasGivenRoom))]
-    pub(crate) fn told_to_make_room(&mut self, count: usize) -> Option<Events<Global>>
-        ensures { WasGivenRoom self.old count result self.new }
-    {
+    pub(crate) fn told_to_make_room(&mut self, count: usize) -> Option<Events<Global>> {
         Events::with_capacity(self.hand.alloc(), count).ok()
     }
 }
 
 impl<R: Net> SystemBinds<'_, R> {
     /// Asks the system for a socket at an address.
-    pub(crate) fn told_to_bind(&mut self, address: SocketAddr) -> io::Result<Socket>
-        ensures { WasBound self.old address result self.new }
-    {
+    pub(crate) fn told_to_bind(&mut self, address: SocketAddr) -> io::Result<Socket> {
         Ok(Socket(UdpSocket::bind(&mut self.hand, address)?))
     }
 
     /// Asks the system for what waits for a socket.
-    pub(crate) fn told_to_make_poll(&mut self) -> io::Result<Waits>
-        ensures { WasPollMade self.old result self.new }
-    {
+    pub(crate) fn told_to_make_poll(&mut self) -> io::Result<Waits> {
         Ok(Waits(Poll::new(&mut self.hand)?))
     }
 
@@ -95,9 +71,7 @@ impl<R: Net> SystemBinds<'_, R> {
         waits: Waits,
         room: Events<Global>,
         interest: Interest,
-    ) -> io::Result<SystemPort>
-        ensures { WasWatched self.old socket waits room interest result self.new }
-    {
+    ) -> io::Result<SystemPort> {
         let mut socket = socket;
         let mut registry = waits.0.registry();
         match socket.0.register(&mut registry, Token(0), interest) {
@@ -120,9 +94,7 @@ impl<R: Net> SystemBinds<'_, R> {
         port: &mut SystemPort,
         to: SocketAddr,
         bytes: &[u8],
-    ) -> bool
-        ensures { WasSent (reach self.old port.old) to bytes.now result (reach self.new port.new) }
-    {
+    ) -> bool {
         port.socket.0.send_to(bytes, to).is_ok()
     }
 
@@ -132,35 +104,25 @@ impl<R: Net> SystemBinds<'_, R> {
         port: &mut SystemPort,
         room: &mut [u8; LONGEST],
     ) -> io::Result<(usize, SocketAddr)>
-        ensures within { IfOk result (λ answer. answer.0 ≤ 4096) }
-        ensures asked { WasReceived (reach self.old port.old) result room.new
-            (reach self.new port.new) }
+        ensures small { IfOk result (λ answer. answer.0 ≤ 4096) }
     {
         port.socket.0.recv_from(room)
     }
 
     /// Has the system wait for one, for at most so long, and says whether it did.
-    pub(crate) fn told_to_wait(&mut self, port: &mut SystemPort, limit: Duration) -> bool
-        ensures { WasAwaited (reach self.old port.old) limit result (reach self.new port.new) }
-    {
+    pub(crate) fn told_to_wait(&mut self, port: &mut SystemPort, limit: Duration) -> bool {
         port.waits.0.poll(&mut port.events, limit).is_ok()
     }
 }
 
 impl<R: Clock> SystemBinds<'_, R> {
     /// Asks the system's clock for the moment, while a port is what it is.
-    #[tactic(auto, unfolding(crate::specs::Carrying::WasNow))]
-    pub(crate) fn asked_now(&mut self, _port: &SystemPort) -> Option<Instant>
-        ensures { WasNow (reach self.old _port.now) result (reach self.new _port.now) }
-    {
+    pub(crate) fn asked_now(&mut self, _port: &SystemPort) -> Option<Instant> {
         Instant::now(self.hand.lend()).ok()
     }
 
     /// Asks it how much time has passed since a moment.
-    #[tactic(auto, unfolding(crate::specs::Carrying::WasSince))]
-    pub(crate) fn asked_since(&mut self, _port: &SystemPort, start: Instant) -> Option<Duration>
-        ensures { WasSince (reach self.old _port.now) start result (reach self.new _port.now) }
-    {
+    pub(crate) fn asked_since(&mut self, _port: &SystemPort, start: Instant) -> Option<Duration> {
         start.elapsed(self.hand.lend()).ok()
     }
 }

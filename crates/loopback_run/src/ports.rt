@@ -27,19 +27,7 @@ impl Shows for PortFault {
 
 /// The same text.
 impl fmt::Display for PortFault {
-    ghost use Rattle.std.specs.Fmt.{WritesOnOk};
-    ghost use Rattle.std.specs.Prelude.{OnErr, Some};
-    ghost use Rattle.outlets.specs.Showing.{HasRefused};
-    ghost use Rattle.faults.specs.Texts.{fault_text};
-    ghost use Rattle.loopback_run.specs.Turns.{of_port};
-
-    ghost output = { λ fault. Some (fault_text (of_port fault)) };
-
-    fn fmt<W: fmt::Write>(&self, f: &mut fmt::Formatter<W>) -> fmt::Result
-        ensures writes { WritesOnOk W.write_str_gives f.old result (fault_text (of_port self.now))
-            f.new }
-        ensures refused { OnErr result (HasRefused f.new) }
-    {
+    fn fmt<W: fmt::Write>(&self, f: &mut fmt::Formatter<W>) -> fmt::Result {
         self.show(f)
     }
 }

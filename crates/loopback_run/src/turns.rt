@@ -1,20 +1,10 @@
 //! A script's run in which what each event hands in is first sent through a passage.
-ghost use Rattle.std.specs.Prelude.{◌≡◌, ◌⊎◌, ◌||◌, None, IfOk, IfErr, OnOk, OnErr, IsSome, if◌then◌else◌};
-ghost use Rattle.faults.specs.Faults.{status_of};
-ghost use Rattle.faults.specs.Texts.{fault_text};
-ghost use Rattle.scripts.specs.Script.{first_bad_line};
-ghost use Rattle.faults.specs.declared.faults.Fault.TheVariants as faults;
+ghost use Rattle.std.specs.Prelude.{◌≡◌, ◌||◌, IfOk, OnOk, if◌then◌else◌};
+ghost use Rattle.frame_sim.specs.World.{founding};
 ghost use Rattle.outlets.specs.Printed.{Prints};
-ghost use Rattle.outlets.specs.Telling.{IsToldOf};
-ghost use Rattle.outlets.specs.Written.{IsWritten};
-ghost use Rattle.loopback_run.specs.Fails.{FailsBy, Leaves};
-ghost use Rattle.loopback_run.specs.Outputs.{PutsScript};
-ghost use Rattle.loopback_run.specs.Runs.{HasTurned, TakesTurns};
+ghost use Rattle.loopback_run.specs.Runs.{HasTurned, IsLoop};
 ghost use Rattle.loopback_run.specs.Texts.{counts_then, turn_lines};
-ghost use Rattle.loopback_run.specs.Turns.{HasSent, TakesTurn, handed, is_lost, is_refusal, of_port};
-ghost use Rattle.loopback_run.specs.Loops.{TellsLoop};
-ghost use Rattle.loopback_run.specs.Tapes.{IsTapedLoop, RefusesTurn, StopsTaped, StopsTapedLoop, StopsTapedScript, TapedBroken, TapesScript, TapesTurn};
-ghost use Rattle.loopback_run.specs.Stops.{HoldJob, Untouched};
+ghost use Rattle.loopback_run.specs.Turns.{IsTurn, is_refusal, of_port};
 
 use crate::{Channel, Passed, PortFault};
 use faults::Fault;
@@ -39,18 +29,7 @@ pub fn run_loop<P: Channel, O: Output, E: Tells>(
     passage: &mut P,
     output: &mut O,
     errors: &mut E,
-) -> u8
-    ensures status { (result ≡ 0) ⊎ ((result ≡ 1) ⊎ (result ≡ 3)) }
-    ensures bad { IsSome (first_bad_line script.now) → result ≡ 1 }
-    ensures run { (result ≡ 0) ⊎ (result ≡ 3) → PutsScript P.opens P.passes O.contents
-        settings.now script.now passage.old passage.new output.old output.new result }
-    ensures untouched { (HoldJob settings.now script.now → ⊥)
-        → Untouched passage.old passage.new output.old output.new }
-    ensures quiet { (result ≡ 0) ⊎ (result ≡ 3) → errors.new ≡ errors.old }
-    ensures told { result ≡ 1 → IsToldOf E.tells fault_text (FailsBy P.opens P.refuses P.passes
-        O.contents settings.now script.now passage.old passage.new output.old output.new)
-        errors.old errors.new }
-{
+) -> u8 {
     match loop_script(alloc, settings, script, passage, output) {
         Ok(status) => status,
         Err(fault) => fault.tell(alloc, errors),
@@ -72,18 +51,7 @@ pub fn loop_script<P: Channel, O: Output>(
     script: &str,
     passage: &mut P,
     output: &mut O,
-) -> Result<u8, Fault>
-    ensures told { IfErr result (TellsLoop settings.now script.now) }
-    ensures known { IfErr result (λ fault. status_of fault ≡ 1) }
-    ensures good { OnOk result (first_bad_line script.now ≡ None) }
-    ensures run { IfOk result (PutsScript P.opens P.passes O.contents settings.now script.now
-        passage.old passage.new output.old output.new) }
-    ensures status { IfOk result (λ status. (status ≡ 0) ⊎ (status ≡ 3)) }
-    ensures leaves { IfErr result (Leaves P.opens P.refuses P.passes O.contents settings.now
-        script.now passage.old passage.new output.old output.new) }
-    ensures untouched { (HoldJob settings.now script.now → ⊥)
-        → Untouched passage.old passage.new output.old output.new }
-{
+) -> Result<u8, Fault> {
     loop_captured(alloc, settings, script, passage, &mut Untaped, output)
 }
 
@@ -99,19 +67,7 @@ pub fn loop_captured<P: Channel, T: Tape, O: Output>(
     passage: &mut P,
     tape: &mut T,
     output: &mut O,
-) -> Result<u8, Fault>
-    ensures told { IfErr result (TellsLoop settings.now script.now) }
-    ensures known { IfErr result (λ fault. status_of fault ≡ 1) }
-    ensures good { OnOk result (first_bad_line script.now ≡ None) }
-    ensures run { IfOk result (TapesScript P.opens P.passes T.takes O.contents settings.now
-        script.now passage.old passage.new tape.old tape.new output.old output.new) }
-    ensures status { IfOk result (λ status. (status ≡ 0) ⊎ (status ≡ 3)) }
-    ensures untouched { (HoldJob settings.now script.now → ⊥)
-        → Untouched passage.old passage.new output.old output.new }
-    ensures broken { IfErr result (StopsTapedScript P.opens P.refuses P.passes T.takes T.refuses
-        O.contents settings.now script.now passage.old passage.new tape.old tape.new
-        output.old output.new) }
-{
+) -> Result<u8, Fault> {
     let job = read_job(alloc, settings, script)?;
     if let Some(key) = port_clash_of_both(&job.settings) {
         return Err(Fault::Setting(SettingFault::CantWork(key)));
@@ -154,13 +110,7 @@ pub fn play<P: Channel, T: Tape, O: Output>(
     tape: &mut T,
     output: &mut O,
 ) -> Result<u8, Fault>
-    ensures run { IfOk result (IsTapedLoop P.passes T.takes O.contents settings.now events.now
-        passage.old passage.new tape.old tape.new output.old output.new) }
-    ensures status { IfOk result (λ status. (status ≡ 0) ⊎ (status ≡ 3)) }
-    ensures fault { IfErr result
-        (λ fault. (fault ≡ faults.NotWritten) ⊎ (fault ≡ faults.NoMemory)) }
-    ensures broken { IfErr result (StopsTapedLoop P.passes T.takes T.refuses O.contents
-        settings.now events.now passage.old passage.new tape.old tape.new
+    ensures { IfOk result (IsLoop O.contents (founding settings.now) events.now
         output.old output.new) }
 {
     match World::founded(alloc, settings) {
@@ -181,13 +131,7 @@ fn played<P: Channel, T: Tape, O: Output>(
     tape: &mut T,
     output: &mut O,
 ) -> Result<u8, Fault>
-    ensures run { IfOk result (TakesTurns P.passes T.takes O.contents world.old passage.old tape.old
-        events.now passage.new tape.new output.old output.new) }
-    ensures status { IfOk result (λ status. (status ≡ 0) ⊎ (status ≡ 3)) }
-    ensures fault { IfErr result
-        (λ fault. (fault ≡ faults.NotWritten) ⊎ (fault ≡ faults.NoMemory)) }
-    ensures stops { IfErr result (StopsTaped P.passes T.takes T.refuses O.contents world.old
-        passage.old tape.old events.now passage.new tape.new output.old output.new) }
+    ensures { IfOk result (IsLoop O.contents world.old events.now output.old output.new) }
 {
     let refused = turned(world, events, passage, tape, output)?;
     put_end(world, output)?;
@@ -202,10 +146,8 @@ fn turned<P: Channel, T: Tape, O: Output>(
     tape: &mut T,
     output: &mut O,
 ) -> io::Result<bool>
-    ensures had { IfOk result (HasTurned P.passes T.takes O.contents world.old passage.old tape.old
-        events.now world.new passage.new tape.new output.old output.new) }
-    ensures broken { OnErr result (TapedBroken P.passes T.takes T.refuses O.contents world.old
-        passage.old tape.old events.now passage.new tape.new output.old output.new) }
+    ensures { IfOk result (HasTurned O.contents world.old events.now world.new
+        output.old output.new) }
 {
     let mut printer = Printer::new();
     let mut refused = false;
@@ -248,12 +190,7 @@ fn take_down<T: Tape>(
     world: &World<'_>,
     event: &WorldEvent,
     step: &Option<Step>,
-) -> io::Result<()>
-    ensures taken { OnOk result
-        (TapesTurn T.takes tape.old world.now event.now step.now tape.new) }
-    ensures refused { OnErr result
-        (RefusesTurn T.refuses tape.old world.now event.now step.now tape.new) }
-{
+) -> io::Result<()> {
     match step {
         Some(step) => tape.take(world, event, step),
         None => Ok(()),
@@ -270,8 +207,6 @@ fn print<O: Output>(
     ensures printed { Prints (O.contents output.old) result (O.contents output.new)
         (turn_lines printer.old event.now step.now) }
     ensures counted { OnOk result (printer.new ≡ counts_then printer.old event.now step.now) }
-    ensures put { IsWritten output.old (turn_lines printer.old event.now step.now) result
-        output.new }
 {
     match step {
         Some(step) => printer.step(output, event, &step.answer, &step.out),
@@ -281,7 +216,7 @@ fn print<O: Output>(
 
 /// What an event gives, where what it hands in isn't lost.
 fn turn<P: Channel>(world: &mut World<'_>, event: &WorldEvent, passage: &mut P) -> Option<Step>
-    ensures { TakesTurn P.passes world.old passage.old event.now result world.new passage.new }
+    ensures { IsTurn world.old event.now result world.new }
 {
     let passed = sent(world, event, passage);
     if is_lost(&passed) {
@@ -292,9 +227,7 @@ fn turn<P: Channel>(world: &mut World<'_>, event: &WorldEvent, passage: &mut P) 
 }
 
 /// What was sent is lost.
-fn is_lost(passed: &Option<Passed>) -> bool
-    ensures { result ≡ is_lost passed.now }
-{
+fn is_lost(passed: &Option<Passed>) -> bool {
     match passed {
         Some(Passed::Lost) => true,
         Some(Passed::Received) | None => false,
@@ -302,9 +235,7 @@ fn is_lost(passed: &Option<Passed>) -> bool
 }
 
 /// Sends what an event hands in, if it hands in anything, and says what became of it.
-fn sent<P: Channel>(world: &World<'_>, event: &WorldEvent, passage: &mut P) -> Option<Passed>
-    ensures { HasSent P.passes passage.old (handed world.now event.now) result passage.new }
-{
+fn sent<P: Channel>(world: &World<'_>, event: &WorldEvent, passage: &mut P) -> Option<Passed> {
     match event {
         WorldEvent::Frame(id, side, bytes) => {
             Some(passage.pass(*id, Place::Side(*side), bytes.as_slice()))

@@ -1,13 +1,4 @@
 //! A report as JSON. No name and no value in it has a character that would want escaping.
-ghost use Rattle.std.specs.Prelude.{◌≡◌, ◌++◌, codes, map};
-ghost use Rattle.outlets.specs.Written.{IsWrittenTo};
-ghost use Rattle.report_texts.specs.Json.{behind, box_members, drop_member, drops_of};
-ghost use Rattle.report_texts.specs.Json.{drops_value, end_members, frames_value, heard_value};
-ghost use Rattle.report_texts.specs.Json.{json_text, member, member_text, object, pairs_value};
-ghost use Rattle.report_texts.specs.Json.{peer_value, place_value, ports_value, side_value};
-ghost use Rattle.report_texts.specs.Json.{states_of, waiting_value};
-ghost use Rattle.report_texts.specs.Pieces.{piece_text};
-ghost use Rattle.report_texts.specs.declared.names.TheConstants.{REASONS};
 
 use crate::names::{
     REASONS, dropped, id_name, left_out, origin_name, protocol_name, reason_name, role_name,
@@ -32,9 +23,7 @@ struct Member<'t>(&'t str, Piece<'t>);
 /// # Errors
 ///
 /// Where output is refused.
-pub fn write_json<O: Output>(output: &mut O, report: &Report) -> io::Result<()>
-    ensures { IsWrittenTo O.contents output.old (json_text report.now) result output.new }
-{
+pub fn write_json<O: Output>(output: &mut O, report: &Report) -> io::Result<()> {
     let state = &report.gateway;
     put_box(output, report)?;
     put_side(output, "inside", &report.sides.inside, state.moment)?;
@@ -55,10 +44,7 @@ fn put_members<'t, O: Output>(
     output: &mut O,
     before: &'t str,
     members: &[Member<'t>],
-) -> io::Result<()>
-    ensures { IsWrittenTo O.contents output.old
-        (behind before.now (map member_text members.now)) result output.new }
-{
+) -> io::Result<()> {
     let mut lead = before;
     for member in members {
         put(
@@ -81,10 +67,7 @@ fn put_object<'t, O: Output>(
     before: &'t str,
     name: &'t str,
     members: &[Member<'t>],
-) -> io::Result<()>
-    ensures { IsWrittenTo O.contents output.old
-        (before.now ++ member name.now (object (map member_text members.now))) result output.new }
-{
+) -> io::Result<()> {
     put(
         output,
         &[Piece::Text(before), Piece::Quoted(name), Piece::Text(":")],
@@ -94,10 +77,7 @@ fn put_object<'t, O: Output>(
 }
 
 /// Which box it is, and how it stands.
-fn put_box<O: Output>(output: &mut O, report: &Report) -> io::Result<()>
-    ensures { IsWrittenTo O.contents output.old (behind (codes "{") (box_members report.now)) result
-        output.new }
-{
+fn put_box<O: Output>(output: &mut O, report: &Report) -> io::Result<()> {
     put_members(
         output,
         "{",
@@ -112,10 +92,7 @@ fn put_box<O: Output>(output: &mut O, report: &Report) -> io::Result<()>
     )
 }
 
-fn put_side<O: Output>(output: &mut O, name: &str, side: &SideReport, now: u64) -> io::Result<()>
-    ensures { IsWrittenTo O.contents output.old
-        (codes "," ++ member name.now (side_value now side.now)) result output.new }
-{
+fn put_side<O: Output>(output: &mut O, name: &str, side: &SideReport, now: u64) -> io::Result<()> {
     let since = now.saturating_sub(side.role_since);
     put_object(
         output,
@@ -130,19 +107,14 @@ fn put_side<O: Output>(output: &mut O, name: &str, side: &SideReport, now: u64) 
 }
 
 /// How long ago the other box was heard, or `null`.
-fn heard_value(heard: Option<u64>) -> Piece<'static>
-    ensures { piece_text result ≡ heard_value heard }
-{
+fn heard_value(heard: Option<u64>) -> Piece<'static> {
     match heard {
         Some(ago) => Piece::Seconds(ago),
         None => Piece::Text("null"),
     }
 }
 
-fn put_peer<O: Output>(output: &mut O, peer: &PeerReport) -> io::Result<()>
-    ensures { IsWrittenTo O.contents output.old
-        (codes "," ++ member (codes "peer") (peer_value peer.now)) result output.new }
-{
+fn put_peer<O: Output>(output: &mut O, peer: &PeerReport) -> io::Result<()> {
     put_object(
         output,
         ",",
@@ -155,10 +127,7 @@ fn put_peer<O: Output>(output: &mut O, peer: &PeerReport) -> io::Result<()>
     )
 }
 
-fn put_pairs<O: Output>(output: &mut O, counts: &PairCounts) -> io::Result<()>
-    ensures { IsWrittenTo O.contents output.old
-        (codes "," ++ member (codes "pairs") (pairs_value counts.now)) result output.new }
-{
+fn put_pairs<O: Output>(output: &mut O, counts: &PairCounts) -> io::Result<()> {
     put_states(output, ",\"pairs\":{", counts, Protocol::Icmp)?;
     put_states(output, ",", counts, Protocol::Tcp)?;
     put_states(output, ",", counts, Protocol::Udp)?;
@@ -171,10 +140,7 @@ fn put_states<O: Output>(
     before: &str,
     counts: &PairCounts,
     protocol: Protocol,
-) -> io::Result<()>
-    ensures { IsWrittenTo O.contents output.old (before.now ++ states_of counts.now protocol) result
-        output.new }
-{
+) -> io::Result<()> {
     put_object(
         output,
         before,
@@ -198,10 +164,7 @@ fn put_states<O: Output>(
     )
 }
 
-fn put_ports<O: Output>(output: &mut O, ports: &PortCounts) -> io::Result<()>
-    ensures { IsWrittenTo O.contents output.old
-        (codes "," ++ member (codes "ports") (ports_value ports.now)) result output.new }
-{
+fn put_ports<O: Output>(output: &mut O, ports: &PortCounts) -> io::Result<()> {
     put_object(
         output,
         ",",
@@ -215,10 +178,7 @@ fn put_ports<O: Output>(output: &mut O, ports: &PortCounts) -> io::Result<()>
     )
 }
 
-fn put_waiting<O: Output>(output: &mut O, waiting: &WaitingCounts) -> io::Result<()>
-    ensures { IsWrittenTo O.contents output.old
-        (codes "," ++ member (codes "waiting") (waiting_value waiting.now)) result output.new }
-{
+fn put_waiting<O: Output>(output: &mut O, waiting: &WaitingCounts) -> io::Result<()> {
     put_object(
         output,
         ",",
@@ -230,10 +190,7 @@ fn put_waiting<O: Output>(output: &mut O, waiting: &WaitingCounts) -> io::Result
     )
 }
 
-fn put_frames<O: Output>(output: &mut O, counters: &Counters) -> io::Result<()>
-    ensures { IsWrittenTo O.contents output.old
-        (codes "," ++ member (codes "frames") (frames_value counters.now)) result output.new }
-{
+fn put_frames<O: Output>(output: &mut O, counters: &Counters) -> io::Result<()> {
     put_place(output, ",\"frames\":{", "inside", counters, Origin::Inside)?;
     put_place(output, ",", "outside", counters, Origin::Outside)?;
     put(output, &[Piece::Text("}")])
@@ -246,10 +203,7 @@ fn put_place<O: Output>(
     name: &str,
     counters: &Counters,
     origin: Origin,
-) -> io::Result<()>
-    ensures { IsWrittenTo O.contents output.old
-        (before.now ++ member name.now (place_value counters.now origin)) result output.new }
-{
+) -> io::Result<()> {
     put_object(
         output,
         before,
@@ -269,10 +223,7 @@ fn put_place<O: Output>(
     )
 }
 
-fn put_drops<O: Output>(output: &mut O, counters: &Counters) -> io::Result<()>
-    ensures { IsWrittenTo O.contents output.old
-        (codes "," ++ member (codes "dropped") (drops_value counters.now)) result output.new }
-{
+fn put_drops<O: Output>(output: &mut O, counters: &Counters) -> io::Result<()> {
     put_dropped(output, ",\"dropped\":{", counters, Origin::Inside)?;
     put_dropped(output, ",", counters, Origin::Outside)?;
     put_dropped(output, ",", counters, Origin::Link)?;
@@ -286,10 +237,7 @@ fn put_dropped<O: Output>(
     before: &str,
     counters: &Counters,
     origin: Origin,
-) -> io::Result<()>
-    ensures { IsWrittenTo O.contents output.old (before.now ++ drops_of counters.now origin) result
-        output.new }
-{
+) -> io::Result<()> {
     put(
         output,
         &[
@@ -303,10 +251,7 @@ fn put_dropped<O: Output>(
 }
 
 /// How many were dropped at a place for each reason, and what opens their object.
-fn put_reasons<O: Output>(output: &mut O, counters: &Counters, origin: Origin) -> io::Result<()>
-    ensures { IsWrittenTo O.contents output.old
-        (behind (codes "{") (map (drop_member counters.now origin) REASONS)) result output.new }
-{
+fn put_reasons<O: Output>(output: &mut O, counters: &Counters, origin: Origin) -> io::Result<()> {
     let mut lead = "{";
     for reason in &REASONS {
         put(
@@ -324,10 +269,7 @@ fn put_reasons<O: Output>(output: &mut O, counters: &Counters, origin: Origin) -
 }
 
 /// What was left out, and the end of the object and of its line.
-fn put_end<O: Output>(output: &mut O, report: &Report) -> io::Result<()>
-    ensures { IsWrittenTo O.contents output.old
-        (behind (codes ",") (end_members report.now) ++ codes "}\n") result output.new }
-{
+fn put_end<O: Output>(output: &mut O, report: &Report) -> io::Result<()> {
     put_members(
         output,
         ",",

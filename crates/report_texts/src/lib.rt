@@ -2,7 +2,6 @@
 #![tactic(auto)]
 
 mod json;
-mod laws;
 mod metrics;
 mod names;
 mod pairs;
@@ -11,7 +10,6 @@ mod pieces;
 mod units;
 
 pub use json::write_json;
-pub use laws::names_law;
 pub use metrics::write_metrics;
 pub use pairs::{Filter, write_pairs};
 pub use people::write_people;

@@ -1,14 +1,5 @@
 //! A report as metrics in Prometheus' text format: of each family what it is, its kind, and its samples. No label has a
 //! character that would want escaping.
-ghost use Rattle.std.specs.Prelude.{◌≡◌, flat_map};
-ghost use Rattle.outlets.specs.Written.{IsWrittenTo};
-ghost use Rattle.report_texts.specs.Metrics.{box_metrics, came_metrics, drops_at, drops_metrics};
-ghost use Rattle.report_texts.specs.Metrics.{end_metrics, family_text, heard_metric, info_metric};
-ghost use Rattle.report_texts.specs.Metrics.{is_active, metrics_text, pair_metrics, pairs_name};
-ghost use Rattle.report_texts.specs.Metrics.{peer_metrics, places_metric, port_metrics};
-ghost use Rattle.report_texts.specs.Metrics.{sample_text, side_metrics, states_metrics};
-ghost use Rattle.report_texts.specs.Metrics.{traffic_metrics};
-ghost use Rattle.report_texts.specs.Sums.{is_heard};
 
 use crate::names::{REASONS, dropped, id_name, left_out, origin_name, reason_name};
 use crate::pieces::{Piece, put};
@@ -35,9 +26,7 @@ const COUNTER: &str = "counter";
 /// # Errors
 ///
 /// Where output is refused.
-pub fn write_metrics<O: Output>(output: &mut O, report: &Report) -> io::Result<()>
-    ensures { IsWrittenTo O.contents output.old (metrics_text report.now) result output.new }
-{
+pub fn write_metrics<O: Output>(output: &mut O, report: &Report) -> io::Result<()> {
     put_info(output, report)?;
     put_box(output, report)?;
     put_sides(output, &report.sides, report.gateway.moment)?;
@@ -56,10 +45,7 @@ fn put_family<'t, O: Output>(
     name: &'t str,
     help: &'t str,
     samples: &[Sample<'t>],
-) -> io::Result<()>
-    ensures { IsWrittenTo O.contents output.old
-        (family_text kind.now name.now help.now samples.now) result output.new }
-{
+) -> io::Result<()> {
     put(
         output,
         &[
@@ -82,10 +68,7 @@ fn put_samples<'t, O: Output>(
     output: &mut O,
     name: &'t str,
     samples: &[Sample<'t>],
-) -> io::Result<()>
-    ensures { IsWrittenTo O.contents output.old (flat_map (sample_text name.now) samples.now) result
-        output.new }
-{
+) -> io::Result<()> {
     for sample in samples {
         put(
             output,
@@ -102,9 +85,7 @@ fn put_samples<'t, O: Output>(
 }
 
 /// Whether the other box was heard in the last 3 seconds.
-fn is_heard(heard: Option<u64>) -> bool
-    ensures { result ≡ is_heard heard }
-{
+fn is_heard(heard: Option<u64>) -> bool {
     match heard {
         Some(ago) => ago <= 300,
         None => false,
@@ -112,9 +93,7 @@ fn is_heard(heard: Option<u64>) -> bool
 }
 
 /// Which box it is.
-fn put_info<O: Output>(output: &mut O, report: &Report) -> io::Result<()>
-    ensures { IsWrittenTo O.contents output.old (info_metric report.now) result output.new }
-{
+fn put_info<O: Output>(output: &mut O, report: &Report) -> io::Result<()> {
     put_family(
         output,
         GAUGE,
@@ -135,9 +114,7 @@ fn put_info<O: Output>(output: &mut O, report: &Report) -> io::Result<()>
 }
 
 /// How it stands.
-fn put_box<O: Output>(output: &mut O, report: &Report) -> io::Result<()>
-    ensures { IsWrittenTo O.contents output.old (box_metrics report.now) result output.new }
-{
+fn put_box<O: Output>(output: &mut O, report: &Report) -> io::Result<()> {
     let state = &report.gateway;
     put_family(
         output,
@@ -169,18 +146,14 @@ fn put_box<O: Output>(output: &mut O, report: &Report) -> io::Result<()>
     )
 }
 
-fn is_active(role: State) -> bool
-    ensures { result ≡ is_active role }
-{
+fn is_active(role: State) -> bool {
     match role {
         State::Active => true,
         State::Initialize | State::Backup => false,
     }
 }
 
-fn put_sides<O: Output>(output: &mut O, sides: &Sides, now: u64) -> io::Result<()>
-    ensures { IsWrittenTo O.contents output.old (side_metrics sides.now now) result output.new }
-{
+fn put_sides<O: Output>(output: &mut O, sides: &Sides, now: u64) -> io::Result<()> {
     let (inside, outside) = (&sides.inside, &sides.outside);
     put_family(
         output,
@@ -220,9 +193,7 @@ fn put_sides<O: Output>(output: &mut O, sides: &Sides, now: u64) -> io::Result<(
     )
 }
 
-fn put_peer<O: Output>(output: &mut O, peer: &PeerReport) -> io::Result<()>
-    ensures { IsWrittenTo O.contents output.old (peer_metrics peer.now) result output.new }
-{
+fn put_peer<O: Output>(output: &mut O, peer: &PeerReport) -> io::Result<()> {
     put_family(
         output,
         GAUGE,
@@ -248,9 +219,7 @@ fn put_peer<O: Output>(output: &mut O, peer: &PeerReport) -> io::Result<()>
 }
 
 /// How long ago the other box was heard, if it was.
-fn put_heard<O: Output>(output: &mut O, heard: Option<u64>) -> io::Result<()>
-    ensures { IsWrittenTo O.contents output.old (heard_metric heard) result output.new }
-{
+fn put_heard<O: Output>(output: &mut O, heard: Option<u64>) -> io::Result<()> {
     match heard {
         Some(ago) => put_family(
             output,
@@ -263,9 +232,7 @@ fn put_heard<O: Output>(output: &mut O, heard: Option<u64>) -> io::Result<()>
     }
 }
 
-fn put_pairs<O: Output>(output: &mut O, counts: &PairCounts) -> io::Result<()>
-    ensures { IsWrittenTo O.contents output.old (pair_metrics counts.now) result output.new }
-{
+fn put_pairs<O: Output>(output: &mut O, counts: &PairCounts) -> io::Result<()> {
     put_family(output, GAUGE, "natpair_pairs", "Entries of the table.", &[])?;
     put_states(output, counts, Protocol::Icmp)?;
     put_states(output, counts, Protocol::Tcp)?;
@@ -273,10 +240,11 @@ fn put_pairs<O: Output>(output: &mut O, counts: &PairCounts) -> io::Result<()>
 }
 
 /// How many entries of a protocol have each state.
-fn put_states<O: Output>(output: &mut O, counts: &PairCounts, protocol: Protocol) -> io::Result<()>
-    ensures { IsWrittenTo O.contents output.old (states_metrics counts.now protocol) result
-        output.new }
-{
+fn put_states<O: Output>(
+    output: &mut O,
+    counts: &PairCounts,
+    protocol: Protocol,
+) -> io::Result<()> {
     let name = pairs_name(protocol);
     put_samples(
         output,
@@ -307,9 +275,7 @@ fn put_states<O: Output>(output: &mut O, counts: &PairCounts, protocol: Protocol
 }
 
 /// How a sample of the entries of a protocol begins.
-fn pairs_name(protocol: Protocol) -> &'static str
-    ensures { result.now ≡ pairs_name protocol }
-{
+fn pairs_name(protocol: Protocol) -> &'static str {
     match protocol {
         Protocol::Icmp => "natpair_pairs{protocol=\"icmp\",state=\"",
         Protocol::Tcp => "natpair_pairs{protocol=\"tcp\",state=\"",
@@ -317,9 +283,7 @@ fn pairs_name(protocol: Protocol) -> &'static str
     }
 }
 
-fn put_ports<O: Output>(output: &mut O, state: &GatewayReport) -> io::Result<()>
-    ensures { IsWrittenTo O.contents output.old (port_metrics state.now) result output.new }
-{
+fn put_ports<O: Output>(output: &mut O, state: &GatewayReport) -> io::Result<()> {
     let (ports, waiting) = (&state.ports, &state.waiting);
     put_family(
         output,
@@ -351,9 +315,7 @@ fn put_ports<O: Output>(output: &mut O, state: &GatewayReport) -> io::Result<()>
     )
 }
 
-fn put_traffic<O: Output>(output: &mut O, counters: &Counters) -> io::Result<()>
-    ensures { IsWrittenTo O.contents output.old (traffic_metrics counters.now) result output.new }
-{
+fn put_traffic<O: Output>(output: &mut O, counters: &Counters) -> io::Result<()> {
     put_came(output, counters)?;
     put_places(
         output,
@@ -372,9 +334,7 @@ fn put_traffic<O: Output>(output: &mut O, counters: &Counters) -> io::Result<()>
 }
 
 /// What came and went.
-fn put_came<O: Output>(output: &mut O, counters: &Counters) -> io::Result<()>
-    ensures { IsWrittenTo O.contents output.old (came_metrics counters.now) result output.new }
-{
+fn put_came<O: Output>(output: &mut O, counters: &Counters) -> io::Result<()> {
     let (inside, outside, link) = (Origin::Inside, Origin::Outside, Origin::Link);
     put_family(
         output,
@@ -425,10 +385,7 @@ fn put_places<'t, O: Output>(
     help: &'t str,
     counters: &Counters,
     what: Count,
-) -> io::Result<()>
-    ensures { IsWrittenTo O.contents output.old
-        (places_metric name.now help.now counters.now what) result output.new }
-{
+) -> io::Result<()> {
     put_family(
         output,
         COUNTER,
@@ -455,9 +412,7 @@ fn put_places<'t, O: Output>(
     )
 }
 
-fn put_drops<O: Output>(output: &mut O, counters: &Counters) -> io::Result<()>
-    ensures { IsWrittenTo O.contents output.old (drops_metrics counters.now) result output.new }
-{
+fn put_drops<O: Output>(output: &mut O, counters: &Counters) -> io::Result<()> {
     put_family(
         output,
         COUNTER,
@@ -472,9 +427,7 @@ fn put_drops<O: Output>(output: &mut O, counters: &Counters) -> io::Result<()>
 }
 
 /// How many were dropped at a place for each reason.
-fn put_reasons<O: Output>(output: &mut O, counters: &Counters, origin: Origin) -> io::Result<()>
-    ensures { IsWrittenTo O.contents output.old (drops_at counters.now origin) result output.new }
-{
+fn put_reasons<O: Output>(output: &mut O, counters: &Counters, origin: Origin) -> io::Result<()> {
     for reason in &REASONS {
         put(
             output,
@@ -493,9 +446,7 @@ fn put_reasons<O: Output>(output: &mut O, counters: &Counters, origin: Origin) -
 }
 
 /// What was left out.
-fn put_end<O: Output>(output: &mut O, report: &Report) -> io::Result<()>
-    ensures { IsWrittenTo O.contents output.old (end_metrics report.now) result output.new }
-{
+fn put_end<O: Output>(output: &mut O, report: &Report) -> io::Result<()> {
     put_family(
         output,
         COUNTER,

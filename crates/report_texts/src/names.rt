@@ -1,9 +1,4 @@
 //! The names of things in texts, and what is counted of them.
-ghost use Rattle.std.specs.Prelude.{◌≡◌};
-ghost use Rattle.journal.specs.Texts.{reason_name};
-ghost use Rattle.report_texts.specs.Names.{id_name, origin_name, protocol_name, role_name};
-ghost use Rattle.report_texts.specs.Names.{state_name};
-ghost use Rattle.report_texts.specs.Sums.{dropped_at, left_out_in, lost_at};
 
 use addresses::Protocol;
 use journal::{Cause, Origin};
@@ -44,18 +39,14 @@ pub(crate) const REASONS: [Reason; 20] = [
     Reason::TooMany,
 ];
 
-pub(crate) fn id_name(id: GatewayId) -> &'static str
-    ensures { result.now ≡ id_name id }
-{
+pub(crate) fn id_name(id: GatewayId) -> &'static str {
     match id {
         GatewayId::Zero => "0",
         GatewayId::One => "1",
     }
 }
 
-pub(crate) fn protocol_name(protocol: Protocol) -> &'static str
-    ensures { result.now ≡ protocol_name protocol }
-{
+pub(crate) fn protocol_name(protocol: Protocol) -> &'static str {
     match protocol {
         Protocol::Icmp => "icmp",
         Protocol::Tcp => "tcp",
@@ -63,9 +54,7 @@ pub(crate) fn protocol_name(protocol: Protocol) -> &'static str
     }
 }
 
-pub(crate) fn role_name(role: State) -> &'static str
-    ensures { result.now ≡ role_name role }
-{
+pub(crate) fn role_name(role: State) -> &'static str {
     match role {
         State::Initialize => "Initialize",
         State::Backup => "Backup",
@@ -73,9 +62,7 @@ pub(crate) fn role_name(role: State) -> &'static str
     }
 }
 
-pub(crate) fn reason_name(reason: Reason) -> &'static str
-    ensures { result.now ≡ reason_name reason }
-{
+pub(crate) fn reason_name(reason: Reason) -> &'static str {
     match reason {
         Reason::ShortFrame => "ShortFrame",
         Reason::NotMine => "NotMine",
@@ -100,9 +87,7 @@ pub(crate) fn reason_name(reason: Reason) -> &'static str
     }
 }
 
-pub(crate) fn origin_name(origin: Origin) -> &'static str
-    ensures { result.now ≡ origin_name origin }
-{
+pub(crate) fn origin_name(origin: Origin) -> &'static str {
     match origin {
         Origin::Inside => "inside",
         Origin::Outside => "outside",
@@ -111,9 +96,7 @@ pub(crate) fn origin_name(origin: Origin) -> &'static str
     }
 }
 
-pub(crate) fn state_name(state: EntryState) -> &'static str
-    ensures { result.now ≡ state_name state }
-{
+pub(crate) fn state_name(state: EntryState) -> &'static str {
     match state {
         EntryState::Pending => "pending",
         EntryState::Doomed => "doomed",
@@ -124,16 +107,12 @@ pub(crate) fn state_name(state: EntryState) -> &'static str
 }
 
 /// How many were dropped there for that reason.
-pub(crate) fn dropped(counters: &Counters, origin: Origin, reason: Reason) -> u64
-    ensures { result ≡ dropped_at counters.now origin reason }
-{
+pub(crate) fn dropped(counters: &Counters, origin: Origin, reason: Reason) -> u64 {
     counters.of(origin, Count::Lost(Cause::Dropped(reason)))
 }
 
 /// How many events were left out for want of memory.
-pub(crate) fn left_out(counters: &Counters) -> u64
-    ensures { result ≡ left_out_in counters.now }
-{
+pub(crate) fn left_out(counters: &Counters) -> u64 {
     let sides = lost_at(counters, Origin::Inside).saturating_add(lost_at(
         counters,
         Origin::Outside,
@@ -143,8 +122,6 @@ pub(crate) fn left_out(counters: &Counters) -> u64
 }
 
 /// The same of one origin.
-fn lost_at(counters: &Counters, origin: Origin) -> u64
-    ensures { result ≡ lost_at counters.now origin }
-{
+fn lost_at(counters: &Counters, origin: Origin) -> u64 {
     counters.of(origin, Count::Lost(Cause::NoMemory))
 }

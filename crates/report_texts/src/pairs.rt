@@ -1,8 +1,4 @@
 //! The lines of pairs.
-ghost use Rattle.std.specs.Prelude.{◌≡◌, false, flat_map};
-ghost use Rattle.outlets.specs.Written.{IsWrittenTo};
-ghost use Rattle.report_texts.specs.Pairs.{entry_line, wanted_line};
-ghost use Rattle.report_texts.specs.Wanted.{passes, wants_address, wants_port, wants_protocol, wants_state};
 
 use crate::names::{protocol_name, state_name};
 use crate::pieces::{Piece, put};
@@ -24,36 +20,28 @@ pub struct Filter {
     pub state: Option<EntryState>,
 }
 
-fn wants_protocol(wanted: Option<Protocol>, protocol: Protocol) -> bool
-    ensures { result ≡ wants_protocol wanted protocol }
-{
+fn wants_protocol(wanted: Option<Protocol>, protocol: Protocol) -> bool {
     match wanted {
         None => true,
         Some(wanted) => wanted.number() == protocol.number(),
     }
 }
 
-fn wants_address(wanted: Option<Ip>, address: Ip) -> bool
-    ensures { result ≡ wants_address wanted address }
-{
+fn wants_address(wanted: Option<Ip>, address: Ip) -> bool {
     match wanted {
         None => true,
         Some(wanted) => wanted.0 == address.0,
     }
 }
 
-fn wants_port(wanted: Option<Port>, port: Port) -> bool
-    ensures { result ≡ wants_port wanted port }
-{
+fn wants_port(wanted: Option<Port>, port: Port) -> bool {
     match wanted {
         None => true,
         Some(wanted) => wanted.0 == port.0,
     }
 }
 
-fn wants_state(wanted: Option<EntryState>, state: EntryState) -> bool
-    ensures { result ≡ wants_state wanted state }
-{
+fn wants_state(wanted: Option<EntryState>, state: EntryState) -> bool {
     match wanted {
         None => true,
         Some(wanted) => wanted == state,
@@ -70,9 +58,7 @@ impl Filter {
     };
 
     /// Whether an entry is wanted.
-    pub fn passes(&self, entry: &Entry) -> bool
-        ensures { result ≡ passes self.now entry.now }
-    {
+    pub fn passes(&self, entry: &Entry) -> bool {
         wants_protocol(self.protocol, entry.pair.key.protocol)
             && wants_address(self.address, entry.pair.endpoint.address)
             && wants_port(self.port, entry.pair.key.port)
@@ -86,17 +72,11 @@ impl Filter {
 /// # Errors
 ///
 /// Where output is refused.
-pub fn write_pairs<O: Output>(output: &mut O, page: &Page, filter: &Filter) -> io::Result<()>
-    ensures { IsWrittenTo O.contents output.old
-        (flat_map (wanted_line filter.now) page.now.entries) result output.new }
-{
+pub fn write_pairs<O: Output>(output: &mut O, page: &Page, filter: &Filter) -> io::Result<()> {
     write_entries(output, page.entries(), filter)
 }
 
-fn write_entries<O: Output>(output: &mut O, entries: &[Entry], filter: &Filter) -> io::Result<()>
-    ensures { IsWrittenTo O.contents output.old
-        (flat_map (wanted_line filter.now) entries.now) result output.new }
-{
+fn write_entries<O: Output>(output: &mut O, entries: &[Entry], filter: &Filter) -> io::Result<()> {
     for entry in entries {
         write_pair(output, entry, filter)?;
     }
@@ -104,11 +84,7 @@ fn write_entries<O: Output>(output: &mut O, entries: &[Entry], filter: &Filter) 
 }
 
 /// Writes the line of an entry, if it is wanted.
-fn write_pair<O: Output>(output: &mut O, entry: &Entry, filter: &Filter) -> io::Result<()>
-    ensures unwanted { passes filter.now entry.now ≡ false → output.new ≡ output.old }
-    ensures put { IsWrittenTo O.contents output.old (wanted_line filter.now entry.now) result
-        output.new }
-{
+fn write_pair<O: Output>(output: &mut O, entry: &Entry, filter: &Filter) -> io::Result<()> {
     if filter.passes(entry) {
         write_line(output, entry.pair.key, entry.pair.endpoint, entry.state)
     } else {
@@ -121,9 +97,7 @@ fn write_line<O: Output>(
     key: Key,
     endpoint: Endpoint,
     state: EntryState,
-) -> io::Result<()>
-    ensures { IsWrittenTo O.contents output.old (entry_line key endpoint state) result output.new }
-{
+) -> io::Result<()> {
     let address = u64::from(endpoint.address.0);
     put(
         output,

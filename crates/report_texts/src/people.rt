@@ -1,13 +1,4 @@
 //! A report for people.
-ghost use Rattle.std.specs.Prelude.{◌≡◌};
-ghost use Rattle.outlets.specs.Written.{IsWrittenTo};
-ghost use Rattle.report_texts.specs.Names.{away_name, cable_name, serving_name, synced_name};
-ghost use Rattle.report_texts.specs.Names.{traffic_name, wide_name};
-ghost use Rattle.report_texts.specs.People.{before_drop, box_lines, drop_part, drops_line};
-ghost use Rattle.report_texts.specs.People.{drops_lines, end_line, is_still_first, known_line};
-ghost use Rattle.report_texts.specs.People.{peer_line};
-ghost use Rattle.report_texts.specs.People.{people_text, place_of_drops, protocol_line, side_line};
-ghost use Rattle.report_texts.specs.People.{table_lines, traffic_line, traffic_lines};
 
 use crate::names::{REASONS, dropped, id_name, left_out, reason_name, role_name};
 use crate::pieces::{Piece, put};
@@ -24,9 +15,7 @@ use std::io;
 /// # Errors
 ///
 /// Where output is refused.
-pub fn write_people<O: Output>(output: &mut O, report: &Report) -> io::Result<()>
-    ensures { IsWrittenTo O.contents output.old (people_text report.now) result output.new }
-{
+pub fn write_people<O: Output>(output: &mut O, report: &Report) -> io::Result<()> {
     let state = &report.gateway;
     put_box(output, report)?;
     put_side(output, "inside ", &report.sides.inside, state.moment)?;
@@ -39,9 +28,7 @@ pub fn write_people<O: Output>(output: &mut O, report: &Report) -> io::Result<()
 }
 
 /// Which box it is, and how it stands.
-fn put_box<O: Output>(output: &mut O, report: &Report) -> io::Result<()>
-    ensures { IsWrittenTo O.contents output.old (box_lines report.now) result output.new }
-{
+fn put_box<O: Output>(output: &mut O, report: &Report) -> io::Result<()> {
     put(
         output,
         &[
@@ -61,10 +48,7 @@ fn put_box<O: Output>(output: &mut O, report: &Report) -> io::Result<()>
     )
 }
 
-fn put_side<O: Output>(output: &mut O, name: &str, side: &SideReport, now: u64) -> io::Result<()>
-    ensures { IsWrittenTo O.contents output.old (side_line name.now now side.now) result
-        output.new }
-{
+fn put_side<O: Output>(output: &mut O, name: &str, side: &SideReport, now: u64) -> io::Result<()> {
     put(
         output,
         &[
@@ -82,9 +66,7 @@ fn put_side<O: Output>(output: &mut O, name: &str, side: &SideReport, now: u64) 
     )
 }
 
-fn put_peer<O: Output>(output: &mut O, peer: &PeerReport) -> io::Result<()>
-    ensures { IsWrittenTo O.contents output.old (peer_line peer.now) result output.new }
-{
+fn put_peer<O: Output>(output: &mut O, peer: &PeerReport) -> io::Result<()> {
     if peer.boot == 0 {
         put(output, &[Piece::Text("peer     not known\n")])
     } else {
@@ -98,10 +80,7 @@ fn put_known<O: Output>(
     boot: u64,
     heard: Option<u64>,
     serving: &str,
-) -> io::Result<()>
-    ensures { IsWrittenTo O.contents output.old (known_line boot heard serving.now) result
-        output.new }
-{
+) -> io::Result<()> {
     match heard {
         Some(ago) => put(
             output,
@@ -129,37 +108,27 @@ fn put_known<O: Output>(
 }
 
 /// Whether a table is loaded, in words.
-fn synced_name(is_synced: bool) -> &'static str
-    ensures { result.now ≡ synced_name is_synced }
-{
+fn synced_name(is_synced: bool) -> &'static str {
     if is_synced { "synced" } else { "not synced" }
 }
 
 /// Behind it, where a gateway gave way to the other one.
-fn away_name(is_away: bool) -> &'static str
-    ensures { result.now ≡ away_name is_away }
-{
+fn away_name(is_away: bool) -> &'static str {
     if is_away { ", away" } else { "" }
 }
 
 /// Whether a cable is in, in a word.
-fn cable_name(is_in: bool) -> &'static str
-    ensures { result.now ≡ cable_name is_in }
-{
+fn cable_name(is_in: bool) -> &'static str {
     if is_in { "in" } else { "out" }
 }
 
 /// Whether the other box serves, in words.
-fn serving_name(serves: bool) -> &'static str
-    ensures { result.now ≡ serving_name serves }
-{
+fn serving_name(serves: bool) -> &'static str {
     if serves { "serves" } else { "doesn't serve" }
 }
 
 /// A protocol's name, as wide as all names.
-fn wide_name(protocol: Protocol) -> &'static str
-    ensures { result.now ≡ wide_name protocol }
-{
+fn wide_name(protocol: Protocol) -> &'static str {
     match protocol {
         Protocol::Icmp => "icmp    ",
         Protocol::Tcp => "tcp     ",
@@ -168,9 +137,7 @@ fn wide_name(protocol: Protocol) -> &'static str
 }
 
 /// What the table has, and what waits.
-fn put_table<O: Output>(output: &mut O, state: &GatewayReport) -> io::Result<()>
-    ensures { IsWrittenTo O.contents output.old (table_lines state.now) result output.new }
-{
+fn put_table<O: Output>(output: &mut O, state: &GatewayReport) -> io::Result<()> {
     put_protocol(output, state, Protocol::Icmp)?;
     put_protocol(output, state, Protocol::Tcp)?;
     put_protocol(output, state, Protocol::Udp)?;
@@ -193,10 +160,7 @@ fn put_protocol<O: Output>(
     output: &mut O,
     state: &GatewayReport,
     protocol: Protocol,
-) -> io::Result<()>
-    ensures { IsWrittenTo O.contents output.old (protocol_line state.now protocol) result
-        output.new }
-{
+) -> io::Result<()> {
     put(
         output,
         &[
@@ -218,9 +182,7 @@ fn put_protocol<O: Output>(
     )
 }
 
-fn put_traffic<O: Output>(output: &mut O, counters: &Counters) -> io::Result<()>
-    ensures { IsWrittenTo O.contents output.old (traffic_lines counters.now) result output.new }
-{
+fn put_traffic<O: Output>(output: &mut O, counters: &Counters) -> io::Result<()> {
     put_place(output, counters, Origin::Inside)?;
     put_place(output, counters, Origin::Outside)?;
     put_place(output, counters, Origin::Link)?;
@@ -228,10 +190,7 @@ fn put_traffic<O: Output>(output: &mut O, counters: &Counters) -> io::Result<()>
 }
 
 /// What was received and sent at a place, and what wasn't sent.
-fn put_place<O: Output>(output: &mut O, counters: &Counters, origin: Origin) -> io::Result<()>
-    ensures { IsWrittenTo O.contents output.old (traffic_line counters.now origin) result
-        output.new }
-{
+fn put_place<O: Output>(output: &mut O, counters: &Counters, origin: Origin) -> io::Result<()> {
     put(
         output,
         &[
@@ -249,9 +208,7 @@ fn put_place<O: Output>(output: &mut O, counters: &Counters, origin: Origin) -> 
     )
 }
 
-fn traffic_name(origin: Origin) -> &'static str
-    ensures { result.now ≡ traffic_name origin }
-{
+fn traffic_name(origin: Origin) -> &'static str {
     match origin {
         Origin::Inside => "frames   inside ",
         Origin::Outside => "frames   outside",
@@ -261,9 +218,7 @@ fn traffic_name(origin: Origin) -> &'static str
 }
 
 /// What was dropped at each place, where something was.
-fn put_drops<O: Output>(output: &mut O, counters: &Counters) -> io::Result<()>
-    ensures { IsWrittenTo O.contents output.old (drops_lines counters.now) result output.new }
-{
+fn put_drops<O: Output>(output: &mut O, counters: &Counters) -> io::Result<()> {
     put_dropped(output, counters, Origin::Inside)?;
     put_dropped(output, counters, Origin::Outside)?;
     put_dropped(output, counters, Origin::Link)?;
@@ -271,9 +226,7 @@ fn put_drops<O: Output>(output: &mut O, counters: &Counters) -> io::Result<()>
 }
 
 /// The line of a place, if something was dropped there: each reason for which something was.
-fn put_dropped<O: Output>(output: &mut O, counters: &Counters, origin: Origin) -> io::Result<()>
-    ensures { IsWrittenTo O.contents output.old (drops_line counters.now origin) result output.new }
-{
+fn put_dropped<O: Output>(output: &mut O, counters: &Counters, origin: Origin) -> io::Result<()> {
     let mut is_first = true;
     for reason in &REASONS {
         put_drop(output, counters, origin, *reason, is_first)?;
@@ -293,10 +246,7 @@ fn put_drop<O: Output>(
     origin: Origin,
     reason: Reason,
     is_first: bool,
-) -> io::Result<()>
-    ensures { IsWrittenTo O.contents output.old (drop_part counters.now origin reason is_first)
-        result output.new }
-{
+) -> io::Result<()> {
     let count = dropped(counters, origin, reason);
     if count == 0 {
         return Ok(());
@@ -315,16 +265,12 @@ fn put_drop<O: Output>(
 }
 
 /// Whether the next reason is the line's first still.
-fn is_still_first(counters: &Counters, origin: Origin, reason: Reason, is_first: bool) -> bool
-    ensures { result ≡ is_still_first counters.now origin reason is_first }
-{
+fn is_still_first(counters: &Counters, origin: Origin, reason: Reason, is_first: bool) -> bool {
     is_first && dropped(counters, origin, reason) == 0
 }
 
 /// What stands before a reason: the line's name before the first, a comma before each other one.
-fn before_drop(is_first: bool, origin: Origin) -> &'static str
-    ensures { result.now ≡ before_drop is_first origin }
-{
+fn before_drop(is_first: bool, origin: Origin) -> &'static str {
     if is_first {
         place_of_drops(origin)
     } else {
@@ -333,9 +279,7 @@ fn before_drop(is_first: bool, origin: Origin) -> &'static str
 }
 
 /// How the line of a place begins.
-fn place_of_drops(origin: Origin) -> &'static str
-    ensures { result.now ≡ place_of_drops origin }
-{
+fn place_of_drops(origin: Origin) -> &'static str {
     match origin {
         Origin::Inside => "dropped  inside: ",
         Origin::Outside => "dropped  outside: ",
@@ -345,9 +289,7 @@ fn place_of_drops(origin: Origin) -> &'static str
 }
 
 /// What was left out.
-fn put_end<O: Output>(output: &mut O, report: &Report) -> io::Result<()>
-    ensures { IsWrittenTo O.contents output.old (end_line report.now) result output.new }
-{
+fn put_end<O: Output>(output: &mut O, report: &Report) -> io::Result<()> {
     put(
         output,
         &[

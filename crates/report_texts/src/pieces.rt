@@ -1,9 +1,4 @@
 //! Texts in pieces, and how they are written.
-ghost use Rattle.std.specs.Prelude.{◌≡◌, flat_map};
-ghost use Rattle.outlets.specs.Written.{IsWrittenTo};
-ghost use Rattle.report_texts.specs.Names.{truth_name};
-ghost use Rattle.report_texts.specs.Pieces.{piece_text, quoted};
-ghost use Rattle.report_texts.specs.Units.{sixteen};
 
 use crate::units::{put_groups, put_number, put_seconds, put_sixteen, put_span};
 use itoa::Buffer;
@@ -35,18 +30,14 @@ pub(crate) enum Piece<'t> {
 }
 
 /// Writes pieces, one behind the other.
-pub(crate) fn put<O: Output>(output: &mut O, pieces: &[Piece<'_>]) -> io::Result<()>
-    ensures { IsWrittenTo O.contents output.old (flat_map piece_text pieces.now) result output.new }
-{
+pub(crate) fn put<O: Output>(output: &mut O, pieces: &[Piece<'_>]) -> io::Result<()> {
     for piece in pieces {
         put_piece(output, *piece)?;
     }
     Ok(())
 }
 
-fn put_piece<O: Output>(output: &mut O, piece: Piece<'_>) -> io::Result<()>
-    ensures { IsWrittenTo O.contents output.old (piece_text piece.entry) result output.new }
-{
+fn put_piece<O: Output>(output: &mut O, piece: Piece<'_>) -> io::Result<()> {
     match piece {
         Piece::Text(text) => put_bytes(output, text.as_bytes()),
         Piece::Quoted(text) => put_quoted(output, text.as_bytes()),
@@ -62,25 +53,19 @@ fn put_piece<O: Output>(output: &mut O, piece: Piece<'_>) -> io::Result<()>
 }
 
 /// `true` or `false`.
-fn truth_name(is_so: bool) -> &'static str
-    ensures { result.now ≡ truth_name is_so }
-{
+fn truth_name(is_so: bool) -> &'static str {
     if is_so { "true" } else { "false" }
 }
 
 /// Writes bytes in quotation marks.
-fn put_quoted<O: Output>(output: &mut O, bytes: &[u8]) -> io::Result<()>
-    ensures { IsWrittenTo O.contents output.old (quoted bytes.now) result output.new }
-{
+fn put_quoted<O: Output>(output: &mut O, bytes: &[u8]) -> io::Result<()> {
     put_bytes(output, b"\"")?;
     put_bytes(output, bytes)?;
     put_bytes(output, b"\"")
 }
 
 /// Writes a number as sixteen hexadecimal digits in quotation marks.
-fn put_digest<O: Output>(output: &mut O, number: u64) -> io::Result<()>
-    ensures { IsWrittenTo O.contents output.old (quoted (sixteen number)) result output.new }
-{
+fn put_digest<O: Output>(output: &mut O, number: u64) -> io::Result<()> {
     put_bytes(output, b"\"")?;
     put_sixteen(output, number)?;
     put_bytes(output, b"\"")

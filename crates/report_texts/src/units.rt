@@ -1,23 +1,16 @@
 //! Numbers with units.
-ghost use Rattle.std.specs.Prelude.{◌≡◌, ◌++◌, codes, decimal};
-ghost use Rattle.outlets.specs.Written.{IsWrittenTo};
-ghost use Rattle.report_texts.specs.Units.{comma_before, in_groups, seconds_text, sixteen, span};
 
 use itoa::Buffer;
 use outlets::{Output, put as put_bytes};
 use std::io;
 
 /// Writes a number.
-pub(crate) fn put_number<O: Output>(output: &mut O, number: u64) -> io::Result<()>
-    ensures { IsWrittenTo O.contents output.old (decimal number) result output.new }
-{
+pub(crate) fn put_number<O: Output>(output: &mut O, number: u64) -> io::Result<()> {
     put_bytes(output, Buffer::new().format(number).as_bytes())
 }
 
 /// Writes centiseconds as seconds: `0.06`.
-pub(crate) fn put_seconds<O: Output>(output: &mut O, moment: u64) -> io::Result<()>
-    ensures { IsWrittenTo O.contents output.old (seconds_text moment) result output.new }
-{
+pub(crate) fn put_seconds<O: Output>(output: &mut O, moment: u64) -> io::Result<()> {
     put_number(output, moment / 100)?;
     put_bytes(output, b".")?;
     put_number(output, moment / 10 % 10)?;
@@ -31,10 +24,7 @@ fn put_two<O: Output>(
     between: &[u8],
     second: u64,
     behind: &[u8],
-) -> io::Result<()>
-    ensures { IsWrittenTo O.contents output.old
-        (decimal first ++ (between.now ++ (decimal second ++ behind.now))) result output.new }
-{
+) -> io::Result<()> {
     put_number(output, first)?;
     put_bytes(output, between)?;
     put_number(output, second)?;
@@ -42,17 +32,13 @@ fn put_two<O: Output>(
 }
 
 /// Writes a number of seconds.
-fn put_rest<O: Output>(output: &mut O, seconds: u64) -> io::Result<()>
-    ensures { IsWrittenTo O.contents output.old (decimal seconds ++ codes " s") result output.new }
-{
+fn put_rest<O: Output>(output: &mut O, seconds: u64) -> io::Result<()> {
     put_number(output, seconds)?;
     put_bytes(output, b" s")
 }
 
 /// Writes seconds in the two greatest units that they have: `3 d 4 h`, `2 h 10 min`, `5 min 0 s`, `12 s`.
-pub(crate) fn put_span<O: Output>(output: &mut O, seconds: u64) -> io::Result<()>
-    ensures { IsWrittenTo O.contents output.old (span seconds) result output.new }
-{
+pub(crate) fn put_span<O: Output>(output: &mut O, seconds: u64) -> io::Result<()> {
     let (minutes, hours, days) = (seconds / 60, seconds / 3600, seconds / 86_400);
     if days > 0 {
         put_two(output, days, b" d ", hours % 24, b" h")
@@ -66,9 +52,7 @@ pub(crate) fn put_span<O: Output>(output: &mut O, seconds: u64) -> io::Result<()
 }
 
 /// What stands before these digits: a comma, where they begin with a group of three.
-fn comma_before(digits: &[u8]) -> &'static [u8]
-    ensures { result.now ≡ comma_before digits.now }
-{
+fn comma_before(digits: &[u8]) -> &'static [u8] {
     if !digits.is_empty() && digits.len() % 3 == 0 {
         b","
     } else {
@@ -77,9 +61,7 @@ fn comma_before(digits: &[u8]) -> &'static [u8]
 }
 
 /// Writes digits with a comma before each group of three: `1,204`.
-pub(crate) fn put_groups<O: Output>(output: &mut O, digits: &[u8]) -> io::Result<()>
-    ensures { IsWrittenTo O.contents output.old (in_groups digits.now) result output.new }
-{
+pub(crate) fn put_groups<O: Output>(output: &mut O, digits: &[u8]) -> io::Result<()> {
     let mut rest = digits;
     while let [digit, others @ ..] = rest {
         put_bytes(output, &[*digit])?;
@@ -90,9 +72,7 @@ pub(crate) fn put_groups<O: Output>(output: &mut O, digits: &[u8]) -> io::Result
 }
 
 /// Writes a number as sixteen hexadecimal digits.
-pub(crate) fn put_sixteen<O: Output>(output: &mut O, number: u64) -> io::Result<()>
-    ensures { IsWrittenTo O.contents output.old (sixteen number) result output.new }
-{
+pub(crate) fn put_sixteen<O: Output>(output: &mut O, number: u64) -> io::Result<()> {
     let mut digits = [0; 16];
     match hex::encode_to_slice(&number.to_be_bytes()[..], &mut digits) {
         Ok(()) => put_bytes(output, &digits),

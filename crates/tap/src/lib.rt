@@ -5,7 +5,6 @@
 mod asked_clock;
 mod asked_files;
 mod capture_files;
-mod laws;
 mod moments;
 mod reels;
 mod taps;
@@ -13,7 +12,6 @@ mod taps;
 pub use asked_files::CaptureFile;
 pub use capture_files::{Outlet, begin, open};
 pub use captures::{Machine, OpenedFile, Vacant};
-pub use laws::capture_law;
 pub use moments::{Moments, SinceFirst};
 pub use reels::Reel;
 pub use taps::Tapped;

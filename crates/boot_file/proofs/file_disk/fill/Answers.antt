@@ -1,8 +1,7 @@
-use Rattle.std.proofs.Common.{◌≡◌, ◌-◌, ⊎_elim, length, take, drop, ◌∙◌, ap, arith, rules}
+use Rattle.std.proofs.Common.{◌≡◌, ◌-◌, ⊎_elim, length, take, drop, ◌∙◌, ap, arith}
 use Rattle.std.proofs.lemmas.List.{length-map}
 use Rattle.boot_store.specs.Moment.{Moment, bytes_of}
 use Rattle.boot_file.proofs.Filling.{filled_more, filled_whole}
-use Rattle.boot_file.proofs.Reading.{read_end, read_err, read_more, read_whole}
 use Rattle.boot_file.proofs.file_disk.fill.Goals as goal
 use borrow.Rule.Slice.PartMut.{mid_len, same_len_mid}
 
@@ -35,26 +34,6 @@ loop-filled-preserved g c =
       same = λ h. c.read_at.ensures.same (loop.honesty.0 h) ∙ loop.same h;
       passes = λ h. c.read_at.ensures.passes (loop.honesty.0 h) ∙ loop.passes h;
       name = λ h named. c.read_at.ensures.name (loop.honesty.0 h) (loop.name h named);
-      read = read_more g.F.Blocks.reads c.args.file.now c.loop-filled.file c.read_at.new.self n c.in-Ok.count room c.read_at.new.room
-          (omega (arith, loop.long, loop.short)) (omega (arith, c.in-Ok.ensures.count, kept, size)) (search rules) loop.read c.in-Ok.ensures.reads;
       taken = λ h. c.in-Ok.ensures.taken (loop.honesty.0 h) ∙ loop.taken h;
       honesty = (λ h. c.read_at.ensures.honesty.0 (loop.honesty.0 h), λ h. loop.honesty.1 (c.read_at.ensures.honesty.1 h));
     }
-
-pub returns-in-Ok-eq0-clause-asked : goal.returns-in-Ok-eq0-clause-asked
-returns-in-Ok-eq0-clause-asked g c =
-    let loop = c.loop-filled.invariant in
-    read_end g.F.Blocks.reads c.args.file.now c.loop-filled.file c.read_at.new.self c.loop-filled.filled c.in-Ok-eq0.field-0 c.loop-filled.room
-    c.read_at.new.room (omega (arith, loop.long, loop.short)) c.in-Ok-eq0.field-0-test loop.read c.in-Ok-eq0.ensures.reads
-
-pub returns-in-Err-clause-asked : goal.returns-in-Err-clause-asked
-returns-in-Err-clause-asked g c =
-    let loop = c.loop-filled.invariant in
-    read_err g.F.Blocks.reads c.args.file.now c.loop-filled.file c.read_at.new.self c.loop-filled.filled c.loop-filled.room c.loop-filled.room
-    c.read_at.new.room c.in-Err.field-0 (omega (arith, loop.long, loop.short)) loop.read c.in-Err.ensures.reads
-
-pub returns-clause-asked : goal.returns-clause-asked
-returns-clause-asked g c =
-    let loop = c.loop-filled.invariant in
-    let whole : c.loop-filled.filled ≡ 32 = omega (arith, c.loop-filled-test.false, loop.short) in
-    read_whole g.F.Blocks.reads c.args.file.now c.loop-filled.file c.loop-filled.filled c.loop-filled.room whole loop.read

@@ -1,6 +1,5 @@
 use Rattle.std.proofs.Common.{◌≡◌, ◌≤◌, ◌-◌, ◌↔◌, length, take}
 use Rattle.boot_store.specs.Moment.{bytes_of}
-use Rattle.boot_file.proofs.Reading.{IsRead}
 use Rattle.boot_file.proofs.file_disk.fill.Given as goal
 
 abbrev pub invariant-loop-filled : goal.invariant-loop-filled
@@ -12,7 +11,6 @@ invariant-loop-filled g l = record {
   passes : g.F.Blocks.honest l.fn.file → g.F.Blocks.past l.file ≡ g.F.Blocks.past l.fn.file;
   name : g.F.Blocks.honest l.fn.file → g.F.Blocks.named l.fn.file → g.F.Blocks.named l.file;
   taken : g.F.Blocks.honest l.fn.file → g.F.Blocks.refusals l.file ≡ g.F.Blocks.refusals l.fn.file;
-  read : IsRead g.F.Blocks.reads l.fn.file l.filled l.room l.file;
   honesty : g.F.Blocks.honest l.fn.file ↔ g.F.Blocks.honest l.file;
 }
 

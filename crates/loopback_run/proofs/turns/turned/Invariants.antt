@@ -4,5 +4,4 @@ use Rattle.loopback_run.proofs.turns.turned.Given as goal
 
 abbrev pub invariant-loop-event : goal.invariant-loop-event
 invariant-loop-event g l =
-    Turned g.P.Channel.passes g.T.Tape.takes g.O.Write.contents l.fn.world l.fn.passage l.fn.tape (take l.event-index l.events) l.world l.passage l.tape
-    l.fn.output l.output l.refused l.printer
+    Turned g.O.Write.contents l.fn.world (take l.event-index l.events) l.world l.fn.output l.output l.refused l.printer

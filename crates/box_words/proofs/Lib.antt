@@ -1,3 +1,0 @@
-mod Doing
-mod Refusing
-mod Speaking

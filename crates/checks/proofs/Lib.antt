@@ -1,8 +1,0 @@
-mod Counting
-mod Differing
-mod Lines
-mod Shortage
-mod Parts
-mod Pairing
-mod Looking
-mod Hashing

@@ -1,5 +1,0 @@
-mod Each
-mod Putting
-mod Objects
-mod Drops
-mod Groups

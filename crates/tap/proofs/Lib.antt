@@ -1,4 +1,0 @@
-mod Asked
-mod Begun
-mod Blocks
-mod Whole
