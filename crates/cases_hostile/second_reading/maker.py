@@ -209,6 +209,23 @@ class Maker:
             self.do("tick", number, self.clock(number) + far)
         self.talk()
 
+    def cross(self):
+        """Both propose for one endpoint. Often gateway 0, whose proposal wins, crashes before it hears of the other's."""
+        host, port = self.chance.one_of(HOSTS[:2]), 6000 + self.chance.below(8)
+        octets = wire.udp(host, port, REMOTES[0], 53)
+        target = bytes.fromhex("00005e0001") + bytes([self.settings["inside"]["vrid"]])
+        for number in (0, 1):
+            frame = wire.ethernet(target, bytes.fromhex("020000000099"), wire.IPV4, octets)
+            self.hand(number, "inside", frame)
+        proposed = [pair[:2] for table in self.world.tables() for pair in table if pair[2:] == (host, port)]
+        self.deliver_newest(1)
+        if self.chance.below(2):
+            self.do("crash", 0)
+            self.do("boot", 0, self.world.boots[0] + 1)
+        self.talk()
+        for protocol, outside in proposed:
+            self.frame("outside", self.packet(protocol, REMOTES[0], 53, self.virtual, outside, 0))
+
     # Boxes
 
     def crash(self):
@@ -251,5 +268,5 @@ MOVES = [
     (5, Maker.error_outward), (10, Maker.broken), (4, Maker.again), (6, Maker.arp), (5, Maker.advert),
     (9, Maker.tick), (2, Maker.tick_back), (10, Maker.deliver_next), (8, Maker.deliver_newest), (6, Maker.deliver_late),
     (1, Maker.deliver_none), (9, Maker.talk), (4, Maker.grow_old), (3, Maker.crash), (9, Maker.boot),
-    (1, Maker.peer_off), (2, Maker.side), (1, Maker.stop),
+    (1, Maker.peer_off), (2, Maker.side), (1, Maker.stop), (5, Maker.cross),
 ]
