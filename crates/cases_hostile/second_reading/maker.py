@@ -11,7 +11,8 @@ REMOTES = [wire.address("198.51.100.7"), wire.address("203.0.113.9"), wire.addre
 HOSTS = [wire.address("192.168.1.10"), wire.address("192.168.1.11"), wire.address("192.168.1.12")]
 STRANGERS = {"inside": HOSTS[2], "outside": REMOTES[2]}
 PORTS = [5000, 5001, 5002, 5003]
-FLAGS = [wire.SYN, wire.SYN | wire.ACK, wire.ACK, wire.ACK, wire.FIN | wire.ACK, wire.RST, wire.FIN, wire.SYN | wire.FIN]
+FLAGS = [wire.SYN, wire.SYN | wire.ACK, wire.ACK, wire.ACK, wire.FIN | wire.ACK]
+FLAGS += [wire.RST, wire.FIN, wire.SYN | wire.FIN]
 STEPS = [(4, 1), (8, 10), (4, 37), (4, 100), (3, 300), (2, 364), (1, 6000), (1, 24000), (2, 30000), (1, 744000)]
 
 
@@ -104,7 +105,8 @@ class Maker:
     def error_inward(self):
         protocol, port = self.pair()[:2]
         inner = self.packet(protocol, self.virtual, port, REMOTES[0], 53, 8)
-        self.frame("outside", wire.error(*self.chance.one_of([(3, 3), (11, 0), (12, 0), (5, 0)]), REMOTES[1], self.virtual, inner))
+        kind, code = self.chance.one_of([(3, 3), (11, 0), (12, 0), (5, 0)])
+        self.frame("outside", wire.error(kind, code, REMOTES[1], self.virtual, inner))
 
     def error_outward(self):
         protocol, _port, host, inside_port = self.pair()
@@ -210,7 +212,7 @@ class Maker:
         self.talk()
 
     def cross(self):
-        """Both propose for one endpoint. Often gateway 0, whose proposal wins, crashes before it hears of the other's."""
+        """Both propose for one endpoint. Often gateway 0, which wins, crashes before it hears of the other's."""
         host, port = self.chance.one_of(HOSTS[:2]), 6000 + self.chance.below(8)
         octets = wire.udp(host, port, REMOTES[0], 53)
         target = bytes.fromhex("00005e0001") + bytes([self.settings["inside"]["vrid"]])
