@@ -8,11 +8,11 @@
     bench/hostile.py --check         whether the gate's scripts and its stdout are as owed; builds nothing
     bench/hostile.py --write         writes these
 
-The second reading is crates/cases_hostile/second_reading: Python, of the rules as docs/ and the standards have them. It
-works out each event's outcome, frames, datagrams and notes, and a second audit judges its notes and tables behind each
-event; so the program's notes are judged too, where it tells the same. Each run plants each fault of an audit behind each
-script, and the second audit has to find it. Without --built the program is proved and built first (`rt run`), and with it
-the crates below. Python 3.11.
+The second reading is crates/cases_hostile/second_reading: Python, of the rules as docs/ and the standards have
+them. It works out each event's outcome, frames, datagrams and notes, and a second audit judges its notes and tables
+behind each event; so the program's notes are judged too, where it tells the same. Each run plants each fault of an
+audit behind each script, and the second audit has to find it. Without --built the program is proved and built first
+(`rt run`), and with it the crates below. Python 3.11.
 """
 import argparse
 import collections

@@ -1,5 +1,6 @@
 """The link between the two gateways: its datagrams, and a session of numbered records. By docs/PROTOCOL.md and the
-format of a datagram: 4e50, version 3, sender, boot, receiver's boot, status, count delivered, first number, count, records."""
+format of a datagram: 4e50, version 3, sender, boot, receiver's boot, status, count delivered, first number, count,
+records."""
 
 from wire import number, two
 
