@@ -1,5 +1,5 @@
-"""A second audit: what the words of docs/THEOREM.md say of a list of notes and of two tables. It is told note after note,
-each as (gateway, moment, name, pair)."""
+"""A second audit: what the words of docs/THEOREM.md say of a list of notes and of two tables. It is told note after
+note, each as (gateway, moment, name, pair)."""
 
 LIFE = ("Synced", "Crashed", "Booted")
 

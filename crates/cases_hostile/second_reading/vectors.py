@@ -1,5 +1,5 @@
-"""What is owed for vectors.cases: each vector whole, cut at every length, and with every byte changed to every other value,
-handed to a gateway as the lines before it have it."""
+"""What is owed for vectors.cases: each vector whole, cut at every length, and with every byte changed to every other
+value, handed to a gateway as the lines before it have it."""
 
 import collections
 import pathlib
