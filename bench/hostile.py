@@ -1,17 +1,18 @@
 #!/usr/bin/env python3
-"""Five hundred hostile scripts of 200 events each, from the seeds 1 to 500, and what a second reading of the rules owes for them.
+"""Five hundred hostile scripts of 200 events each, from the seeds 1 to 500, held against a second reading of the rules.
 
     bench/hostile.py                 makes them, runs them through crates/cases_hostile, and compares what it prints
     bench/hostile.py --built FILE    the same by a program that is built already
     bench/hostile.py --seeds 7 40    the scripts of some seeds alone
     bench/hostile.py --show 7        what `natpair sim` owes for a script, to hold against what it prints
-    bench/hostile.py --check         whether the gate's scripts and its stdout are those of the second reading; builds nothing
+    bench/hostile.py --check         whether the gate's scripts and its stdout are as owed; builds nothing
     bench/hostile.py --write         writes these
 
-The second reading is crates/cases_hostile/second_reading: Python, of the rules as docs/ and the standards have them. It works out
-each event's outcome, frames, datagrams and notes, and a second audit judges its notes and tables behind each event; so the
-program's notes are judged too, where it tells the same. Each run plants each fault of an audit behind each script, and the second
-audit has to find it. Without --built the program is proved and built first (`rt run`), and with it the crates below. Python 3.11.
+The second reading is crates/cases_hostile/second_reading: Python, of the rules as docs/ and the standards have
+them. It works out each event's outcome, frames, datagrams and notes, and a second audit judges its notes and tables
+behind each event; so the program's notes are judged too, where it tells the same. Each run plants each fault of an
+audit behind each script, and the second audit has to find it. Without --built the program is proved and built first
+(`rt run`), and with it the crates below. Python 3.11.
 """
 import argparse
 import collections
@@ -92,7 +93,8 @@ def run_all(seeds, program):
     scripts, planted = make(seeds)
     program = pathlib.Path(program).resolve() if program else built()
     is_same = compare(printed(program, scripts), owed(scripts), scripts)
-    print(f"{len(scripts)} scripts, each fault planted and found in {planted}: {'as owed' if is_same else 'NOT AS OWED'}")
+    verdict = "as owed" if is_same else "NOT AS OWED"
+    print(f"{len(scripts)} scripts, each fault planted and found in {planted}: {verdict}")
     return is_same
 
 

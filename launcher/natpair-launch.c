@@ -60,7 +60,8 @@ enum { LONGEST_PACKET = 1500 };
 // The room for frames that wait, in bytes, and a frame counts about twice its length. The kernel doubles the number.
 enum { ROOM = 8 << 20, MOST_ROOM = INT_MAX / 2 };
 
-// The link's datagrams leave with this TTL, which each router on the way makes less by one. Its place in an IP header.
+// The link's datagrams leave with this TTL, which each router on the way makes less by one; and where the TTL stands in
+// an IP header.
 enum { MOST_HOPS = 255, TTL_PLACE = 8 };
 
 // In place of the link's interface: the link's datagrams may come by each.
@@ -77,7 +78,7 @@ enum { PATIENCE = 2, LAST_ROUND = 5000 };
 
 struct options {
     const char *interface[SIDES];
-    const char *link;
+    const char *link_ends;
     const char *link_interface;
     const char *boot_file;
     const char *user;
@@ -287,7 +288,7 @@ static int bind_link(int sock, const char *interface)
 static struct link open_link(const struct options *options)
 {
     struct sockaddr_in own = {0}, other = {0};
-    const char *text = options->link, *comma = strchr(text, ',');
+    const char *text = options->link_ends, *comma = strchr(text, ',');
     const int ttl = MOST_HOPS;
     if (comma == NULL || !read_end(text, comma, &own) || !read_end(comma + 1, text + strlen(text), &other))
         refuse("link: %s isn't OWN:PORT,OTHER:PORT", text);
@@ -401,7 +402,7 @@ struct keeper {
     struct sockaddr_un place;
     pid_t gate;
     // The link's interface, and the number of that to which its socket is bound: 0 where it is bound to none.
-    const char *link;
+    const char *link_interface;
     int link_number;
     // When the gate was told to end: 0 before that.
     int64_t told_to_end;
@@ -494,7 +495,7 @@ static int tell(struct keeper *keeper, int number)
 // socket any more, and without privileges it can't be bound anew.
 static bool has_lost_link(const struct keeper *keeper)
 {
-    int number = keeper->link_number == 0 ? -1 : number_of(keeper->link);
+    int number = keeper->link_number == 0 ? -1 : number_of(keeper->link_interface);
     return number >= 0 && number != keeper->link_number;
 }
 
@@ -506,7 +507,8 @@ static void look_at_link(struct keeper *keeper, int gate)
         syscall(SYS_pidfd_send_signal, gate, SIGKILL, NULL, 0);
     if (keeper->told_to_end != 0 || !has_lost_link(keeper))
         return;
-    say("keeper link %s was made again, and the link's socket is bound to the old one: the gate ends", keeper->link);
+    say("keeper link %s was made again, and the link's socket is bound to the old one: the gate ends",
+        keeper->link_interface);
     keeper->told_to_end = now();
     if (keeper->place.sun_path[0] == '\0' || !is_heard(keeper, stop, sizeof stop))
         syscall(SYS_pidfd_send_signal, gate, SIGTERM, NULL, 0);
@@ -544,8 +546,8 @@ static void keep(struct keeper *keeper, int changes, int end)
 
 static struct keeper keeper_of(const struct options *options, const int *socks, struct link link, pid_t gate)
 {
-    struct keeper keeper = {.place = {.sun_family = AF_UNIX}, .gate = gate, .link = options->link_interface,
-        .link_number = link.interface};
+    struct keeper keeper = {.place = {.sun_family = AF_UNIX}, .gate = gate,
+        .link_interface = options->link_interface, .link_number = link.interface};
     for (int number = 0; number < SIDES; number++)
         keeper.side[number] = (struct side){NAMES[number], options->interface[number], socks[number],
             has_carrier(options->interface[number]), now(), -1};
@@ -558,9 +560,9 @@ static struct keeper keeper_of(const struct options *options, const int *socks, 
 static void leave_keeper(const struct options *options, const int *socks, struct link link, int manager)
 {
     pid_t gate = getpid();
-    int changes = bell();
-    int end = (int)syscall(SYS_pidfd_open, gate, 0);
-    if (end < 0)
+    int changes = out_of_the_way(bell());
+    int end = out_of_the_way((int)syscall(SYS_pidfd_open, gate, 0));
+    if (changes < 0 || end < 0)
         refuse("pidfd: %s", strerror(errno));
     pid_t child = fork();
     if (child < 0)
@@ -602,7 +604,7 @@ static void take_option(struct options *found, const char *name, const char *val
     else if (strcmp(name, "--outside") == 0)
         found->interface[OUTSIDE] = value;
     else if (strcmp(name, "--link-udp") == 0)
-        found->link = value;
+        found->link_ends = value;
     else if (strcmp(name, "--link-interface") == 0)
         found->link_interface = value;
     else if (strcmp(name, "--link-hops") == 0)
@@ -625,11 +627,11 @@ static struct options read_words(int count, char **words)
         take_option(&found, words[next], words[next + 1]);
     if (next + 1 >= count || found.interface[INSIDE] == NULL || found.interface[OUTSIDE] == NULL)
         usage();
-    if (found.link != NULL && found.link_interface == NULL) {
+    if (found.link_ends != NULL && found.link_interface == NULL) {
         say("natpair-launch: --link-udp wants --link-interface too: IF, by which alone the link is heard, or %s", ANY);
         exit(2);
     }
-    if (found.link == NULL && (found.link_interface != NULL || found.hops != 0)) {
+    if (found.link_ends == NULL && (found.link_interface != NULL || found.hops != 0)) {
         say("natpair-launch: --link-interface and --link-hops belong to --link-udp");
         exit(2);
     }
@@ -645,7 +647,7 @@ static void check(const struct options *options)
     for (int number = 0; number < SIDES; number++)
         if (strlen(options->interface[number]) >= IFNAMSIZ)
             refuse("%s: no interface %s", NAMES[number], options->interface[number]);
-    if (options->link != NULL && strlen(options->link_interface) >= IFNAMSIZ)
+    if (options->link_ends != NULL && strlen(options->link_interface) >= IFNAMSIZ)
         refuse("link: no interface %s", options->link_interface);
     if (options->boot_file != NULL && strlen(options->boot_file) + strlen(".control/socket") >= sizeof place.sun_path)
         refuse("the boot file's path is too long for a socket beside it");
@@ -691,7 +693,7 @@ int main(int count, char **words)
     check(&options);
     for (int number = 0; number < SIDES; number++)
         socks[number] = open_side(NAMES[number], options.interface[number], options.room);
-    struct link link = options.link == NULL ? (struct link){-1, 0} : open_link(&options);
+    struct link link = options.link_ends == NULL ? (struct link){-1, 0} : open_link(&options);
     int manager = open_manager();
     give_up_privileges(options.user);
     leave_keeper(&options, socks, link, manager);

@@ -14,7 +14,8 @@ one that a `use` brings in. Of `self.field.f` and of `argument.f` the types are 
 argument is declared, and a local's are those of what it is bound to; so a method that hands on to a field's method of
 its own name is no ring. A type parameter may be whoever has its traits. Where no type is found, it may be any type of
 the program that has such a method, but for the names of STD, which are the standard library's there. A function that
-is handed on without being called counts as called: an iterator may call it.
+is handed on without being called counts as called: an iterator may call it. Not seen: what an operator or `into` calls,
+a call by `<T>::f`, through `dyn`, and of a function whose name a local has.
 """
 import argparse
 import collections

@@ -1,5 +1,6 @@
-"""One gateway: the packet path, packets that wait, ARP, VRRP, ticks, the link. A step answers an outcome and tells frames,
-datagrams and notes. It asks no neighbour and answers no Echo beyond what the settings without `[icmp]` have."""
+"""One gateway: the packet path, packets that wait, ARP, VRRP, ticks, the link. A step answers an outcome and tells
+frames, datagrams and notes. It asks no neighbour and answers no Echo beyond what the settings without `[icmp]`
+have."""
 
 import router
 import wire

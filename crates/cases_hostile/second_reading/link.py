@@ -1,5 +1,6 @@
-"""The link between the two gateways: its datagrams, and a session of numbered records. By docs/PROTOCOL.md and the format
-of a datagram: 4e50, version 3, sender, boot, receiver's boot, status, count delivered, first number, count, records."""
+"""The link between the two gateways: its datagrams, and a session of numbered records. By docs/PROTOCOL.md and the
+format of a datagram: 4e50, version 3, sender, boot, receiver's boot, status, count delivered, first number, count,
+records."""
 
 from wire import number, two
 
@@ -79,7 +80,7 @@ class Reader:
 
 
 class Datagram:
-    """What a datagram says; Bad where it isn't one. All refusals of the link are one reason, so their order shows nowhere."""
+    """What a datagram says; Bad where it isn't one. All refusals are one reason, so their order shows nowhere."""
 
     def __init__(self, octets):
         if len(octets) < 38 or octets[:3] != b"NP" + bytes([VERSION]) or octets[3] > 1:
@@ -132,7 +133,7 @@ class Link:
         return self.hears(now) and self.peer_status == 1
 
     def take(self, octets, now):
-        """Whether the peer has begun anew, and the records that are new, one by one. Bad where the datagram isn't taken."""
+        """Whether the peer has begun anew, and the records that are new. Bad where the datagram isn't taken."""
         said = Datagram(octets)
         if said.sender == self.number or said.boot < self.known or said.boot <= self.closed:
             raise Bad

@@ -11,7 +11,8 @@ REMOTES = [wire.address("198.51.100.7"), wire.address("203.0.113.9"), wire.addre
 HOSTS = [wire.address("192.168.1.10"), wire.address("192.168.1.11"), wire.address("192.168.1.12")]
 STRANGERS = {"inside": HOSTS[2], "outside": REMOTES[2]}
 PORTS = [5000, 5001, 5002, 5003]
-FLAGS = [wire.SYN, wire.SYN | wire.ACK, wire.ACK, wire.ACK, wire.FIN | wire.ACK, wire.RST, wire.FIN, wire.SYN | wire.FIN]
+FLAGS = [wire.SYN, wire.SYN | wire.ACK, wire.ACK, wire.ACK, wire.FIN | wire.ACK]
+FLAGS += [wire.RST, wire.FIN, wire.SYN | wire.FIN]
 STEPS = [(4, 1), (8, 10), (4, 37), (4, 100), (3, 300), (2, 364), (1, 6000), (1, 24000), (2, 30000), (1, 744000)]
 
 
@@ -104,7 +105,8 @@ class Maker:
     def error_inward(self):
         protocol, port = self.pair()[:2]
         inner = self.packet(protocol, self.virtual, port, REMOTES[0], 53, 8)
-        self.frame("outside", wire.error(*self.chance.one_of([(3, 3), (11, 0), (12, 0), (5, 0)]), REMOTES[1], self.virtual, inner))
+        kind, code = self.chance.one_of([(3, 3), (11, 0), (12, 0), (5, 0)])
+        self.frame("outside", wire.error(kind, code, REMOTES[1], self.virtual, inner))
 
     def error_outward(self):
         protocol, _port, host, inside_port = self.pair()
@@ -209,6 +211,23 @@ class Maker:
             self.do("tick", number, self.clock(number) + far)
         self.talk()
 
+    def cross(self):
+        """Both propose for one endpoint. Often gateway 0, which wins, crashes before it hears of the other's."""
+        host, port = self.chance.one_of(HOSTS[:2]), 6000 + self.chance.below(8)
+        octets = wire.udp(host, port, REMOTES[0], 53)
+        target = bytes.fromhex("00005e0001") + bytes([self.settings["inside"]["vrid"]])
+        for number in (0, 1):
+            frame = wire.ethernet(target, bytes.fromhex("020000000099"), wire.IPV4, octets)
+            self.hand(number, "inside", frame)
+        proposed = [pair[:2] for table in self.world.tables() for pair in table if pair[2:] == (host, port)]
+        self.deliver_newest(1)
+        if self.chance.below(2):
+            self.do("crash", 0)
+            self.do("boot", 0, self.world.boots[0] + 1)
+        self.talk()
+        for protocol, outside in proposed:
+            self.frame("outside", self.packet(protocol, REMOTES[0], 53, self.virtual, outside, 0))
+
     # Boxes
 
     def crash(self):
@@ -251,5 +270,5 @@ MOVES = [
     (5, Maker.error_outward), (10, Maker.broken), (4, Maker.again), (6, Maker.arp), (5, Maker.advert),
     (9, Maker.tick), (2, Maker.tick_back), (10, Maker.deliver_next), (8, Maker.deliver_newest), (6, Maker.deliver_late),
     (1, Maker.deliver_none), (9, Maker.talk), (4, Maker.grow_old), (3, Maker.crash), (9, Maker.boot),
-    (1, Maker.peer_off), (2, Maker.side), (1, Maker.stop),
+    (1, Maker.peer_off), (2, Maker.side), (1, Maker.stop), (5, Maker.cross),
 ]

@@ -1,5 +1,5 @@
-"""A VRRP router of one side, by RFC 9568 section 6, and what neighbours are known at a side, by RFC 826 and the rules of
-the ARP page. Times in centiseconds."""
+"""A VRRP router of one side, by RFC 9568 section 6, and what neighbours are known at a side, by RFC 826 and the rules
+of the ARP page. Times in centiseconds."""
 
 import wire
 

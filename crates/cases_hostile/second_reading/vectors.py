@@ -1,5 +1,5 @@
-"""What is owed for vectors.cases: each vector whole, cut at every length, and with every byte changed to every other value,
-handed to a gateway as the lines before it have it."""
+"""What is owed for vectors.cases: each vector whole, cut at every length, and with every byte changed to every other
+value, handed to a gateway as the lines before it have it."""
 
 import collections
 import pathlib
@@ -32,10 +32,13 @@ class Bench:
         if isinstance(outcome, int):
             self.drops += 1
             assert not box.frames and not box.datagrams and not box.notes, (way, octets.hex())
+            self.changed += self.seen_bytes() != self.seen
+        else:
+            self.seen = self.seen_bytes()
         return outcome
 
     def lines_of(self, way, vector, anew):
-        self.told, self.drops = [], 0
+        self.told, self.drops, self.changed = [], 0, 0
         self.begin()
         cuts = [(length, self.tally(way, [vector[:length]])) for length in range(len(vector) + 1)]
         changes = []
@@ -44,7 +47,7 @@ class Bench:
                 self.begin()
             changes.append((at, self.tally(way, changed(vector, at))))
         self.told.append(self.seen_bytes())
-        last = f"  dropped {self.drops}, changed behind a drop 0, told {told.digest(b''.join(self.told))}"
+        last = f"  dropped {self.drops}, changed behind a drop {self.changed}, told {told.digest(b''.join(self.told))}"
         return [*runs("  cut to ", cuts), *runs("  byte ", changes), last]
 
     def tally(self, way, many):

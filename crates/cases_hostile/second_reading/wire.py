@@ -1,5 +1,5 @@
-"""Frames by the standards: what is read of their bytes, and what they are sent on as. The rules are those of the page of
-the packet path: Ethernet, IPv4 (RFC 791), UDP, TCP, ICMP (RFC 792), checksums by whole sums."""
+"""Frames by the standards: what is read of their bytes, and what they are sent on as. The rules are those of the page
+of the packet path: Ethernet, IPv4 (RFC 791), UDP, TCP, ICMP (RFC 792), checksums by whole sums."""
 
 ICMP, TCP, UDP = 1, 6, 17
 IPV4, ARP = b"\x08\x00", b"\x08\x06"
