@@ -34,8 +34,7 @@ pub(crate) fn started<R: RandomSource, D: OwnDisk, O: Output, L: Journal + OwnLo
     records: &mut Records<L>,
 ) -> Result<(Identity, Gateway), BoxFault>
     requires found { IsTrue found → id ≡ Zero }
-    ensures begun { IfOk result (HasBegun D.honest D.now settings.now id found
-        disk.old disk.new) }
+    ensures { IfOk result (HasBegun D.honest D.now settings.now id found disk.old disk.new) }
 {
     let digest = digest(settings);
     let hashers = seeds.drawn()?;
@@ -121,7 +120,7 @@ fn begun(
 ) -> Result<Gateway, BoxFault>
     requires boot { 0 < boot }
     requires found { IsTrue found → id ≡ Zero }
-    ensures start { IfOk result (IsStart settings.now id found hashers boot) }
+    ensures { IfOk result (IsStart settings.now id found hashers boot) }
 {
     let gateway = Gateway::new(alloc, settings, id, boot, found, hashers)?;
     Ok(gateway)
