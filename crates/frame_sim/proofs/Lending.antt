@@ -17,6 +17,9 @@ anywhere w i (Some g) side b told o told2 w2 t = record {
   new = t.new;
   step = let s = t.step in record { done = s.done; does = s.does; sends = s.sends };
   truly = t.truly;
+  bytes = t.bytes;
+  was = t.was;
+  set_up = t.set_up;
   answer = t.answer;
   world = t.world;
 }
@@ -32,6 +35,9 @@ datagram-lent w i (Some g) b told o told2 w2 t = record {
   new = t.new;
   step = let s = t.step in record { done = s.done; does = s.does; sends = s.sends };
   truly = t.truly;
+  bytes = t.bytes;
+  was = t.was;
+  set_up = t.set_up;
   answer = t.answer;
   world = t.world;
 }

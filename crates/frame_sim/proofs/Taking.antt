@@ -66,6 +66,9 @@ takes-so w i (Some g) event told o told2 h2 trace2 s = record {
   new = s.new;
   step = s.step;
   truly = s.truly;
+  bytes = s.bytes;
+  was = s.was;
+  set_up = s.set_up;
   answer = s.answer;
   world = ap (λ (h : Half). with_half w i h trace2) s.half_is ∙ ap (λ (t : List Note). with_half w i (record (half w i) { gateway = Some s.new; sent = (half w i).sent ++ since told.datagrams told2.datagrams }) t) s.trace_is;
 }

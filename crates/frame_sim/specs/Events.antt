@@ -12,9 +12,11 @@ use Rattle.spec_step.specs.declared.events.Event.TheVariants as given
 use Rattle.spec_step.specs.declared.events.Outcome.{Outcome}
 use Rattle.spec_step.specs.declared.events.Outcome.TheVariants.{Done}
 use Rattle.spec_step.specs.Founding.{begun}
+use Rattle.spec_step.specs.Machine.{HasBytes}
 use Rattle.spec_step.specs.Shown.{Shown, scene}
+use Rattle.gateway.specs.Gateway.{IsGateway}
 use Rattle.spec_step.specs.Steps.{IsStepOn, outcome_on}
-use Rattle.spec_step.specs.Truly.{Tells, hand_of}
+use Rattle.spec_step.specs.Truly.{IsSetUp, Tells, hand_of}
 use Rattle.nat_types.specs.declared.events.WorldEvent.{WorldEvent}
 use Rattle.nat_types.specs.declared.events.WorldEvent.TheVariants.{Frame, Tick, Stop, Deliver, Crash, Boot, PeerOff, Side as Cable}
 use Rattle.frame_sim.specs.declared.events.WorldFault.{WorldFault}
@@ -81,6 +83,9 @@ pub record Takes (w : World) (i : GatewayId) (g : Shown) (event : Event) (told :
   pub new : Shown
   pub step : IsStepOn (scene g told) event (scene new told2)
   pub truly : Tells (hand_of event) (scene g told) (scene new told2)
+  pub bytes : HasBytes event
+  pub was : IsGateway g
+  pub set_up : IsSetUp g
   pub answer : outcome ≡ outcome_on g event
   pub world : w2 ≡ stepped w i new told told2
 

@@ -11,7 +11,7 @@ use Rattle.spec_step.specs.declared.events.Outcome.TheVariants.{Done}
 use Rattle.spec_step.specs.Machine.{HasBytes}
 use Rattle.spec_step.specs.Shown.{Shown, scene}
 use Rattle.spec_step.specs.Steps.{IsStepOn, outcome_on}
-use Rattle.spec_step.specs.Truly.{Tells, hand_of}
+use Rattle.spec_step.specs.Truly.{IsSetUp, Tells, hand_of}
 use Rattle.gateway.specs.Gateway.{IsGateway}
 use Rattle.frame_sim.specs.World.{Half}
 use Rattle.frame_sim.specs.Events.{kth, since}
@@ -33,6 +33,7 @@ pub record Steps (h : Half) (g : Shown) (trace : List Note) (event : Event) (tol
   pub truly : Tells (hand_of event) (scene g told) (scene new told2)
   pub bytes : HasBytes event
   pub was : IsGateway g
+  pub set_up : IsSetUp g
   pub link : IsLink new.link
   pub answer : outcome ≡ outcome_on g event
   pub half_is : h2 ≡ record h {

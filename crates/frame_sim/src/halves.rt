@@ -7,7 +7,7 @@ ghost use Rattle.spec_step.specs.Machine.{HasBytes};
 ghost use Rattle.spec_step.specs.Rests.{most_notes};
 ghost use Rattle.spec_step.specs.Shown.{scene};
 ghost use Rattle.spec_step.specs.Steps.{IsStepOn, outcome_on};
-ghost use Rattle.spec_step.specs.Truly.{Tells, hand_of};
+ghost use Rattle.spec_step.specs.Truly.{IsSetUp, Tells, hand_of};
 ghost use Rattle.gateway.specs.Gateway.{IsGateway};
 ghost use Rattle.frame_sim.specs.World.{is_up, moment_of, owned_by, pairs_of, synced_at};
 ghost use Rattle.frame_sim.specs.declared.events.WorldFault.TheVariants as faults;
@@ -149,6 +149,7 @@ fn step_up(
         (scene gateway.new out.new)) }
     ensures bytes { OnOk result (HasBytes event.entry) }
     ensures was { IsGateway gateway.old }
+    ensures set_up { IsSetUp gateway.old }
     ensures link { OnOk result (IsLink gateway.new.link) }
     ensures sent { OnOk result (items_of sent.new.items
         ≡ items_of sent.old.items ++ since out.old.datagrams out.new.datagrams) }
