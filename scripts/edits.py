@@ -170,6 +170,9 @@ def goal(top, crate, said):
     found = re.search(r"proofs/(\S+?)/\w+\.antt:\d+:\d+: error: `([^`]+)`", said)
     if found:
         return f"`{found[1].split('/')[-1]}`: `{found[2]}`, in the proof's text"
+    found = re.search(r"proofs/\w+\.antt:\d+:\d+: error: `([^`]+)`", said)
+    if found:
+        return f"the lemma `{found[1]}`"
     return "in a proof's text, which names what the edit takes away" if "refused" in said else "NOT REFUSED"
 
 
