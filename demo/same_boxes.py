@@ -111,11 +111,11 @@ def texts(trial, name):
 
 
 def frames(capture):
-    """The different frames of both sides that a capture has, each of them once, and its other blocks. How many link
-    datagrams there are is the clock's."""
+    """The blocks of a capture but its packets, and of these at which interface which kinds stand: EtherType and protocol.
+    Which there are is the clock's."""
     packets = [block for block in blocks(capture.read_bytes()) if block[:4] == b"\x06\0\0\0"]
     others = [block.hex() for block in blocks(capture.read_bytes()) if block[:4] != b"\x06\0\0\0"]
-    return others + sorted({block[20:].hex() for block in packets if block[8:12] != b"\x02\0\0\0"})
+    return others + sorted({(block[8], block[40:42].hex(), block[51]) for block in packets}, key=str)
 
 
 def restarts(trial):
