@@ -2,8 +2,7 @@
 ghost use Rattle.std.specs.Prelude.{◌≡◌, ◌+◌, ◌≤◌, ◌↔◌, ◌++◌, ◌∷◌, [], None, Ok, take, IfErr, IfOk, IfSome, OnErr, OnOk};
 ghost use Rattle.boot_store.specs.Moment.{StillKept, bytes_of, synced};
 
-use crate::locks::{let_go, not_locked};
-use crate::{Blocks, FileFault, Lockable};
+use crate::Blocks;
 use boot_store::{DeviceFault, Disk, Failures};
 use std::io;
 
@@ -21,7 +20,11 @@ pub struct FileDisk<F> {
 
 impl<F: Drop> FileDisk<F> {
     /// The file, and the folder that has its name.
-    pub fn new(file: F, folder: F) -> Self {
+    pub fn new(file: F, folder: F) -> Self
+        ensures file { result.file ≡ file }
+        ensures folder { result.folder ≡ folder }
+        ensures none_failed { result.failures ≡ 0 }
+    {
         FileDisk {
             file,
             folder,
@@ -29,27 +32,10 @@ impl<F: Drop> FileDisk<F> {
         }
     }
 
-    /// The same, of a file that is locked first, by one call. It can be asked for nothing else here, so that nothing
-    /// of it is read or written before it is locked.
-    ///
-    /// # Errors
-    /// InUse where another opening has it locked, NotLocked where the lock is refused.
-    pub fn locked(mut file: F, folder: F) -> Result<Self, FileFault>
-    where
-        F: Lockable,
-    {
-        match file.try_lock() {
-            Ok(()) => Ok(FileDisk::new(file, folder)),
-            Err(error) => {
-                let_go(file);
-                let_go(folder);
-                Err(not_locked(error))
-            }
-        }
-    }
-
     /// The file.
-    pub fn into_file(self) -> F {
+    pub fn into_file(self) -> F
+        ensures { result ≡ self.file }
+    {
         let FileDisk {
             file,
             folder: _,
@@ -63,6 +49,7 @@ impl<F: Blocks + Drop> FileDisk<F> {
     /// A call of the system failed.
     fn failed(&mut self) -> DeviceFault
         ensures file { self.new.file ≡ self.old.file }
+        ensures folder { self.new.folder ≡ self.old.folder }
         ensures failures { self.new.failures ≡ self.old.failures + 1 }
     {
         self.failures.count();
@@ -83,11 +70,11 @@ impl<F: Blocks + Drop> Disk for FileDisk<F> {
 
     ghost honest = { λ d. F.honest d.file };
 
-    fn read(&mut self, room: &mut [u8; 32]) -> Result<usize, DeviceFault> {
+    fn read(&mut self, buffer: &mut [u8; 32]) -> Result<usize, DeviceFault> {
         let Ok(()) = self.file.drop_cache() else {
             return Err(self.failed());
         };
-        match fill(&mut self.file, room) {
+        match fill(&mut self.file, buffer) {
             Some(count) => Ok(count),
             None => Err(self.failed()),
         }
@@ -128,11 +115,11 @@ fn sync_both<F: Blocks>(file: &mut F, folder: &F) -> io::Result<()>
     Ok(())
 }
 
-/// Fills the room as far as the file goes, and says how far; nothing where a read fails.
-fn fill<F: Blocks>(file: &mut F, room: &mut [u8; 32]) -> Option<usize>
+/// Fills the buffer as peer as the file goes, and says how peer; nothing where a read fails.
+fn fill<F: Blocks>(file: &mut F, buffer: &mut [u8; 32]) -> Option<usize>
     ensures count { IfSome result (λ n. n ≤ 32) }
     ensures filled { F.honest file.old
-        → IfSome result (λ n. take n room.new ≡ take 32 (bytes_of (F.now file.old))) }
+        → IfSome result (λ n. take n buffer.new ≡ take 32 (bytes_of (F.now file.old))) }
     ensures same { F.honest file.old → F.now file.new ≡ F.now file.old }
     ensures passes { F.honest file.old → F.past file.new ≡ F.past file.old }
     ensures name { F.honest file.old → F.named file.old → F.named file.new }
@@ -144,7 +131,7 @@ fn fill<F: Blocks>(file: &mut F, room: &mut [u8; 32]) -> Option<usize>
 {
     let mut filled = 0;
     while filled < LENGTH {
-        match file.read_at(filled, &mut room[filled..]) {
+        match file.read_at(filled, &mut buffer[filled..]) {
             Ok(0) => return Some(filled),
             Ok(count) => filled += count,
             Err(_) => return None,

@@ -1,123 +1,85 @@
-//! The words that are said at a control socket.
-ghost use Rattle.std.specs.Prelude.{◌≡◌, false, None, Some};
-ghost use Rattle.control.specs.Words.{off_word, pairs_word, side_of, truth_of, word_of};
-ghost use Rattle.control.specs.declared.words.Word.TheVariants as said;
+//! The words that are said to a box.
 
 use addresses::{Port, Protocol};
+use arrayvec::ArrayVec;
 use byteorder::{BigEndian, ByteOrder};
 use nat_types::{Key, Side};
 
-/// The bytes of the longest word.
-pub const LONGEST_WORD: usize = 10;
-
-/// What a box is told, or asked.
+/// What is said to a box.
 #[derive(Clone, Copy, Debug, PartialEq, Eq)]
 pub enum Word {
-    /// The operator says that this boot of the other gateway is off; or, with none, the one that the box knows.
-    PeerOff {
-        boot: Option<u64>,
-        /// It counts for a boot above the known one too.
-        forced: bool,
-    },
-    /// It is to end.
+    /// That a boot of the other box is off: of this number, or the one that the box knows. A forced one counts where the box
+    /// doesn't know that boot, too.
+    PeerOff { boot: Option<u64>, forced: bool },
+    /// That the box is to end.
     Stop,
-    /// The cable of a side is in or out.
-    Side {
-        side: Side,
-        up: bool,
-        /// Its carrier tells it, by whoever watches the interface; else an operator does, or a check of his.
-        carrier: bool,
-    },
-    /// How does the box stand?
+    /// That a side's cable is in, or out, as its carrier tells it or an operator.
+    Side { side: Side, up: bool, carrier: bool },
+    /// How it stands.
     Status,
-    /// Which pairs has it, in the order of its table: the first, or those behind this key?
+    /// Which pairs it has behind this key.
     Pairs(Option<Key>),
 }
 
-/// The word that a boot of the other gateway is off: `NO`, or `NF` where it is forced, and the boot in 8 bytes, the most
-/// significant first.
-pub fn spelled_off(boot: u64, forced: bool) -> [u8; 10]
-    ensures { word_of result ≡ Some (said.PeerOff (Some boot) forced) }
-{
-    let letter = if forced { b'F' } else { b'O' };
-    let mut word = [b'N', letter, 0, 0, 0, 0, 0, 0, 0, 0];
-    BigEndian::write_u64(&mut word[2..], boot);
-    word
-}
+/// A word as it is sent: at most 10 bytes.
+pub type WordBytes = ArrayVec<u8, 10>;
 
-/// The word that the known boot of the other gateway is off: `NO`.
-pub fn spelled_known_off() -> [u8; 2]
-    ensures { word_of result ≡ Some (said.PeerOff None false) }
-{
-    [b'N', b'O']
-}
+impl Word {
+    /// The bytes that it is sent as.
+    pub fn bytes(self) -> WordBytes {
+        let mut bytes = ArrayVec::new();
+        match self {
+            Word::PeerOff { boot, forced } => {
+                put(&mut bytes, if forced { b"NF" } else { b"NO" });
+                if let Some(boot) = boot {
+                    put(&mut bytes, &boot.to_be_bytes());
+                }
+            }
+            Word::Stop => put(&mut bytes, b"NE"),
+            Word::Side { side, up, carrier } => {
+                put(&mut bytes, b"NS");
+                let number = match side {
+                    Side::Inside => 0,
+                    Side::Outside => 1,
+                };
+                put(&mut bytes, &[number, u8::from(up), u8::from(carrier)]);
+            }
+            Word::Status => put(&mut bytes, b"NI"),
+            Word::Pairs(after) => {
+                put(&mut bytes, b"NL");
+                if let Some(Key { protocol, port }) = after {
+                    put(&mut bytes, &[protocol.number()]);
+                    put(&mut bytes, &port.0.to_be_bytes());
+                }
+            }
+        }
+        bytes
+    }
 
-/// The word that a box is to end: `NE`.
-pub fn spelled_stop() -> [u8; 2]
-    ensures { word_of result ≡ Some said.Stop }
-{
-    [b'N', b'E']
-}
-
-/// The word of a side: `NS`, then 0 for the inside or 1 for the outside, 1 for up or 0 for down, and 1 where its
-/// carrier tells it, 0 where an operator does.
-pub fn spelled_side(side: Side, up: bool, carrier: bool) -> [u8; 5]
-    ensures { word_of result ≡ Some (said.Side side up carrier) }
-{
-    let number = match side {
-        Side::Inside => 0,
-        Side::Outside => 1,
-    };
-    [b'N', b'S', number, u8::from(up), u8::from(carrier)]
-}
-
-/// The word that asks how a box stands: `NI`.
-pub fn spelled_status() -> [u8; 2]
-    ensures { word_of result ≡ Some said.Status }
-{
-    [b'N', b'I']
-}
-
-/// The word that asks for the first pairs: `NL`.
-pub fn spelled_pairs() -> [u8; 2]
-    ensures { word_of result ≡ Some (said.Pairs None) }
-{
-    [b'N', b'L']
-}
-
-/// The word that asks for the pairs behind a key: `NL`, its protocol's number, and its port in 2 bytes, the more
-/// significant first.
-pub fn spelled_pairs_after(key: Key) -> [u8; 5]
-    ensures { word_of result ≡ Some (said.Pairs (Some key)) }
-{
-    let mut word = [b'N', b'L', key.protocol.number(), 0, 0];
-    BigEndian::write_u16(&mut word[3..], key.port.0);
-    word
-}
-
-/// The word that bytes spell, if they spell one.
-pub fn word_of(bytes: &[u8]) -> Option<Word>
-    ensures { result ≡ word_of bytes.now }
-{
-    match bytes {
-        [b'N', b'O', boot @ ..] => off_word(boot, false),
-        [b'N', b'F', boot @ ..] => off_word(boot, true),
-        [b'N', b'E'] => Some(Word::Stop),
-        [b'N', b'S', side, up, carrier] => Some(Word::Side {
-            side: side_of(*side)?,
-            up: truth_of(*up)?,
-            carrier: truth_of(*carrier)?,
-        }),
-        [b'N', b'I'] => Some(Word::Status),
-        [b'N', b'L', key @ ..] => pairs_word(key),
-        _ => None,
+    /// The word that bytes spell.
+    pub fn read(bytes: &[u8]) -> Option<Word> {
+        match bytes {
+            [b'N', b'O', boot @ ..] => peer_off(boot, false),
+            [b'N', b'F', boot @ ..] => peer_off(boot, true),
+            [b'N', b'E'] => Some(Word::Stop),
+            [b'N', b'S', side, up, carrier] => Some(Word::Side {
+                side: side_of(*side)?,
+                up: truth_of(*up)?,
+                carrier: truth_of(*carrier)?,
+            }),
+            [b'N', b'I'] => Some(Word::Status),
+            [b'N', b'L', key @ ..] => pairs(key),
+            _ => None,
+        }
     }
 }
 
-/// What is said of a boot, or of the known one.
-fn off_word(boot: &[u8], forced: bool) -> Option<Word>
-    ensures { result ≡ off_word forced boot.now }
-{
+/// What no word has more of than there is buffer for.
+fn put(bytes: &mut WordBytes, more: &[u8]) {
+    let _fits = bytes.try_extend_from_slice(more);
+}
+
+fn peer_off(boot: &[u8], forced: bool) -> Option<Word> {
     match boot.len() {
         0 => Some(Word::PeerOff { boot: None, forced }),
         8 => Some(Word::PeerOff {
@@ -128,10 +90,7 @@ fn off_word(boot: &[u8], forced: bool) -> Option<Word>
     }
 }
 
-/// What is asked of the pairs behind a key, or of the first.
-fn pairs_word(key: &[u8]) -> Option<Word>
-    ensures { result ≡ pairs_word key.now }
-{
+fn pairs(key: &[u8]) -> Option<Word> {
     match key {
         [] => Some(Word::Pairs(None)),
         [number, high, low] => {
@@ -143,9 +102,7 @@ fn pairs_word(key: &[u8]) -> Option<Word>
     }
 }
 
-fn side_of(byte: u8) -> Option<Side>
-    ensures { result ≡ side_of byte }
-{
+fn side_of(byte: u8) -> Option<Side> {
     match byte {
         0 => Some(Side::Inside),
         1 => Some(Side::Outside),
@@ -153,9 +110,7 @@ fn side_of(byte: u8) -> Option<Side>
     }
 }
 
-fn truth_of(byte: u8) -> Option<bool>
-    ensures { result ≡ truth_of byte }
-{
+fn truth_of(byte: u8) -> Option<bool> {
     match byte {
         0 => Some(false),
         1 => Some(true),

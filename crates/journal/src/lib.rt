@@ -1,50 +1,16 @@
-//! What a box writes for its operator: which events are records, what stands in a record, and a sink that never waits.
+//! What a box writes for its operator: its records, how often they come, and a sink that never waits.
 #![tactic(auto)]
 
-mod answers;
-mod causes;
-mod desk;
-mod desks;
-mod destinations;
 mod entries;
-mod filtered;
+mod events;
 mod filters;
-mod journals;
-mod laws;
-mod lines;
-mod machine;
-mod names;
-mod notes;
-mod offers;
-mod origins;
-mod own_logs;
-mod pens;
-mod sealed;
+mod records;
 mod sink;
-mod standard_error;
-mod takes;
-mod tally;
-mod telling;
+mod limiter;
 
-pub use answers::Answers;
-pub use causes::Cause;
-pub use destinations::Outlet;
-pub use entries::{Entry, Role};
-pub use filtered::FilteredLog;
-pub use filters::{FilterFault, VARIABLE, environment, filter_of};
-pub use journals::Journal;
-pub use laws::{
-    account_law, flushing_law, left_out_law, passing_law, put_down_law, putting_down_law, sink_law,
-    taking_law, tellings_law,
-};
-pub use lines::Format;
-pub use machine::Machine;
-pub use notes::{LeftOutPackets, Note};
-pub use offers::{Look, Offered, Turn};
-pub use origins::Origin;
-pub use own_logs::OwnLog;
-pub use pens::Pen;
-pub use sink::Unhindered;
-pub use standard_error::StandardError;
-pub use takes::{Flushes, Takes};
-pub use tally::Tally;
+pub use entries::{Cause, Entry, Origin, Role, reason_name};
+pub use events::EventLog;
+pub use filters::{FilterFault, VARIABLE, environment_filter, filter};
+pub use records::{LeftOutPackets, Note};
+pub use sink::{Format, Journal, Outlet, Sink, StandardError};
+

@@ -1,5 +1,0 @@
-mod Writing
-mod Lengths
-mod Splits
-mod Rooms
-mod Opening

@@ -1,5 +1,0 @@
-mod Rooms
-mod Coming
-mod Turns
-mod Speaking
-mod Telling

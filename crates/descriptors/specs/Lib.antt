@@ -1,2 +1,0 @@
-pub mod Events
-pub mod Asked

@@ -1,6 +1,0 @@
-pub mod Causes
-pub mod Faults
-pub mod Files
-pub mod Jobs
-pub mod Memory
-pub mod Texts

@@ -1,0 +1,57 @@
+//! How many events of a second came to nothing.
+ghost use Rattle.std.specs.Prelude.{◌<◌};
+
+use crate::{Cause, Origin};
+use std::mem;
+
+/// How many there are of origins with causes.
+const KEYS: usize = 84;
+
+/// How many events of a second came to nothing, by where they came from and why.
+#[derive(Drop)]
+pub(crate) struct Limiter {
+    second: u64,
+    counts: [u64; KEYS],
+}
+
+impl Limiter {
+    /// Nothing yet in the second of that moment, in centiseconds.
+    pub(crate) fn new(moment: u64) -> Limiter
+    {
+        Limiter {
+            second: moment / 100,
+            counts: [0; KEYS],
+        }
+    }
+
+    /// Counts one more, and says whether it is the first of this second there for that cause.
+    pub(crate) fn note(&mut self, origin: Origin, cause: Cause) -> bool
+    {
+        let key = key_of(origin, cause);
+        let before = self.counts[key];
+        self.counts[key] = before.saturating_add(1);
+        before == 0
+    }
+
+    /// How many of this second came behind the first.
+    pub(crate) fn others(&self, origin: Origin, cause: Cause) -> u64
+    {
+        self.counts[key_of(origin, cause)].saturating_sub(1)
+    }
+
+    /// Begins the second of a moment, if it is a later one, and gives what was counted of the one that has ended.
+    pub(crate) fn turn(&mut self, moment: u64) -> Option<Limiter>
+    {
+        if moment / 100 <= self.second {
+            return None;
+        }
+        Some(mem::replace(self, Limiter::new(moment)))
+    }
+}
+
+/// A place of its own for each origin and cause.
+fn key_of(origin: Origin, cause: Cause) -> usize
+    ensures small { result < 84 }
+{
+    21 * usize::from(origin as u8) + usize::from(cause.number())
+}

@@ -1,4 +1,0 @@
-mod Parts
-mod Turns
-mod Written
-pub mod Offered
