@@ -44,14 +44,14 @@ pub fn run<
     let (identity, mut gateway) = begin(rt, &mut disk, &settings, start.id, start.found)?;
     writeln!(output, "boot {}", identity.boot)?;
     output.flush()?;
-    log.tell(0, Entry::Boot(identity.boot));
+    log.write(0, Entry::Boot(identity.boot));
     match capture {
         None => serve_on(rt, start, identity, &mut gateway, &mut wire, &mut manager, &mut log),
         Some((path, file)) => {
             let capture = begin_capture(rt.alloc(), path, file)?;
-            let mut tapped = Tapped::new(wire, start.id, Stopwatch::at_rest(rt), capture);
+            let mut tapped = Tapped::new(wire, start.id, Stopwatch::from_first_reading(rt), capture);
             serve_on(rt, start, identity, &mut gateway, &mut tapped, &mut manager, &mut log);
-            tapped.end();
+            tapped.flush();
             log.write_left_out(tapped.left_out());
         }
     }
@@ -92,7 +92,7 @@ fn begin_capture(
 ) -> Result<LiveCapture<CaptureFile<File>>, Fault> {
     let failed = |error| Fault::capture(alloc, path, &error);
     file.clear().map_err(failed)?;
-    LiveCapture::begin(alloc, file).map_err(failed)
+    LiveCapture::start(alloc, file).map_err(failed)
 }
 
 /// The end of the standard input, if that is watched.
