@@ -3,6 +3,7 @@
 use crate::{Fault, FileRefusal};
 use boot_file::FileFault;
 use boot_store::BootFault;
+use control::ControlPath;
 use std::alloc::Global;
 use std::fs::{self, Files};
 use std::io::{self, ErrorKind};
@@ -61,9 +62,9 @@ impl Fault {
         }
     }
 
-    /// No box answers at the control socket beside a boot file, or it can't be had.
-    pub fn no_control(alloc: Global, boot_file: &str) -> Fault {
-        match format!(in alloc; "{boot_file}.control/socket") {
+    /// No box answers at a control socket, or it can't be had.
+    pub fn no_control(alloc: Global, path: &ControlPath) -> Fault {
+        match String::from_str(alloc, path.socket.as_str()) {
             Ok(socket) => Fault::NoControl(socket),
             Err(_) => Fault::NoMemory,
         }

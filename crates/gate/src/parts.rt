@@ -51,7 +51,7 @@ impl<'a, R: Files<File = File> + Net + Eprint + Env + AllocGlobal> Parts<'a, R> 
         let disk = boot_file::open(rt, boot_file)
             .map_err(|fault| Fault::boot_file(alloc, boot_file, fault))?;
         let control = Control::open(rt, &path, CONTROL)
-            .map_err(|_| Fault::no_control(alloc, boot_file))?;
+            .map_err(|_| Fault::no_control(alloc, &path))?;
         let wire = open_sockets(rt, &ways, Ports::of(&settings, start.id), control)?;
         let sink = Sink::new(StandardError(rt), start.format);
         let log = EventLog::new(FilteredLog::new(sink, read_filter(rt, start.log)?));
