@@ -2,8 +2,9 @@
 
 use crate::asking::{pairs, status};
 use crate::files::{check, create_boot_file, run_loop, run_sim};
+use crate::versions::write_version;
 use crate::words::{peer_off, side, stop};
-use command_line::{GateWords, Task, VERSION, WayWords, command};
+use command_line::{GateWords, Task, WayWords, command};
 use faults::{Fault, report};
 use gate::{Start, WayTexts};
 use journal::Format;
@@ -12,9 +13,6 @@ use std::io::Write;
 use std::net::Net;
 use std::random::RandomSource;
 use std::rt::{Clock, Env};
-
-/// The kit that the program is built with.
-const KIT: &str = "rattle-kit-13 logic dac8208d650f15bf";
 
 /// Does what the program's words ask for, its name first, and gives the status that it ends with. Where `errors` is a terminal,
 /// a long script of `sim` says there every few seconds how far it is.
@@ -73,10 +71,7 @@ fn carry_out<
         } => side(rt, settings.as_str(), *id, *which, *up)?,
         Task::Sim(words) => return run_sim(rt, words, output, errors, is_terminal),
         Task::Loop(words) => return run_loop(rt, words, output),
-        Task::Version => {
-            writeln!(output, "natpair {VERSION} ({KIT})")?;
-            output.flush()?;
-        }
+        Task::Version => write_version(output)?,
     }
     Ok(0)
 }

@@ -5,6 +5,7 @@ mod acting;
 mod asking;
 mod files;
 mod meters;
+mod versions;
 mod words;
 
 pub use acting::act;
