@@ -1,4 +1,5 @@
 //! The server's end of a control socket. No call waits.
+ghost use Rattle.std.specs.Prelude.{◌≤◌, IfSome, length};
 
 use crate::{ControlPath, NoSocket, Word};
 use mio::net::{UnixListener, UnixStream};
@@ -98,7 +99,9 @@ impl Control {
 
     /// The next word: so many bytes of the buffer. Where no client has said one, one new client is accepted, if
     /// there is one.
-    pub fn take(&mut self, registry: &Registry, buffer: &mut [u8]) -> Option<usize> {
+    pub fn take(&mut self, registry: &Registry, buffer: &mut [u8]) -> Option<usize>
+        ensures { IfSome result (λ count. count ≤ length buffer.new) }
+    {
         if !self.is_ready() {
             return None;
         }
@@ -120,7 +123,9 @@ impl Control {
     }
 
     /// The first word of a client. Who says something else, or has gone, is refused.
-    fn next_word(&mut self, buffer: &mut [u8]) -> Option<usize> {
+    fn next_word(&mut self, buffer: &mut [u8]) -> Option<usize>
+        ensures { IfSome result (λ count. count ≤ length buffer.new) }
+    {
         let mut at = 0;
         for _ in 0..self.clients.len() {
             let client = self.clients.get_mut(at)?;
