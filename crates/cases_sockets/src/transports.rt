@@ -61,8 +61,7 @@ impl Transport for Memory {
         if count > self.longest {
             return Err(SendFault::TooLong);
         }
-        let bytes =
-            Vec::from_slice(self.alloc, &buffer[..count]).map_err(|_| SendFault::Failed)?;
+        let bytes = Vec::from_slice(self.alloc, &buffer[..count]).map_err(|_| SendFault::Failed)?;
         self.sent.push(bytes).map_err(|_| SendFault::Failed)
     }
 
