@@ -1,15 +1,13 @@
-//! What boxes, callers and strangers do.
+//! What boxes, clients and strangers do.
 
-use crate::boxes::{Boxes, controlled, number_of, on_loopback};
-use crate::callers::Callers;
+use crate::boxes::{Boxes, control_at, number_of, on_loopback};
+use crate::clients::Clients;
 use crate::failures;
-use crate::telling::tell_losses;
-use crate::words::place_of;
+use crate::words::{place_in, tell_losses};
 use anyhow::Result;
 use cases_words::{Actor, Case};
-use control::{ControlPath, spelled_status};
-use runtimes::Hand;
-use sockets::{LONGEST, Sockets, Wire, WireFault};
+use control::{ControlPath, Word, ask, say};
+use sockets::{LONGEST, Place, Sockets, Wire, WireFault};
 use std::alloc::Global;
 use std::fs;
 use std::io::Write;
@@ -18,62 +16,63 @@ use std::os::unix::fs::PermissionsExt;
 use std::time::Duration;
 
 /// How many seconds a datagram is waited for.
-const PATIENCE: u64 = 5;
+const TIMEOUT: u64 = 5;
 
-/// The boxes, and what their callers and strangers speak by.
+/// The boxes, and the clients of their control sockets.
 #[derive(Drop)]
-pub(crate) struct Speakers {
+pub(crate) struct Network {
     rt: HostRuntime,
     boxes: Boxes,
+    clients: Clients,
 }
 
-impl Speakers {
-    pub(crate) fn open(rt: HostRuntime) -> Result<Speakers> {
-        let boxes = Boxes::open(&rt)?;
-        Ok(Speakers { rt, boxes })
+impl Network {
+    pub(crate) fn open(rt: HostRuntime) -> Result<Network> {
+        Ok(Network {
+            rt,
+            boxes: Boxes::open(&rt)?,
+            clients: Clients::none(&rt),
+        })
     }
 }
 
-impl Actor for Speakers {
+impl Actor for Network {
+    /// - `fail N`: rounds of a wire whose call N fails
+    /// - `stranger FROM TO HEX`, `stranger FROM TO N times HEX`, `stranger FROM TO N bytes BYTE`: somebody at FROM sends
+    ///   these bytes to TO
+    /// - `call NAME N`, `caller N says HEX`, `caller N hears`, `callers go`: clients at a box's control socket
+    /// - `control NAME`, `say NAME`, `ask NAME`, `mode NAME`: makes a control socket and drops it; says a word; asks how the
+    ///   box stands; the folder's mode
+    /// - `NAME ..`: what a box does (`act_on_box`)
     fn act(&mut self, case: &mut Case) {
         case.title("", "\n");
-        answer(&self.rt, &mut self.boxes, case);
-    }
-}
-
-/// - `fail N`: rounds of a wire whose call N fails
-/// - `stranger FROM TO HEX`, `stranger FROM TO N times HEX`, `stranger FROM TO N bytes BYTE`: somebody at FROM sends
-///   these bytes to TO
-/// - `call NAME N`, `caller N says HEX`, `caller N hears`, `callers go`: at a box's control socket
-/// - `control NAME`, `say NAME`, `ask NAME`, `mode NAME`: makes a control socket and lets it go; says a word; asks how the
-///   box stands; the folder's mode
-/// - `NAME ..`: what a box does (`speak`)
-fn answer(rt: &HostRuntime, boxes: &mut Boxes, case: &mut Case) {
-    match case.word() {
-        "fail" => failures::rounds(boxes.sockets.as_mut_slice(), case),
-        "stranger" => stranger(rt, case),
-        "call" => call(rt, &mut boxes.callers, case),
-        "caller" => caller(&mut boxes.callers, case),
-        "callers" => boxes.callers.go(),
-        "control" => open_control(rt, case),
-        "say" => say(rt, case),
-        "ask" => ask(rt, case),
-        "mode" => mode(rt, case),
-        _ => speak(rt, boxes, case),
+        let rt = &self.rt;
+        match case.word() {
+            "fail" => failures::rounds(self.boxes.sockets.as_mut_slice(), case),
+            "stranger" => stranger(rt, case),
+            "call" => connect(rt, &mut self.clients, case),
+            "caller" => client(&mut self.clients, case),
+            "callers" => self.clients.disconnect(),
+            "control" => open_control(rt, case),
+            "say" => say_stop(rt, case),
+            "ask" => ask_status(rt, case),
+            "mode" => mode(rt, case),
+            _ => act_on_box(rt, &mut self.boxes, case),
+        }
     }
 }
 
 /// - `other open INSIDE OUTSIDE LINK`: opens the box with these ways
 /// - `NAME bind`: opens the box's ports once more
-/// - all else is for the box's sockets (`handle`)
-fn speak(rt: &HostRuntime, boxes: &mut Boxes, case: &mut Case) {
+/// - all else is for the box's sockets (`act_on_sockets`)
+fn act_on_box(rt: &HostRuntime, boxes: &mut Boxes, case: &mut Case) {
     case.back();
     let number = number_of(case.word());
     match case.word() {
         "open" => boxes.open_other(rt, case),
         "bind" => bind(rt, number, case),
         _ => match boxes.sockets.get_mut(number) {
-            Some(sockets) => handle(sockets, case),
+            Some(sockets) => act_on_sockets(sockets, case),
             None => case.fault(),
         },
     }
@@ -86,26 +85,26 @@ fn bind(rt: &HostRuntime, number: usize, case: &mut Case) {
 
 /// - `send PLACE COUNT BYTE`: the box sends so many of a byte
 /// - `receive`, `look`: the next datagram at the box, waited for or not
-/// - `answers HEX`, `answers N bytes BYTE`: answers who said the last word
+/// - `answers HEX`, `answers N bytes BYTE`: answers the client that said the last word
 /// - `strangers PLACE`, `failing PLACE`, `losses PLACE`, `unanswered`: what the box says
-fn handle(sockets: &mut Sockets, case: &mut Case) {
+fn act_on_sockets(sockets: &mut Sockets, case: &mut Case) {
     case.back();
     match case.word() {
         "send" => send(sockets, case),
-        "receive" => receive(sockets, Duration::from_secs(PATIENCE), case),
+        "receive" => receive(sockets, Duration::from_secs(TIMEOUT), case),
         "look" => receive(sockets, Duration::ZERO, case),
-        "answers" => answer_word(sockets, case),
-        "unanswered" => case.tell(sockets.unanswered()),
+        "answers" => answer(sockets, case),
+        "unanswered" => case.tell(sockets.losses(Place::Operator).failed),
         "losses" => {
-            let losses = sockets.losses(place_of(case));
+            let losses = sockets.losses(place_in(case));
             tell_losses(case, losses);
         }
         "strangers" => {
-            let strangers = sockets.strangers(place_of(case));
+            let strangers = sockets.strangers(place_in(case));
             case.tell(strangers);
         }
         "failing" => {
-            let is_failing = sockets.is_failing(place_of(case));
+            let is_failing = sockets.is_failing(place_in(case));
             case.tell(is_failing);
         }
         _ => case.fault(),
@@ -113,7 +112,7 @@ fn handle(sockets: &mut Sockets, case: &mut Case) {
 }
 
 fn send(sockets: &mut Sockets, case: &mut Case) {
-    let place = place_of(case);
+    let place = place_in(case);
     let count = case.count();
     let bytes = repeated(case, count);
     match sockets.send(place, bytes.as_slice()) {
@@ -122,7 +121,7 @@ fn send(sockets: &mut Sockets, case: &mut Case) {
     }
 }
 
-fn answer_word(sockets: &mut Sockets, case: &mut Case) {
+fn answer(sockets: &mut Sockets, case: &mut Case) {
     let (_, bytes) = many(case);
     sockets.answer(bytes.as_slice());
 }
@@ -133,14 +132,14 @@ fn repeated(case: &mut Case, count: usize) -> Vec<u8> {
     case.many(byte, count)
 }
 
-/// What a call to receive answers.
+/// Prints the next datagram.
 fn receive(sockets: &mut Sockets, limit: Duration, case: &mut Case) {
-    let mut room = [0; LONGEST];
-    match sockets.receive(limit, &mut room) {
+    let mut buffer = [0; LONGEST];
+    match sockets.receive(limit, &mut buffer) {
         Ok(Some((place, count))) => {
             case.show("  ", place);
             case.say(": ", count);
-            case.say(" bytes of ", room[0]);
+            case.say(" bytes of ", buffer[0]);
             case.end();
         }
         Ok(None) => case.tell("nothing"),
@@ -175,19 +174,19 @@ fn many(case: &mut Case) -> (usize, Vec<u8>) {
     }
 }
 
-fn call(rt: &HostRuntime, callers: &mut Callers, case: &mut Case) {
+fn connect(rt: &HostRuntime, clients: &mut Clients, case: &mut Case) {
     let path = socket_of(case.alloc, case.word());
     let count = case.count();
-    case.keep(call_at(rt, callers, path, count));
+    case.keep(connect_to(rt, clients, path, count));
 }
 
-fn call_at(
+fn connect_to(
     rt: &HostRuntime,
-    callers: &mut Callers,
+    clients: &mut Clients,
     path: Result<String>,
     count: usize,
 ) -> Result<()> {
-    callers.call(rt, path?.as_str(), count)
+    clients.connect(rt, path?.as_str(), count)
 }
 
 /// Where the control socket of a box lies.
@@ -195,36 +194,35 @@ fn socket_of(alloc: Global, name: &str) -> Result<String> {
     Ok(format!(in alloc; "{name}.control/socket")?)
 }
 
-fn caller(callers: &mut Callers, case: &mut Case) {
+fn client(clients: &mut Clients, case: &mut Case) {
     let number = case.count();
     match case.word() {
         "says" => {
             let bytes = case.bytes();
-            case.keep(callers.say(number, bytes.as_slice()));
+            case.keep(clients.say(number, bytes.as_slice()));
         }
-        "hears" => callers.hear(number, case),
+        "hears" => clients.hear(number, case),
         _ => case.fault(),
     }
 }
 
 fn open_control(rt: &HostRuntime, case: &mut Case) {
-    let opened = controlled(rt, case.word());
+    let opened = control_at(rt, case.word());
     case.done(opened, "opened");
 }
 
-fn say(rt: &HostRuntime, case: &mut Case) {
+fn say_stop(rt: &HostRuntime, case: &mut Case) {
     let said = said(rt, case.word());
     case.done(said, "heard");
 }
 
 fn said(rt: &HostRuntime, name: &str) -> Result<()> {
     let path = ControlPath::beside(rt.alloc(), name)?;
-    let mut machine = control::Machine::new(Hand::new(rt));
-    control::say(&mut machine, &path, b"NO\0\0\0\0\0\0\0\x07")?;
+    say(rt, &path, b"NO\0\0\0\0\0\0\0\x07")?;
     Ok(())
 }
 
-fn ask(rt: &HostRuntime, case: &mut Case) {
+fn ask_status(rt: &HostRuntime, case: &mut Case) {
     match asked(rt, case.word()) {
         Ok(count) => {
             case.say("  ", count);
@@ -236,10 +234,8 @@ fn ask(rt: &HostRuntime, case: &mut Case) {
 
 fn asked(rt: &HostRuntime, name: &str) -> Result<usize> {
     let path = ControlPath::beside(rt.alloc(), name)?;
-    let mut room = [0; LONGEST];
-    let mut machine = control::Machine::new(Hand::new(rt));
-    let count = control::ask(&mut machine, &path, &spelled_status(), &mut room)?;
-    Ok(count)
+    let mut buffer = [0; LONGEST];
+    Ok(ask(rt, &path, Word::Status.bytes().as_slice(), &mut buffer)?)
 }
 
 fn mode(rt: &HostRuntime, case: &mut Case) {

@@ -1,39 +1,39 @@
-//! Who calls at a control socket.
+//! Clients of a control socket.
 
 use anyhow::{Context, Result};
 use cases_words::Case;
 use std::io::{ErrorKind, Read, Write};
 use std::os::unix::net::UnixStream;
 
-/// Callers, in the order in which they called.
+/// Clients, in the order in which they connected.
 #[derive(Drop)]
-pub(crate) struct Callers {
+pub(crate) struct Clients {
     streams: Vec<UnixStream>,
 }
 
-impl Callers {
-    pub(crate) fn none(rt: &HostRuntime) -> Callers {
-        Callers {
+impl Clients {
+    pub(crate) fn none(rt: &HostRuntime) -> Clients {
+        Clients {
             streams: Vec::new(rt.alloc()),
         }
     }
 
-    /// So many more call.
-    pub(crate) fn call(&mut self, rt: &HostRuntime, path: &str, count: usize) -> Result<()> {
+    /// So many more connect.
+    pub(crate) fn connect(&mut self, rt: &HostRuntime, path: &str, count: usize) -> Result<()> {
         for _ in 0..count {
-            self.streams.push(calling(rt, path)?)?;
+            self.streams.push(connected(rt, path)?)?;
         }
         Ok(())
     }
 
-    /// A caller says something.
+    /// A client says something.
     pub(crate) fn say(&mut self, number: usize, bytes: &[u8]) -> Result<()> {
-        let stream = self.streams.get_mut(number).context("no caller")?;
+        let stream = self.streams.get_mut(number).context("no client")?;
         stream.write_all(bytes)?;
         Ok(())
     }
 
-    /// What a caller has heard.
+    /// Prints what a client has heard.
     pub(crate) fn hear(&mut self, number: usize, case: &mut Case) {
         match self.streams.get_mut(number) {
             Some(stream) => hear_from(stream, case),
@@ -41,16 +41,16 @@ impl Callers {
         }
     }
 
-    /// All go.
-    pub(crate) fn go(&mut self) {
+    /// All disconnect.
+    pub(crate) fn disconnect(&mut self) {
         self.streams.clear();
     }
 }
 
 fn hear_from(stream: &mut UnixStream, case: &mut Case) {
-    let mut room = [0; 16];
-    match stream.read(&mut room) {
-        Ok(count) => tell_heard(&room[..count], case),
+    let mut buffer = [0; 16];
+    match stream.read(&mut buffer) {
+        Ok(count) => tell_heard(&buffer[..count], case),
         Err(error) if error.kind() == ErrorKind::WouldBlock => case.tell("nothing"),
         Err(_) => case.tell("closed"),
     }
@@ -67,8 +67,8 @@ fn tell_heard(bytes: &[u8], case: &mut Case) {
     }
 }
 
-/// One that calls, and doesn't wait for what it hears.
-fn calling(rt: &HostRuntime, path: &str) -> Result<UnixStream> {
+/// A client that doesn't wait for what it hears.
+fn connected(rt: &HostRuntime, path: &str) -> Result<UnixStream> {
     let stream = UnixStream::connect(rt, path)?;
     stream.set_nonblocking(true)?;
     Ok(stream)
