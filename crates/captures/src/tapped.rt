@@ -1,12 +1,13 @@
 //! A wire whose packets are captured.
 
-use crate::{Direction, Interface, LiveCapture, Outlet, Packet};
+use crate::{Direction, Interface, LiveCapture, NonBlockingWriter, Packet};
 use nat_types::GatewayId;
 use platform::Clock;
 use sockets::{LONGEST, Losses, Place, Wire, WireFault};
 use std::time::Duration;
 
-/// A wire whose frames and datagrams are captured, each once it came or was sent.
+/// A gateway's wire whose frames and datagrams are captured, each once it came or was sent. An operator's words are no
+/// packets. The capture changes nothing of what the wire does.
 #[derive(Drop)]
 pub struct Tapped<W, C, O> {
     wire: W,
@@ -15,7 +16,7 @@ pub struct Tapped<W, C, O> {
     capture: LiveCapture<O>,
 }
 
-impl<W: Wire, C: Clock, O: Outlet> Tapped<W, C, O> {
+impl<W: Wire, C: Clock, O: NonBlockingWriter> Tapped<W, C, O> {
     pub fn new(wire: W, id: GatewayId, clock: C, capture: LiveCapture<O>) -> Tapped<W, C, O> {
         Tapped {
             wire,
@@ -25,12 +26,12 @@ impl<W: Wire, C: Clock, O: Outlet> Tapped<W, C, O> {
         }
     }
 
-    /// Writes what is owed of the last packet.
-    pub fn end(&mut self) {
-        let _is_whole = self.capture.settle();
+    /// Writes what is missing of the last packet, if that doesn't wait.
+    pub fn flush(&mut self) {
+        let _is_whole = self.capture.flush();
     }
 
-    /// How many packets were left out.
+    /// How many packets were left out of the capture.
     pub fn left_out(&self) -> u64 {
         self.capture.left_out()
     }
@@ -41,17 +42,17 @@ impl<W: Wire, C: Clock, O: Outlet> Tapped<W, C, O> {
             Place::Side(side) => Interface::Side(self.id, side),
             Place::Operator => return,
         };
-        let moment = self.clock.moment();
-        self.capture.write(&Packet {
+        let timestamp = self.clock.now();
+        let _is_written = self.capture.write(&Packet {
             interface,
             direction,
-            moment,
+            timestamp,
             bytes,
         });
     }
 }
 
-impl<W: Wire, C: Clock, O: Outlet> Wire for Tapped<W, C, O> {
+impl<W: Wire, C: Clock, O: NonBlockingWriter> Wire for Tapped<W, C, O> {
     ghost passes = { λ before message after. W.passes before.wire message after.wire };
 
     fn receive(
