@@ -158,9 +158,13 @@ impl AnyGateway for Gateway {
         let mut until = EndAfter(orders.told);
         let mut log = EventLog::new(Sink::new(lines, Format::Text));
         if orders.stops {
-            serve(alloc, self, wire, clock, &mut until, manager, &mut log, options);
+            serve(
+                alloc, self, wire, clock, &mut until, manager, &mut log, options,
+            );
         } else {
-            run_rounds(alloc, self, wire, clock, &mut until, manager, &mut log, options);
+            run_rounds(
+                alloc, self, wire, clock, &mut until, manager, &mut log, options,
+            );
         }
     }
 

@@ -63,7 +63,11 @@ fn play<O: Write>(
 }
 
 /// Does what each line says. A line is empty, begins with `#`, or is one of `Retrier::act`.
-fn play_lines<G: AnyGateway, O: Write>(retrier: &mut Retrier<G>, text: &str, output: &mut O) -> Result<()> {
+fn play_lines<G: AnyGateway, O: Write>(
+    retrier: &mut Retrier<G>,
+    text: &str,
+    output: &mut O,
+) -> Result<()> {
     for line in text.lines() {
         if line.is_empty() || line.starts_with("#") {
             continue;

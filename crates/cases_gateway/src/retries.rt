@@ -180,7 +180,11 @@ fn started<G: AnyGateway>(alloc: Global, settings: &Settings, hashers: Hashers) 
 }
 
 /// One step, asked for once more where memory is refused.
-fn again<G: AnyGateway>(gateway: &mut G, event: Event<'_>, out: &mut Out) -> Result<Outcome, NoMemory> {
+fn again<G: AnyGateway>(
+    gateway: &mut G,
+    event: Event<'_>,
+    out: &mut Out,
+) -> Result<Outcome, NoMemory> {
     match gateway.once(event, out) {
         Ok(outcome) => Ok(outcome),
         Err(NoMemory) => gateway.once(event, out),

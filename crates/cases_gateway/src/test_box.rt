@@ -141,13 +141,7 @@ impl<G: AnyGateway> TestBox<G> {
     }
 
     /// Has so many rounds, at each of which so many centiseconds more have passed.
-    pub(crate) fn go_on(
-        &mut self,
-        rounds: u32,
-        pace: u64,
-        track: bool,
-        lines: &RefCell<Vec<u8>>,
-    ) {
+    pub(crate) fn go_on(&mut self, rounds: u32, pace: u64, track: bool, lines: &RefCell<Vec<u8>>) {
         let orders = Orders {
             told: None,
             stops: false,

@@ -50,7 +50,10 @@ fn write_box<W: fmt::Write>(f: &mut Formatter<W>, report: &Report) -> fmt::Resul
     let (id, boot, uptime) = (report.id, report.boot, Seconds(report.gateway.uptime));
     let (synced, away, digest) = (report.gateway.synced, report.gateway.away, report.digest);
     write!(f, "{{\"box\":{id},\"boot\":{boot},\"up_seconds\":{uptime}")?;
-    write!(f, ",\"synced\":{synced},\"away\":{away},\"digest\":\"{digest:016x}\"")
+    write!(
+        f,
+        ",\"synced\":{synced},\"away\":{away},\"digest\":\"{digest:016x}\""
+    )
 }
 
 fn write_side<W: fmt::Write>(

@@ -100,6 +100,7 @@ fn write_box<W: fmt::Write>(f: &mut Formatter<W>, report: &Report) -> fmt::Resul
 
 /// The labels of both sides.
 const INSIDE: &str = "{side=\"inside\"}";
+
 const OUTSIDE: &str = "{side=\"outside\"}";
 
 fn write_sides<W: fmt::Write>(f: &mut Formatter<W>, sides: &Sides, now: u64) -> fmt::Result {
@@ -144,7 +145,12 @@ fn write_peer<W: fmt::Write>(f: &mut Formatter<W>, peer: &PeerReport) -> fmt::Re
     write_gauge(f, "natpair_peer_heard", help, &[("", is_heard)])?;
     if let Some(heard) = peer.heard {
         let help = "Time since the other box was heard.";
-        write_gauge(f, "natpair_peer_heard_seconds", help, &[("", Seconds(heard))])?;
+        write_gauge(
+            f,
+            "natpair_peer_heard_seconds",
+            help,
+            &[("", Seconds(heard))],
+        )?;
     }
     let serves = u64::from(peer.serves);
     let help = "Whether the other box serves.";
@@ -211,10 +217,19 @@ fn write_traffic<W: fmt::Write>(f: &mut Formatter<W>, counters: &Counters) -> fm
         "natpair_frames_total",
         "Frames received and sent.",
         &[
-            ("{side=\"inside\",direction=\"in\"}", received(Origin::Inside)),
+            (
+                "{side=\"inside\",direction=\"in\"}",
+                received(Origin::Inside),
+            ),
             ("{side=\"inside\",direction=\"out\"}", sent(Origin::Inside)),
-            ("{side=\"outside\",direction=\"in\"}", received(Origin::Outside)),
-            ("{side=\"outside\",direction=\"out\"}", sent(Origin::Outside)),
+            (
+                "{side=\"outside\",direction=\"in\"}",
+                received(Origin::Outside),
+            ),
+            (
+                "{side=\"outside\",direction=\"out\"}",
+                sent(Origin::Outside),
+            ),
         ],
     )?;
     write_counter(

@@ -101,7 +101,10 @@ fn write_ports<W: fmt::Write>(f: &mut Formatter<W>, gateway: &GatewayReport) -> 
     let owned = Grouped(gateway.ports.owned);
     let (pair, next_hop) = (gateway.waiting.pair, gateway.waiting.next_hop);
     writeln!(f, "ports    {owned} owned")?;
-    writeln!(f, "waiting  {pair} of 64 for a pair, {next_hop} of 64 for a next hop")
+    writeln!(
+        f,
+        "waiting  {pair} of 64 for a pair, {next_hop} of 64 for a next hop"
+    )
 }
 
 /// The line of each place, as it begins.

@@ -36,18 +36,36 @@ pub(crate) fn log_step<L: Journal>(
     if let Some(cause) = cause {
         log.write_dropped(now, origin_of(event), cause);
     }
-    log_change(log, now, (before.away, after.away), Entry::Away, Entry::Back);
+    log_change(
+        log,
+        now,
+        (before.away, after.away),
+        Entry::Away,
+        Entry::Back,
+    );
     for side in [Side::Inside, Side::Outside] {
         let role = role_of(after, side, has_stopped);
         if role != role_of(before, side, false) {
             log.write(now, Entry::Role(side, role));
         }
     }
-    log_change(log, now, (before.synced, after.synced), Entry::Synced, Entry::Unsynced);
+    log_change(
+        log,
+        now,
+        (before.synced, after.synced),
+        Entry::Synced,
+        Entry::Unsynced,
+    );
     if before.peer != after.peer {
         log.write(now, Entry::PeerBoot(after.peer));
     }
-    log_change(log, now, (before.heard, after.heard), Entry::PeerHeard, Entry::PeerSilent);
+    log_change(
+        log,
+        now,
+        (before.heard, after.heard),
+        Entry::PeerHeard,
+        Entry::PeerSilent,
+    );
     if has_stopped {
         log.write(now, Entry::Stopped);
     }

@@ -127,7 +127,9 @@ pub fn serve<W: Wire, C: Clock, U: EndSignal, M: Manager, L: Journal>(
     ensures run { RunsTo W.passes gateway.old wire.old gateway.new wire.new }
 {
     let mut state = State::new(alloc, gateway);
-    all_rounds(gateway, wire, clock, until, manager, &mut state, log, options);
+    all_rounds(
+        gateway, wire, clock, until, manager, &mut state, log, options,
+    );
     manager.ending();
     take_event(gateway, Event::Stop, wire, &mut state, log);
     log.finish(gateway.moment());
@@ -147,7 +149,9 @@ pub fn run_rounds<W: Wire, C: Clock, U: EndSignal, M: Manager, L: Journal>(
     ensures rounds { HasTurned W.passes gateway.old wire.old gateway.new wire.new }
 {
     let mut state = State::new(alloc, gateway);
-    all_rounds(gateway, wire, clock, until, manager, &mut state, log, options);
+    all_rounds(
+        gateway, wire, clock, until, manager, &mut state, log, options,
+    );
     log.finish(gateway.moment());
 }
 
