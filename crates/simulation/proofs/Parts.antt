@@ -29,9 +29,11 @@ part_whole a b text rest h none =
     subst (λ (l : List ℕ). Appends a b l) (sym (h.split ∙ ap (λ l. h.written ++ l) none ∙ append-nil h.written)) h.appended
 
 -- what comes next is all that is missing
+pub part_end : (a b c : Option (List ℕ)) (text rest : List ℕ) → IsPart a b text rest → Appends b c rest → Appends a c text
+part_end a b c text rest h next = part_whole a c text [] (part_more a b c text rest rest [] h (sym (append-nil rest)) next) refl
+
 pub part_rest : {T E : Type 0} (r : Result T E) (a b c : Option (List ℕ)) (text rest : List ℕ) → IsPart a b text rest → Prints b r c rest → Prints a r c text
-part_rest (Ok x) a b c text rest h next =
-    part_whole a c text [] (part_more a b c text rest rest [] h (sym (append-nil rest)) next) refl
+part_rest (Ok x) a b c text rest h next = part_end a b c text rest h next
 part_rest (Err e) a b c text rest h next = tt
 
 -- a text that is the same

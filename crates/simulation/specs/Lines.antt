@@ -66,14 +66,18 @@ kind_text (notes.Booted number) = codes "Booted " ++ decimal number
 
 -- ---- what a step told
 
+abbrev pub frame_words : GatewayId → Side → List ℕ
+frame_words i side = codes "frame " ++ id_text i ++ codes " " ++ side_text side ++ codes " "
+
 abbrev pub frame_line : GatewayId → Sent → List ℕ
-frame_line i frame = codes "frame " ++ id_text i ++ codes " " ++ side_text frame.side ++ codes " "
-    ++ encode_lower frame.bytes ++ codes "\n"
+frame_line i frame = frame_words i frame.side ++ (encode_lower frame.bytes ++ codes "\n")
 
 -- the datagram of this number among those that the gateway ever sent
+abbrev pub link_words : GatewayId → ℕ → List ℕ
+link_words i number = codes "link " ++ id_text i ++ codes " " ++ decimal number ++ codes " "
+
 abbrev pub link_line : GatewayId → ℕ → List ℕ → List ℕ
-link_line i number bytes = codes "link " ++ id_text i ++ codes " " ++ decimal number ++ codes " "
-    ++ encode_lower bytes ++ codes "\n"
+link_line i number bytes = link_words i number ++ (encode_lower bytes ++ codes "\n")
 
 abbrev pub note_line : Note → List ℕ
 note_line note = codes "note " ++ id_text note.by ++ codes " " ++ kind_text note.what ++ codes "\n"
@@ -187,8 +191,8 @@ held_line i p = codes "held " ++ id_text i ++ codes " " ++ pair_text p ++ codes 
 
 -- its state, the ports that it owns, and the pairs that it holds
 abbrev pub gateway_lines : World → GatewayId → List ℕ
-gateway_lines w i = state_line i (gateway_at w i) ++ owned_lines i (owned_by (gateway_at w i))
-    ++ flat_map (held_line i) (pairs_of is_pair (gateway_at w i))
+gateway_lines w i = state_line i (gateway_at w i) ++ (owned_lines i (owned_by (gateway_at w i))
+    ++ flat_map (held_line i) (pairs_of is_pair (gateway_at w i)))
 
 -- both gateways
 abbrev pub world_lines : World → List ℕ

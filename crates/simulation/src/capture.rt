@@ -2,9 +2,7 @@
 
 use crate::moments::Moments;
 use crate::words::gateway_of;
-use captures::{
-    CaptureFile, Direction, Interface, Packet, Reader, open, write_head, write_packet,
-};
+use captures::{CaptureFile, Direction, Interface, Packet, Reader, open, write_head, write_packet};
 use faults::Fault;
 use frame_sim::{Step, World, WorldFault};
 use nat_types::{GatewayId, WorldEvent};

@@ -157,8 +157,14 @@ impl<R> Loopback<'_, R> {
     }
 }
 
+impl<R: Clock> Loopback<'_, R> {
+    fn send(&self, interface: Interface, bytes: &[u8]) -> bool {
+        self.port(interface).pass(self.rt, bytes)
+    }
+}
+
 impl<R: Clock> Channel for Loopback<'_, R> {
     fn pass(&mut self, interface: Interface, bytes: &[u8]) -> bool {
-        self.port(interface).pass(self.rt, bytes)
+        self.send(interface, bytes)
     }
 }

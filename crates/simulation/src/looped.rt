@@ -1,11 +1,12 @@
 //! `natpair loop`: runs a script whose frames and datagrams are first sent through a channel.
-ghost use Rattle.std.specs.Prelude.{◌≡◌, ◌||◌, IfOk, OnOk, if◌then◌else◌};
+ghost use Rattle.std.specs.Prelude.{◌≡◌, ◌||◌, IfOk, OnOk};
 ghost use Rattle.frame_sim.specs.World.{founding};
 ghost use Rattle.simulation.specs.Printed.{Prints};
 ghost use Rattle.simulation.specs.Runs.{HaveTurned, IsLooped, IsTurn, counts_then, is_refusal, turn_lines};
 
 use crate::capture::{Capture, begin, end, input};
 use crate::lines::{Counts, print_lost, print_step};
+use crate::sim::status_of;
 use crate::tables::print_world;
 use crate::{Job, Loopback, read_job};
 use captures::Interface;
@@ -86,7 +87,7 @@ fn play_on<C: Channel, F: Write + Drop, W: Write>(
 {
     let refused = take_turns(world, events, channel, capture, output)?;
     print_world(output, world)?;
-    Ok(if refused { 3 } else { 0 })
+    Ok(status_of(refused))
 }
 
 /// Gives each event its turn. The answer says whether one was refused.
@@ -132,10 +133,9 @@ fn turn<C: Channel>(world: &mut World<'_>, event: &WorldEvent, channel: &mut C) 
     ensures { IsTurn world.old event.now result world.new }
 {
     if is_lost(world, event, channel) {
-        None
-    } else {
-        Some(world.step(event))
+        return None;
     }
+    Some(world.step(event))
 }
 
 /// Sends what an event hands in, if it hands in anything, and says whether it is lost.

@@ -1,7 +1,7 @@
 //! Prints how both gateways stand at the end of a run.
 ghost use Rattle.std.specs.Prelude.{◌≡◌, flat_map};
 ghost use Rattle.frame_sim.specs.World.{gateway_at};
-ghost use Rattle.simulation.specs.Lines.{begins, ended, follows, gateway_lines, held_line, owned_line, owned_lines, state_text, world_lines};
+ghost use Rattle.simulation.specs.Lines.{begins, ended, follows, gateway_lines, held_line, owned_line, owned_lines, state_line, state_text, world_lines};
 ghost use Rattle.simulation.specs.Printed.{Prints};
 
 use crate::words::{PairText, id_text};
@@ -32,11 +32,18 @@ fn print_gateway<W: Write>(output: &mut W, world: &World<'_>, id: GatewayId) -> 
 {
     let ports = world.owned(id)?;
     let pairs = world.table(id)?;
-    let (word, state) = (id_text(id), state_text(world, id));
-    writeln!(output, "state {word} {state}")?;
+    print_state(output, world, id)?;
     print_owned(output, id, ports.as_slice())?;
     print_held(output, id, pairs.as_slice())?;
     Ok(())
+}
+
+fn print_state<W: Write>(output: &mut W, world: &World<'_>, id: GatewayId) -> io::Result<()>
+    ensures { Prints (W.contents output.old) result (W.contents output.new)
+        (state_line id (gateway_at world.now id)) }
+{
+    let (word, state) = (id_text(id), state_text(world, id));
+    writeln!(output, "state {word} {state}")
 }
 
 fn state_text(world: &World<'_>, id: GatewayId) -> &'static str

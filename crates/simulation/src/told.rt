@@ -1,7 +1,7 @@
 //! Prints what a step told: frames, then datagrams, then notes.
 ghost use Rattle.std.specs.Prelude.{◌≡◌, ◌≤◌, flat_map, length, OnOk};
 ghost use Rattle.hex.specs.Hex.{encode_lower};
-ghost use Rattle.simulation.specs.Lines.{frame_line, link_line, link_lines, more, note_line, told_lines};
+ghost use Rattle.simulation.specs.Lines.{frame_line, frame_words, link_line, link_lines, link_words, more, note_line, told_lines};
 ghost use Rattle.simulation.specs.Printed.{Prints};
 
 use crate::words::{PairText, id_text, side_text};
@@ -42,10 +42,18 @@ fn print_frame<W: Write>(output: &mut W, id: GatewayId, side: Side, bytes: &[u8]
     ensures { Prints (W.contents output.old) result (W.contents output.new)
         (frame_line id (record { side = side; bytes = bytes.now })) }
 {
-    let (id, side) = (id_text(id), side_text(side));
-    write!(output, "frame {id} {side} ")?;
+    write_frame_words(output, id, side)?;
     write_hex(output, bytes)?;
     output.write_all(b"\n")
+}
+
+/// Writes what stands before the bytes of a frame.
+fn write_frame_words<W: Write>(output: &mut W, id: GatewayId, side: Side) -> io::Result<()>
+    ensures { Prints (W.contents output.old) result (W.contents output.new)
+        (frame_words id side) }
+{
+    let (id, side) = (id_text(id), side_text(side));
+    write!(output, "frame {id} {side} ")
 }
 
 fn print_datagrams<W: Write>(
@@ -74,10 +82,18 @@ fn print_datagram<W: Write>(
     ensures { Prints (W.contents output.old) result (W.contents output.new)
         (link_line id number bytes.now) }
 {
-    let id = id_text(id);
-    write!(output, "link {id} {number} ")?;
+    write_link_words(output, id, number)?;
     write_hex(output, bytes)?;
     output.write_all(b"\n")
+}
+
+/// Writes what stands before the bytes of a datagram.
+fn write_link_words<W: Write>(output: &mut W, id: GatewayId, number: usize) -> io::Result<()>
+    ensures { Prints (W.contents output.old) result (W.contents output.new)
+        (link_words id number) }
+{
+    let id = id_text(id);
+    write!(output, "link {id} {number} ")
 }
 
 fn print_notes<W: Write>(output: &mut W, notes: &[Note]) -> io::Result<()>

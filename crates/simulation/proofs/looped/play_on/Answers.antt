@@ -1,4 +1,4 @@
-use Rattle.std.proofs.Common.{Bool, ap, if◌then◌else◌}
+use Rattle.std.proofs.Common.{◌∙◌, Bool, ap, if◌then◌else◌}
 use Rattle.std.proofs.KnownBytes.{Appends-trans}
 use Rattle.simulation.proofs.looped.play_on.Goals as goal
 
@@ -10,5 +10,5 @@ returns g c =
       last = c.take_turns.new.world;
       taken = had.taken;
       text = Appends-trans _ _ _ _ _ had.text c.in_ok-print_world.ensures;
-      is = ap (λ (b : Bool). if b then 3 else 0) had.refusals;
+      is = c.status_of.ensures ∙ ap (λ (b : Bool). if b then 3 else 0) had.refusals;
     }
