@@ -1,30 +1,62 @@
-//! The socket or descriptor by which a place is reached.
-ghost use Rattle.std.specs.Prelude.{◌≤◌, IfOk};
+//! What carries the datagrams of a place: a socket, or a descriptor that was inherited.
+ghost use Rattle.std.specs.Prelude.{◌≤◌, IfOk, IfSome};
 
-use crate::{Arrived, Transport, End, Ends, LONGEST, SendFault, Sender, Way, WireFault};
-use platform::Inherited;
+use crate::{End, Ends, LONGEST, SendFault, Sender, Way, WireFault};
 use mio::net::UdpSocket;
 use mio::unix::SourceFd;
 use mio::{Interest, Registry, Token};
+use platform::Inherited;
 use std::io::{self, ErrorKind, Read, Write};
 use std::net::{Net, SocketAddr};
 use std::os::fd::AsRawFd;
 
-/// The error of what is longer than an interface takes.
+/// The error of a datagram that is longer than its interface takes (`EMSGSIZE` of Linux).
 const EMSGSIZE: i32 = 90;
 
-/// The socket or descriptor by which a place is reached. No call waits.
+/// A datagram that arrived: how many bytes of the receiver's buffer it has, and who sent it.
+#[derive(Clone, Copy, Debug, PartialEq, Eq)]
+pub struct Arrived {
+    pub count: usize,
+    pub sender: Sender,
+}
+
+/// What carries the datagrams of a place. No call waits.
+pub trait Transport {
+    /// Sends the first bytes of the buffer, so many, as one datagram.
+    ///
+    /// # Errors
+    ///
+    /// Where it wasn't sent. It is lost then.
+    fn send(&mut self, buffer: &[u8; LONGEST], count: usize) -> Result<(), SendFault>
+        requires { count ≤ LONGEST };
+
+    /// Receives the next datagram, if one is there.
+    ///
+    /// # Errors
+    ///
+    /// Where to receive failed. Nothing arrived then.
+    fn receive(&mut self, buffer: &mut [u8; LONGEST]) -> Result<Option<Arrived>, WireFault>
+        ensures { IfOk result (λ found. IfSome found (λ one. one.count ≤ LONGEST)) };
+}
+
+/// The socket or descriptor by which a place is reached.
 #[derive(Drop)]
 pub(crate) enum Socket {
-    /// The peer alone is heard and sent to.
+    /// It receives from one address and sends there. What others send takes no buffer in it.
     Connected(UdpSocket),
-    /// Whoever sends is heard; it is sent to this address.
+    /// It receives from anybody, and sends to this address: a kernel sends each flow of VXLAN from a port of its
+    /// own.
     Open(UdpSocket, SocketAddr),
     Inherited(Inherited),
 }
 
 impl Socket {
-    /// The one of a way, which is reported under this token.
+    /// Opens what a way needs, and has a poll report it under a token. On the loopback address the place has these
+    /// ports: its own one, and the other.
+    ///
+    /// # Errors
+    ///
+    /// Those of the system.
     pub(crate) fn open<R: Net>(
         rt: &R,
         registry: &Registry,
@@ -62,10 +94,11 @@ impl Socket {
         }
     }
 
+    /// Where a connected socket says that an earlier datagram found nobody, this one is sent after that: else the
+    /// first one after the peer's return would be lost.
     fn write(&mut self, bytes: &[u8]) -> io::Result<usize> {
         match self {
             Socket::Connected(socket) => match socket.send(bytes) {
-                // What an earlier datagram led to.
                 Err(error) if error.kind() == ErrorKind::ConnectionRefused => socket.send(bytes),
                 sent => sent,
             },
@@ -74,17 +107,19 @@ impl Socket {
         }
     }
 
+    /// Here, too, a connected socket may say first that an earlier datagram found nobody. A descriptor that gives
+    /// no bytes is closed at its other end.
     fn read(&mut self, buffer: &mut [u8; LONGEST]) -> io::Result<Arrived>
         ensures { IfOk result (λ one. one.count ≤ LONGEST) }
     {
         match self {
-            Socket::Connected(socket) => match read_from(socket, buffer) {
+            Socket::Connected(socket) => match receive_from(socket, buffer) {
                 Err(error) if error.kind() == ErrorKind::ConnectionRefused => {
-                    read_from(socket, buffer)
+                    receive_from(socket, buffer)
                 }
                 arrived => arrived,
             },
-            Socket::Open(socket, _) => read_from(socket, buffer),
+            Socket::Open(socket, _) => receive_from(socket, buffer),
             Socket::Inherited(inherited) => match inherited.read(buffer)? {
                 0 => Err(ErrorKind::UnexpectedEof.into()),
                 count => Ok(Arrived {
@@ -117,7 +152,7 @@ impl Transport for Socket {
     }
 }
 
-fn read_from(socket: &mut UdpSocket, buffer: &mut [u8; LONGEST]) -> io::Result<Arrived>
+fn receive_from(socket: &mut UdpSocket, buffer: &mut [u8; LONGEST]) -> io::Result<Arrived>
     ensures { IfOk result (λ one. one.count ≤ LONGEST) }
 {
     match socket.recv_from(buffer)? {
