@@ -1,6 +1,6 @@
 //! A gateway whose steps are asked for again where memory is refused.
 
-use crate::gates::Gate;
+use crate::any_gateway::AnyGateway;
 use crate::shown::{Shown, observe};
 use anyhow::{Context, Result, bail};
 use gateway::{Event, Hashers, NoMemory, Out, Outcome};
@@ -9,7 +9,7 @@ use settings::Settings;
 use std::alloc::Global;
 use std::io::{self, Write};
 
-/// "hi" by UDP from 192.168.1.10 to 198.51.100.7:53, without a checksum, so that it is whole whatever its source port is.
+/// "hi" by UDP from 192.168.1.10 to 198.51.100.7:53, without a checksum, so that it is valid from each source port.
 const PACKET: &str =
     "00005e00010b02000000000a08004500001e0001000040118ee1c0a8010ac633640727100035000a00006869";
 
@@ -20,19 +20,19 @@ const SOURCE_PORT: usize = 34;
 const FIRST_PORT: u16 = 10_000;
 
 /// A gateway, and what it told. It goes by `end`.
-pub(crate) struct Asker<G> {
+pub(crate) struct Retrier<G> {
     alloc: Global,
     gateway: G,
     out: Out,
 }
 
-impl<G: Gate> Asker<G> {
+impl<G: AnyGateway> Retrier<G> {
     /// Gateway 0 of the sample settings, founded in its first boot.
-    pub(crate) fn new(alloc: Global, hashers: Hashers) -> Result<Asker<G>> {
+    pub(crate) fn new(alloc: Global, hashers: Hashers) -> Result<Retrier<G>> {
         let settings = sample(alloc)?;
         let started = started(alloc, &settings, hashers);
         drop(settings);
-        Ok(Asker {
+        Ok(Retrier {
             alloc,
             gateway: started.context("no gateway")?,
             out: Out::new(alloc),
@@ -41,7 +41,7 @@ impl<G: Gate> Asker<G> {
 
     /// Ends its gateway, and gives its memory back.
     pub(crate) fn end(self) {
-        let Asker {
+        let Retrier {
             alloc: _,
             gateway,
             out,
@@ -55,7 +55,7 @@ impl<G: Gate> Asker<G> {
     /// - `tick MOMENT`, `frame SIDE HEX`, `datagram HEX`, `peer-off BOOT`: a step
     /// - `plain SIDE HEX`: a frame, with nothing kept before it
     /// - `pairs COUNT`: a packet from each of so many ports of one host; prints how many pairs there are
-    /// - `page`: what was told is forgotten, with all room for more
+    /// - `page`: what was told is forgotten, with all memory for more
     /// - `frames`: prints the frames that were told
     pub(crate) fn act<O: Write>(&mut self, line: &str, output: &mut O) -> Result<()> {
         let (verb, rest) = line.split_once(' ').unwrap_or((line, ""));
@@ -172,7 +172,7 @@ fn sample(alloc: Global) -> Result<Settings> {
 }
 
 /// A gateway as it begins, asked for once more where memory is refused.
-fn started<G: Gate>(alloc: Global, settings: &Settings, hashers: Hashers) -> Option<G> {
+fn started<G: AnyGateway>(alloc: Global, settings: &Settings, hashers: Hashers) -> Option<G> {
     match G::begun(alloc, settings, hashers, GatewayId::Zero, 1, true) {
         Some(gateway) => Some(gateway),
         None => G::begun(alloc, settings, hashers, GatewayId::Zero, 1, true),
@@ -180,7 +180,11 @@ fn started<G: Gate>(alloc: Global, settings: &Settings, hashers: Hashers) -> Opt
 }
 
 /// One step, asked for once more where memory is refused.
-fn again<G: Gate>(gateway: &mut G, event: Event<'_>, out: &mut Out) -> Result<Outcome, NoMemory> {
+fn again<G: AnyGateway>(
+    gateway: &mut G,
+    event: Event<'_>,
+    out: &mut Out,
+) -> Result<Outcome, NoMemory> {
     match gateway.once(event, out) {
         Ok(outcome) => Ok(outcome),
         Err(NoMemory) => gateway.once(event, out),
@@ -188,7 +192,7 @@ fn again<G: Gate>(gateway: &mut G, event: Event<'_>, out: &mut Out) -> Result<Ou
 }
 
 /// Takes an event; where a growth is refused nothing has changed, and it takes the event then.
-fn step<G: Gate, O: Write>(
+fn step<G: AnyGateway, O: Write>(
     alloc: Global,
     gateway: &mut G,
     event: Event<'_>,
@@ -202,7 +206,7 @@ fn step<G: Gate, O: Write>(
 }
 
 /// The same, from what shows before.
-fn step_from<G: Gate, O: Write>(
+fn step_from<G: AnyGateway, O: Write>(
     before: &Shown,
     alloc: Global,
     gateway: &mut G,

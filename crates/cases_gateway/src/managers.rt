@@ -1,38 +1,38 @@
-//! What a box tells whoever sees to it.
+//! What a box tells of its run.
 
 use cases_words::Case;
-use supervision::Supervisor;
+use rounds::Manager;
 
 /// Counts what it is told.
 #[derive(Drop)]
-pub(crate) struct Alive {
+pub(crate) struct CountingManager {
     alive: u64,
-    endings: u64,
+    ending: u64,
 }
 
-impl Alive {
-    pub(crate) fn new() -> Alive {
-        Alive {
+impl CountingManager {
+    pub(crate) fn new() -> CountingManager {
+        CountingManager {
             alive: 0,
-            endings: 0,
+            ending: 0,
         }
     }
 
     /// Nothing was told yet.
     pub(crate) fn begin(&mut self) {
         self.alive = 0;
-        self.endings = 0;
+        self.ending = 0;
     }
 
     /// Prints how often it was told that the box goes on, and that it ends.
     pub(crate) fn show(&self, case: &mut Case) {
         case.say("  alive ", self.alive);
-        case.say(" ending ", self.endings);
+        case.say(" ending ", self.ending);
         case.end();
     }
 }
 
-impl Supervisor for Alive {
+impl Manager for CountingManager {
     fn ready(&mut self, _boot: u64) {}
 
     fn alive(&mut self) {
@@ -40,6 +40,6 @@ impl Supervisor for Alive {
     }
 
     fn ending(&mut self) {
-        self.endings = self.endings.saturating_add(1);
+        self.ending = self.ending.saturating_add(1);
     }
 }

@@ -1,30 +1,30 @@
 //! The gateway of a case.
 
+use crate::any_gateway::AnyGateway;
 use crate::changing::{Trial, change};
-use crate::gates::Gate;
-use crate::letters::spelled;
-use crate::telling::tell;
+use crate::datagrams::spelled;
+use crate::printing::print_step;
 use cases_words::Case;
 use gateway::{Event, Hashers, Out, Outcome, Reason};
 use nat_types::GatewayId;
 use settings::Settings;
 
 /// A gateway, and the datagram that came to it last. It goes by `end`.
-pub(crate) struct Taker<G> {
+pub(crate) struct TestGateway<G> {
     id: GatewayId,
     gateway: G,
     last: Vec<u8>,
     out: Out,
 }
 
-impl<G: Gate> Taker<G> {
+impl<G: AnyGateway> TestGateway<G> {
     /// As `0 boot 1 founded`: a gateway of that number in that boot; none where there is no such gateway.
-    pub(crate) fn new(settings: &Settings, case: &mut Case) -> Option<Taker<G>> {
+    pub(crate) fn new(settings: &Settings, case: &mut Case) -> Option<TestGateway<G>> {
         let id = case.gateway();
         let boot = after("boot", case);
         let found = case.left() == 1;
         match G::begun(case.alloc, settings, Hashers::fixed(), id, boot, found) {
-            Some(gateway) => Some(Taker {
+            Some(gateway) => Some(TestGateway {
                 id,
                 gateway,
                 last: Vec::new(case.alloc),
@@ -39,7 +39,7 @@ impl<G: Gate> Taker<G> {
 
     /// Ends its gateway, and gives its memory back.
     pub(crate) fn end(self) {
-        let Taker {
+        let TestGateway {
             id: _,
             gateway,
             last,
@@ -53,20 +53,20 @@ impl<G: Gate> Taker<G> {
     /// What happens to the gateway of a case.
     ///
     /// - `tick MOMENT`, `frame SIDE HEX`: the clock goes on; a frame comes
-    /// - `letter ..`: a datagram comes, in words (`letters::spelled`)
+    /// - `letter ..`: a datagram comes, in words (`datagrams::spelled`)
     /// - `bytes HEX`, `again`: a datagram of these bytes comes; the last datagram comes once more
     /// - `cuts HEX`: a datagram comes cut at every length
     /// - `frame-cuts SIDE HEX`, `frame-changes SIDE HEX`: a frame comes cut at every length; with every byte changed to
     ///   every other value
-    /// - `frame-cuts SIDE HEX from MOMENT`, `frame-changes SIDE HEX from MOMENT`: the same, each frame in a second of its
-    ///   own, the first one at that moment
+    /// - `frame-cuts SIDE HEX from MOMENT`, `frame-changes SIDE HEX from MOMENT`: the same, each frame in a second of
+    ///   its own, the first one at that moment
     /// - `table`: how the gateway stands
     pub(crate) fn happen(&mut self, case: &mut Case) {
         case.back();
         match case.word() {
             "tick" => self.step(Event::Tick(case.number()), case),
             "frame" => self.frame(case),
-            "letter" => self.letter(case),
+            "letter" => self.datagram(case),
             "bytes" => self.bytes(case),
             "again" => self.again(case),
             "cuts" => self.cuts(case),
@@ -80,7 +80,7 @@ impl<G: Gate> Taker<G> {
     /// One step; prints what comes of it, and what is told.
     fn step(&mut self, event: Event<'_>, case: &mut Case) {
         let outcome = self.gateway.step(event, &mut self.out, case);
-        tell(outcome, &self.out, case);
+        print_step(outcome, &self.out, case);
     }
 
     fn frame(&mut self, case: &mut Case) {
@@ -90,7 +90,7 @@ impl<G: Gate> Taker<G> {
     }
 
     /// A datagram in words comes, as the other gateway's.
-    fn letter(&mut self, case: &mut Case) {
+    fn datagram(&mut self, case: &mut Case) {
         self.last = spelled(self.id.other(), case);
         self.again(case);
     }
@@ -105,11 +105,11 @@ impl<G: Gate> Taker<G> {
     fn again(&mut self, case: &mut Case) {
         let event = Event::Datagram(self.last.as_slice());
         let outcome = self.gateway.step(event, &mut self.out, case);
-        tell(outcome, &self.out, case);
+        print_step(outcome, &self.out, case);
     }
 
-    /// A datagram is cut at every length below its own; prints how many of these are dropped with reason 16, with nothing
-    /// told.
+    /// A datagram is cut at every length below its own; prints how many of these are dropped with reason 16, with
+    /// nothing told.
     fn cuts(&mut self, case: &mut Case) {
         let bytes = case.bytes();
         let mut dropped = 0u32;
@@ -137,7 +137,7 @@ impl<G: Gate> Taker<G> {
         let frame = bytes.as_slice();
         let mut trial = Trial::new(side, pace_in(case));
         for length in 0..frame.len() {
-            trial.hand_in(&mut self.gateway, &frame[..length], &mut self.out, case);
+            trial.try_frame(&mut self.gateway, &frame[..length], &mut self.out, case);
         }
         trial.tell(case);
     }

@@ -6,8 +6,8 @@ use gateway::{Out, Outcome};
 use nat_types::Pair;
 
 /// What came of a step and how many frames were sent; then the notes; then the datagram.
-pub(crate) fn tell(outcome: Outcome, out: &Out, case: &mut Case) {
-    tell_outcome(outcome, case);
+pub(crate) fn print_step(outcome: Outcome, out: &Out, case: &mut Case) {
+    print_outcome(outcome, case);
     let count = frame_count(out);
     if 0 < count {
         case.say(", frames ", count);
@@ -17,10 +17,10 @@ pub(crate) fn tell(outcome: Outcome, out: &Out, case: &mut Case) {
         case.say("  note ", *note);
         case.end();
     }
-    tell_datagrams(out, case);
+    print_datagrams(out, case);
 }
 
-fn tell_datagrams(out: &Out, case: &mut Case) {
+fn print_datagrams(out: &Out, case: &mut Case) {
     for datagram in out.datagrams() {
         case.hex("  link ", datagram);
         case.end();
@@ -35,7 +35,7 @@ fn frame_count(out: &Out) -> u32 {
     count
 }
 
-fn tell_outcome(outcome: Outcome, case: &mut Case) {
+fn print_outcome(outcome: Outcome, case: &mut Case) {
     match outcome {
         Outcome::Sent => case.put("  sent"),
         Outcome::Waiting => case.put("  waiting"),
@@ -45,7 +45,7 @@ fn tell_outcome(outcome: Outcome, case: &mut Case) {
 }
 
 /// The pairs, a line each, and whether they translate.
-pub(crate) fn tell_pairs<E: Drop>(
+pub(crate) fn print_pairs<E: Drop>(
     pairs: Result<Vec<Pair>, E>,
     translating: &[Pair],
     case: &mut Case,
@@ -67,22 +67,22 @@ pub(crate) fn tell_pairs<E: Drop>(
 }
 
 /// The unbroken runs of rising ports, a line each.
-pub(crate) fn tell_owned(ports: &[Port], case: &mut Case) {
+pub(crate) fn print_owned(ports: &[Port], case: &mut Case) {
     let Some((first, others)) = ports.split_first() else {
         return;
     };
     let (mut first, mut last) = (*first, *first);
     for port in others {
         if last.0.checked_add(1) != Some(port.0) {
-            tell_run(first, last, case);
+            print_run(first, last, case);
             first = *port;
         }
         last = *port;
     }
-    tell_run(first, last, case);
+    print_run(first, last, case);
 }
 
-fn tell_run(first: Port, last: Port, case: &mut Case) {
+fn print_run(first: Port, last: Port, case: &mut Case) {
     case.say("  owns ", first);
     case.say(" to ", last);
     case.end();

@@ -1,6 +1,6 @@
 //! Datagrams in words.
 
-use crate::takers::after;
+use crate::test_gateway::after;
 use addresses::Port;
 use arrayvec::ArrayVec;
 use cases_words::Case;

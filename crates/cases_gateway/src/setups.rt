@@ -1,36 +1,36 @@
 //! What the lines of a file set up: the settings, and a gateway.
 
-use crate::gates::Gate;
-use crate::takers::Taker;
+use crate::any_gateway::AnyGateway;
+use crate::test_gateway::TestGateway;
 use anyhow::Result;
 use cases_words::{Actor, Case};
 use settings::Settings;
 use std::{fs, mem};
 
 /// What the lines so far have set up. It goes by `end`.
-pub(crate) struct Desk<G> {
+pub(crate) struct Setup<G> {
     rt: HostRuntime,
     settings: Option<Settings>,
-    taker: Option<Taker<G>>,
+    gateway: Option<TestGateway<G>>,
 }
 
-impl<G: Gate> Desk<G> {
-    pub(crate) fn new(rt: HostRuntime) -> Desk<G> {
-        Desk {
+impl<G: AnyGateway> Setup<G> {
+    pub(crate) fn new(rt: HostRuntime) -> Setup<G> {
+        Setup {
             rt,
             settings: None,
-            taker: None,
+            gateway: None,
         }
     }
 
     pub(crate) fn end(self) {
-        let Desk {
+        let Setup {
             rt: _,
             settings,
-            taker,
+            gateway,
         } = self;
         drop(settings);
-        end_if_there(taker);
+        end_if_there(gateway);
     }
 
     fn set_up(&mut self, case: &mut Case) {
@@ -44,37 +44,37 @@ impl<G: Gate> Desk<G> {
     fn start(&mut self, case: &mut Case) {
         match self.settings.as_ref() {
             Some(settings) => {
-                let taker = Taker::new(settings, case);
-                end_if_there(mem::replace(&mut self.taker, taker));
+                let gateway = TestGateway::new(settings, case);
+                end_if_there(mem::replace(&mut self.gateway, gateway));
             }
             None => case.fault(),
         }
     }
 }
 
-impl<G: Gate> Actor for Desk<G> {
+impl<G: AnyGateway> Actor for Setup<G> {
     /// Does what a line says.
     ///
     /// - `settings FILE`: how the gateways below are set up
     /// - `gateway I boot N`, `gateway 0 boot N founded`: a gateway starts, in place of the one before
-    /// - all else happens to the gateway (`Taker::happen`)
+    /// - all else happens to the gateway (`TestGateway::happen`)
     fn act(&mut self, case: &mut Case) {
         case.title("", "\n");
         match case.word() {
             "settings" => self.set_up(case),
             "gateway" => self.start(case),
-            _ => match self.taker.as_mut() {
-                Some(taker) => taker.happen(case),
+            _ => match self.gateway.as_mut() {
+                Some(gateway) => gateway.happen(case),
                 None => case.fault(),
             },
         }
     }
 }
 
-/// Lets a gateway go, if it is there.
-fn end_if_there<G: Gate>(taker: Option<Taker<G>>) {
-    if let Some(taker) = taker {
-        taker.end();
+/// Ends a gateway, if it is there.
+fn end_if_there<G: AnyGateway>(gateway: Option<TestGateway<G>>) {
+    if let Some(gateway) = gateway {
+        gateway.end();
     }
 }
 

@@ -1,27 +1,24 @@
 //! A gateway, as far as a case has to do with it.
 
-use crate::memories::{Memory, Steps};
-use crate::pages::Patience;
+use crate::lines::{EndAfter, Lines};
+use crate::managers::CountingManager;
+use crate::printing::{print_owned, print_pairs};
 use crate::shown::{Shown, observe_once};
-use crate::stations::Orders;
-use crate::supervisors::Alive;
-use crate::telling::{tell_owned, tell_pairs};
+use crate::wires::StepClock;
 use anyhow::Result;
 use cases_words::Case;
 use gateway::{Event, Gateway, Hashers, NoMemory, Out, Outcome};
-use journal::Journal;
+use journal::{EventLog, Format, Sink};
 use nat_types::{GatewayId, Key};
-use outlets::Output;
-use reports::{Counters, GatewayReport, Page, Sides};
-use rounds::{Identity, Teller, run_rounds};
+use reports::{GatewayReport, Page, Sides};
+use rounds::{Options, run_rounds, serve};
 use settings::Settings;
 use sockets::Wire;
 use std::alloc::Global;
-use std::io;
 
-/// What is done with a gateway, and said of it. Nothing is known of either: a function that knew the gateway's type would
-/// have to show of each of its parts where it lies.
-pub(crate) trait Gate: Sized {
+/// What is done with a gateway, and said of it. Nothing is known of either: a function that knew the gateway's type
+/// would have to show of each of its parts where it lies.
+pub(crate) trait AnyGateway: Sized {
     /// A gateway of that number in that boot; none where there is no such gateway.
     fn begun(
         alloc: Global,
@@ -51,44 +48,40 @@ pub(crate) trait Gate: Sized {
     fn sides(&self) -> Sides;
 
     /// The sides are seen again.
-    fn look(&self, sides: &mut Sides);
+    fn update(&self, sides: &mut Sides);
 
     /// What a report says of it.
     fn report(&self) -> Option<GatewayReport>;
 
     /// The page behind a key.
-    fn page_behind(&self, alloc: Global, last: Option<Key>) -> Option<Page>;
+    fn page_behind(&self, last: Option<Key>) -> Page;
 
-    /// So many rounds.
-    fn go_on<L: Journal>(
-        &mut self,
-        wire: &mut Memory,
-        clock: &mut Steps,
-        rounds: u32,
-        track: bool,
-        identity: Identity,
-        alive: &mut Alive,
-        log: &L,
-    );
-
-    /// It runs to its end.
-    fn serve<W: Wire, O: Output, L: Journal>(
+    /// It runs to its end, or has its rounds alone.
+    fn run<W: Wire>(
         &mut self,
         alloc: Global,
         wire: &mut W,
-        clock: &mut Steps,
-        identity: Identity,
-        alive: &mut Alive,
+        clock: &mut StepClock,
+        manager: &mut CountingManager,
+        lines: Lines<'_>,
         orders: Orders,
-        output: &mut O,
-        log: &L,
-    ) -> io::Result<()>;
+        options: &Options,
+    );
 
     /// Gives its memory back.
     fn end(self);
 }
 
-impl Gate for Gateway {
+/// How a box ends.
+#[derive(Clone, Copy)]
+pub(crate) struct Orders {
+    /// After how many rounds it is told to end.
+    pub(crate) told: Option<u32>,
+    /// Whether its gateway is stopped behind its rounds.
+    pub(crate) stops: bool,
+}
+
+impl AnyGateway for Gateway {
     fn begun(
         alloc: Global,
         settings: &Settings,
@@ -127,11 +120,11 @@ impl Gate for Gateway {
         case.say(", knows boot ", self.known_peer());
         case.end();
         match self.translating() {
-            Ok(translating) => tell_pairs(self.pairs(), translating.as_slice(), case),
+            Ok(translating) => print_pairs(self.pairs(), translating.as_slice(), case),
             Err(_) => case.fault(),
         }
         match self.owned() {
-            Ok(ports) => tell_owned(ports.as_slice(), case),
+            Ok(ports) => print_owned(ports.as_slice(), case),
             Err(_) => case.fault(),
         }
     }
@@ -140,71 +133,39 @@ impl Gate for Gateway {
         rounds::sides_of(self)
     }
 
-    fn look(&self, sides: &mut Sides) {
-        rounds::look_again(sides, self);
+    fn update(&self, sides: &mut Sides) {
+        rounds::update_sides(sides, self);
     }
 
     fn report(&self) -> Option<GatewayReport> {
-        rounds::gateway_report(self, &Counters::new()).ok()
+        rounds::gateway_report(self).ok()
     }
 
-    fn page_behind(&self, alloc: Global, last: Option<Key>) -> Option<Page> {
-        rounds::page_behind(alloc, self, last, &Counters::new()).ok()
+    fn page_behind(&self, last: Option<Key>) -> Page {
+        rounds::page_behind(self, last)
     }
 
-    fn go_on<L: Journal>(
-        &mut self,
-        wire: &mut Memory,
-        clock: &mut Steps,
-        rounds: u32,
-        track: bool,
-        identity: Identity,
-        alive: &mut Alive,
-        log: &L,
-    ) {
-        let mut until = Patience::new(None);
-        let mut log = Teller::new(log, self.moment());
-        run_rounds(
-            wire.alloc,
-            self,
-            wire,
-            clock,
-            &mut until,
-            Some(rounds),
-            track,
-            identity,
-            alive,
-            &mut log,
-        );
-    }
-
-    fn serve<W: Wire, O: Output, L: Journal>(
+    fn run<W: Wire>(
         &mut self,
         alloc: Global,
         wire: &mut W,
-        clock: &mut Steps,
-        identity: Identity,
-        alive: &mut Alive,
+        clock: &mut StepClock,
+        manager: &mut CountingManager,
+        lines: Lines<'_>,
         orders: Orders,
-        output: &mut O,
-        log: &L,
-    ) -> io::Result<()> {
-        let mut until = Patience::new(orders.told);
-        let mut log = Teller::new(log, self.moment());
-        rounds::serve(
-            alloc,
-            self,
-            wire,
-            clock,
-            &mut until,
-            orders.rounds,
-            true,
-            identity,
-            alive,
-            output,
-            &mut log,
-        )?;
-        Ok(())
+        options: &Options,
+    ) {
+        let mut until = EndAfter(orders.told);
+        let mut log = EventLog::new(Sink::new(lines, Format::Text));
+        if orders.stops {
+            serve(
+                alloc, self, wire, clock, &mut until, manager, &mut log, options,
+            );
+        } else {
+            run_rounds(
+                alloc, self, wire, clock, &mut until, manager, &mut log, options,
+            );
+        }
     }
 
     fn end(self) {

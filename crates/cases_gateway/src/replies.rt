@@ -1,21 +1,21 @@
-//! What a box answers to those who say a word to it.
+//! What a box replies to a word.
 
 use addresses::Protocol;
 use cases_words::Case;
-use control::Answer;
+use control::Reply;
 use journal::{Cause, Origin};
 use nat_types::EntryState;
 use packet_rules::Reason;
-use reports::{Count, Counters, GatewayReport, PROTOCOLS, Page, PairCounts, Report, SideReport};
+use reports::{Count, Counters, GatewayReport, Page, PairCounts, Report, SideReport};
 use std::fmt::Display;
 
-/// Prints an answer: that the word is taken, or why it isn't; or how the box stands, or which pairs it has.
-pub(crate) fn show_answer(bytes: &[u8], case: &mut Case) {
-    match Answer::read(bytes) {
-        Some(Answer::Heard) => case.tell("answer heard"),
-        Some(Answer::Refused(refusal)) => tell_refused(case, refusal),
-        Some(Answer::Report(bytes)) => show_report_of(bytes, case),
-        Some(Answer::Page(bytes)) => show_page_of(bytes, case),
+/// Prints a reply: that the word is taken, or why it isn't; or how the box stands, or which pairs it has.
+pub(crate) fn show_reply(bytes: &[u8], case: &mut Case) {
+    match Reply::read(bytes) {
+        Some(Reply::Heard) => case.tell("answer heard"),
+        Some(Reply::Refused(refusal)) => tell_refused(case, refusal),
+        Some(Reply::Report(bytes)) => show_report_of(bytes, case),
+        Some(Reply::Page(bytes)) => show_page_of(bytes, case),
         None => {
             case.say("  answer of ", bytes.len());
             case.put(" bytes\n");
@@ -37,7 +37,7 @@ fn show_report_of(bytes: &[u8], case: &mut Case) {
 }
 
 fn show_page_of(bytes: &[u8], case: &mut Case) {
-    match Page::read(case.alloc, bytes) {
+    match Page::read(bytes) {
         Ok(page) => show_page(&page, case),
         Err(fault) => tell_refused(case, fault),
     }
@@ -48,11 +48,11 @@ fn show_report(report: &Report, case: &mut Case) {
     case.say("  answer box ", report.id);
     case.say(" boot ", report.boot);
     case.say(" digest ", report.digest);
-    case.say(" at ", report.gateway.moment);
+    case.say(" at ", report.gateway.uptime);
     show_gateway(&report.gateway, case);
     show_side("inside", &report.sides.inside, case);
     show_side("outside", &report.sides.outside, case);
-    for protocol in PROTOCOLS {
+    for protocol in [Protocol::Icmp, Protocol::Tcp, Protocol::Udp] {
         show_pairs(&report.gateway.pairs, protocol, case);
     }
     show_ports(&report.gateway, case);
@@ -81,7 +81,7 @@ fn show_ports(gateway: &GatewayReport, case: &mut Case) {
     case.end();
 }
 
-/// The role of a side, and whether its cable is in; each with the moment since when.
+/// The role of a side, and whether its cable is in; each with the timestamp since when.
 fn show_side(name: &str, side: &SideReport, case: &mut Case) {
     case.say("    ", name);
     case.show(" ", side.role);
@@ -126,10 +126,10 @@ fn show_count(name: &str, counters: &Counters, origin: Origin, case: &mut Case) 
 /// Each entry of a page, and whether others follow.
 fn show_page(page: &Page, case: &mut Case) {
     case.tell("answer page");
-    for entry in page.entries() {
+    for entry in page.entries.as_slice().iter().flatten() {
         case.say("    ", entry.pair);
         case.end();
     }
-    case.say("    more ", page.has_more());
+    case.say("    more ", page.more);
     case.end();
 }

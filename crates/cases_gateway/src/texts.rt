@@ -1,9 +1,7 @@
-//! Bytes that are whole, cut or changed, and what they are read as.
+//! A report's texts; and its bytes, whole, cut or changed, and what they are read as.
 
 use cases_words::Case;
-use report_texts::{write_json, write_metrics, write_people};
-use reports::{ReadFault, Report};
-use std::io;
+use reports::{JsonText, MetricsText, PlainText, ReadFault, Report};
 
 /// A report of bytes, of which nothing is said.
 fn read_of(bytes: &[u8]) -> Result<Report, ReadFault> {
@@ -21,19 +19,16 @@ pub(crate) enum Kind {
 /// The text of a report, once it was written as bytes and read back.
 pub(crate) fn tell_text(report: &Report, kind: Kind, case: &mut Case) {
     match read_of(report.bytes().as_slice()) {
-        Ok(read) => {
-            let written = write_text(&read, kind, &mut case.out);
-            case.keep(written);
-        }
+        Ok(report) => put_text(&report, kind, case),
         Err(_) => case.fault(),
     }
 }
 
-fn write_text(report: &Report, kind: Kind, output: &mut Vec<u8>) -> io::Result<()> {
+fn put_text(report: &Report, kind: Kind, case: &mut Case) {
     match kind {
-        Kind::People => write_people(output, report),
-        Kind::Json => write_json(output, report),
-        Kind::Metrics => write_metrics(output, report),
+        Kind::People => case.put(PlainText(report)),
+        Kind::Json => case.put(JsonText(report)),
+        Kind::Metrics => case.put(MetricsText(report)),
     }
 }
 
