@@ -1,12 +1,15 @@
--- The arguments of a command, as clap is told of them.
-use Rattle.std.specs.Prelude.{Bool, true, false, List, [], ◌∷◌}
-use Rattle.clap.specs.Words.{App, Rule, Text, with_rule}
+-- The arguments of a command, and the commands of a program, as clap is told of them.
+use Rattle.std.specs.Prelude.{◌≡◌, Bool, true, false, List, [], ◌∷◌}
+use Rattle.clap.specs.Words.{App, Rule, Text, app_of, new_app, with_rule, with_subcommand}
 use Rattle.clap.specs.declared.builder.action.ArgAction.{ArgAction}
 use Rattle.clap.specs.declared.builder.action.ArgAction.TheVariants.{Set, SetTrue}
+use Rattle.clap.specs.declared.builder.command.Command.{Command}
+use Rattle.clap.specs.declared.builder.command.Command.TheViews.{out-Command as fields_of}
 use Rattle.command_line.specs.Line.{file_rule, flag_rule, parsed_rule, text_rule, way_rule, word_rule}
 use Rattle.command_line.specs.declared.options.Argument.{Argument}
 use Rattle.command_line.specs.declared.options.Form.{Form}
 use Rattle.command_line.specs.declared.options.Form.TheVariants as form
+use Rattle.command_line.specs.declared.outlines.Outline.{Outline}
 
 -- one that has to be there
 abbrev pub is_needed : Form → Bool
@@ -36,3 +39,16 @@ rule_for argument = rule_by argument.0 argument.1.now
 abbrev pub with_all : App → List Argument → App
 with_all a [] = a
 with_all a (argument ∷ rest) = with_all (with_rule a (rule_for argument)) rest
+
+-- the command of an outline
+abbrev pub app_in : Outline → App
+app_in outline = with_all (new_app outline.name.now) outline.arguments.now
+
+-- a program with these commands, in order
+abbrev pub with_each : App → List Outline → App
+with_each a [] = a
+with_each a (outline ∷ rest) = with_each (with_subcommand a (app_in outline).top) rest
+
+-- clap's command takes words so
+abbrev pub TakesSo : Command → App → Type 0
+TakesSo command app = (app_of command ≡ app) × ((fields_of command).has_globals ≡ false)

@@ -1,10 +1,6 @@
 pub mod Line
 pub mod Values
 pub mod Filters
-pub mod Memory
 pub mod Tasks
 pub mod Faults
 pub mod Arguments
-pub mod Helps
-pub mod Entries
-pub mod Reading

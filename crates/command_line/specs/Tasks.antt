@@ -1,5 +1,5 @@
 -- The task that words ask for.
-use Rattle.std.specs.Prelude.{◌≡◌, ◌≢◌, ◌⊎◌, Bool, true, not, List, [], ◌∷◌, codes, Option, Some, None, Err, option_map, string_bytes}
+use Rattle.std.specs.Prelude.{◌≡◌, ◌≢◌, ◌⊎◌, Bool, true, not, List, [], ◌∷◌, codes, Option, Some, None, option_map, string_bytes}
 use Rattle.std.specs.List.{list_any}
 use Rattle.std.specs.Str.{bytes_eq}
 use Rattle.clap.specs.Kinds.{IsAmong}
@@ -7,13 +7,12 @@ use Rattle.clap.specs.Words.{Row, Text, first_of, kind_of, one_of}
 use Rattle.clap.specs.declared.error.kind.ErrorKind.TheVariants.{DisplayVersion}
 use Rattle.command_line.specs.Filters.{IsAddressIf, IsPortIf, LacksFilter, LacksStatus, entry_state_in, form_in, protocol_in, wait_in}
 use Rattle.command_line.specs.Line.{AskVersion, MayAskVersion, Takes, entered_by, faults_of}
-use Rattle.command_line.specs.Memory.{IsRead, Lacks, LacksEntered, LacksReading, LacksWord, Outlines, Reads, TakesSo, WasRead, WasUntold}
 use Rattle.command_line.specs.Values.{HasId, HasIdIf, HasNumberIf, IsId, IsIdIf, IsReadIf, flag_of, side_in, state_in, word_of}
 use Rattle.command_line.specs.declared.faults.LineFault.{LineFault}
 use Rattle.command_line.specs.declared.faults.LineFault.TheVariants.{Refused, Values, NoMemory}
 use Rattle.command_line.specs.declared.faults.ValueFault.{ValueFault}
 use Rattle.command_line.specs.declared.faults.ValueFault.TheVariants.{FoundNeedsIdZero, NoSide, NoStatus, NoFilter}
-use Rattle.nat_types.specs.declared.gateways.GatewayId.TheVariants.{Zero, One}
+use Rattle.nat_types.specs.declared.gateways.GatewayId.TheVariants.{One}
 use Rattle.command_line.specs.declared.words.CheckWords.{CheckWords}
 use Rattle.command_line.specs.declared.words.GateWords.{GateWords}
 use Rattle.command_line.specs.declared.words.PairsWords.{PairsWords}
@@ -101,14 +100,9 @@ IsTask name rows (task.Loop files) = (name ≡ codes "loop") × AreFiles rows fi
 IsTask name rows task.Version = ⊥
 
 -- the task of the command that words enter
-abbrev pub Asks : Option (Text × List Row) → Task → Type 0
-Asks None task = ⊥
-Asks (Some entered) task = IsTask entered.0 entered.1 task
-
--- only gateway 0 founds the pair
-abbrev pub FoundsAtZero : Task → Type 0
-FoundsAtZero (task.Gate gate) = gate.found ≡ true → gate.id ≡ Zero
-FoundsAtZero _ = Unit {0}
+abbrev pub IsEntered : Option (Text × List Row) → Task → Type 0
+IsEntered None task = ⊥
+IsEntered (Some entered) task = IsTask entered.0 entered.1 task
 
 -- ---- what clap takes
 
@@ -182,17 +176,17 @@ IsEnteredFaulty (Some entered) why = IsFaulty entered.0 entered.1 why
 abbrev pub RefusesAs : ValueFault → List Row → LineFault → Type 0
 RefusesAs wrong rows (Refused error) = ⊥
 RefusesAs wrong rows (Values why) = (why ≡ wrong) × AreWrong rows why
-RefusesAs wrong rows NoMemory = LacksWord rows
+RefusesAs wrong rows NoMemory = Unit {0}
 
 abbrev pub RefusesValues : Text → List Row → LineFault → Type 0
 RefusesValues name rows (Refused error) = ⊥
 RefusesValues name rows (Values why) = IsFaulty name rows why
-RefusesValues name rows NoMemory = LacksWord rows
+RefusesValues name rows NoMemory = Unit {0}
 
 abbrev pub RefusesEntered : Option (Text × List Row) → LineFault → Type 0
 RefusesEntered entered (Refused error) = ⊥
 RefusesEntered entered (Values why) = IsEnteredFaulty entered why
-RefusesEntered entered NoMemory = LacksEntered entered
+RefusesEntered entered NoMemory = Unit {0}
 
 -- why clap's parse is refused: by an error of a kind that it finds in the words
 abbrev pub RefusesWords : List Text → LineFault → Type 0
@@ -201,30 +195,20 @@ RefusesWords words (Refused error) = ¬ (Takes words) × (kind_of error ≡ Disp
 RefusesWords words (Values why) = ⊥
 RefusesWords words NoMemory = Unit {0}
 
--- clap takes the words, they ask for this task, and its values go together
-pub record AskFor (words : List Text) (asked : Task) : Type 0 where
+-- clap takes the words, they enter the command of this task, and its values go together
+pub record AsksByCommand (words : List Text) (asked : Task) : Type 0 where
   pub takes : Takes words
-  pub asks : Asks (entered_by words) asked
+  pub entered : IsEntered (entered_by words) asked
   pub sound : (why : ValueFault) → ¬ (IsEnteredFaulty (entered_by words) why)
 
 -- the task of the words; or the version, which they ask for
-abbrev pub IsAnswer : List Text → Task → Type 0
-IsAnswer words asked = AskFor words asked ⊎ ((asked ≡ task.Version) × MayAskVersion words)
+abbrev pub Asks : List Text → Task → Type 0
+Asks words asked = AsksByCommand words asked ⊎ ((asked ≡ task.Version) × MayAskVersion words)
 
--- there was no memory for the task of words: in the making of the line that reads them, or where it read them; or clap takes them, the values of
--- their command go together, and there was none for one of its words
-abbrev pub LacksTask : {B : Type 0} → Outlines B → Reads B → Lacks B → List Text → Type 0
-LacksTask tells reads lacks words = LacksReading tells reads lacks words
-    ⊎ (Takes words × (((why : ValueFault) → ¬ (IsEnteredFaulty (entered_by words) why)) × LacksEntered (entered_by words)))
-
--- Why words are no task, by whoever is told of commands: `clap` refuses them, by an error of a kind that it finds in them, and not by telling the
--- version, and which just such a line made of them; or it takes them, and the values of their command don't go together; or for want of memory
-abbrev pub RefusesBy : {B : Type 0} → Outlines B → Reads B → Lacks B → List Text → LineFault → Type 0
-RefusesBy tells reads lacks words (Refused error) = ¬ (Takes words) × ¬ (AskVersion words)
-    × IsAmong (kind_of error) (faults_of words) × (kind_of error ≢ DisplayVersion) × IsRead tells reads words (Err error)
-RefusesBy tells reads lacks words (Values why) = Takes words × IsEnteredFaulty (entered_by words) why
-RefusesBy tells reads lacks words NoMemory = LacksTask tells reads lacks words
-
--- and where `clap` is told of them
+-- Why words are no task: clap refuses them, by an error of a kind that it finds in them, and not by telling the version; or it takes them, and
+-- the values of their command don't go together; or for want of memory
 abbrev pub Refuses : List Text → LineFault → Type 0
-Refuses words fault = RefusesBy TakesSo WasRead WasUntold words fault
+Refuses words (Refused error) = ¬ (Takes words) × ¬ (AskVersion words) × IsAmong (kind_of error) (faults_of words)
+    × (kind_of error ≢ DisplayVersion)
+Refuses words (Values why) = Takes words × IsEnteredFaulty (entered_by words) why
+Refuses words NoMemory = Unit {0}

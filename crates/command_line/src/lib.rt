@@ -1,11 +1,11 @@
 //! The command line of `natpair`: its commands, their options, and the task that words ask for.
 #![tactic(auto)]
 
-mod builders;
 mod commands;
 mod faults;
 mod filters;
 mod options;
+mod outlines;
 mod tasks;
 mod values;
 mod versions;

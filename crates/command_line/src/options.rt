@@ -54,7 +54,6 @@ impl<'a> Argument<'a> {
     pub(crate) fn arg(&self, alloc: Global) -> Arg<'a>
         ensures rule { rule_of result ≡ rule_for self.now }
         ensures local { result.global ≡ false }
-        ensures help { result.help ≡ Some self.now.2 }
     {
         self.told(Arg::new(alloc, self.1))
     }

@@ -1,24 +1,19 @@
 //! The task that words ask for.
-ghost use Rattle.std.specs.Prelude.{◌≡◌, ◌⊎◌, codes, string_bytes, map, option_map, true, Err, Ok, IfOk, IfErr, OnErr, OnOk};
+ghost use Rattle.std.specs.Prelude.{◌≡◌, codes, string_bytes, map, option_map, true, IfOk, IfErr, OnOk};
 ghost use Rattle.clap.specs.Words.{found_of, rows_of, subcommand_rows_of};
-ghost use Rattle.command_line.specs.Line.{AskVersion, Takes, entered_by};
-ghost use Rattle.command_line.specs.Memory.{LacksWord};
-ghost use Rattle.command_line.specs.Reading.{IsOfReading};
+ghost use Rattle.command_line.specs.Line.{Takes, entered_by};
 ghost use Rattle.command_line.specs.Values.{HasId, IsId};
-ghost use Rattle.command_line.specs.Tasks.{AreFiles, AreWays, AreWrong, Asks, Enters, FoundsAtZero, HasNumbers, IsAnswer, IsEnteredFaulty, IsCheck, IsFaulty, IsGate, IsPeerOff, IsTask, Numbered, Refuses, RefusesAs, RefusesBy, RefusesEntered, RefusesValues, RefusesWords, is_named, is_plain, wants_id};
-ghost use Rattle.command_line.specs.declared.faults.LineFault.TheVariants as faults;
+ghost use Rattle.command_line.specs.Tasks.{AreFiles, AreWays, AreWrong, Asks, Enters, HasNumbers, IsCheck, IsEntered, IsEnteredFaulty, IsFaulty, IsGate, IsPeerOff, IsTask, Numbered, Refuses, RefusesAs, RefusesEntered, RefusesValues, RefusesWords, is_named, is_plain, wants_id};
 ghost use Rattle.command_line.specs.declared.faults.ValueFault.{ValueFault as Why};
 ghost use Rattle.command_line.specs.declared.faults.ValueFault.TheVariants.{FoundNeedsIdZero, NoFilter, NoSide, NoStatus};
-ghost use Rattle.command_line.specs.declared.tasks.Task.TheVariants as tasks;
 
-use crate::builders::Builder;
 use crate::faults::{LineFault, ValueFault};
 use crate::words::{
     CheckWords, GateWords, PairsWords, PeerOffWords, RunWords, StatusWords, WayWords,
 };
 use crate::{commands, filters, values};
 use clap::error::ErrorKind;
-use clap::{ArgMatches, Command};
+use clap::ArgMatches;
 use nat_types::{GatewayId, Side};
 use std::alloc::{AllocError, Global};
 
@@ -58,7 +53,6 @@ pub enum Task {
 fn check(alloc: Global, matches: &ArgMatches<'_>) -> Result<CheckWords, AllocError>
     requires { HasNumbers (rows_of (found_of matches.now)) }
     ensures words { IfOk result (IsCheck (rows_of (found_of matches.now))) }
-    ensures short { OnErr result (LacksWord (rows_of (found_of matches.now))) }
 {
     Ok(CheckWords {
         settings: values::word(alloc, matches, "SETTINGS")?,
@@ -73,7 +67,6 @@ fn check(alloc: Global, matches: &ArgMatches<'_>) -> Result<CheckWords, AllocErr
 
 fn ways(alloc: Global, matches: &ArgMatches<'_>) -> Result<WayWords, AllocError>
     ensures words { IfOk result (AreWays (rows_of (found_of matches.now))) }
-    ensures short { OnErr result (LacksWord (rows_of (found_of matches.now))) }
 {
     Ok(WayWords {
         inside: values::word(alloc, matches, "inside")?,
@@ -89,8 +82,6 @@ fn gate(alloc: Global, matches: &ArgMatches<'_>) -> Result<Task, LineFault>
     ensures ok { IfOk result (IsTask (codes "gate") (rows_of (found_of matches.now))) }
     ensures sound { OnOk result (¬ (AreWrong (rows_of (found_of matches.now)) FoundNeedsIdZero)) }
     ensures err { IfErr result (RefusesAs FoundNeedsIdZero (rows_of (found_of matches.now))) }
-    ensures wrong { AreWrong (rows_of (found_of matches.now)) FoundNeedsIdZero
-        → result ≡ Err (faults.Values FoundNeedsIdZero) }
 {
     let id = values::gateway(matches);
     let found = values::flag(matches, "found");
@@ -111,7 +102,6 @@ fn gate_words(
     requires id { IsId (rows_of (found_of matches.now)) id }
     ensures words { IfOk result (IsGate (rows_of (found_of matches.now))) }
     ensures id { IfOk result (λ gate. gate.id ≡ id) }
-    ensures short { OnErr result (LacksWord (rows_of (found_of matches.now))) }
 {
     Ok(GateWords {
         ways: ways(alloc, matches)?,
@@ -135,8 +125,6 @@ fn status(alloc: Global, matches: &ArgMatches<'_>) -> Result<Task, LineFault>
     ensures ok { IfOk result (IsTask (codes "status") (rows_of (found_of matches.now))) }
     ensures sound { OnOk result (¬ (AreWrong (rows_of (found_of matches.now)) NoStatus)) }
     ensures err { IfErr result (RefusesAs NoStatus (rows_of (found_of matches.now))) }
-    ensures wrong { AreWrong (rows_of (found_of matches.now)) NoStatus
-        → result ≡ Err (faults.Values NoStatus) }
 {
     let id = values::gateway(matches);
     let Some(form) = filters::form(matches) else {
@@ -162,8 +150,6 @@ fn pairs(alloc: Global, matches: &ArgMatches<'_>) -> Result<Task, LineFault>
     ensures ok { IfOk result (IsTask (codes "pairs") (rows_of (found_of matches.now))) }
     ensures sound { OnOk result (¬ (AreWrong (rows_of (found_of matches.now)) NoFilter)) }
     ensures err { IfErr result (RefusesAs NoFilter (rows_of (found_of matches.now))) }
-    ensures wrong { AreWrong (rows_of (found_of matches.now)) NoFilter
-        → result ≡ Err (faults.Values NoFilter) }
 {
     let id = values::gateway(matches);
     let Some(protocol) = filters::protocol(matches) else {
@@ -190,7 +176,6 @@ fn pairs(alloc: Global, matches: &ArgMatches<'_>) -> Result<Task, LineFault>
 fn stop(alloc: Global, matches: &ArgMatches<'_>) -> Result<Task, AllocError>
     requires { HasId (rows_of (found_of matches.now)) }
     ensures task { IfOk result (IsTask (codes "stop") (rows_of (found_of matches.now))) }
-    ensures short { OnErr result (LacksWord (rows_of (found_of matches.now))) }
 {
     let id = values::gateway(matches);
     let settings = values::word(alloc, matches, "SETTINGS")?;
@@ -202,7 +187,6 @@ fn peer_off(alloc: Global, matches: &ArgMatches<'_>) -> Result<PeerOffWords, All
     requires numbers { HasNumbers (rows_of (found_of matches.now)) }
     requires id { HasId (rows_of (found_of matches.now)) }
     ensures words { IfOk result (IsPeerOff (rows_of (found_of matches.now))) }
-    ensures short { OnErr result (LacksWord (rows_of (found_of matches.now))) }
 {
     Ok(PeerOffWords {
         settings: values::word(alloc, matches, "SETTINGS")?,
@@ -217,8 +201,6 @@ fn side(alloc: Global, matches: &ArgMatches<'_>) -> Result<Task, LineFault>
     ensures ok { IfOk result (IsTask (codes "side") (rows_of (found_of matches.now))) }
     ensures sound { OnOk result (¬ (AreWrong (rows_of (found_of matches.now)) NoSide)) }
     ensures err { IfErr result (RefusesAs NoSide (rows_of (found_of matches.now))) }
-    ensures wrong { AreWrong (rows_of (found_of matches.now)) NoSide
-        → result ≡ Err (faults.Values NoSide) }
 {
     let id = values::gateway(matches);
     let Some(side) = values::side(matches) else {
@@ -238,7 +220,6 @@ fn side(alloc: Global, matches: &ArgMatches<'_>) -> Result<Task, LineFault>
 
 fn files(alloc: Global, matches: &ArgMatches<'_>) -> Result<RunWords, AllocError>
     ensures words { IfOk result (AreFiles (rows_of (found_of matches.now))) }
-    ensures short { OnErr result (LacksWord (rows_of (found_of matches.now))) }
 {
     Ok(RunWords {
         settings: values::word(alloc, matches, "SETTINGS")?,
@@ -261,7 +242,6 @@ fn plain(alloc: Global, name: &str, matches: &ArgMatches<'_>) -> Result<Task, Al
     requires numbers { HasNumbers (rows_of (found_of matches.now)) }
     requires id { wants_id name.now ≡ true → HasId (rows_of (found_of matches.now)) }
     ensures task { IfOk result (IsTask name.now (rows_of (found_of matches.now))) }
-    ensures short { OnErr result (LacksWord (rows_of (found_of matches.now))) }
 {
     match name {
         "init" => Ok(Task::Init(values::word(alloc, matches, "FILE")?)),
@@ -282,8 +262,6 @@ fn named(alloc: Global, name: &str, matches: &ArgMatches<'_>) -> Result<Task, Li
     ensures sound { OnOk result ((why : Why)
         → ¬ (IsFaulty name.now (rows_of (found_of matches.now)) why)) }
     ensures err { IfErr result (RefusesValues name.now (rows_of (found_of matches.now))) }
-    ensures wrong { (why : Why) → IsFaulty name.now (rows_of (found_of matches.now)) why
-        → result ≡ Err (faults.Values why) }
 {
     match name {
         "gate" => gate(alloc, matches),
@@ -297,12 +275,10 @@ fn named(alloc: Global, name: &str, matches: &ArgMatches<'_>) -> Result<Task, Li
 fn of_matches(alloc: Global, matches: &ArgMatches<'_>) -> Result<Task, LineFault>
     requires one { Enters (subcommand_rows_of matches.now) }
     requires numbers { Numbered (subcommand_rows_of matches.now) }
-    ensures ok { IfOk result (Asks (subcommand_rows_of matches.now)) }
+    ensures ok { IfOk result (IsEntered (subcommand_rows_of matches.now)) }
     ensures sound { OnOk result ((why : Why)
         → ¬ (IsEnteredFaulty (subcommand_rows_of matches.now) why)) }
     ensures err { IfErr result (RefusesEntered (subcommand_rows_of matches.now)) }
-    ensures wrong { (why : Why) → IsEnteredFaulty (subcommand_rows_of matches.now) why
-        → result ≡ Err (faults.Values why) }
 {
     match entered(matches) {
         Some((name, values)) => named(alloc, name, values),
@@ -311,56 +287,37 @@ fn of_matches(alloc: Global, matches: &ArgMatches<'_>) -> Result<Task, LineFault
 }
 
 /// The matches of all commands.
-fn parse<'a, B: Builder<'a>>(
-    alloc: Global,
-    words: &'a [String],
-) -> Result<ArgMatches<'a>, LineFault>
+fn parse<'a>(alloc: Global, words: &'a [String]) -> Result<ArgMatches<'a>, LineFault>
     ensures taken { IfOk result (λ _. Takes (map string_bytes words.now)) }
     ensures values { IfOk result (λ m. subcommand_rows_of m
         ≡ entered_by (map string_bytes words.now)) }
     ensures one { IfOk result (λ m. Enters (subcommand_rows_of m)) }
     ensures numbers { IfOk result (λ m. Numbered (subcommand_rows_of m)) }
     ensures err { IfErr result (RefusesWords (map string_bytes words.now)) }
-    ensures line { IfErr result
-        (IsOfReading B.tells B.reads B.lacks (map string_bytes words.now)) }
 {
-    let line: B = commands::line(alloc)?;
-    match line.read(words) {
+    let line = commands::line(alloc)?;
+    match line.try_get_matches_from(words) {
         Ok(matches) => Ok(matches),
         Err(error) => Err(LineFault::from(error)),
-    }
-}
-
-/// The task that words ask for, by whoever is told of commands.
-fn command_by<'a, B: Builder<'a>>(alloc: Global, words: &'a [String]) -> Result<Task, LineFault>
-    ensures task { IfOk result (IsAnswer (map string_bytes words.now)) }
-    ensures found { IfOk result FoundsAtZero }
-    ensures refused { IfErr result
-        (RefusesBy B.tells B.reads B.lacks (map string_bytes words.now)) }
-    ensures version { AskVersion (map string_bytes words.now)
-        → (result ≡ Ok tasks.Version) ⊎ (result ≡ Err faults.NoMemory) }
-{
-    match parse::<B>(alloc, words) {
-        Ok(matches) => of_matches(alloc, &matches),
-        Err(LineFault::Refused(error)) if error.kind() == ErrorKind::DisplayVersion => {
-            Ok(Task::Version)
-        }
-        Err(fault) => Err(fault),
     }
 }
 
 /// The task that the words of a command line ask for, the program's name first.
 ///
 /// # Errors
-/// What `clap` refuses, a request for help too, is `Refused` with its text; only where it would tell the
-/// version that is the task. Of what it takes, values that don't go together are `Values`. A number that is
-/// missing or beyond its limits `clap` refuses.
+///
+/// What `clap` refuses, a request for help too, is `Refused` with its text; only where it would tell the version that is the
+/// task. Of what it takes, values that don't go together are `Values`. A number that is missing or beyond its limits `clap`
+/// refuses.
 pub fn command(alloc: Global, words: &[String]) -> Result<Task, LineFault>
-    ensures task { IfOk result (IsAnswer (map string_bytes words.now)) }
-    ensures found { IfOk result FoundsAtZero }
-    ensures refused { IfErr result (Refuses (map string_bytes words.now)) }
-    ensures version { AskVersion (map string_bytes words.now)
-        → (result ≡ Ok tasks.Version) ⊎ (result ≡ Err faults.NoMemory) }
+    ensures ok { IfOk result (Asks (map string_bytes words.now)) }
+    ensures err { IfErr result (Refuses (map string_bytes words.now)) }
 {
-    command_by::<Command<'_>>(alloc, words)
+    match parse(alloc, words) {
+        Ok(matches) => of_matches(alloc, &matches),
+        Err(LineFault::Refused(error)) if error.kind() == ErrorKind::DisplayVersion => {
+            Ok(Task::Version)
+        }
+        Err(fault) => Err(fault),
+    }
 }

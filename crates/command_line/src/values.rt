@@ -1,7 +1,6 @@
 //! The values that clap gives the options of a command.
-ghost use Rattle.std.specs.Prelude.{◌≡◌, option_map, string_bytes, IfOk, OnErr};
+ghost use Rattle.std.specs.Prelude.{◌≡◌, option_map, string_bytes, IfOk};
 ghost use Rattle.clap.specs.Words.{first_of, found_of, one_of, rows_of};
-ghost use Rattle.command_line.specs.Memory.{LacksWord, WasShort};
 ghost use Rattle.command_line.specs.Values.{word_of, flag_of, side_in, state_in, HasId, HasIdIf, HasNumberIf, IsId, IsIdIf, IsReadIf, ReadsNumber, ReadsId};
 
 use clap::ArgMatches;
@@ -29,20 +28,10 @@ pub(crate) fn word(
     matches: &ArgMatches<'_>,
     name: &str,
 ) -> Result<String, AllocError>
-    ensures word { IfOk result (λ s. string_bytes s
+    ensures { IfOk result (λ s. string_bytes s
         ≡ word_of name.now (rows_of (found_of matches.now))) }
-    ensures short { OnErr result (LacksWord (rows_of (found_of matches.now))) }
 {
-    copied(alloc, text(matches, name))
-}
-
-/// A text of its own. It has the name for memory that was refused for it.
-#[tactic(auto, unfolding(crate::specs::Memory::WasShort))]
-fn copied(alloc: Global, text: &str) -> Result<String, AllocError>
-    ensures same { IfOk result (λ copy. string_bytes copy ≡ text.now) }
-    ensures short { OnErr result (WasShort text.now) }
-{
-    String::from_str(alloc, text)
+    String::from_str(alloc, text(matches, name))
 }
 
 /// The word at a name, if one stands there.
@@ -51,13 +40,12 @@ pub(crate) fn word_if(
     matches: &ArgMatches<'_>,
     name: &str,
 ) -> Result<Option<String>, AllocError>
-    ensures word { IfOk result (λ o. option_map string_bytes o
+    ensures { IfOk result (λ o. option_map string_bytes o
         ≡ first_of name.now (rows_of (found_of matches.now))) }
-    ensures short { OnErr result (LacksWord (rows_of (found_of matches.now))) }
 {
     match text_if(matches, name) {
         Some(text) => {
-            let word = copied(alloc, text)?;
+            let word = String::from_str(alloc, text)?;
             Ok(Some(word))
         }
         None => Ok(None),

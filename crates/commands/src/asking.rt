@@ -1,160 +1,117 @@
-//! What is asked of settings, and of a running gateway.
+//! What an operator asks of a running box.
 
-use crate::commands::text_of;
-use crate::hosts::Host;
-use box_words::{Site, await_synced, pairs, status};
-use checks::{Request, Source, tell_of};
-use command_line::{CheckWords, PairsWords, StatusWords};
-use outlets::{Output, Tells};
-use report_texts::Filter;
-use std::alloc::Global;
+use crate::words::{LONGEST, ask, control_path};
+use command_line::{Form, PairsWords, StatusWords};
+use control::{ControlPath, Reply, Word};
+use faults::Fault;
+use nat_types::Key;
+use reports::{JsonText, MetricsText, Page, PairFilter, PairLines, PlainText, Report};
+use std::fs::Files;
+use std::io::Write;
+use std::net::Net;
+use std::rt::Clock;
+use std::thread;
+use std::time::{Duration, Instant};
 
-/// How long a gateway is waited for, in seconds, where the words don't say.
-const PATIENCE: u32 = 60;
+/// How long a box is waited for where the words don't say, in seconds.
+const SECONDS: u32 = 60;
 
-/// Looks at settings, or in what they differ from others.
-pub(crate) fn look_at<S: Site, H: Host, O: Output, E: Tells>(
-    alloc: Global,
-    site: &mut S,
-    host: &mut H,
-    words: &CheckWords,
-    output: &mut O,
-    errors: &mut E,
-) -> u8 {
-    let settings = words.settings.as_str();
-    match &words.other {
-        Some(other) => look_at_both(alloc, site, host, settings, other.as_str(), output, errors),
-        None => look_at_one(
-            alloc,
-            site,
-            host,
-            settings,
-            &request_of(words),
-            output,
-            errors,
-        ),
-    }
-}
+/// How long it rests until it is asked again, in milliseconds.
+const REST: u64 = 100;
 
-/// Looks at the settings in a file.
-fn look_at_one<S: Site, H: Host, O: Output, E: Tells>(
-    alloc: Global,
-    site: &mut S,
-    host: &mut H,
-    settings: &str,
-    request: &Request<'_>,
-    output: &mut O,
-    errors: &mut E,
-) -> u8 {
-    match site.text(settings) {
-        Ok(text) => host.look(text.as_str(), request, output, errors),
-        Err(fault) => fault.tell(alloc, errors),
-    }
-}
-
-/// Looks in what the settings in two files differ.
-fn look_at_both<S: Site, H: Host, O: Output, E: Tells>(
-    alloc: Global,
-    site: &mut S,
-    host: &H,
-    settings: &str,
-    other: &str,
-    output: &mut O,
-    errors: &mut E,
-) -> u8 {
-    let one = text_at(alloc, site, settings, errors);
-    let two = text_at(alloc, site, other, errors);
-    let (Some(one), Some(two)) = (one, two) else {
-        return 1;
-    };
-    let one = Source {
-        path: settings,
-        text: one.as_str(),
-    };
-    let two = Source {
-        path: other,
-        text: two.as_str(),
-    };
-    host.compare(one, two, output, errors)
-}
-
-/// The text of a file; why there is none is told on `errors`.
-fn text_at<S: Site, E: Tells>(
-    alloc: Global,
-    site: &mut S,
-    path: &str,
-    errors: &mut E,
-) -> Option<String> {
-    match site.text(path) {
-        Ok(text) => Some(text),
-        Err(fault) => {
-            tell_of(alloc, &fault, path, errors);
-            None
-        }
-    }
-}
-
-/// What these words ask to be looked at.
-fn request_of(words: &CheckWords) -> Request<'_> {
-    Request {
-        id: words.id,
-        strict: words.strict,
-        inside: text_of(&words.inside),
-        outside: text_of(&words.outside),
-        link: text_of(&words.link),
-    }
-}
-
-/// Writes a running gateway's report, or waits until it is synced.
-pub(crate) fn state_of<S: Site, O: Output, E: Tells>(
-    alloc: Global,
-    site: &mut S,
+/// Writes the report of a box; or waits until it is synced.
+pub(crate) fn status<R: Files + Net + Clock + AllocGlobal, O: Write>(
+    rt: &R,
     words: &StatusWords,
     output: &mut O,
-    errors: &mut E,
-) -> u8 {
-    let settings = words.settings.as_str();
+) -> Result<(), Fault> {
+    let path = control_path(rt, words.settings.as_str(), words.id)?;
     if words.until_synced {
-        let seconds = seconds_of(words.seconds);
-        await_synced(alloc, site, settings, words.id, seconds, errors)
+        return await_synced(rt, &path, words.seconds.unwrap_or(SECONDS));
+    }
+    let report = ask_report(rt, &path)?;
+    match words.form {
+        Form::Plain => write!(output, "{}", PlainText(&report))?,
+        Form::Json => write!(output, "{}", JsonText(&report))?,
+        Form::Prometheus => write!(output, "{}", MetricsText(&report))?,
+    }
+    output.flush()?;
+    Ok(())
+}
+
+/// Asks a box until it is synced. After so many seconds, or where the clock can't be read, it is asked once more.
+///
+/// # Errors
+///
+/// The last fault, `NotSynced` where it isn't.
+fn await_synced<R: Net + Clock + AllocGlobal>(
+    rt: &R,
+    path: &ControlPath,
+    seconds: u32,
+) -> Result<(), Fault> {
+    let start = Instant::now(rt).ok();
+    let limit = Duration::from_secs(u64::from(seconds));
+    for _ in 0..u64::MAX {
+        let passed = start.and_then(|start| start.elapsed(rt).ok());
+        let is_last = passed.is_none_or(|passed| limit <= passed);
+        match check_synced(rt, path) {
+            Ok(()) => return Ok(()),
+            Err(fault) if is_last => return Err(fault),
+            Err(_) => thread::sleep(rt, Duration::from_millis(REST)),
+        }
+    }
+    check_synced(rt, path)
+}
+
+fn check_synced<R: Net + AllocGlobal>(rt: &R, path: &ControlPath) -> Result<(), Fault> {
+    if ask_report(rt, path)?.gateway.synced {
+        Ok(())
     } else {
-        let form = form_of(words.form);
-        status(alloc, site, settings, words.id, form, output, errors)
+        Err(Fault::NotSynced)
     }
 }
 
-/// How long a gateway is waited for.
-fn seconds_of(seconds: Option<u32>) -> u32 {
-    seconds.unwrap_or(PATIENCE)
-}
-
-/// The form of a report.
-fn form_of(form: command_line::Form) -> box_words::Form {
-    match form {
-        command_line::Form::Plain => box_words::Form::Plain,
-        command_line::Form::Json => box_words::Form::Json,
-        command_line::Form::Prometheus => box_words::Form::Prometheus,
+fn ask_report<R: Net + AllocGlobal>(rt: &R, path: &ControlPath) -> Result<Report, Fault> {
+    match ask(rt, path, Word::Status, &mut [0; LONGEST])? {
+        Reply::Report(bytes) => Ok(Report::read(bytes)?),
+        _ => Err(Fault::no_control(rt.alloc(), path)),
     }
 }
 
-/// Lists pairs of a running gateway.
-pub(crate) fn pairs_of<S: Site, O: Output, E: Tells>(
-    alloc: Global,
-    site: &mut S,
+/// Lists the pairs of a box that pass a filter, page after page, in the order of its table.
+pub(crate) fn pairs<R: Files + Net + AllocGlobal, O: Write>(
+    rt: &R,
     words: &PairsWords,
     output: &mut O,
-    errors: &mut E,
-) -> u8 {
-    let (settings, filter) = (words.settings.as_str(), filter_of(words));
-    pairs(alloc, site, settings, words.id, &filter, output, errors)
-}
-
-/// Which pairs these words ask for.
-fn filter_of(words: &PairsWords) -> Filter {
-    Filter {
+) -> Result<(), Fault> {
+    let path = control_path(rt, words.settings.as_str(), words.id)?;
+    let filter = PairFilter {
         protocol: words.protocol,
         address: words.address,
         port: words.port,
         state: words.state,
+    };
+    let mut next = None;
+    for _ in 0..u64::MAX {
+        let page = ask_page(rt, &path, next)?;
+        write!(output, "{}", PairLines(&page, &filter))?;
+        next = page.next();
+        if next.is_none() {
+            break;
+        }
+    }
+    output.flush()?;
+    Ok(())
+}
+
+/// The page of pairs behind a key, or the first one.
+fn ask_page<R: Net + AllocGlobal>(
+    rt: &R,
+    path: &ControlPath,
+    after: Option<Key>,
+) -> Result<Page, Fault> {
+    match ask(rt, path, Word::Pairs(after), &mut [0; LONGEST])? {
+        Reply::Page(bytes) => Ok(Page::read(bytes)?),
+        _ => Err(Fault::no_control(rt.alloc(), path)),
     }
 }

@@ -1,18 +1,11 @@
 //! What `natpair` does for the words of its command line.
 #![tactic(auto)]
 
+mod acting;
 mod asking;
-mod capture_files;
-mod commands;
-mod hands;
-mod hosts;
-mod letting_go;
-mod machine;
+mod files;
 mod meters;
-mod opening;
-mod runs;
-mod serving;
 mod versions;
+mod words;
 
-pub use hands::Hands;
-pub use machine::act;
+pub use acting::act;

@@ -15,7 +15,9 @@ use std::time::Duration;
 use thiserror::Error;
 
 const LINK: Token = Token(0);
+
 const INSIDE: Token = Token(1);
+
 const OUTSIDE: Token = Token(2);
 /// The token of the control socket and of its clients.
 pub const CONTROL: Token = Token(3);

@@ -1,6 +1,6 @@
 use Rattle.clap.specs.Words.{found_of, rows_of}
 use Rattle.command_line.specs.declared.faults.ValueFault.TheVariants.{FoundNeedsIdZero, NoFilter, NoSide, NoStatus}
-use Rattle.command_line.proofs.Judged.{none_else, refused_as, refuses_as, task_as}
+use Rattle.command_line.proofs.Judged.{none_else, refuses_as, task_as}
 use Rattle.command_line.proofs.tasks.named.Goals as goal
 
 pub returns-in-gate-clause-ok : goal.returns-in-gate-clause-ok
@@ -38,15 +38,3 @@ returns-in-side-clause-sound c = none_else _ (rows_of (found_of c.args.matches.n
 
 pub returns-in-side-clause-err : goal.returns-in-side-clause-err
 returns-in-side-clause-err c = refuses_as _ (rows_of (found_of c.args.matches.now)) NoSide _ c.in-side.is c.side.ensures.err
-
-pub returns-in-gate-clause-wrong : goal.returns-in-gate-clause-wrong
-returns-in-gate-clause-wrong c = refused_as _ (rows_of (found_of c.args.matches.now)) FoundNeedsIdZero _ c.in-gate.is c.gate.ensures.wrong
-
-pub returns-in-status-clause-wrong : goal.returns-in-status-clause-wrong
-returns-in-status-clause-wrong c = refused_as _ (rows_of (found_of c.args.matches.now)) NoStatus _ c.in-status.is c.status.ensures.wrong
-
-pub returns-in-pairs-clause-wrong : goal.returns-in-pairs-clause-wrong
-returns-in-pairs-clause-wrong c = refused_as _ (rows_of (found_of c.args.matches.now)) NoFilter _ c.in-pairs.is c.pairs.ensures.wrong
-
-pub returns-in-side-clause-wrong : goal.returns-in-side-clause-wrong
-returns-in-side-clause-wrong c = refused_as _ (rows_of (found_of c.args.matches.now)) NoSide _ c.in-side.is c.side.ensures.wrong

@@ -23,25 +23,27 @@ is_free = refl
 is_plain : is_simple line_app ≡ true
 is_plain = refl
 
+-- what comes of words by a command that takes them as the line does
+by_line : (line : Command) (words : List Text) (r : Result ArgMatches Error) → TakesSo line line_app
+    → (is_simple_and_free (app_of line) ≡ true → FailsBy (fault_of (app_of line) words) r) → FailsBy (faults_of words) r
+by_line line words r takes kinds = subst (λ (a : App). FailsBy (fault_of a words) r) takes.0 (kinds (ap is_simple_and_free takes.0 ∙ is_free))
+
+matches_by_line : (line : Command) (words : List Text) (r : Result ArgMatches Error) → TakesSo line line_app
+    → IfOk r (HasMatchesOf (app_of line) words) → IfOk r (HasMatchesOf line_app words)
+matches_by_line line words r takes has = subst (λ (a : App). IfOk r (HasMatchesOf a words)) takes.0 has
+
 pub returns-in-Ok-clause-taken : goal.returns-in-Ok-clause-taken
-returns-in-Ok-clause-taken g c = c.in-Ok.ensures.kinds line_app line_help c.in_ok-line.ensures.told is_free
+returns-in-Ok-clause-taken c =
+    by_line c.in_ok-line.line (map string_bytes c.args.words.now) c.try_get_matches_from.result c.in_ok-line.ensures c.try_get_matches_from.ensures.kinds
 
 pub returns-in-Ok-clause-values : goal.returns-in-Ok-clause-values
-returns-in-Ok-clause-values g c = (c.in-Ok.ensures.matches line_app line_help c.in_ok-line.ensures.told is_plain).1
+returns-in-Ok-clause-values c = (c.in-Ok.ensures.matches is_plain).1
 
 pub returns-in-Ok-clause-numbers : goal.returns-in-Ok-clause-numbers
-returns-in-Ok-clause-numbers g c =
-    let words = map string_bytes c.args.words.now in
-    let taken = c.in-Ok.ensures.kinds line_app line_help c.in_ok-line.ensures.told is_free in
-    let values = (c.in-Ok.ensures.matches line_app line_help c.in_ok-line.ensures.told is_plain).1 in
-    subst (λ (o : Option (Text × List Row)). Numbered o) (sym values) (numbered words taken)
+returns-in-Ok-clause-numbers c = subst (λ (o : Option (Text × List Row)). Numbered o) (sym values) (numbered (map string_bytes c.args.words.now) taken)
 
 pub returns-in-Ok-clause-one : goal.returns-in-Ok-clause-one
-returns-in-Ok-clause-one g c =
-    let words = map string_bytes c.args.words.now in
-    let taken = c.in-Ok.ensures.kinds line_app line_help c.in_ok-line.ensures.told is_free in
-    let values = (c.in-Ok.ensures.matches line_app line_help c.in_ok-line.ensures.told is_plain).1 in
-    subst (λ (o : Option (Text × List Row)). Enters o) (sym values) (enters words taken)
+returns-in-Ok-clause-one c = subst (λ (o : Option (Text × List Row)). Enters o) (sym values) (enters (map string_bytes c.args.words.now) taken)
 
 -- an error of another kind than memory is among the kinds
 among : (kinds : Kinds) (e : Error) → HasKind kinds e → (kind_of e ≡ kind.OutOfMemory → ⊥) → IsAmong (kind_of e) kinds
@@ -73,15 +75,3 @@ pub returns-in-Err-clause-err : goal.returns-in-Err-clause-err
 returns-in-Err-clause-err g c =
     refuses (map string_bytes c.args.words.now) c.in-Err.error c.from.result c.from.ensures
     (c.in-Err.ensures.kinds line_app line_help c.in_ok-line.ensures.told is_free)
-
--- the fault of an error that such a command made of the words
-of_reading : {B : Type 0} (tells : Outlines B) (reads : Reads B) (lacks : Lacks B) (words : List Text) (e : Error) (f : LineFault) → IsOfClap e f
-    → IsRead tells reads words (Err e) → IsOfReading tells reads lacks words f
-of_reading tells reads lacks words e (Refused told) h read = subst (λ (x : Error). IsRead tells reads words (Err x)) (sym h.0) read
-of_reading tells reads lacks words e (Values why) h read = absurd h
-of_reading tells reads lacks words e NoMemory h read = inr (record { error = e; made = read; is_memory = h })
-
-pub returns-in-Err-clause-line : goal.returns-in-Err-clause-line
-returns-in-Err-clause-line g c =
-    of_reading g.B.Builder.tells g.B.Builder.reads g.B.Builder.lacks (map string_bytes c.args.words.now) c.in-Err.error c.from.result c.from.ensures
-    (c.in_ok-line.line, c.in_ok-line.ensures.told, c.in-Err.ensures.read)

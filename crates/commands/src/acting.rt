@@ -1,0 +1,102 @@
+//! The commands.
+
+use crate::asking::{pairs, status};
+use crate::files::{check, create_boot_file, run_loop, run_sim};
+use crate::versions::write_version;
+use crate::words::{peer_off, side, stop};
+use command_line::{GateWords, Task, WayWords, command};
+use faults::{Fault, report};
+use gate::{Start, WayTexts};
+use journal::Format;
+use std::fs::{File, Files};
+use std::io::Write;
+use std::net::Net;
+use std::random::RandomSource;
+use std::rt::{Clock, Env};
+
+/// Does what the program's words ask for, its name first, and gives the status that it ends with. Where `errors` is a terminal,
+/// a long script of `sim` says there every few seconds how far it is.
+///
+/// | Status | |
+/// |---|---|
+/// | 0 | done |
+/// | 1 | a fault, whose line stands on `errors` as `natpair: AREA NUMBER NAME` |
+/// | 2 | the words are refused: why stands on `errors` |
+/// | 3 | an event of the script was refused |
+pub fn act<
+    R: Files<File = File> + Net + Clock + RandomSource + Eprint + Env + Input + AllocGlobal,
+    O: Write,
+    E: Write,
+>(
+    rt: &R,
+    words: &[String],
+    output: &mut O,
+    errors: &mut E,
+    is_terminal: bool,
+) -> u8 {
+    let task = match command(rt.alloc(), words) {
+        Ok(task) => task,
+        Err(fault) => return fault.report(rt.alloc(), errors),
+    };
+    match carry_out(rt, &task, output, errors, is_terminal) {
+        Ok(status) => status,
+        Err(fault) => report(rt.alloc(), &fault, errors),
+    }
+}
+
+fn carry_out<
+    R: Files<File = File> + Net + Clock + RandomSource + Eprint + Env + Input + AllocGlobal,
+    O: Write,
+    E: Write,
+>(
+    rt: &R,
+    task: &Task,
+    output: &mut O,
+    errors: &mut E,
+    is_terminal: bool,
+) -> Result<u8, Fault> {
+    match task {
+        Task::Init(path) => create_boot_file(rt, path.as_str())?,
+        Task::Check(words) => return check(rt, words, output, errors),
+        Task::Gate(words) => gate::run(rt, &start_of(words), output)?,
+        Task::Status(words) => status(rt, words, output)?,
+        Task::Pairs(words) => pairs(rt, words, output)?,
+        Task::Stop(settings, id) => stop(rt, settings.as_str(), *id)?,
+        Task::PeerOff(words) => peer_off(rt, words)?,
+        Task::Side {
+            settings,
+            id,
+            side: which,
+            up,
+        } => side(rt, settings.as_str(), *id, *which, *up)?,
+        Task::Sim(words) => return run_sim(rt, words, output, errors, is_terminal),
+        Task::Loop(words) => return run_loop(rt, words, output),
+        Task::Version => write_version(output)?,
+    }
+    Ok(0)
+}
+
+fn start_of(words: &GateWords) -> Start<'_> {
+    let WayWords {
+        inside,
+        outside,
+        link,
+    } = &words.ways;
+    Start {
+        settings: words.settings.as_str(),
+        id: words.id,
+        rounds: words.rounds,
+        found: words.found,
+        ways: WayTexts {
+            inside: inside.as_str(),
+            outside: outside.as_str(),
+            link: link.as_str(),
+        },
+        track: words.track,
+        until_eof: words.until_eof,
+        log: words.log.as_deref(),
+        format: if words.pairs { Format::Pairs } else { Format::Text },
+        capture: words.capture.as_deref(),
+        notify: words.notify.as_deref(),
+    }
+}

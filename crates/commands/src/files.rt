@@ -1,0 +1,71 @@
+//! What is done with files: boot files are made, settings are checked, and scripts run.
+
+use crate::meters::Meter;
+use boot_file::create;
+use checks::{Request, compare};
+use command_line::{CheckWords, RunWords};
+use faults::{Fault, read_text};
+use simulation::{looped, sim};
+use std::fs::{File, Files};
+use std::io::Write;
+use std::net::Net;
+use std::rt::Clock;
+
+/// Makes the boot file of a box.
+pub(crate) fn create_boot_file<R: Files<File = File> + AllocGlobal>(
+    rt: &R,
+    path: &str,
+) -> Result<(), Fault> {
+    create(rt, path).map_err(|fault| Fault::boot_file(rt.alloc(), path, fault))
+}
+
+/// Checks settings, or compares them with others.
+pub(crate) fn check<R: Files<File = File> + AllocGlobal, O: Write, E: Write>(
+    rt: &R,
+    words: &CheckWords,
+    output: &mut O,
+    errors: &mut E,
+) -> Result<u8, Fault> {
+    let settings = words.settings.as_str();
+    if let Some(other) = &words.other {
+        return compare(rt, settings, other.as_str(), output, errors);
+    }
+    let text = read_text(rt, settings)?;
+    let request = Request {
+        id: words.id,
+        strict: words.strict,
+        inside: words.inside.as_deref(),
+        outside: words.outside.as_deref(),
+        link: words.link.as_deref(),
+    };
+    checks::check(rt, text.as_str(), &request, output)
+}
+
+/// Runs a script, and says on a terminal how far it is.
+pub(crate) fn run_sim<R: Files<File = File> + Clock + AllocGlobal, O: Write, E: Write>(
+    rt: &R,
+    words: &RunWords,
+    output: &mut O,
+    errors: &mut E,
+    is_terminal: bool,
+) -> Result<u8, Fault> {
+    let settings = read_text(rt, words.settings.as_str())?;
+    let script = read_text(rt, words.script.as_str())?;
+    let mut meter = None;
+    if is_terminal {
+        meter = Some(Meter::start(rt, errors));
+    }
+    let capture = words.capture.as_deref();
+    sim::run(rt, settings.as_str(), script.as_str(), capture, &mut meter, output)
+}
+
+/// Runs a script through sockets on the loopback address.
+pub(crate) fn run_loop<R: Files<File = File> + Net + Clock + AllocGlobal, O: Write>(
+    rt: &R,
+    words: &RunWords,
+    output: &mut O,
+) -> Result<u8, Fault> {
+    let settings = read_text(rt, words.settings.as_str())?;
+    let script = read_text(rt, words.script.as_str())?;
+    looped::run(rt, settings.as_str(), script.as_str(), words.capture.as_deref(), output)
+}

@@ -1,0 +1,72 @@
+//! Files, and why they aren't had.
+
+use crate::{Fault, FileRefusal};
+use boot_file::FileFault;
+use boot_store::BootFault;
+use control::ControlPath;
+use std::alloc::Global;
+use std::fs::{self, Files};
+use std::io::{self, ErrorKind};
+
+/// The text of the file at a path.
+///
+/// # Errors
+///
+/// `File` where it can't be read, `NotText`, `NoMemory`.
+pub fn read_text<R: Files + AllocGlobal>(rt: &R, path: &str) -> Result<String, Fault> {
+    match fs::read(rt, path) {
+        Ok(bytes) => String::from_utf8(bytes).map_err(|_| Fault::NotText),
+        Err(error) => Err(match error.kind() {
+            ErrorKind::OutOfMemory => Fault::NoMemory,
+            cause => Fault::file(rt.alloc(), FileRefusal::NoFile, path, Some(cause)),
+        }),
+    }
+}
+
+impl Fault {
+    /// Of the file at a path; `NoMemory` where the path can't be kept.
+    pub fn file(
+        alloc: Global,
+        refusal: FileRefusal,
+        path: &str,
+        cause: Option<ErrorKind>,
+    ) -> Fault {
+        match String::from_str(alloc, path) {
+            Ok(path) => Fault::File {
+                refusal,
+                path,
+                cause,
+            },
+            Err(_) => Fault::NoMemory,
+        }
+    }
+
+    /// Of a capture that can't be begun or written in the file at a path.
+    pub fn capture(alloc: Global, path: &str, error: &io::Error) -> Fault {
+        match error.kind() {
+            ErrorKind::OutOfMemory => Fault::NoMemory,
+            ErrorKind::AlreadyExists => Fault::file(alloc, FileRefusal::Exists, path, None),
+            cause => Fault::file(alloc, FileRefusal::NotWritten, path, Some(cause)),
+        }
+    }
+
+    /// Of the boot file at a path.
+    pub fn boot_file(alloc: Global, path: &str, fault: FileFault) -> Fault {
+        match fault {
+            FileFault::NoFile(cause) => Fault::file(alloc, FileRefusal::NoFile, path, Some(cause)),
+            FileFault::Exists => Fault::file(alloc, FileRefusal::Exists, path, None),
+            FileFault::NotWritten => Fault::file(alloc, FileRefusal::NotWritten, path, None),
+            FileFault::InUse => Fault::InUse,
+            FileFault::NotLocked => Fault::Boot(BootFault::Device),
+            FileFault::NoMemory => Fault::NoMemory,
+        }
+    }
+
+    /// No box answers at a control socket, or it can't be had.
+    pub fn no_control(alloc: Global, path: &ControlPath) -> Fault {
+        match String::from_str(alloc, path.socket.as_str()) {
+            Ok(socket) => Fault::NoControl(socket),
+            Err(_) => Fault::NoMemory,
+        }
+    }
+}
