@@ -1,4 +1,4 @@
-// A boot file and its folder as the disk of boot_store.
+//! A boot file and its folder, as a disk of `boot_store`.
 ghost use Rattle.std.specs.Prelude.{◌≡◌, ◌+◌, ◌≤◌, ◌↔◌, ◌++◌, ◌∷◌, [], None, Ok, take, IfErr, IfOk, IfSome, OnErr, OnOk};
 ghost use Rattle.boot_store.specs.Moment.{StillKept, bytes_of, synced};
 
@@ -9,8 +9,8 @@ use std::io;
 /// The length of a boot file, in bytes.
 const LENGTH: usize = 32;
 
-/// A boot file that is open, with its folder. It is an honest disk where the file is honest blocks; a
-/// call of the system that fails is counted.
+/// An open boot file with its folder. It is an honest disk where the file is honest blocks. A call of the system that
+/// fails is counted.
 #[derive(Drop)]
 pub struct FileDisk<F> {
     file: F,
@@ -19,12 +19,8 @@ pub struct FileDisk<F> {
 }
 
 impl<F: Drop> FileDisk<F> {
-    /// The file, and the folder that has its name.
-    pub fn new(file: F, folder: F) -> Self
-        ensures file { result.file ≡ file }
-        ensures folder { result.folder ≡ folder }
-        ensures none_failed { result.failures ≡ 0 }
-    {
+    /// A file, and the folder that has its name.
+    pub fn new(file: F, folder: F) -> Self {
         FileDisk {
             file,
             folder,
@@ -32,10 +28,7 @@ impl<F: Drop> FileDisk<F> {
         }
     }
 
-    /// The file.
-    pub fn into_file(self) -> F
-        ensures { result ≡ self.file }
-    {
+    pub fn into_file(self) -> F {
         let FileDisk {
             file,
             folder: _,
@@ -46,10 +39,9 @@ impl<F: Drop> FileDisk<F> {
 }
 
 impl<F: Blocks + Drop> FileDisk<F> {
-    /// A call of the system failed.
+    /// Counts a call of the system that failed.
     fn failed(&mut self) -> DeviceFault
         ensures file { self.new.file ≡ self.old.file }
-        ensures folder { self.new.folder ≡ self.old.folder }
         ensures failures { self.new.failures ≡ self.old.failures + 1 }
     {
         self.failures.count();
@@ -115,7 +107,7 @@ fn sync_both<F: Blocks>(file: &mut F, folder: &F) -> io::Result<()>
     Ok(())
 }
 
-/// Fills the buffer as peer as the file goes, and says how peer; nothing where a read fails.
+/// Fills the buffer as far as the file goes, and says how far; nothing where a read fails.
 fn fill<F: Blocks>(file: &mut F, buffer: &mut [u8; 32]) -> Option<usize>
     ensures count { IfSome result (λ n. n ≤ 32) }
     ensures filled { F.honest file.old

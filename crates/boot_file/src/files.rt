@@ -1,4 +1,4 @@
-//! Where a boot file lies.
+//! Boot files by their paths.
 
 use crate::{FileDisk, FileFault};
 use boot_store::{Disk, init, zero_file};
@@ -28,11 +28,12 @@ fn not_opened(error: io::Error) -> FileFault {
     FileFault::NoFile(error.kind())
 }
 
-/// Opens a boot file, and locks it until what is answered is dropped. Nothing of it is read or written before it is locked.
+/// Opens a boot file, and locks it until the answer is dropped. Nothing of it is read or written before it is locked.
 ///
 /// # Errors
 ///
-/// `NoFile`; `InUse` where another process has it locked; `NotLocked` where the system refuses the lock.
+/// `NoFile`; `InUse` where another process, or another opening in this one, has it locked; `NotLocked` where the system
+/// refuses the lock.
 pub fn open<R: Files<File = File>>(rt: &R, path: &str) -> Result<FileDisk<File>, FileFault> {
     let folder = open_folder(rt, path)?;
     let mut options = OpenOptions::new();
@@ -45,15 +46,15 @@ pub fn open<R: Files<File = File>>(rt: &R, path: &str) -> Result<FileDisk<File>,
     }
 }
 
-/// Makes a boot file of number 0, on which a gateway can be founded, whole or not at all: it is written, synced and read back
-/// under another name (its own with `.new` behind it), then given its own, and its folder is synced. What is there is left as
-/// it is. The file and its name outlast a crash from the answer on; where power is cut before, there is no file of that name,
-/// or the whole one.
+/// Makes a boot file of number 0, on which a gateway can be founded, whole or not at all: it is written, synced and read
+/// back under another name (its own with `.new` behind it), then linked to its own, and its folder is synced. What is
+/// there is left as it is. The file and its name outlast a crash from the answer on; where power is cut before, there is
+/// no file of that name, or the whole one.
 ///
 /// # Errors
 ///
-/// `NoFile` where the folder can't be opened or no file can be made there, `Exists`, `NotWritten`, also where other bytes are
-/// read back, `NoMemory`. After each of them nothing of that name was made.
+/// `NoFile` where the folder can't be opened or no file can be made there; `Exists`; `NotWritten`, also where other bytes
+/// are read back; `NoMemory`. After each of them nothing of that name was made.
 pub fn create<R: Files<File = File> + AllocGlobal>(rt: &R, path: &str) -> Result<(), FileFault> {
     let folder = open_folder(rt, path)?;
     if rt.symlink_metadata(path).is_ok() {
@@ -67,6 +68,7 @@ pub fn create<R: Files<File = File> + AllocGlobal>(rt: &R, path: &str) -> Result
     made
 }
 
+/// Makes the file under its other name, and links it to its own.
 fn make<R: Files<File = File>>(
     rt: &R,
     folder: File,
@@ -93,7 +95,7 @@ fn make<R: Files<File = File>>(
     Ok(())
 }
 
-/// Writes the file of number 0, and reads it back.
+/// Writes the bytes of number 0, and reads them back.
 fn write_zero<D: Disk>(disk: &mut D) -> Result<(), FileFault> {
     let Ok(()) = init(disk) else {
         return Err(FileFault::NotWritten);

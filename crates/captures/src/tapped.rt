@@ -1,57 +1,38 @@
 //! A wire whose packets are captured.
 
-use crate::{Direction, Interface, LiveCapture, Outlet, Packet};
+use crate::{Direction, Interface, LiveCapture, NonBlockingWriter, Packet};
 use nat_types::GatewayId;
 use platform::Clock;
 use sockets::{LONGEST, Losses, Place, Wire, WireFault};
 use std::time::Duration;
 
-/// A wire whose frames and datagrams are captured, each once it came or was sent.
+/// A gateway's wire whose frames and datagrams are captured, each once it came or was sent. An operator's words are no
+/// packets. The capture changes nothing of what passes the wire.
 #[derive(Drop)]
 pub struct Tapped<W, C, O> {
     wire: W,
-    id: GatewayId,
-    clock: C,
-    capture: LiveCapture<O>,
+    recorder: Recorder<C, O>,
 }
 
-impl<W: Wire, C: Clock, O: Outlet> Tapped<W, C, O> {
+impl<W: Wire, C: Clock, O: NonBlockingWriter> Tapped<W, C, O> {
+    /// The clock says when a packet is seen.
     pub fn new(wire: W, id: GatewayId, clock: C, capture: LiveCapture<O>) -> Tapped<W, C, O> {
-        Tapped {
-            wire,
-            id,
-            clock,
-            capture,
-        }
+        let recorder = Recorder { id, clock, capture };
+        Tapped { wire, recorder }
     }
 
-    /// Writes what is owed of the last packet.
-    pub fn end(&mut self) {
-        let _is_whole = self.capture.settle();
+    /// Writes what is missing of the last packet, if that doesn't wait.
+    pub fn flush(&mut self) {
+        let _is_whole = self.recorder.capture.flush();
     }
 
-    /// How many packets were left out.
+    /// How many packets were left out of the capture.
     pub fn left_out(&self) -> u64 {
-        self.capture.left_out()
-    }
-
-    fn capture(&mut self, place: Place, direction: Direction, bytes: &[u8]) {
-        let interface = match place {
-            Place::Link => Interface::Link(self.id),
-            Place::Side(side) => Interface::Side(self.id, side),
-            Place::Operator => return,
-        };
-        let moment = self.clock.moment();
-        self.capture.write(&Packet {
-            interface,
-            direction,
-            moment,
-            bytes,
-        });
+        self.recorder.capture.left_out()
     }
 }
 
-impl<W: Wire, C: Clock, O: Outlet> Wire for Tapped<W, C, O> {
+impl<W: Wire, C: Clock, O: NonBlockingWriter> Wire for Tapped<W, C, O> {
     ghost passes = { λ before message after. W.passes before.wire message after.wire };
 
     fn receive(
@@ -59,16 +40,17 @@ impl<W: Wire, C: Clock, O: Outlet> Wire for Tapped<W, C, O> {
         limit: Duration,
         buffer: &mut [u8; LONGEST],
     ) -> Result<Option<(Place, usize)>, WireFault> {
-        let found = self.wire.receive(limit, buffer)?;
-        if let Some((place, count)) = found {
-            self.capture(place, Direction::Inbound, &buffer[..count]);
+        let received = self.wire.receive(limit, buffer)?;
+        if let Some((place, count)) = received {
+            self.recorder
+                .record(place, Direction::Inbound, &buffer[..count]);
         }
-        Ok(found)
+        Ok(received)
     }
 
     fn send(&mut self, to: Place, bytes: &[u8]) -> Result<(), WireFault> {
         self.wire.send(to, bytes)?;
-        self.capture(to, Direction::Outbound, bytes);
+        self.recorder.record(to, Direction::Outbound, bytes);
         Ok(())
     }
 
@@ -82,5 +64,30 @@ impl<W: Wire, C: Clock, O: Outlet> Wire for Tapped<W, C, O> {
 
     fn losses(&self, place: Place) -> Losses {
         self.wire.losses(place)
+    }
+}
+
+/// Writes a gateway's packets to a capture.
+#[derive(Drop)]
+struct Recorder<C, O> {
+    id: GatewayId,
+    clock: C,
+    capture: LiveCapture<O>,
+}
+
+impl<C: Clock, O: NonBlockingWriter> Recorder<C, O> {
+    fn record(&mut self, place: Place, direction: Direction, bytes: &[u8]) {
+        let interface = match place {
+            Place::Link => Interface::Link(self.id),
+            Place::Side(side) => Interface::Side(self.id, side),
+            Place::Operator => return,
+        };
+        let timestamp = self.clock.now();
+        let _is_written = self.capture.write(&Packet {
+            interface,
+            direction,
+            timestamp,
+            bytes,
+        });
     }
 }

@@ -1,21 +1,21 @@
 //! The two boxes, whose links lead to each other.
 
+use crate::any_gateway::AnyGateway;
 use crate::failures;
-use crate::gates::Gate;
-use crate::stations::Station;
+use crate::test_box::TestBox;
 use cases_words::{Actor, Case};
 use nat_types::GatewayId;
 use settings::Settings;
 use std::mem;
 
-/// The boxes that are there, and the settings of both. They are let go by `end` alone.
+/// The boxes that are there, and the settings of both. They go by `end` alone.
 pub(crate) struct Boxes<G> {
     settings: Settings,
-    zero: Option<Station<G>>,
-    one: Option<Station<G>>,
+    zero: Option<TestBox<G>>,
+    one: Option<TestBox<G>>,
 }
 
-impl<G: Gate> Boxes<G> {
+impl<G: AnyGateway> Boxes<G> {
     pub(crate) fn new(settings: Settings) -> Boxes<G> {
         Boxes {
             settings,
@@ -24,7 +24,7 @@ impl<G: Gate> Boxes<G> {
         }
     }
 
-    /// Lets both go.
+    /// Ends both, and gives their memory back.
     pub(crate) fn end(self) {
         let Boxes {
             settings,
@@ -36,7 +36,7 @@ impl<G: Gate> Boxes<G> {
         end_if_there(one);
     }
 
-    fn at(&mut self, id: GatewayId) -> &mut Option<Station<G>> {
+    fn at(&mut self, id: GatewayId) -> &mut Option<TestBox<G>> {
         match id {
             GatewayId::Zero => &mut self.zero,
             GatewayId::One => &mut self.one,
@@ -49,34 +49,34 @@ impl<G: Gate> Boxes<G> {
     /// - `off`: it isn't there any more
     /// - `rounds N M`, `rounds N M untracked`: it runs N rounds, at each of which M centiseconds more have passed; it
     ///   tracks the carriers of its interfaces, or doesn't
-    /// - `serves N M`, `serves - M`, with `told K` behind: it has N such rounds, or any number of them, until it is told,
-    ///   as it is after K; then it ends
-    /// - all else prepares the next rounds (`Station::prepare`)
+    /// - `serves N M`, `serves - M`, with `told K` behind: it has N such rounds, or any number of them, until it is
+    ///   told, as it is after K; then it ends
+    /// - all else prepares the next rounds (`TestBox::prepare`)
     fn happen(&mut self, id: GatewayId, case: &mut Case) {
         match case.word() {
             "box" => self.start(id, case),
             "off" => self.put(id, None),
             "rounds" | "serves" => self.run(id, case),
             _ => match self.at(id).as_mut() {
-                Some(station) => station.prepare(case),
+                Some(found) => found.prepare(case),
                 None => case.fault(),
             },
         }
     }
 
     /// What is there takes the place of what was there.
-    fn put(&mut self, id: GatewayId, station: Option<Station<G>>) {
-        end_if_there(mem::replace(self.at(id), station));
+    fn put(&mut self, id: GatewayId, new: Option<TestBox<G>>) {
+        end_if_there(mem::replace(self.at(id), new));
     }
 
     fn start(&mut self, id: GatewayId, case: &mut Case) {
         let boot = case.number();
         let found = case.left() == 1;
-        let station = Station::new(case.alloc, &self.settings, id, boot, found);
-        if station.is_none() {
+        let new = TestBox::new(case.alloc, &self.settings, id, boot, found);
+        if new.is_none() {
             case.fault();
         }
-        self.put(id, station);
+        self.put(id, new);
     }
 
     /// A box runs as the line says; what it sends on the link comes to the other, if that is there.
@@ -89,7 +89,7 @@ impl<G: Gate> Boxes<G> {
     }
 }
 
-impl<G: Gate> Actor for Boxes<G> {
+impl<G: AnyGateway> Actor for Boxes<G> {
     /// Does what a line says.
     ///
     /// - `I ..`: what happens to box I (`happen`)
@@ -107,7 +107,11 @@ impl<G: Gate> Actor for Boxes<G> {
 }
 
 /// A box runs; what it sends on the link comes to the other, if that is there.
-fn run<G: Gate>(own: &mut Option<Station<G>>, other: &mut Option<Station<G>>, case: &mut Case) {
+fn run<G: AnyGateway>(
+    own: &mut Option<TestBox<G>>,
+    other: &mut Option<TestBox<G>>,
+    case: &mut Case,
+) {
     let Some(own) = own.as_mut() else {
         return case.fault();
     };
@@ -117,9 +121,9 @@ fn run<G: Gate>(own: &mut Option<Station<G>>, other: &mut Option<Station<G>>, ca
     }
 }
 
-/// Lets a box go, if it is there.
-fn end_if_there<G: Gate>(station: Option<Station<G>>) {
-    if let Some(station) = station {
-        station.end();
+/// Ends a box, if it is there.
+fn end_if_there<G: AnyGateway>(ended: Option<TestBox<G>>) {
+    if let Some(ended) = ended {
+        ended.end();
     }
 }

@@ -1,7 +1,7 @@
 //! A frame cut at every length, and with every byte changed to every other value: how many of these are
 //! sent on, and how many steps note something.
 
-use crate::gates::Gate;
+use crate::any_gateway::AnyGateway;
 use cases_words::Case;
 use gateway::{Event, Out, Outcome};
 use nat_types::Side;
@@ -10,7 +10,7 @@ use nat_types::Side;
 #[derive(Drop)]
 pub(crate) struct Trial {
     side: Side,
-    /// The moment of the next frame in centiseconds, where each comes in a second of its own. Otherwise the clock stands.
+    /// The moment of the next frame in centiseconds, where each comes in a second of its own. Else the clock stands.
     next: Option<u64>,
     all: u32,
     sent: u32,
@@ -37,7 +37,7 @@ impl Trial {
     }
 
     /// The clock goes on, and a frame comes.
-    pub(crate) fn hand_in<G: Gate>(
+    pub(crate) fn try_frame<G: AnyGateway>(
         &mut self,
         gateway: &mut G,
         frame: &[u8],
@@ -59,7 +59,7 @@ impl Trial {
 }
 
 /// The frame with one byte changed, each to each other value; and at which bytes a changed frame is sent.
-pub(crate) fn change<G: Gate>(
+pub(crate) fn change<G: AnyGateway>(
     trial: &mut Trial,
     gateway: &mut G,
     frame: &mut [u8],
@@ -79,7 +79,7 @@ pub(crate) fn change<G: Gate>(
 }
 
 /// The frame with this byte changed to each other value. Afterwards it is as it was.
-fn change_at<G: Gate>(
+fn change_at<G: AnyGateway>(
     trial: &mut Trial,
     gateway: &mut G,
     frame: &mut [u8],
@@ -89,7 +89,7 @@ fn change_at<G: Gate>(
 ) {
     for _ in 1..=255u8 {
         turn(frame, at);
-        trial.hand_in(gateway, frame, out, case);
+        trial.try_frame(gateway, frame, out, case);
     }
     turn(frame, at);
 }

@@ -1,8 +1,9 @@
-//! Rounds of which something fails: a call of the wire, or to write.
+//! Rounds of which something fails: a call of the wire, a line, or what is written at the end.
 
-use crate::gates::Gate;
-use crate::stations::{Orders, Station};
-use cases_words::{Case, unbuffered};
+use crate::any_gateway::{AnyGateway, Orders};
+use crate::lines::Lines;
+use crate::test_box::{Run, TestBox, open};
+use cases_words::Case;
 use nat_types::{GatewayId, Side};
 use settings::Settings;
 use sockets::Place;
@@ -28,52 +29,57 @@ const SHORT: [u8; 1] = [0];
 
 /// Rounds of gateway 0 as it is founded, once both its sides are Active and three frames have come.
 ///
-/// - `errors`: there is no room for their lines
-/// - `output`: what they write there is refused
+/// - `errors`: no line for the operator can be written
+/// - `output`: `end` can't be written
 /// - a number: the call of the wire with that number fails
-pub(crate) fn run<G: Gate>(settings: &Settings, case: &mut Case) {
-    match Station::<G>::new(case.alloc, settings, GatewayId::Zero, 1, true) {
-        Some(mut station) => {
-            make_ready(&mut station, case);
-            fail(&mut station, case);
-            station.end();
+pub(crate) fn run<G: AnyGateway>(settings: &Settings, case: &mut Case) {
+    match TestBox::<G>::new(case.alloc, settings, GatewayId::Zero, 1, true) {
+        Some(mut found) => {
+            make_ready(&mut found, case);
+            fail(&mut found, case);
+            found.end();
         }
         None => case.fault(),
     }
 }
 
-fn fail<G: Gate>(station: &mut Station<G>, case: &mut Case) {
+fn fail<G: AnyGateway>(found: &mut TestBox<G>, case: &mut Case) {
     match case.word() {
-        "errors" => run_untold(station, case),
-        "output" => run_endless(station, case),
+        "errors" => run_without_lines(found, case),
+        "output" => run_without_end(found, case),
         _ => {
             case.back();
-            station.serve_failing(case.number(), ORDERS, case);
+            run_failing(found, case);
         }
     }
 }
 
 /// A first round, after which both sides are Active. Then three frames come.
-fn make_ready<G: Gate>(station: &mut Station<G>, case: &mut Case) {
-    let _lines = station.go_on(1, 360, true);
-    station.bring(Place::Side(Side::Inside), &OUT, case);
-    station.bring(Place::Side(Side::Outside), &BACK, case);
-    station.bring(Place::Side(Side::Inside), &SHORT, case);
+fn make_ready<G: AnyGateway>(found: &mut TestBox<G>, case: &mut Case) {
+    let lines = RefCell::new(Vec::new(case.alloc));
+    found.go_on(1, 360, true, &lines);
+    found.bring(Place::Side(Side::Inside), &OUT, case);
+    found.bring(Place::Side(Side::Outside), &BACK, case);
+    found.bring(Place::Side(Side::Inside), &SHORT, case);
 }
 
-/// Four rounds, 360 centiseconds apart, and the end. A send that fails is a datagram less; where to receive fails, what is
-/// there comes later.
-const ORDERS: Orders = Orders {
+/// Four rounds, 360 centiseconds apart, and the end. A send that fails is a datagram less; where to receive fails, what
+/// is there comes later.
+const RUN: Run = Run {
     rounds: Some(4),
     pace: 360,
-    told: None,
+    track: true,
+    orders: Orders {
+        told: None,
+        stops: true,
+    },
 };
 
 /// A writer that takes nothing.
 #[derive(Drop)]
-struct Shut;
+struct Full;
 
-impl Write for Shut {
+impl Write for Full {
     fn write(&mut self, _bytes: &[u8]) -> io::Result<usize> {
         Err(io::Error::from(ErrorKind::BrokenPipe))
     }
@@ -83,22 +89,36 @@ impl Write for Shut {
     }
 }
 
-/// The rounds, where no line for the operator can be written. It is left out.
-fn run_untold<G: Gate>(station: &mut Station<G>, case: &mut Case) {
+/// The rounds, where a call of the wire fails.
+fn run_failing<G: AnyGateway>(found: &mut TestBox<G>, case: &mut Case) {
     let lines = RefCell::new(Vec::new(case.alloc));
-    let mut written = Vec::new(case.alloc);
-    case.keep(station.serve_into(ORDERS, &lines, true, &mut written));
-    station.wire.count(case);
+    let mut output = Vec::new(case.alloc);
+    let number = case.number();
+    case.keep(found.serve(RUN, number, open(&lines), &mut output));
+    found.wire.count(case);
     case.text(lines.into_inner().as_slice());
-    case.text(written.as_slice());
+    case.text(output.as_slice());
+}
+
+/// The rounds, where no line for the operator can be written. It is left out.
+fn run_without_lines<G: AnyGateway>(found: &mut TestBox<G>, case: &mut Case) {
+    let text = RefCell::new(Vec::new(case.alloc));
+    let mut output = Vec::new(case.alloc);
+    let lines = Lines {
+        text: &text,
+        is_closed: true,
+    };
+    case.keep(found.serve(RUN, 0, lines, &mut output));
+    found.wire.count(case);
+    case.text(text.into_inner().as_slice());
+    case.text(output.as_slice());
 }
 
 /// The rounds, where `end` can't be written. All else is done before.
-fn run_endless<G: Gate>(station: &mut Station<G>, case: &mut Case) {
+fn run_without_end<G: AnyGateway>(found: &mut TestBox<G>, case: &mut Case) {
     let lines = RefCell::new(Vec::new(case.alloc));
-    let mut shut = unbuffered(case.alloc, Shut);
-    let ended = station.serve_into(ORDERS, &lines, false, &mut shut);
-    station.wire.count(case);
+    let ended = found.serve(RUN, 0, open(&lines), &mut Full);
+    found.wire.count(case);
     case.text(lines.into_inner().as_slice());
     if ended.is_err() {
         case.tell("no end");

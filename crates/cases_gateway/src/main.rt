@@ -1,34 +1,35 @@
 //! One gateway at a time. Its report and its pages, and what is written of them; then datagrams that the other gateway
-//! never sent, and frames that were cut or changed. Then two boxes whose wires lie in memory. It does what the lines of its
-//! cases say, and prints what comes of each. At last steps whose memory is refused; with the word `refusals` these alone.
+//! never sent, and frames that were cut or changed. Then two boxes whose wires lie in memory. It does what the lines of
+//! its cases say, and prints what comes of each. At last steps whose memory is refused; with the word `refusals` these
+//! alone.
 #![tactic(auto)]
 
-mod answers;
-mod asking;
+mod any_gateway;
 mod boxes;
-mod broken;
 mod changing;
-mod desks;
+mod datagrams;
 mod failures;
-mod gates;
-mod letters;
-mod memories;
-mod pages;
+mod lines;
+mod managers;
+mod printing;
 mod refusals;
+mod replies;
+mod retries;
+mod setups;
 mod shown;
-mod stations;
-mod supervisors;
-mod takers;
-mod telling;
+mod test_box;
+mod test_gateway;
+mod texts;
 mod values;
 mod watched;
+mod wires;
 mod words;
 
 use anyhow::{Result, bail};
 use boxes::Boxes;
 use cases_words::{Case, play};
-use desks::{Desk, read_settings};
 use gateway::Gateway;
+use setups::{Setup, read_settings};
 use std::{env, io};
 use values::Reports;
 use watched::Watched;
@@ -61,9 +62,9 @@ fn head(file: &str, case: &mut Case) {
 
 fn try_forged(rt: &HostRuntime, file: &str, case: &mut Case) -> Result<()> {
     head(file, case);
-    let mut desk = Desk::<Gateway>::new(*rt);
-    let tried = play(rt, file, &mut desk, case);
-    desk.end();
+    let mut setup = Setup::<Gateway>::new(*rt);
+    let tried = play(rt, file, &mut setup, case);
+    setup.end();
     tried
 }
 

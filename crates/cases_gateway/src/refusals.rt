@@ -1,8 +1,8 @@
 //! Steps whose growth is refused: a gateway takes what the lines of each file say; where memory is
 //! refused, nothing may have changed, and the step has to go when it is asked for again.
 
-use crate::asking::Asker;
-use crate::gates::Gate;
+use crate::any_gateway::AnyGateway;
+use crate::retries::Retrier;
 use anyhow::Result;
 use gateway::{Gateway, Hashers};
 use slots::SystemDraws;
@@ -56,20 +56,24 @@ fn play<O: Write>(
     output: &mut O,
 ) -> Result<()> {
     writeln!(output, "== {name}")?;
-    let mut asker = Asker::<Gateway>::new(alloc, hashers)?;
-    let played = play_lines(&mut asker, text, output);
-    asker.end();
+    let mut retrier = Retrier::<Gateway>::new(alloc, hashers)?;
+    let played = play_lines(&mut retrier, text, output);
+    retrier.end();
     played
 }
 
-/// Does what each line says. A line is empty, begins with `#`, or is one of `Asker::act`.
-fn play_lines<G: Gate, O: Write>(asker: &mut Asker<G>, text: &str, output: &mut O) -> Result<()> {
+/// Does what each line says. A line is empty, begins with `#`, or is one of `Retrier::act`.
+fn play_lines<G: AnyGateway, O: Write>(
+    retrier: &mut Retrier<G>,
+    text: &str,
+    output: &mut O,
+) -> Result<()> {
     for line in text.lines() {
         if line.is_empty() || line.starts_with("#") {
             continue;
         }
         writeln!(output, "{line}")?;
-        asker.act(line, output)?;
+        retrier.act(line, output)?;
     }
     Ok(())
 }

@@ -1,6 +1,6 @@
 //! What shows of a gateway, and of what it told.
 
-use crate::gates::Gate;
+use crate::any_gateway::AnyGateway;
 use addresses::Port;
 use anyhow::Result;
 use gateway::{Gateway, Out};
@@ -8,8 +8,8 @@ use nat_types::{Note, Pair, Side};
 use std::alloc::Global;
 use std::io::{self, Write};
 
-/// Room for what is told, so that copying it asks for memory once.
-const ROOM: usize = 4096;
+/// Capacity for what is told, so that copying it asks for memory once.
+const CAPACITY: usize = 4096;
 
 /// What a gateway knows beside its table.
 #[derive(Clone, Copy, PartialEq, Eq)]
@@ -57,7 +57,7 @@ impl Shown {
 }
 
 /// What shows now, asked for once more where memory is refused.
-pub(crate) fn observe<G: Gate>(alloc: Global, gateway: &G, out: &Out) -> Result<Shown> {
+pub(crate) fn observe<G: AnyGateway>(alloc: Global, gateway: &G, out: &Out) -> Result<Shown> {
     match gateway.shown(alloc, out) {
         Ok(seen) => Ok(seen),
         Err(_refused) => gateway.shown(alloc, out),
@@ -94,7 +94,7 @@ fn standing_of(gateway: &Gateway) -> Standing {
 
 /// The frames, each behind its side and length, and the datagrams, each behind its length.
 fn sent_by(alloc: Global, out: &Out) -> Result<Vec<u8>> {
-    let mut list = Vec::with_capacity(alloc, ROOM)?;
+    let mut list = Vec::with_capacity(alloc, CAPACITY)?;
     copy_frames(&mut list, out)?;
     copy_datagrams(&mut list, out)?;
     Ok(list)

@@ -1,6 +1,6 @@
 //! A report's value, field by field.
 
-use crate::broken::{Kind, tell_bytes, tell_changed, tell_cuts, tell_text};
+use crate::texts::{Kind, tell_bytes, tell_changed, tell_cuts, tell_text};
 use crate::words::{origin, role, what};
 use cases_words::{Actor, Case};
 use nat_types::{GatewayId, Side};
@@ -18,7 +18,7 @@ pub(crate) fn blank() -> Report {
         boot: 1,
         digest: 0,
         gateway: GatewayReport {
-            moment: 0,
+            uptime: 0,
             synced: false,
             away: false,
             peer: PeerReport {
@@ -26,7 +26,7 @@ pub(crate) fn blank() -> Report {
                 heard: None,
                 serves: false,
             },
-            pairs: PairCounts::none(),
+            pairs: PairCounts::new(),
             ports: PortCounts {
                 owned: 0,
                 free_icmp: 0,
@@ -109,8 +109,8 @@ fn look(sides: &mut Sides, case: &mut Case) {
     let (side, role) = (case.side(), role(case));
     let (up, moment) = (case.is_first("up", "down"), case.number());
     match side {
-        Side::Inside => sides.inside.look(role, up, moment),
-        Side::Outside => sides.outside.look(role, up, moment),
+        Side::Inside => sides.inside.update(role, up, moment),
+        Side::Outside => sides.outside.update(role, up, moment),
     }
 }
 
@@ -128,7 +128,7 @@ fn count(counters: &mut Counters, case: &mut Case) {
 fn set_gateway(state: &mut GatewayReport, case: &mut Case) {
     case.back();
     match case.word() {
-        "clock" => state.moment = case.number(),
+        "clock" => state.uptime = case.number(),
         "table" => state.synced = case.is_first("synced", "unsynced"),
         "turn" => state.away = case.is_first("away", "here"),
         "peer" => {

@@ -1,13 +1,12 @@
 //! A gateway whose report and pages are taken.
 
-use crate::gates::Gate;
+use crate::any_gateway::AnyGateway;
 use crate::values::blank;
 use crate::words::state_of;
 use cases_words::{Actor, Case};
 use gateway::{Event, Hashers, Out};
 use nat_types::{GatewayId, Key, Side};
-use report_texts::{Filter, write_pairs, write_people};
-use reports::{GatewayReport, Page, Sides};
+use reports::{GatewayReport, Page, PairFilter, PairLines, PlainText, Sides};
 use settings::Settings;
 use std::alloc::Global;
 
@@ -20,21 +19,18 @@ const FRAME: [u8; 44] = [
 
 /// Gateway 0 of the sample settings, founded in boot 1, and its sides as they were seen. It goes by `end`.
 pub(crate) struct Watched<G> {
-    alloc: Global,
     sides: Sides,
     out: Out,
     gateway: G,
 }
 
 /// The page behind a key, once it was written as bytes and read back.
-fn page_behind<G: Gate>(alloc: Global, gateway: &G, last: Option<Key>) -> Option<Page> {
-    let page = gateway.page_behind(alloc, last)?;
-    let bytes = page.bytes();
-    drop(page);
-    Page::read(alloc, bytes.as_slice()).ok()
+fn page_behind<G: AnyGateway>(gateway: &G, last: Option<Key>) -> Option<Page> {
+    let bytes = gateway.page_behind(last).bytes();
+    Page::read(bytes.as_slice()).ok()
 }
 
-impl<G: Gate> Watched<G> {
+impl<G: AnyGateway> Watched<G> {
     /// None where there is no memory.
     pub(crate) fn new(alloc: Global) -> Option<Watched<G>> {
         let settings = Settings::sample(alloc).ok()?;
@@ -42,7 +38,6 @@ impl<G: Gate> Watched<G> {
         drop(settings);
         let gateway = begun?;
         Some(Watched {
-            alloc,
             sides: gateway.sides(),
             out: Out::new(alloc),
             gateway,
@@ -52,7 +47,6 @@ impl<G: Gate> Watched<G> {
     /// Ends its gateway, and gives its memory back.
     pub(crate) fn end(self) {
         let Watched {
-            alloc: _,
             sides: _,
             out,
             gateway,
@@ -63,7 +57,7 @@ impl<G: Gate> Watched<G> {
 
     fn step(&mut self, event: Event<'_>, case: &mut Case) {
         self.gateway.step(event, &mut self.out, case);
-        self.gateway.look(&mut self.sides);
+        self.gateway.update(&mut self.sides);
     }
 
     fn take(&mut self, case: &mut Case) {
@@ -96,8 +90,7 @@ impl<G: Gate> Watched<G> {
         let mut report = blank();
         report.gateway = state;
         report.sides = self.sides;
-        let written = write_people(&mut case.out, &report);
-        case.keep(written);
+        case.put(PlainText(&report));
     }
 
     /// Reads all pages, each once it was written as bytes.
@@ -105,21 +98,19 @@ impl<G: Gate> Watched<G> {
         let filter = filter_of(case);
         let mut last = None;
         for _ in 0..10 {
-            match page_behind(self.alloc, &self.gateway, last) {
-                Some(page) => {
-                    tell_page(&page, &filter, case);
-                    last = page.last();
-                    if !page.has_more() {
-                        break;
-                    }
-                }
-                None => case.fault(),
+            let Some(page) = page_behind(&self.gateway, last) else {
+                return case.fault();
+            };
+            tell_page(&page, &filter, case);
+            last = page.next();
+            if last.is_none() {
+                break;
             }
         }
     }
 }
 
-impl<G: Gate> Actor for Watched<G> {
+impl<G: AnyGateway> Actor for Watched<G> {
     /// Does what a line says.
     ///
     /// - `tick MOMENT`, `side SIDE up|down`, `datagram HEX`: a step, and the sides are looked at
@@ -149,12 +140,11 @@ fn frame_from(port: u16) -> [u8; 44] {
     frame
 }
 
-fn tell_page(page: &Page, filter: &Filter, case: &mut Case) {
-    case.say("page ", page.entries().len());
-    case.say(" ", page.has_more());
+fn tell_page(page: &Page, filter: &PairFilter, case: &mut Case) {
+    case.say("page ", page.entries.len());
+    case.say(" ", page.more);
     case.end();
-    let written = write_pairs(&mut case.out, page, filter);
-    case.keep(written);
+    case.put(PairLines(page, filter));
 }
 
 /// Whether the next word is `any`; another is read once more.
@@ -167,8 +157,8 @@ fn is_any(case: &mut Case) -> bool {
 }
 
 /// Which entries are wanted: a protocol, an address, a port and a state, each of them or `any`.
-fn filter_of(case: &mut Case) -> Filter {
-    let mut filter = Filter::ALL;
+fn filter_of(case: &mut Case) -> PairFilter {
+    let mut filter = PairFilter::ALL;
     if !is_any(case) {
         filter.protocol = Some(case.protocol());
     }

@@ -3,33 +3,8 @@
 use cases_words::Case;
 use journal::{Cause, Origin};
 use nat_types::EntryState;
-use packet_rules::Reason;
 use reports::Count;
 use vrrp_states::State;
-
-/// The reasons, in the order of their numbers.
-const REASONS: [Reason; 20] = [
-    Reason::ShortFrame,
-    Reason::NotMine,
-    Reason::BadHeader,
-    Reason::BadLength,
-    Reason::BadHeaderSum,
-    Reason::Fragment,
-    Reason::TtlOver,
-    Reason::NotUdpTcp,
-    Reason::BadTransport,
-    Reason::BadArp,
-    Reason::BadAdvert,
-    Reason::NotUp,
-    Reason::NoBinding,
-    Reason::NoPort,
-    Reason::CannotWait,
-    Reason::BadDatagram,
-    Reason::OldWord,
-    Reason::HostLimit,
-    Reason::TooLong,
-    Reason::TooMany,
-];
 
 const ROLES: [(&str, State); 3] = [
     ("Initialize", State::Initialize),
@@ -83,9 +58,9 @@ fn count_named(word: &str) -> Option<Count> {
 }
 
 fn reason_numbered(number: u8) -> Option<Count> {
-    for reason in REASONS {
-        if reason.number() == number {
-            return Some(Count::Lost(Cause::Dropped(reason)));
+    for cause in Cause::ALL {
+        if cause.number() == number && cause != Cause::NoMemory {
+            return Some(Count::Lost(cause));
         }
     }
     None

@@ -1,22 +1,11 @@
-//! Two boxes, the hub at the other end of gateway 0's wires, and one whose ways the cases say.
+//! Two boxes, the hub at the other end of gateway 0's wires, and a box whose ways the cases say.
 
-use crate::callers::Callers;
 use anyhow::{Context, Result};
 use cases_words::Case;
-use control::{Bound, ControlPath};
-use runtimes::Hand;
-use sockets::{Machine, Ports, Sockets, Way, Ways};
+use control::{Control, ControlPath};
+use sockets::{CONTROL, Ports, Sockets, Way, Ways};
 use std::net::UdpSocket;
 use std::os::fd::AsRawFd;
-
-#[derive(Drop)]
-pub(crate) struct Boxes {
-    /// Box zero, box one, the hub, and the box with ways of its own, once it is opened.
-    pub(crate) sockets: Vec<Sockets>,
-    /// What stands for an inherited descriptor: port 27321, connected to 27322.
-    inherited: UdpSocket,
-    pub(crate) callers: Callers,
-}
 
 /// All three places by the loopback address.
 const ON_LOOPBACK: Ways = Ways {
@@ -49,13 +38,21 @@ const PORTS: [Ports; 4] = [
     },
 ];
 
+#[derive(Drop)]
+pub(crate) struct Boxes {
+    /// Box zero, box one, the hub, and the box with ways of its own, once it is opened.
+    pub(crate) sockets: Vec<Sockets>,
+    /// What stands for an inherited descriptor: port 27321, connected to 27322.
+    inherited: UdpSocket,
+}
+
 impl Boxes {
     pub(crate) fn open(rt: &HostRuntime) -> Result<Boxes> {
-        let inherited = inherited(rt)?;
+        let inherited = UdpSocket::bind(rt, "127.0.0.1:27321")?;
+        inherited.connect("127.0.0.1:27322")?;
         Ok(Boxes {
             sockets: all_on_loopback(rt)?,
             inherited,
-            callers: Callers::none(rt),
         })
     }
 
@@ -69,7 +66,7 @@ impl Boxes {
     }
 
     fn add(&mut self, rt: &HostRuntime, ways: &Ways) -> Result<()> {
-        ways.inherit(&mut Machine::new(Hand::new(rt)))?;
+        ways.inherit()?;
         self.sockets.push(opened(rt, 3, "other", ways)?)?;
         Ok(())
     }
@@ -78,27 +75,30 @@ impl Boxes {
 /// The ways that the next three words write, where `descriptor` is this one, if there is one.
 pub(crate) fn ways_in(case: &mut Case, descriptor: Option<u16>) -> Ways {
     Ways {
-        inside: way(case, descriptor),
-        outside: way(case, descriptor),
-        link: way(case, descriptor),
+        inside: way_in(case, descriptor),
+        outside: way_in(case, descriptor),
+        link: way_in(case, descriptor),
     }
 }
 
-fn way(case: &mut Case, descriptor: Option<u16>) -> Way {
-    let read = way_or(case.word(), descriptor);
+fn way_in(case: &mut Case, descriptor: Option<u16>) -> Way {
+    let text = case.word();
+    let read = match descriptor {
+        Some(number) if text == "descriptor" => Some(Way::Descriptor(number)),
+        _ => Way::read(text),
+    };
     case.or(read, Way::Loopback)
 }
 
-fn way_or(text: &str, descriptor: Option<u16>) -> Option<Way> {
-    match descriptor {
-        Some(number) if text == "descriptor" => Some(Way::Descriptor(number)),
-        _ => way_in(text),
+/// Where a box stands in their list.
+pub(crate) fn number_of(name: &str) -> usize {
+    match name {
+        "zero" => 0,
+        "one" => 1,
+        "hub" => 2,
+        "other" => 3,
+        _ => usize::MAX,
     }
-}
-
-/// The way that a text writes. What a caller has to show stays small where this says nothing of it.
-pub(crate) fn way_in(text: &str) -> Option<Way> {
-    Way::read(text)
 }
 
 fn all_on_loopback(rt: &HostRuntime) -> Result<Vec<Sockets>> {
@@ -114,37 +114,19 @@ fn add_on_loopback(rt: &HostRuntime, name: &str, sockets: &mut Vec<Sockets>) -> 
     Ok(())
 }
 
-/// Where a box stands in their list.
-pub(crate) fn number_of(name: &str) -> usize {
-    match name {
-        "zero" => 0,
-        "one" => 1,
-        "hub" => 2,
-        "other" => 3,
-        _ => usize::MAX,
-    }
-}
-
-fn inherited(rt: &HostRuntime) -> Result<UdpSocket> {
-    let socket = UdpSocket::bind(rt, "127.0.0.1:27321")?;
-    socket.connect("127.0.0.1:27322")?;
-    Ok(socket)
-}
-
-/// A box on the loopback address, by a control socket of this name.
+/// A box on the loopback address, with a control socket of this name.
 pub(crate) fn on_loopback(rt: &HostRuntime, number: usize, control: &str) -> Result<Sockets> {
     opened(rt, number, control, &ON_LOOPBACK)
 }
 
 fn opened(rt: &HostRuntime, number: usize, control: &str, ways: &Ways) -> Result<Sockets> {
     let ports = *PORTS.get(number).context("no box of that name")?;
-    let control = controlled(rt, control)?;
-    let mut machine = Machine::new(Hand::new(rt));
-    Ok(Sockets::open(&mut machine, rt.alloc(), ways, ports, control)?)
+    let control = control_at(rt, control)?;
+    Ok(Sockets::open(rt, ways, ports, control)?)
 }
 
-pub(crate) fn controlled(rt: &HostRuntime, name: &str) -> Result<Bound> {
+/// The control socket of a box of this name.
+pub(crate) fn control_at(rt: &HostRuntime, name: &str) -> Result<Control> {
     let path = ControlPath::beside(rt.alloc(), name)?;
-    let mut machine = control::Machine::new(Hand::new(rt));
-    Ok(Bound::open(&mut machine, &path, rt.alloc())?)
+    Ok(Control::open(rt, &path, CONTROL)?)
 }

@@ -2,31 +2,6 @@
 
 use cases_words::Case;
 use journal::{Cause, Entry, Format, Origin, Role};
-use packet_rules::Reason;
-
-/// The reasons, in the order of their numbers.
-const REASONS: [Reason; 20] = [
-    Reason::ShortFrame,
-    Reason::NotMine,
-    Reason::BadHeader,
-    Reason::BadLength,
-    Reason::BadHeaderSum,
-    Reason::Fragment,
-    Reason::TtlOver,
-    Reason::NotUdpTcp,
-    Reason::BadTransport,
-    Reason::BadArp,
-    Reason::BadAdvert,
-    Reason::NotUp,
-    Reason::NoBinding,
-    Reason::NoPort,
-    Reason::CannotWait,
-    Reason::BadDatagram,
-    Reason::OldWord,
-    Reason::HostLimit,
-    Reason::TooLong,
-    Reason::TooMany,
-];
 
 const FORMATS: [(&str, Format); 2] = [("text", Format::Text), ("pairs", Format::Pairs)];
 
@@ -51,7 +26,7 @@ pub(crate) fn origin_in(case: &mut Case) -> Origin {
     case.pick(&ORIGINS, Origin::Own)
 }
 
-/// A reason by its number, or want of memory by `NoMemory`.
+/// A reason by its number, or `NoMemory`.
 pub(crate) fn cause_in(case: &mut Case) -> Cause {
     let read = cause_of(case.word());
     case.or(read, Cause::NoMemory)
@@ -62,9 +37,9 @@ fn cause_of(word: &str) -> Option<Cause> {
         return Some(Cause::NoMemory);
     }
     let number = word.parse::<u8>().ok()?;
-    for reason in REASONS {
-        if reason.number() == number {
-            return Some(Cause::Dropped(reason));
+    for cause in Cause::ALL {
+        if cause.number() == number {
+            return Some(cause);
         }
     }
     None

@@ -1,17 +1,17 @@
 //! Rounds over a wire of which one call fails.
 
 use cases_words::Case;
-use sockets::{Failing, LONGEST, Place, Sockets, Wire};
+use sockets::{LONGEST, Place, Sockets, Wire};
 use std::time::Duration;
 
-/// In each of 20 rounds both boxes send a datagram on the link, and gateway 0 looks for one. Its wire fails at a call:
-/// at an odd number a datagram is lost, at an even one the datagram stays where it is.
+/// In each of 20 rounds both boxes send a datagram on the link, and gateway 0 looks for one. Its wire fails at a call: at an
+/// odd number a datagram is lost, at an even one the datagram stays where it is.
 pub(crate) fn rounds(sockets: &mut [Sockets], case: &mut Case) {
     let number = case.number();
     match sockets {
         [zero, one, ..] => {
-            let came = came(&mut Failing::new(zero, number), one);
-            tell(case, came, emptied(zero), emptied(one));
+            let came = count_received(zero, number, one);
+            tell(case, came, drained(zero), drained(one));
         }
         _ => case.fault(),
     }
@@ -25,24 +25,36 @@ fn tell(case: &mut Case, came: usize, left: usize, sent: usize) {
 }
 
 /// How many datagrams come in the rounds.
-fn came<W: Wire, V: Wire>(wire: &mut W, other: &mut V) -> usize {
-    let mut came = 0_usize;
-    let mut room = [0; LONGEST];
+fn count_received(wire: &mut Sockets, number: u64, other: &mut Sockets) -> usize {
+    let mut received = 0_usize;
+    let mut left = number;
+    let mut buffer = [0; LONGEST];
     for _ in 0..20 {
         let _ = other.send(Place::Link, b"one");
-        let _ = wire.send(Place::Link, b"zero");
-        if let Ok(Some(_)) = wire.receive(Duration::ZERO, &mut room) {
-            came = came.saturating_add(1);
+        if !fails(&mut left) {
+            let _ = wire.send(Place::Link, b"zero");
+        }
+        if !fails(&mut left) {
+            if let Ok(Some(_)) = wire.receive(Duration::ZERO, &mut buffer) {
+                received = received.saturating_add(1);
+            }
         }
     }
-    came
+    received
 }
 
-/// How many datagrams are there, all of which are taken.
-fn emptied<W: Wire>(wire: &mut W) -> usize {
-    let mut room = [0; LONGEST];
+/// Counts a call, and says whether it is the one that fails.
+fn fails(left: &mut u64) -> bool {
+    let fails = *left == 1;
+    *left = left.saturating_sub(1);
+    fails
+}
+
+/// How many datagrams are there, all of which are received.
+fn drained(wire: &mut Sockets) -> usize {
+    let mut buffer = [0; LONGEST];
     for count in 0..100 {
-        let Ok(Some(_)) = wire.receive(Duration::ZERO, &mut room) else {
+        let Ok(Some(_)) = wire.receive(Duration::ZERO, &mut buffer) else {
             return count;
         };
     }

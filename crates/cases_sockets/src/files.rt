@@ -1,22 +1,19 @@
 //! Captures to a file, and to a stream that nobody reads for a while.
 
-use crate::words::bytes_of;
-use captures::{Direction, Interface, Packet};
+use crate::words::bytes_in;
+use captures::{Direction, Interface, LiveCapture, Packet, Reader, open};
 use cases_words::Case;
 use nat_types::{GatewayId, Side};
-use runtimes::Hand;
-use std::alloc::Global;
 use std::fs::{self, Permissions};
 use std::io::{self, ErrorKind, Read};
 use std::os::unix::fs::PermissionsExt;
 use std::os::unix::net::UnixStream;
-use tap::{CaptureFile, Machine, Reel, begin, open};
 
 /// A frame of 60 bytes that came to the outside of gateway 1 two seconds after its start.
 const FRAME: Packet<'static> = Packet {
     interface: Interface::Side(GatewayId::One, Side::Outside),
     direction: Direction::Inbound,
-    moment: 200,
+    timestamp: 200,
     bytes: &[0x5a; 60],
 };
 
@@ -28,7 +25,7 @@ const HEAD: usize = 324;
 /// Writes a file that has these bytes, of mode 640.
 pub(crate) fn write_file(rt: &HostRuntime, case: &mut Case) {
     let path = case.name();
-    let bytes = bytes_of(case);
+    let bytes = bytes_in(case);
     case.keep(written(rt, path.as_str(), bytes.as_slice()));
 }
 
@@ -37,21 +34,21 @@ fn written(rt: &HostRuntime, path: &str, bytes: &[u8]) -> io::Result<()> {
     fs::set_permissions(rt, path, Permissions::from_mode(0o640))
 }
 
-/// Opens the file of a capture and lets it go, and prints what it has then.
+/// Opens the file of a capture and drops it, and prints what it has then.
 pub(crate) fn look_at_file(rt: &HostRuntime, case: &mut Case) {
     let path = case.name();
-    if let Err(error) = open(&mut Machine::new(Hand::new(rt)), path.as_str()) {
+    if let Err(error) = open(rt, path.as_str(), Reader::NotAwaited) {
         case.say("  refused: ", error);
         case.end();
     }
     show_file(rt, path.as_str(), case);
 }
 
-/// Captures the frame to a file, and prints whether it was kept, and the file.
+/// Captures the frame to a file, and prints whether it was written, and the file.
 pub(crate) fn capture_to_file(rt: &HostRuntime, case: &mut Case) {
     let path = case.name();
     match captured(rt, path.as_str()) {
-        Ok(kept) => case.say("  kept ", kept),
+        Ok(is_written) => case.say("  kept ", is_written),
         Err(error) => case.say("  refused: ", error),
     }
     case.end();
@@ -59,9 +56,10 @@ pub(crate) fn capture_to_file(rt: &HostRuntime, case: &mut Case) {
 }
 
 fn captured(rt: &HostRuntime, path: &str) -> io::Result<bool> {
-    let file = open(&mut Machine::new(Hand::new(rt)), path)?;
-    let mut reel = begin(rt.alloc(), file)?;
-    Ok(reel.keep(&FRAME))
+    let mut file = open(rt, path, Reader::NotAwaited)?;
+    file.clear()?;
+    let mut capture = LiveCapture::start(rt.alloc(), file)?;
+    Ok(capture.write(&FRAME))
 }
 
 /// Prints a file's mode and bytes.
@@ -74,64 +72,55 @@ fn show_file(rt: &HostRuntime, path: &str, case: &mut Case) {
     case.end();
 }
 
-/// Captures so many frames to a stream that nobody reads, and prints whether some were left out; then reads all of it,
-/// and prints whether these were the head and whole blocks, those of all that were kept.
+/// Captures so many frames to a stream that nobody reads, and prints whether some were left out; then reads all of it, and
+/// prints whether these were the head and whole blocks, those of all that were written.
 pub(crate) fn fill_stream(rt: &HostRuntime, case: &mut Case) {
-    match pair(rt) {
-        Ok((own, other)) => fill(rt.alloc(), own, &other, case),
+    match capture_to_stream(rt) {
+        Ok((mut capture, other)) => flood(&mut capture, &other, case),
         Err(_) => case.fault(),
     }
 }
 
-fn pair(rt: &HostRuntime) -> io::Result<(UnixStream, UnixStream)> {
+/// A capture to a stream, and the stream's other end.
+fn capture_to_stream(rt: &HostRuntime) -> io::Result<(LiveCapture<UnixStream>, UnixStream)> {
     let (own, other) = UnixStream::pair(rt)?;
     other.set_nonblocking(true)?;
-    Ok((own, other))
+    Ok((LiveCapture::start(rt.alloc(), own)?, other))
 }
 
-fn fill(alloc: Global, own: UnixStream, other: &UnixStream, case: &mut Case) {
-    match Reel::begin(alloc, CaptureFile::new(own)) {
-        Ok(mut reel) => {
-            flood(&mut reel, other, case);
-            drop(reel);
-        }
-        Err(_) => case.fault(),
-    }
-}
-
-fn flood(reel: &mut Reel<CaptureFile<UnixStream>>, other: &UnixStream, case: &mut Case) {
-    let kept = kept_of(reel, case.number());
-    case.say("  left out some: ", 0 < reel.left_out());
+fn flood(capture: &mut LiveCapture<UnixStream>, other: &UnixStream, case: &mut Case) {
+    let written = write_packets(capture, case.number());
+    case.say("  left out some: ", 0 < capture.left_out());
     case.end();
-    let before = all_of(other, case);
-    if !reel.settle() {
+    let before = count_available(other, case);
+    if !capture.flush() {
         case.fault();
     }
-    let come = before.saturating_add(all_of(other, case));
-    let wanted = kept.saturating_mul(BLOCK).saturating_add(HEAD);
-    case.say("  whole: ", come == wanted);
-    case.say("\n  goes on: ", reel.keep(&FRAME));
+    let arrived = before.saturating_add(count_available(other, case));
+    let wanted = written.saturating_mul(BLOCK).saturating_add(HEAD);
+    case.say("  whole: ", arrived == wanted);
+    case.say("\n  goes on: ", capture.write(&FRAME));
     case.end();
 }
 
-/// How many of so many frames are kept.
-fn kept_of(reel: &mut Reel<CaptureFile<UnixStream>>, packets: u64) -> usize {
-    let mut kept: usize = 0;
+/// How many of so many frames are written.
+fn write_packets(capture: &mut LiveCapture<UnixStream>, packets: u64) -> usize {
+    let mut written: usize = 0;
     for _ in 0..packets {
-        if reel.keep(&FRAME) {
-            kept = kept.saturating_add(1);
+        if capture.write(&FRAME) {
+            written = written.saturating_add(1);
         }
     }
-    kept
+    written
 }
 
-/// How many bytes wait in a stream.
-fn all_of(stream: &UnixStream, case: &mut Case) -> usize {
+/// How many bytes wait in a stream, all of which are read.
+fn count_available(stream: &UnixStream, case: &mut Case) -> usize {
     let mut reader = stream;
-    let mut room = [0; 4096];
+    let mut buffer = [0; 4096];
     let mut total: usize = 0;
     for _ in 0..100_000u32 {
-        match reader.read(&mut room) {
+        match reader.read(&mut buffer) {
             Ok(0) => return total,
             Ok(count) => total = total.saturating_add(count),
             Err(error) if error.kind() == ErrorKind::WouldBlock => return total,

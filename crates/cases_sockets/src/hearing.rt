@@ -1,23 +1,22 @@
-//! A place over a conduit in memory.
+//! A place over a transport in memory.
 
-use crate::memories::{Letter, Memory};
-use crate::telling::tell_losses;
+use crate::transports::{Datagram, Memory};
+use crate::words::tell_losses;
 use cases_words::{Actor, Case};
-use sockets::{Attachment, End, FarEnd, LONGEST, Network, Sender};
+use sockets::{End, LONGEST, Network, Peer, PlaceSocket, Sender};
 use std::alloc::Global;
-use std::mem;
 
 #[derive(Drop)]
-pub(crate) struct Ear {
-    place: Attachment<Memory>,
+pub(crate) struct Hearing {
+    place: PlaceSocket<Memory>,
 }
 
-impl Actor for Ear {
-    /// - `far udp END`, `far vxlan ADDRESS NUMBER`, `far interface`: a new place that speaks with this far end; the
-    ///   words behind it are what is to come to it, from whom and which bytes, each with `from`
-    /// - `refuse N END ..`: a place that speaks by udp, of which the conduit's call N is refused
-    /// - `stuck`: a new place, all calls of whose conduit are refused
-    /// - `takes N`: a new place whose conduit takes at most N bytes at once
+impl Actor for Hearing {
+    /// - `far udp END`, `far vxlan ADDRESS NUMBER`, `far interface`: a new place with this peer; the words behind it are what
+    ///   is to arrive there, from whom and which bytes, each with `from`
+    /// - `refuse N END ..`: a place that speaks by UDP, and whose transport's call N fails
+    /// - `stuck`: a new place, all calls of whose transport fail
+    /// - `takes N`: a new place whose transport takes at most N bytes at once
     /// - `wake`, `take`, `send HEX`, `send-long N`: as the place has them
     /// - `strangers`, `failing`, `losses`: what the place says
     fn act(&mut self, case: &mut Case) {
@@ -39,30 +38,26 @@ impl Actor for Ear {
     }
 }
 
-impl Ear {
-    pub(crate) fn new(alloc: Global) -> Ear {
-        Ear {
-            place: Attachment::new(Memory::new(alloc, Vec::new(alloc)), FarEnd::Interface),
+impl Hearing {
+    pub(crate) fn new(alloc: Global) -> Hearing {
+        Hearing {
+            place: PlaceSocket::new(Memory::empty(alloc), Peer::Interface),
         }
     }
 
-    /// A new place, and what is to come to it.
+    /// A new place, and what is to arrive there.
     fn begin(&mut self, case: &mut Case) {
-        let far = far_end(case);
-        self.renew(Memory::new(case.alloc, letters(case)), far);
-    }
-
-    /// A new place over a conduit.
-    fn renew(&mut self, memory: Memory, far: FarEnd) {
-        drop(mem::replace(&mut self.place, Attachment::new(memory, far)));
+        let peer = peer_in(case);
+        let memory = Memory::new(case.alloc, datagrams_in(case));
+        self.place = PlaceSocket::new(memory, peer);
     }
 
     fn refuse(&mut self, case: &mut Case) {
         let call = case.number();
-        let far = udp(case);
-        let mut memory = Memory::new(case.alloc, letters(case));
+        let peer = udp_in(case);
+        let mut memory = Memory::new(case.alloc, datagrams_in(case));
         memory.left = call;
-        self.renew(memory, far);
+        self.place = PlaceSocket::new(memory, peer);
         let [sent, heard, failed] = self.counts();
         case.say("  sent ", sent);
         case.say(", heard ", heard);
@@ -71,20 +66,21 @@ impl Ear {
     }
 
     fn stick(&mut self, alloc: Global) {
-        let mut memory = Memory::new(alloc, Vec::new(alloc));
-        memory.stuck = true;
-        self.renew(memory, FarEnd::Interface);
+        let mut memory = Memory::empty(alloc);
+        memory.is_stuck = true;
+        self.place = PlaceSocket::new(memory, Peer::Interface);
     }
 
     fn narrow(&mut self, case: &mut Case) {
-        let memory = Memory::narrow(case.alloc, case.count());
-        self.renew(memory, FarEnd::Interface);
+        let mut memory = Memory::empty(case.alloc);
+        memory.longest = case.count();
+        self.place = PlaceSocket::new(memory, Peer::Interface);
     }
 
     fn take(&mut self, case: &mut Case) {
-        let mut room = [0; LONGEST];
-        match self.place.take(&mut room) {
-            Ok(Some(count)) => tell_bytes(case, "  heard ", &room[..count]),
+        let mut buffer = [0; LONGEST];
+        match self.place.receive(&mut buffer) {
+            Ok(Some(count)) => tell_bytes(case, "  heard ", &buffer[..count]),
             Ok(None) => case.tell("nothing"),
             Err(_) => case.tell("failed"),
         }
@@ -102,23 +98,18 @@ impl Ear {
     }
 
     fn send_bytes(&mut self, bytes: &[u8], case: &mut Case) {
-        match self.place.send(bytes) {
-            Ok(()) => self.tell_sent(case),
-            Err(_) => case.tell("lost"),
+        if self.place.send(bytes).is_err() {
+            return case.tell("lost");
         }
-    }
-
-    fn tell_sent(&self, case: &mut Case) {
-        match self.place.conduit().sent.last() {
+        match self.place.transport().sent.last() {
             Some(sent) => tell_bytes(case, "  sent ", sent.as_slice()),
             None => case.fault(),
         }
     }
 
-    /// Four times a datagram is sent and one is looked for: how many were sent, how many came, and how often either
-    /// failed.
+    /// Four times a datagram is sent and one is looked for: how many were sent, how many arrived, and how often either failed.
     fn counts(&mut self) -> [u32; 3] {
-        let mut room = [0; LONGEST];
+        let mut buffer = [0; LONGEST];
         let mut counts = [0_u32; 3];
         for _ in 0..4 {
             match self.place.send(b"abc") {
@@ -126,7 +117,7 @@ impl Ear {
                 Err(_) => counts[2] = counts[2].saturating_add(1),
             }
             self.place.wake();
-            match self.place.take(&mut room) {
+            match self.place.receive(&mut buffer) {
                 Ok(Some(_)) => counts[1] = counts[1].saturating_add(1),
                 Ok(None) => {}
                 Err(_) => counts[2] = counts[2].saturating_add(1),
@@ -136,7 +127,7 @@ impl Ear {
     }
 }
 
-/// Bytes, `-` for none; of very many only how many they are.
+/// Prints bytes, `-` for none; of very many only how many they are.
 fn tell_bytes(case: &mut Case, text: &str, bytes: &[u8]) {
     match bytes.len() {
         0 => case.say(text, "-"),
@@ -149,67 +140,62 @@ fn tell_bytes(case: &mut Case, text: &str, bytes: &[u8]) {
     case.end();
 }
 
-fn far_end(case: &mut Case) -> FarEnd {
+fn peer_in(case: &mut Case) -> Peer {
     match case.word() {
-        "udp" => udp(case),
-        "vxlan" => vxlan(case),
-        "interface" => FarEnd::Interface,
+        "udp" => udp_in(case),
+        "vxlan" => vxlan_in(case),
+        "interface" => Peer::Interface,
         _ => {
             case.fault();
-            FarEnd::Interface
+            Peer::Interface
         }
     }
 }
 
-fn udp(case: &mut Case) -> FarEnd {
+fn udp_in(case: &mut Case) -> Peer {
     let read = udp_of(case.word());
-    case.or(read, FarEnd::Interface)
+    case.or(read, Peer::Interface)
 }
 
-fn udp_of(text: &str) -> Option<FarEnd> {
-    Some(FarEnd::Udp(end_in(text)?))
+fn udp_of(text: &str) -> Option<Peer> {
+    Some(Peer::Udp(End::read(text)?))
 }
 
-/// The end that a text writes. What a caller has to show stays small where this says nothing of it.
-fn end_in(text: &str) -> Option<End> {
-    End::read(text)
-}
-
-fn vxlan(case: &mut Case) -> FarEnd {
+fn vxlan_in(case: &mut Case) -> Peer {
     let address = case.ip();
-    let number = case.number().min(0xffff_ffff) as u32;
+    let number = u32::try_from(case.number()).unwrap_or(u32::MAX);
     match Network::new(number) {
-        Some(network) => FarEnd::Vxlan(address, network),
+        Some(network) => Peer::Vxlan(address, network),
         None => {
             case.fault();
-            FarEnd::Interface
+            Peer::Interface
         }
     }
 }
 
-/// What all words that are left say is to come: `from`, who sends it and the bytes, again and again.
-fn letters(case: &mut Case) -> Vec<Letter> {
+/// What the words that are left say is to arrive: `from`, who sends it and the bytes, again and again.
+fn datagrams_in(case: &mut Case) -> Vec<Datagram> {
     let mut coming = Vec::new(case.alloc);
     for _ in 0..case.left() / 3 {
-        let letter = letter(case);
-        case.keep(coming.push(letter));
+        let datagram = datagram_in(case);
+        case.keep(coming.push(datagram));
     }
     coming
 }
 
-fn letter(case: &mut Case) -> Letter {
+fn datagram_in(case: &mut Case) -> Datagram {
     if case.word() != "from" {
         case.fault();
     }
     let read = sender_of(case.word());
     let sender = case.or(read, Sender::Interface);
     let bytes = case.bytes();
-    Letter { sender, bytes }
+    Datagram { sender, bytes }
 }
 
 fn sender_of(text: &str) -> Option<Sender> {
     match text {
         "interface" => Some(Sender::Interface),
-        text => Some(Sender::End(end_in(text)?)),
+        text => Some(Sender::End(End::read(text)?)),
     }
 }

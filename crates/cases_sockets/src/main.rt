@@ -1,35 +1,33 @@
-//! Sockets, and what a box writes down. It does what the lines of its cases say with texts of ways and words, with a place over
-//! a conduit in memory, and with boxes on the loopback address; then with a tapped wire and a service manager, and with the
-//! records for an operator. It prints each line before what it leads to.
+//! Sockets, and what a box writes down. It does what the lines of its cases say: with texts of ways and words, with a place over
+//! a transport in memory, with boxes on the loopback address, with a tapped wire and a service manager, and with a box's
+//! records. It prints each line before what it leads to.
 #![tactic(auto)]
 
 mod boxes;
-mod callers;
+mod clients;
 mod entries;
 mod failures;
 mod files;
 mod hearing;
 mod journals;
 mod managers;
-mod memories;
-mod pages;
-mod sheets;
-mod speaking;
-mod stages;
-mod telling;
+mod network;
+mod taps;
 mod texts;
+mod transports;
 mod wires;
 mod words;
+mod writers;
 
 use anyhow::Result;
 use cases_words::{Actor, Case, play};
-use hearing::Ear;
+use hearing::Hearing;
 use journals::Journals;
-use pages::Paper;
-use speaking::Speakers;
-use stages::{Cases, Stage};
+use network::Network;
 use std::cell::Cell;
+use taps::{Controls, Taps};
 use texts::Texts;
+use writers::WriterState;
 
 fn try_file<A: Actor + Drop>(
     rt: &HostRuntime,
@@ -43,19 +41,19 @@ fn try_file<A: Actor + Drop>(
 }
 
 fn try_taps(rt: &HostRuntime, case: &mut Case) -> Result<()> {
-    let stage = Stage::new();
-    try_file(rt, "tap.cases", Cases::new(*rt, &stage), case)
+    let controls = Controls::new();
+    try_file(rt, "tap.cases", Taps::new(*rt, &controls), case)
 }
 
 fn try_records(rt: &HostRuntime, case: &mut Case) -> Result<()> {
-    let paper = Cell::new(Paper::Room);
-    try_file(rt, "journal.cases", Journals::new(*rt, &paper), case)
+    let state = Cell::new(WriterState::Open);
+    try_file(rt, "journal.cases", Journals::new(*rt, &state), case)
 }
 
 fn try_all(rt: &HostRuntime, case: &mut Case) -> Result<()> {
-    try_file(rt, "texts.cases", Texts { rt: *rt }, case)?;
-    try_file(rt, "hearing.cases", Ear::new(rt.alloc()), case)?;
-    try_file(rt, "sockets.cases", Speakers::open(*rt)?, case)?;
+    try_file(rt, "texts.cases", Texts, case)?;
+    try_file(rt, "hearing.cases", Hearing::new(rt.alloc()), case)?;
+    try_file(rt, "sockets.cases", Network::open(*rt)?, case)?;
     try_taps(rt, case)?;
     try_records(rt, case)
 }

@@ -1,28 +1,25 @@
 //! A service manager at the other end of a stream.
 
 use cases_words::Case;
-use runtimes::Hand;
+use faults::Fault;
+use gate::ServiceManager;
+use rounds::Manager;
 use std::io::{self, ErrorKind, Read};
 use std::net::Shutdown;
 use std::os::fd::AsRawFd;
 use std::os::unix::net::UnixStream;
-use supervision::{Machine, Manager, Supervisor, Unsupervised};
 
-/// The manager's descriptor that a text writes. What a caller has to show stays small where this says nothing of it.
-fn descriptor_in(text: &str) -> Option<u16> {
-    Manager::read(text)
-}
-
-/// Prints the descriptor that a text writes.
+/// Prints the descriptor of a text, which isn't open.
 pub(crate) fn read_manager(case: &mut Case) {
-    match descriptor_in(case.word()) {
-        Some(descriptor) => case.say("  descriptor ", descriptor),
-        None => case.put("  none"),
+    match ServiceManager::read(case.word()) {
+        Err(Fault::ManagerNotOpen(number)) => case.say("  descriptor ", number),
+        Err(_) => case.put("  none"),
+        Ok(_) => case.fault(),
     }
     case.end();
 }
 
-/// What a supervisor may be told.
+/// What a manager may be told.
 #[derive(Clone, Copy)]
 enum News {
     Ready(u64),
@@ -43,11 +40,11 @@ fn news_in(case: &mut Case) -> News {
     }
 }
 
-fn tell<S: Supervisor>(supervisor: &mut S, news: News) {
+fn tell<M: Manager>(manager: &mut M, news: News) {
     match news {
-        News::Ready(boot) => supervisor.ready(boot),
-        News::Alive => supervisor.alive(),
-        News::Ending => supervisor.ending(),
+        News::Ready(boot) => manager.ready(boot),
+        News::Alive => manager.alive(),
+        News::Ending => manager.ending(),
     }
 }
 
@@ -65,8 +62,7 @@ pub(crate) fn tell_manager(rt: &HostRuntime, case: &mut Case) {
 
 fn tell_nobody(case: &mut Case) {
     let news = news_in(case);
-    tell(&mut Unsupervised, news);
-    tell(&mut None::<Manager>, news);
+    tell(&mut None::<ServiceManager>, news);
     case.tell("done");
 }
 
@@ -86,33 +82,20 @@ fn told_over(rt: &HostRuntime, is_gone: bool, news: News) -> io::Result<UnixStre
         other.shutdown(Shutdown::Both)?;
     }
     other.set_nonblocking(true)?;
-    tell_by(rt, &own, news)?;
+    let text = format!(in rt.alloc(); "descriptor:{}", own.as_raw_fd())?;
+    match ServiceManager::read(text.as_str()) {
+        Ok(manager) => tell(&mut Some(manager), news),
+        Err(_) => return Err(ErrorKind::NotFound.into()),
+    }
     Ok(other)
-}
-
-fn tell_by(rt: &HostRuntime, own: &UnixStream, news: News) -> io::Result<()> {
-    match u16::try_from(own.as_raw_fd()) {
-        Ok(descriptor) => tell_at(rt, descriptor, news),
-        Err(_) => Err(ErrorKind::InvalidInput.into()),
-    }
-}
-
-fn tell_at(rt: &HostRuntime, descriptor: u16, news: News) -> io::Result<()> {
-    match Manager::inherit(&mut Machine::new(Hand::new(rt)), descriptor) {
-        Ok(manager) => {
-            tell(&mut Some(manager), news);
-            Ok(())
-        }
-        Err(_) => Err(ErrorKind::NotFound.into()),
-    }
 }
 
 /// Prints what came by a stream.
 fn hear(stream: &UnixStream, case: &mut Case) {
-    let mut room = [0; 128];
+    let mut buffer = [0; 128];
     let mut reader = stream;
-    match reader.read(&mut room) {
-        Ok(count) => case.hex("  hears ", &room[..count]),
+    match reader.read(&mut buffer) {
+        Ok(count) => case.hex("  hears ", &buffer[..count]),
         Err(_) => case.put("  hears nothing"),
     }
     case.end();

@@ -1,43 +1,46 @@
-//! Texts: of ways, of control paths, of words and answers.
+//! Texts of ways and control paths, and the bytes of words and replies.
 
-use crate::boxes::{way_in, ways_in};
+use crate::boxes::ways_in;
 use anyhow::Result;
 use cases_words::{Actor, Case};
-use control::{
-    Answer, ControlPath, PathFault, PeerOffRefusal, spelled_known_off, spelled_off, spelled_pairs,
-    spelled_pairs_after, spelled_refusal, spelled_side, spelled_status, word_of,
-};
-use runtimes::Hand;
-use sockets::{End, Ends, Machine, Way};
+use control::{ControlPath, PathFault, PeerOffRefusal, Reply, Word, refusal_bytes};
+use sockets::{End, Ends, Way};
 use std::alloc::Global;
 
+/// The refusals, by their numbers.
+const REFUSALS: [(&str, PeerOffRefusal); 5] = [
+    ("1", PeerOffRefusal::NotSynced),
+    ("2", PeerOffRefusal::NoPeer),
+    ("3", PeerOffRefusal::PastBoot),
+    ("4", PeerOffRefusal::UnknownBoot),
+    ("5", PeerOffRefusal::PeerHeard),
+];
+
 /// Answers lines about texts.
-#[derive(Drop)]
-pub(crate) struct Texts {
-    pub(crate) rt: HostRuntime,
-}
+#[derive(Clone, Copy)]
+pub(crate) struct Texts;
 
 impl Actor for Texts {
-    /// - `way TEXT`: the way that a text writes
-    /// - `inherit INSIDE OUTSIDE LINK`: takes the descriptors of three ways
+    /// - `way TEXT`: the way of a text
+    /// - `inherit INSIDE OUTSIDE LINK`: opens the descriptors of three ways
     /// - `path TEXT`, `path N`: the control path beside a boot file with this name, or with one of so many bytes
-    /// - `word HEX`: the word that bytes spell
+    /// - `word HEX`: the word of these bytes
     /// - `off N`, `off N forced`, `off known`, `side SIDE UP CARRIER`, `status`, `pairs`, `pairs PROTOCOL PORT`: the bytes of
     ///   a word
-    /// - `answer HEX`: the answer that bytes spell
+    /// - `answer HEX`: the reply of these bytes
     /// - `refusal N`: the bytes of a refusal, and its text
     fn act(&mut self, case: &mut Case) {
         case.title("", "\n");
         match case.word() {
             "way" => way(case),
-            "inherit" => inherit(&self.rt, case),
+            "inherit" => inherit(case),
             "path" => path(case),
             "word" => word(case),
             "off" => off(case),
             "side" => side(case),
-            "status" => tell_hex(case, &spelled_status()),
+            "status" => tell_word(case, Word::Status),
             "pairs" => pairs(case),
-            "answer" => read_answer(case),
+            "answer" => reply(case),
             "refusal" => refusal(case),
             _ => case.fault(),
         }
@@ -45,7 +48,7 @@ impl Actor for Texts {
 }
 
 fn way(case: &mut Case) {
-    match way_in(case.word()) {
+    match Way::read(case.word()) {
         Some(Way::Loopback) => case.put("  loopback"),
         Some(Way::Udp(ends)) => tell_ends(case, "  udp ", ends),
         Some(Way::Vxlan(ends, network)) => {
@@ -68,13 +71,13 @@ fn tell_end(case: &mut Case, text: &str, end: End) {
     case.say(":", end.port);
 }
 
-fn inherit(rt: &HostRuntime, case: &mut Case) {
-    let inherited = ways_in(case, None).inherit(&mut Machine::new(Hand::new(rt)));
+fn inherit(case: &mut Case) {
+    let inherited = ways_in(case, None).inherit();
     case.done(inherited, "inherited");
 }
 
 /// A name of so many bytes, or the text itself.
-fn name_of(alloc: Global, text: &str) -> Result<String> {
+fn boot_file_of(alloc: Global, text: &str) -> Result<String> {
     let Ok(count) = text.parse::<usize>() else {
         return Ok(String::from_str(alloc, text)?);
     };
@@ -87,7 +90,7 @@ fn name_of(alloc: Global, text: &str) -> Result<String> {
 
 fn path(case: &mut Case) {
     let alloc = case.alloc;
-    match name_of(alloc, case.word()) {
+    match boot_file_of(alloc, case.word()) {
         Ok(name) => {
             let is_short = name.len() < 20;
             tell_path(case, ControlPath::beside(alloc, name.as_str()), is_short);
@@ -104,15 +107,15 @@ fn tell_path(case: &mut Case, path: Result<ControlPath, PathFault>, is_short: bo
             } else {
                 case.put("  a path");
             }
-            case.end();
         }
-        Err(fault) => case.tell(fault),
+        Err(fault) => case.say("  ", fault),
     }
+    case.end();
 }
 
 fn word(case: &mut Case) {
     let bytes = case.bytes();
-    match word_of(bytes.as_slice()) {
+    match Word::read(bytes.as_slice()) {
         Some(word) => case.show("  ", word),
         None => case.put("  none"),
     }
@@ -120,51 +123,50 @@ fn word(case: &mut Case) {
 }
 
 fn off(case: &mut Case) {
-    if case.word() == "known" {
-        return tell_hex(case, &spelled_known_off());
-    }
-    case.back();
-    let boot = case.number();
-    let forced = case.left() == 1;
-    tell_hex(case, &spelled_off(boot, forced));
-}
-
-fn pairs(case: &mut Case) {
-    if case.left() == 0 {
-        return tell_hex(case, &spelled_pairs());
-    }
-    let last = case.key();
-    tell_hex(case, &spelled_pairs_after(last));
-}
-
-fn read_answer(case: &mut Case) {
-    let bytes = case.bytes();
-    match Answer::read(bytes.as_slice()) {
-        Some(answer) => case.show("  ", answer),
-        None => case.put("  none"),
-    }
-    case.end();
-}
-
-fn refusal(case: &mut Case) {
-    match PeerOffRefusal::numbered(case.byte()) {
-        Some(refusal) => {
-            case.hex("  ", &spelled_refusal(refusal));
-            case.say(" ", refusal);
-            case.end();
+    let boot = match case.word() {
+        "known" => None,
+        _ => {
+            case.back();
+            Some(case.number())
         }
-        None => case.fault(),
-    }
-}
-
-fn tell_hex(case: &mut Case, bytes: &[u8]) {
-    case.hex("  ", bytes);
-    case.end();
+    };
+    let forced = case.left() == 1;
+    tell_word(case, Word::PeerOff { boot, forced });
 }
 
 fn side(case: &mut Case) {
     let side = case.side();
     let up = case.word() == "up";
     let carrier = case.word() == "carrier";
-    tell_hex(case, &spelled_side(side, up, carrier));
+    tell_word(case, Word::Side { side, up, carrier });
+}
+
+fn pairs(case: &mut Case) {
+    let after = match case.left() {
+        0 => None,
+        _ => Some(case.key()),
+    };
+    tell_word(case, Word::Pairs(after));
+}
+
+/// Prints the bytes of a word.
+fn tell_word(case: &mut Case, word: Word) {
+    case.hex("  ", word.bytes().as_slice());
+    case.end();
+}
+
+fn reply(case: &mut Case) {
+    let bytes = case.bytes();
+    match Reply::read(bytes.as_slice()) {
+        Some(reply) => case.show("  ", reply),
+        None => case.put("  none"),
+    }
+    case.end();
+}
+
+fn refusal(case: &mut Case) {
+    let refusal = case.pick(&REFUSALS, PeerOffRefusal::NotSynced);
+    case.hex("  ", &refusal_bytes(refusal));
+    case.say(" ", refusal);
+    case.end();
 }

@@ -1,36 +1,36 @@
 //! A wire in memory.
-ghost use Rattle.std.specs.Prelude.{◌≡◌, ◌≤◌, IfOk, IfSome};
-ghost use Rattle.sockets.specs.Letters.{AnyCall};
+ghost use Rattle.std.specs.Prelude.{◌≤◌, IfOk, IfSome};
+ghost use Rattle.sockets.specs.Wires.{AnyWay};
 
-use crate::memories::copied;
+use crate::transports::copied;
 use crate::words::{name_of, shown};
 use sockets::{LONGEST, Losses, Place, Wire, WireFault};
 use std::cell::RefCell;
 use std::io;
 use std::time::Duration;
 
-/// What the wire answers; where it is a fault, what is sent is refused too.
+/// What the wire answers; where it is a fault, nothing is sent either.
 #[derive(Drop)]
 pub(crate) enum Coming {
     Nothing,
     Fault,
-    Letter(Place, Vec<u8>),
+    Datagram(Place, Vec<u8>),
 }
 
 /// A wire that answers what the cases say, and prints what it sends.
 #[derive(Drop)]
-pub(crate) struct Memory<'a> {
+pub(crate) struct MemoryWire<'a> {
     rt: HostRuntime,
     coming: &'a RefCell<Coming>,
 }
 
-impl<'a> Memory<'a> {
-    pub(crate) fn new(rt: HostRuntime, coming: &'a RefCell<Coming>) -> Memory<'a> {
-        Memory { rt, coming }
+impl<'a> MemoryWire<'a> {
+    pub(crate) fn new(rt: HostRuntime, coming: &'a RefCell<Coming>) -> MemoryWire<'a> {
+        MemoryWire { rt, coming }
     }
 
-    fn next(&self, room: &mut [u8; LONGEST]) -> Result<Option<(Place, usize)>, WireFault>
-        ensures { IfOk result (λ found. IfSome found (λ datagram. datagram.1 ≤ 4096)) }
+    fn next(&self, buffer: &mut [u8; LONGEST]) -> Result<Option<(Place, usize)>, WireFault>
+        ensures { IfOk result (λ found. IfSome found (λ one. one.1 ≤ LONGEST)) }
     {
         let Ok(coming) = self.coming.try_borrow() else {
             return Err(WireFault);
@@ -38,11 +38,11 @@ impl<'a> Memory<'a> {
         match &*coming {
             Coming::Nothing => Ok(None),
             Coming::Fault => Err(WireFault),
-            Coming::Letter(place, bytes) => Ok(Some((*place, copied(bytes.as_slice(), room)))),
+            Coming::Datagram(place, bytes) => Ok(Some((*place, copied(bytes.as_slice(), buffer)))),
         }
     }
 
-    fn refuses(&self) -> bool {
+    fn is_faulty(&self) -> bool {
         match self.coming.try_borrow() {
             Ok(coming) => matches!(&*coming, Coming::Fault),
             Err(_) => true,
@@ -55,22 +55,22 @@ impl<'a> Memory<'a> {
     }
 }
 
-impl Wire for Memory<'_> {
-    ghost does = { AnyCall };
-
-    fn send(&mut self, to: Place, bytes: &[u8]) -> Result<(), WireFault> {
-        if self.refuses() {
-            return Err(WireFault);
-        }
-        self.show(to, bytes).map_err(|_| WireFault)
-    }
+impl Wire for MemoryWire<'_> {
+    ghost passes = { AnyWay };
 
     fn receive(
         &mut self,
         _limit: Duration,
-        room: &mut [u8; LONGEST],
+        buffer: &mut [u8; LONGEST],
     ) -> Result<Option<(Place, usize)>, WireFault> {
-        self.next(room)
+        self.next(buffer)
+    }
+
+    fn send(&mut self, to: Place, bytes: &[u8]) -> Result<(), WireFault> {
+        if self.is_faulty() {
+            return Err(WireFault);
+        }
+        self.show(to, bytes).map_err(|_| WireFault)
     }
 
     fn answer(&mut self, _bytes: &[u8]) {}
@@ -80,6 +80,6 @@ impl Wire for Memory<'_> {
     }
 
     fn losses(&self, _place: Place) -> Losses {
-        Losses::none()
+        Losses::default()
     }
 }

@@ -1,15 +1,14 @@
-//! What the words of the cases stand for.
+//! What the words of the cases stand for, and what is printed of more than one kind of case.
 
-use crate::pages::Paper;
+use crate::writers::WriterState;
 use cases_words::Case;
 use nat_types::Side;
-use sockets::Place;
+use sockets::{Losses, Place};
 use std::alloc::{AllocError, Global};
 
 /// How many bytes are shown at most.
 const MOST_SHOWN: usize = 400;
 
-/// What a place is called.
 const PLACES: [(&str, Place); 4] = [
     ("link", Place::Link),
     ("inside", Place::Side(Side::Inside)),
@@ -18,7 +17,7 @@ const PLACES: [(&str, Place); 4] = [
 ];
 
 /// The place that the next word names.
-pub(crate) fn place_of(case: &mut Case) -> Place {
+pub(crate) fn place_in(case: &mut Case) -> Place {
     case.pick(&PLACES, Place::Link)
 }
 
@@ -32,7 +31,7 @@ pub(crate) fn name_of(place: Place) -> &'static str {
 }
 
 /// The bytes of pairs of hexadecimal digits; or so many zeros, as `zeros:4096`.
-pub(crate) fn bytes_of(case: &mut Case) -> Vec<u8> {
+pub(crate) fn bytes_in(case: &mut Case) -> Vec<u8> {
     match zeros_of(case.word()) {
         Some(count) => case.many(0, usize::from(count)),
         None => {
@@ -54,16 +53,23 @@ pub(crate) fn shown(alloc: Global, bytes: &[u8]) -> Result<String, AllocError> {
     hex::encode(alloc, bytes)
 }
 
-/// Whether there is room for what is written, as the next words say.
-pub(crate) fn paper_in(case: &mut Case) -> Paper {
+/// `room`, `none`, `fails`, or `takes COUNT`.
+pub(crate) fn writer_state_in(case: &mut Case) -> WriterState {
     match case.word() {
-        "room" => Paper::Room,
-        "none" => Paper::None,
-        "fails" => Paper::Fails,
-        "takes" => Paper::Takes(case.count()),
+        "room" => WriterState::Open,
+        "none" => WriterState::Blocked,
+        "fails" => WriterState::Failing,
+        "takes" => WriterState::TakesAtMost(case.count()),
         _ => {
             case.fault();
-            Paper::None
+            WriterState::Blocked
         }
     }
+}
+
+/// Prints how many datagrams weren't sent.
+pub(crate) fn tell_losses(case: &mut Case, losses: Losses) {
+    case.say("  too long ", losses.too_long);
+    case.say(", failed ", losses.failed);
+    case.end();
 }

@@ -1,19 +1,22 @@
-//! Who says a word to a box.
+//! The client's end of a control socket.
 
 ghost use Rattle.std.specs.Prelude.{◌≤◌, IfOk, length};
 ghost use Rattle.std.specs.Io.{ReadsAtMost};
 
-use crate::{Reply, ControlPath};
+use crate::{ControlPath, Reply};
 use std::io::{self, ErrorKind, Read, Write};
 use std::net::Net;
 use std::os::unix::net::UnixStream;
 use std::time::Duration;
 use thiserror::Error;
 
-/// How long an answer is waited for, in seconds.
+/// How long each read and each write waits at most, in seconds.
 const TIMEOUT: u64 = 2;
 
-/// No box answers there.
+/// How many bytes the reply has that a word is taken.
+const HEARD_LENGTH: usize = 5;
+
+/// No control socket can be had, or no box replies there.
 #[derive(Clone, Copy, Debug, PartialEq, Eq, Error)]
 #[error("socket 1 NoSocket")]
 pub struct NoSocket;
@@ -24,13 +27,14 @@ impl From<io::Error> for NoSocket {
     }
 }
 
-/// Says a word, which a box hears or else refuses.
+/// Says a word to the box that listens at a path, and waits until it is taken.
 ///
 /// # Errors
 ///
-/// Where no box answers that it is heard.
+/// Where no box listens there, or it doesn't reply within two seconds that the word is taken. Whether it took the
+/// word isn't known then.
 pub fn say<R: Net>(rt: &R, path: &ControlPath, word: &[u8]) -> Result<(), NoSocket> {
-    let mut buffer = [0; 5];
+    let mut buffer = [0; HEARD_LENGTH];
     let count = ask(rt, path, word, &mut buffer)?;
     match Reply::read(&buffer[..count]) {
         Some(Reply::Heard) => Ok(()),
@@ -38,11 +42,13 @@ pub fn say<R: Net>(rt: &R, path: &ControlPath, word: &[u8]) -> Result<(), NoSock
     }
 }
 
-/// Says a word, and gives what is answered: so many bytes of the buffer.
+/// Says a word to the box that listens at a path, and reads its reply: so many bytes of the buffer. What doesn't
+/// fit there is lost.
 ///
 /// # Errors
 ///
-/// Where no box answers within two seconds.
+/// Where no box listens there, or it replies nothing, or not within two seconds. Whether it took the word isn't
+/// known then.
 pub fn ask<R: Net>(
     rt: &R,
     path: &ControlPath,
@@ -51,24 +57,24 @@ pub fn ask<R: Net>(
 ) -> Result<usize, NoSocket>
     ensures { IfOk result (λ count. count ≤ length buffer.new) }
 {
-    let mut line = UnixStream::connect(rt, path.socket.as_str())?;
-    let patience = Some(Duration::from_secs(TIMEOUT));
-    line.set_read_timeout(patience)?;
-    line.set_write_timeout(patience)?;
-    line.write_all(word)?;
-    match read_whole(&mut line, buffer)? {
+    let mut stream = UnixStream::connect(rt, path.socket.as_str())?;
+    let timeout = Some(Duration::from_secs(TIMEOUT));
+    stream.set_read_timeout(timeout)?;
+    stream.set_write_timeout(timeout)?;
+    stream.write_all(word)?;
+    match read_to_end(&mut stream, buffer)? {
         0 => Err(NoSocket),
         count => Ok(count),
     }
 }
 
-/// Reads until the end, or until the buffer is full.
-fn read_whole<L: Read>(line: &mut L, buffer: &mut [u8]) -> io::Result<usize>
+/// Reads until the stream ends, or the buffer is full.
+fn read_to_end<L: Read>(stream: &mut L, buffer: &mut [u8]) -> io::Result<usize>
     ensures { IfOk result (λ count. count ≤ length buffer.new) }
 {
     let mut count = 0;
     while count < buffer.len() {
-        match read_some(line, &mut buffer[count..])? {
+        match read_once(stream, &mut buffer[count..])? {
             0 => return Ok(count),
             more => count += more,
         }
@@ -76,15 +82,15 @@ fn read_whole<L: Read>(line: &mut L, buffer: &mut [u8]) -> io::Result<usize>
     Ok(count)
 }
 
-/// Reads once, and again where that was interrupted.
-fn read_some<L: Read>(line: &mut L, buffer: &mut [u8]) -> io::Result<usize>
+/// One read, which is made again where it was interrupted.
+fn read_once<L: Read>(stream: &mut L, buffer: &mut [u8]) -> io::Result<usize>
     ensures { ReadsAtMost result buffer.new }
 {
     for _ in 0..u64::MAX {
-        match line.read(buffer) {
+        match stream.read(buffer) {
             Err(error) if error.kind() == ErrorKind::Interrupted => {}
             answer => return answer,
         }
     }
-    line.read(buffer)
+    stream.read(buffer)
 }

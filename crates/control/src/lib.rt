@@ -1,14 +1,14 @@
-//! A box's control socket: the words that are said there, what a box answers, and both ends of it.
+//! A box's control socket: the words that it is told, what it replies, and both ends of the socket.
 #![tactic(auto)]
 
-mod answers;
 mod client;
 mod paths;
+mod replies;
 mod server;
 mod words;
 
-pub use answers::{Reply, HEARD, PAGE, PeerOffRefusal, REPORT, refusal_bytes};
 pub use client::{NoSocket, ask, say};
 pub use paths::{ControlPath, LONGEST_PATH, PathFault};
+pub use replies::{HEARD, PAGE, PeerOffRefusal, REPORT, Reply, refusal_bytes};
 pub use server::Control;
 pub use words::{Word, WordBytes};

@@ -1,23 +1,34 @@
-//! The words that are said to a box.
+//! The words that a box is told. Numbers are big-endian.
 
 use addresses::{Port, Protocol};
 use arrayvec::ArrayVec;
 use byteorder::{BigEndian, ByteOrder};
 use nat_types::{Key, Side};
 
-/// What is said to a box.
+/// What a box is told, or asked.
 #[derive(Clone, Copy, Debug, PartialEq, Eq)]
 pub enum Word {
-    /// That a boot of the other box is off: of this number, or the one that the box knows. A forced one counts where the box
-    /// doesn't know that boot, too.
-    PeerOff { boot: Option<u64>, forced: bool },
-    /// That the box is to end.
+    /// A boot of the peer is off: the one of this number, or the one that the box knows. `NO`, or `NF` where it is
+    /// forced, and the number in 8 bytes.
+    PeerOff {
+        boot: Option<u64>,
+        /// It counts for a boot above the known one, too.
+        forced: bool,
+    },
+    /// The box is to end: `NE`.
     Stop,
-    /// That a side's cable is in, or out, as its carrier tells it or an operator.
-    Side { side: Side, up: bool, carrier: bool },
-    /// How it stands.
+    /// The cable of a side is in or out: `NS`, 0 for the inside or 1 for the outside, and 1 or 0 for each of the
+    /// flags.
+    Side {
+        side: Side,
+        up: bool,
+        /// Its carrier tells it; else an operator does.
+        carrier: bool,
+    },
+    /// How does the box stand? `NI`.
     Status,
-    /// Which pairs it has behind this key.
+    /// Which pairs has it, the first, or those behind this key? `NL`, and of a key its protocol's number and its
+    /// port in 2 bytes.
     Pairs(Option<Key>),
 }
 
@@ -56,7 +67,7 @@ impl Word {
         bytes
     }
 
-    /// The word that bytes spell.
+    /// Reads a word. Bytes that are none give `None`.
     pub fn read(bytes: &[u8]) -> Option<Word> {
         match bytes {
             [b'N', b'O', boot @ ..] => peer_off(boot, false),
@@ -64,8 +75,8 @@ impl Word {
             [b'N', b'E'] => Some(Word::Stop),
             [b'N', b'S', side, up, carrier] => Some(Word::Side {
                 side: side_of(*side)?,
-                up: truth_of(*up)?,
-                carrier: truth_of(*carrier)?,
+                up: flag_of(*up)?,
+                carrier: flag_of(*carrier)?,
             }),
             [b'N', b'I'] => Some(Word::Status),
             [b'N', b'L', key @ ..] => pairs(key),
@@ -74,7 +85,7 @@ impl Word {
     }
 }
 
-/// What no word has more of than there is buffer for.
+/// Puts more bytes behind those of a word. No word has more than there is capacity for.
 fn put(bytes: &mut WordBytes, more: &[u8]) {
     let _fits = bytes.try_extend_from_slice(more);
 }
@@ -110,7 +121,7 @@ fn side_of(byte: u8) -> Option<Side> {
     }
 }
 
-fn truth_of(byte: u8) -> Option<bool> {
+fn flag_of(byte: u8) -> Option<bool> {
     match byte {
         0 => Some(false),
         1 => Some(true),

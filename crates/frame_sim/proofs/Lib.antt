@@ -13,6 +13,3 @@ mod Taking
 mod Runs
 mod Accounting
 mod Owning
-mod Answering
-mod Results
-pub mod Offered

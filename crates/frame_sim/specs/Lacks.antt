@@ -4,6 +4,7 @@ use Rattle.std.specs.Borrow.{Bor}
 use Rattle.memory.specs.Memory.{WasRefused}
 use Rattle.nat_types.specs.Same.{other}
 use Rattle.nat_types.specs.declared.gateways.GatewayId.{GatewayId}
+use Rattle.nat_types.specs.declared.gateways.GatewayId.TheVariants.{Zero}
 use Rattle.nat_types.specs.declared.notes.Note.{Note}
 use Rattle.nat_types.specs.declared.notes.NoteKind.TheVariants.{Crashed, Booted}
 use Rattle.nat_types.specs.declared.events.WorldEvent.{WorldEvent}
@@ -32,6 +33,10 @@ WasUnstepped g event = Unit {0} × ((page : Paged) × LacksMemory g page event)
 -- one was to begin with these settings, in the life of this number
 unfoldable pub WasUnbegun : Settings → GatewayId → ℕ → Type 0
 WasUnbegun settings i number = Unit {0} × LacksGateway settings
+
+-- there was no memory for a new world of these settings: for the gateway with which it begins
+abbrev pub WasUnfounded : Settings → Type 0
+WasUnfounded settings = WasUnbegun settings Zero 1
 
 -- there was no room for this note on the trace
 unfoldable pub WasUntraced : Note → Type 0

@@ -5,6 +5,4 @@ pub mod Lacks
 pub mod Scene
 pub mod Runs
 pub mod Status
-pub mod Tapes
 pub mod Texts
-pub mod Asked

@@ -1,6 +1,6 @@
 //! A world's beginning, as the run of a script and its loop want it.
 ghost use Rattle.std.specs.Prelude.{IfOk, OnErr};
-ghost use Rattle.frame_sim.specs.Asked.{WasUnfounded};
+ghost use Rattle.frame_sim.specs.Lacks.{WasUnfounded};
 ghost use Rattle.frame_sim.specs.Status.{IsNew};
 
 use crate::World;

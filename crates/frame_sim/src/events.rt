@@ -4,8 +4,6 @@ ghost use Rattle.frame_sim.specs.Texts.{refusal_text};
 
 use gateway::{Out, Outcome};
 use nat_types::NoMemory;
-use outlets::{Shows, told_to_show};
-use printing::RefusalText;
 use std::alloc::AllocError;
 use std::fmt;
 use thiserror::Error;
@@ -21,12 +19,9 @@ pub enum WorldFault {
     NoMemory,
 }
 
-impl RefusalText for WorldFault {
-    ghost use Rattle.frame_sim.specs.Texts.{refusal_text};
-
-    ghost text = { refusal_text };
-
-    fn text(&self) -> &str
+impl WorldFault {
+    /// Its number and its name, as `2 NoSuchDatagram`.
+    pub fn text(&self) -> &str
         ensures { result.now ≡ refusal_text self.now }
     {
         match self {
@@ -38,30 +33,17 @@ impl RefusalText for WorldFault {
 }
 
 /// The same text.
-impl Shows for WorldFault {
-    ghost use Rattle.frame_sim.specs.Texts.{refusal_text};
-
-    ghost text = { refusal_text };
-
-    fn show<W: fmt::Write>(&self, f: &mut fmt::Formatter<W>) -> fmt::Result {
-        told_to_show(f, RefusalText::text(self))
-    }
-}
-
-/// The same text.
 impl fmt::Display for WorldFault {
     ghost use Rattle.std.specs.Fmt.{WritesOnOk};
-    ghost use Rattle.std.specs.Prelude.{OnErr, Some};
-    ghost use Rattle.outlets.specs.Showing.{HasRefused};
+    ghost use Rattle.std.specs.Prelude.{Some};
     ghost use Rattle.frame_sim.specs.Texts.{refusal_text};
 
     ghost output = { λ fault. Some (refusal_text fault) };
 
     fn fmt<W: fmt::Write>(&self, f: &mut fmt::Formatter<W>) -> fmt::Result
         ensures writes { WritesOnOk W.write_str_gives f.old result (refusal_text self.now) f.new }
-        ensures refused { OnErr result (HasRefused f.new) }
     {
-        self.show(f)
+        f.write_str(self.text())
     }
 }
 

@@ -5,7 +5,8 @@ use crate::{Cause, Entry, Journal, LeftOutPackets, Note, Origin};
 use log::{Level, Log, Metadata, Record};
 
 /// The log of a box's events. Of the events of a second that came to nothing, the first of each origin and cause is a record
-/// at once; how many others there were is one record, when the second has ended.
+/// at once; how many others there were is one record, when the second has ended. So a flood is at most 168 records a second.
+/// Timestamps are in centiseconds since the box's start.
 #[derive(Drop)]
 pub struct EventLog<L> {
     log: L,
@@ -21,30 +22,30 @@ impl<L: Journal> EventLog<L> {
     }
 
     /// Writes what an operator watches for.
-    pub fn tell(&self, moment: u64, entry: Entry) {
+    pub fn write(&self, timestamp: u64, entry: Entry) {
         let metadata = Metadata::new(entry.level(), entry.origin().target());
-        let note = Note { moment, entry };
+        let note = Note { timestamp, entry };
         self.log.log(&Record::new(metadata, note, note, ()));
     }
 
-    /// Counts an event that came to nothing.
-    pub fn lose(&mut self, moment: u64, origin: Origin, cause: Cause) {
-        self.turn(moment);
-        if self.limiter.note(origin, cause) {
-            self.tell(moment, Entry::First(origin, cause));
+    /// Counts an event that came to nothing, and writes it if it is the first of its second there for that cause.
+    pub fn write_dropped(&mut self, timestamp: u64, origin: Origin, cause: Cause) {
+        self.advance_to(timestamp);
+        if self.limiter.count(origin, cause) {
+            self.write(timestamp, Entry::First(origin, cause));
         }
     }
 
-    /// Writes what is owed of a second that has ended by this moment.
-    pub fn turn(&mut self, moment: u64) {
-        if let Some(ended) = self.limiter.turn(moment) {
-            self.tell_others(moment, &ended);
+    /// Writes how many others there were in a second that has ended by this timestamp.
+    pub fn advance_to(&mut self, timestamp: u64) {
+        if let Some(ended) = self.limiter.advance_to(timestamp) {
+            self.write_others(timestamp, &ended);
         }
     }
 
-    /// Writes what is owed of the second that hasn't ended.
-    pub fn end(&self, moment: u64) {
-        self.tell_others(moment, &self.limiter);
+    /// Writes how many others there were in the second that hasn't ended.
+    pub fn finish(&self, timestamp: u64) {
+        self.write_others(timestamp, &self.limiter);
     }
 
     /// Writes how many packets a capture has left out, if it has.
@@ -61,16 +62,17 @@ impl<L: Journal> EventLog<L> {
         self.log.lines_left_out()
     }
 
+    /// Writes how many lines the log has left out since it last said so, if any.
     pub fn flush(&self) {
         self.log.flush();
     }
 
-    fn tell_others(&self, moment: u64, limiter: &Limiter) {
+    fn write_others(&self, timestamp: u64, limiter: &Limiter) {
         for origin in Origin::ALL {
             for cause in Cause::ALL {
                 let others = limiter.others(origin, cause);
                 if others > 0 {
-                    self.tell(moment, Entry::Others(origin, cause, others));
+                    self.write(timestamp, Entry::Others(origin, cause, others));
                 }
             }
         }

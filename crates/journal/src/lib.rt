@@ -4,13 +4,13 @@
 mod entries;
 mod events;
 mod filters;
+mod limiter;
+mod lines;
 mod records;
 mod sink;
-mod limiter;
 
 pub use entries::{Cause, Entry, Origin, Role, reason_name};
 pub use events::EventLog;
 pub use filters::{FilterFault, VARIABLE, environment_filter, filter};
 pub use records::{LeftOutPackets, Note};
-pub use sink::{Format, Journal, Outlet, Sink, StandardError};
-
+pub use sink::{Format, Journal, LineWriter, Sink, StandardError};

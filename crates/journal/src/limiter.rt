@@ -4,10 +4,10 @@ ghost use Rattle.std.specs.Prelude.{◌<◌};
 use crate::{Cause, Origin};
 use std::mem;
 
-/// How many there are of origins with causes.
+/// How many pairs of an origin and a cause there are.
 const KEYS: usize = 84;
 
-/// How many events of a second came to nothing, by where they came from and why.
+/// Counts the events of one second that came to nothing, by where they came from and why.
 #[derive(Drop)]
 pub(crate) struct Limiter {
     second: u64,
@@ -15,18 +15,16 @@ pub(crate) struct Limiter {
 }
 
 impl Limiter {
-    /// Nothing yet in the second of that moment, in centiseconds.
-    pub(crate) fn new(moment: u64) -> Limiter
-    {
+    /// Nothing yet in the second of this timestamp, in centiseconds.
+    pub(crate) fn new(timestamp: u64) -> Limiter {
         Limiter {
-            second: moment / 100,
+            second: timestamp / 100,
             counts: [0; KEYS],
         }
     }
 
     /// Counts one more, and says whether it is the first of this second there for that cause.
-    pub(crate) fn note(&mut self, origin: Origin, cause: Cause) -> bool
-    {
+    pub(crate) fn count(&mut self, origin: Origin, cause: Cause) -> bool {
         let key = key_of(origin, cause);
         let before = self.counts[key];
         self.counts[key] = before.saturating_add(1);
@@ -34,22 +32,20 @@ impl Limiter {
     }
 
     /// How many of this second came behind the first.
-    pub(crate) fn others(&self, origin: Origin, cause: Cause) -> u64
-    {
+    pub(crate) fn others(&self, origin: Origin, cause: Cause) -> u64 {
         self.counts[key_of(origin, cause)].saturating_sub(1)
     }
 
-    /// Begins the second of a moment, if it is a later one, and gives what was counted of the one that has ended.
-    pub(crate) fn turn(&mut self, moment: u64) -> Option<Limiter>
-    {
-        if moment / 100 <= self.second {
+    /// Begins the second of a timestamp, if it is a later one, and gives the counts of the second that has ended.
+    pub(crate) fn advance_to(&mut self, timestamp: u64) -> Option<Limiter> {
+        if timestamp / 100 <= self.second {
             return None;
         }
-        Some(mem::replace(self, Limiter::new(moment)))
+        Some(mem::replace(self, Limiter::new(timestamp)))
     }
 }
 
-/// A place of its own for each origin and cause.
+/// The index of the count of an origin and a cause.
 fn key_of(origin: Origin, cause: Cause) -> usize
     ensures small { result < 84 }
 {

@@ -1,16 +1,15 @@
 //! Descriptors that the program inherited, by their numbers.
-
 ghost use Rattle.std.specs.Prelude.{◌≤◌, IfOk};
 
 use std::io::{self, Read, Write};
 use std::os::fd::{AsRawFd, RawFd};
 
-/// An open descriptor that whoever started the program handed on.
+/// An open descriptor that whoever started the program handed on. It is never closed.
 #[derive(Drop)]
 pub struct Inherited(RawFd);
 
 impl Inherited {
-    /// The descriptor of this number, which doesn't block from now on.
+    /// The descriptor of this number, which is non-blocking from now on.
     ///
     /// # Errors
     ///
@@ -22,12 +21,17 @@ impl Inherited {
         }
         Ok(Inherited(descriptor))
     }
+
+    /// Sends a message, if this is a socket. It never waits; a message that can't be sent is lost.
+    pub fn send(&self, message: &[u8]) {
+        let _lost = os::sendv(self.0, [message, &[], &[], &[]]);
+    }
 }
 
 impl Read for Inherited {
     fn read(&mut self, buffer: &mut [u8]) -> io::Result<usize> {
-        let most = buffer.len();
-        counted(libc::read(self.0, buffer), most)
+        let capacity = buffer.len();
+        counted(libc::read(self.0, buffer), capacity)
     }
 }
 
@@ -47,11 +51,7 @@ impl AsRawFd for Inherited {
     }
 }
 
-/// Sends a message to a socket, without waiting for its reader; where that has gone, it is lost.
-pub fn send(socket: &Inherited, message: &[u8]) {
-    let _lost = os::sendv(socket.0, [message, &[], &[], &[]]);
-}
-
+/// How many bytes a system call counted, at most so many; a negative number is a failure.
 fn counted(count: isize, most: usize) -> io::Result<usize>
     ensures bound { IfOk result (λ n. n ≤ most) }
 {
@@ -61,6 +61,7 @@ fn counted(count: isize, most: usize) -> io::Result<usize>
     Ok((count as usize).min(most))
 }
 
+/// Why the last system call failed.
 fn last_error() -> io::Error {
     io::Error::from_raw_os_error(os::errno())
 }

@@ -1,21 +1,23 @@
-//! Values as bytes: numbers of 8 bytes, the greatest first; flags and small numbers of one.
+//! Values as bytes: numbers of 8 bytes, big-endian; flags and small numbers of one.
 
 use arrayvec::ArrayVec;
 use std::fmt::{self, Display, Formatter};
 
-/// The version of the bytes, which stands first.
+/// The version of the bytes, which stands first in them.
 pub const VERSION: u8 = 2;
 
-/// How long a report or a page is at most.
+/// How many bytes a report or a page has at most.
 pub const LONGEST: usize = 1283;
 
 /// The bytes of a report or a page.
 pub type ReportBytes = ArrayVec<u8, LONGEST>;
 
-/// Why bytes aren't read.
+/// Why bytes are no report, and no page.
 #[derive(Clone, Copy, Debug, PartialEq, Eq)]
 pub enum ReadFault {
+    /// They are of this version, which isn't known.
     OtherVersion(u8),
+    /// No report or page has these bytes.
     BadBytes,
 }
 
@@ -28,7 +30,7 @@ impl Display for ReadFault {
     }
 }
 
-/// Puts bytes behind those that are there. There is buffer for what a report or a page has.
+/// Puts bytes behind those that are there. There is capacity for all that a report or a page has.
 pub(crate) fn put(out: &mut ReportBytes, bytes: &[u8]) {
     let _fits = out.try_extend_from_slice(bytes);
 }

@@ -9,7 +9,7 @@ use Rattle.spec_step.specs.Steps.{IsStepOn}
 use Rattle.spec_step.specs.declared.events.Event.{Event}
 use Rattle.spec_step.specs.declared.events.Event.TheVariants.{Datagram, Frame, PeerOff, Side, Stop, Tick}
 
--- these are handed to a wire, one after the other, and nothing else
+-- these are sent by a wire, one after the other, and nothing else
 abbrev pub AreSent : {W : Type 0} → Passes W → List Message → W → W → Type 0
 AreSent passes [] w w2 = w2 ≡ w
 AreSent {W = W} passes (message ∷ rest) w w2 = (middle : W) × (passes w message middle × AreSent passes rest middle w2)
@@ -37,12 +37,12 @@ IsEventOf place.Operator bytes (PeerOff boot) = ⊤
 IsEventOf place.Operator bytes (Side side up) = ⊤
 IsEventOf _ _ _ = ⊥
 
--- an operator alone says what is no event
+-- what came is its event; only an operator's word may be none
 abbrev pub IsMessage : Place → List ℕ → Option Event → Type 0
 IsMessage at bytes (Some event) = IsEventOf at bytes event
 IsMessage at bytes None = at ≡ place.Operator
 
--- it is taken, if there is one
+-- an event is taken, if there is one
 abbrev pub TakesAny : {W : Type 0} → Passes W → Option Event → Shown → W → Shown → W → Type 0
 TakesAny passes (Some event) g w g2 w2 = Takes passes event g w g2 w2
 TakesAny passes None g w g2 w2 = (g2 ≡ g) × (w2 ≡ w)
@@ -55,11 +55,11 @@ TakesMessage passes at bytes g w g2 w2 = (event : Option Event) × (IsMessage at
 abbrev pub IsQuiet : {W : Type 0} → Passes W → W → W → Type 0
 IsQuiet passes w w2 = (w2 ≡ w) ⊎ passes w nothing w2
 
--- it is taken, and may be replied to, which is no message
+-- it is taken, and may be replied to; a reply is no message
 abbrev pub TakesReplied : {W : Type 0} → Passes W → Place → List ℕ → Shown → W → Shown → W → Type 0
 TakesReplied {W = W} passes at bytes g w g2 w2 = (middle : W) × (TakesMessage passes at bytes g w g2 middle × IsQuiet passes middle w2)
 
--- a message is received, and taken
+-- a message is received, and is taken
 pub record Hears {W : Type 0} (passes : Passes W) (g : Shown) (w : W) (g2 : Shown) (w2 : W) : Type 0 where
   pub at : Place
   pub bytes : List ℕ
@@ -67,10 +67,11 @@ pub record Hears {W : Type 0} (passes : Passes W) (g : Shown) (w : W) (g2 : Show
   pub came : passes w (received at bytes) middle
   pub taken : TakesReplied passes at bytes g middle g2 w2
 
--- the clock's moment is taken
+-- a tick is taken
 abbrev pub Ticks : {W : Type 0} → Passes W → Shown → W → Shown → W → Type 0
 Ticks passes g w g2 w2 = (moment : ℕ) × Takes passes (Tick moment) g w g2 w2
 
+-- a message is received and taken, or a tick is taken, or nothing passes
 abbrev pub IsTurn : {W : Type 0} → Passes W → Shown → W → Shown → W → Type 0
 IsTurn passes g w g2 w2 = Hears passes g w g2 w2 ⊎ (Ticks passes g w g2 w2 ⊎ ((g2 ≡ g) × IsQuiet passes w w2))
 

@@ -1,4 +1,4 @@
-//! What a box's log is told of a step.
+//! What is logged of a step.
 
 use crate::messages::View;
 use gateway::{Event, Outcome};
@@ -14,7 +14,7 @@ pub(crate) fn origin_of(event: &Event<'_>) -> Origin {
     }
 }
 
-/// Why nothing came of an event, if so.
+/// Why nothing came of an event, if nothing did.
 pub(crate) fn cause_of(outcome: Result<Outcome, NoMemory>) -> Option<Cause> {
     match outcome {
         Ok(Outcome::Dropped(reason)) => Some(Cause::Dropped(reason)),
@@ -23,52 +23,71 @@ pub(crate) fn cause_of(outcome: Result<Outcome, NoMemory>) -> Option<Cause> {
     }
 }
 
-/// Tells of an event that nothing came of, and of each change that it brought.
-pub(crate) fn tell_step<L: Journal>(
+/// Logs an event that nothing came of, and each change that it made.
+pub(crate) fn log_step<L: Journal>(
     log: &mut EventLog<L>,
     event: &Event<'_>,
     cause: Option<Cause>,
     before: &View,
     after: &View,
 ) {
-    let moment = after.moment;
+    let now = after.timestamp;
     let has_stopped = matches!(event, Event::Stop) && !matches!(cause, Some(Cause::NoMemory));
     if let Some(cause) = cause {
-        log.lose(moment, origin_of(event), cause);
+        log.write_dropped(now, origin_of(event), cause);
     }
-    tell_turn(log, moment, (before.away, after.away), Entry::Away, Entry::Back);
+    log_change(
+        log,
+        now,
+        (before.away, after.away),
+        Entry::Away,
+        Entry::Back,
+    );
     for side in [Side::Inside, Side::Outside] {
         let role = role_of(after, side, has_stopped);
         if role != role_of(before, side, false) {
-            log.tell(moment, Entry::Role(side, role));
+            log.write(now, Entry::Role(side, role));
         }
     }
-    tell_turn(log, moment, (before.synced, after.synced), Entry::Synced, Entry::Unsynced);
+    log_change(
+        log,
+        now,
+        (before.synced, after.synced),
+        Entry::Synced,
+        Entry::Unsynced,
+    );
     if before.peer != after.peer {
-        log.tell(moment, Entry::PeerBoot(after.peer));
+        log.write(now, Entry::PeerBoot(after.peer));
     }
-    tell_turn(log, moment, (before.heard, after.heard), Entry::PeerHeard, Entry::PeerSilent);
+    log_change(
+        log,
+        now,
+        (before.heard, after.heard),
+        Entry::PeerHeard,
+        Entry::PeerSilent,
+    );
     if has_stopped {
-        log.tell(moment, Entry::Stopped);
+        log.write(now, Entry::Stopped);
     }
 }
 
-fn tell_turn<L: Journal>(
+/// Logs where something is so that wasn't before, or isn't any more.
+fn log_change<L: Journal>(
     log: &EventLog<L>,
-    moment: u64,
+    now: u64,
     is_so: (bool, bool),
     begins: Entry,
     ends: Entry,
 ) {
     match is_so {
-        (false, true) => log.tell(moment, begins),
-        (true, false) => log.tell(moment, ends),
+        (false, true) => log.write(now, begins),
+        (true, false) => log.write(now, ends),
         _ => {}
     }
 }
 
-/// The state of a side's router: it is started while the table is loaded, but not while the gateway is away, nor once it has
-/// stopped.
+/// The state of a side's virtual router: it is started while the table is loaded, but not while the gateway is away,
+/// nor once it has stopped.
 fn role_of(view: &View, side: Side, has_stopped: bool) -> Role {
     let is_active = match side {
         Side::Inside => view.inside,

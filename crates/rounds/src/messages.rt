@@ -9,10 +9,11 @@ use sockets::Place;
 /// What an operator watches of a gateway.
 #[derive(Clone, Copy, Debug, PartialEq, Eq)]
 pub struct View {
-    /// The gateway's moment, in centiseconds since its start.
-    pub moment: u64,
-    /// Whether the virtual routers are Active.
+    /// In centiseconds since the gateway's start.
+    pub timestamp: u64,
+    /// Whether the virtual router of the inside is Active.
     pub inside: bool,
+    /// The same of the outside.
     pub outside: bool,
     /// Whether it gave way to the other gateway.
     pub away: bool,
@@ -27,7 +28,7 @@ pub struct View {
 /// How a gateway stands.
 pub fn view_of(gateway: &Gateway) -> View {
     View {
-        moment: gateway.moment(),
+        timestamp: gateway.moment(),
         inside: gateway.is_active(Side::Inside),
         outside: gateway.is_active(Side::Outside),
         away: gateway.is_away(),
@@ -37,11 +38,11 @@ pub fn view_of(gateway: &Gateway) -> View {
     }
 }
 
-/// What becomes of the word that a boot of the other gateway is off, or the one that is known.
+/// Decides on the word that a boot of the other gateway is off; without a number it is the known one. Gives the boot.
 ///
 /// # Errors
 ///
-/// What speaks against it.
+/// The first reason against it, in the order of their numbers.
 pub fn judge(view: &View, boot: Option<u64>, forced: bool) -> Result<u64, PeerOffRefusal> {
     let boot = boot.unwrap_or(view.peer);
     if !view.synced {
@@ -59,8 +60,9 @@ pub fn judge(view: &View, boot: Option<u64>, forced: bool) -> Result<u64, PeerOf
     }
 }
 
-/// What came at a place is to a gateway that stands so: a frame of a side, a datagram of the other gateway, or a word. What a
-/// carrier tells of a side counts where carriers are tracked. Of other words none is an event.
+/// What came at a place, as an event of a gateway that stands so: a frame of a side, a datagram of the other gateway,
+/// or what an operator's word says. What a carrier tells of a side counts where carriers are tracked. Other words are
+/// no events.
 pub fn event_of<'a>(view: &View, place: Place, bytes: &'a [u8], track: bool) -> Option<Event<'a>>
     ensures { IsMessage place bytes.now result }
 {
@@ -75,23 +77,26 @@ pub fn event_of<'a>(view: &View, place: Place, bytes: &'a [u8], track: bool) -> 
     }
 }
 
-/// What is asked of a box, and answered at its round's end.
+/// What an operator asks of a box. It is answered at the end of the round in which it came.
 #[derive(Clone, Copy, Debug, PartialEq, Eq)]
 pub enum Request {
     Status,
+    /// The pairs behind a key, or the first ones.
     Pairs(Option<Key>),
 }
 
 /// What is replied to a word.
 #[derive(Clone, Copy, Debug, PartialEq, Eq)]
 pub enum Response {
+    /// It is taken.
     Heard,
     Refused(PeerOffRefusal),
+    /// The answer to a request.
     Later(Request),
 }
 
 /// What is replied to what came at a place, if that is a word.
-pub fn reply_to(view: &View, place: Place, bytes: &[u8]) -> Option<Response> {
+pub fn response_to(view: &View, place: Place, bytes: &[u8]) -> Option<Response> {
     match place {
         Place::Link | Place::Side(_) => None,
         Place::Operator => Some(match Word::read(bytes)? {
@@ -107,7 +112,7 @@ pub fn reply_to(view: &View, place: Place, bytes: &[u8]) -> Option<Response> {
 }
 
 /// Whether what came at a place says that the box is to end.
-pub fn is_end(place: Place, bytes: &[u8]) -> bool {
+pub fn is_stop(place: Place, bytes: &[u8]) -> bool {
     match place {
         Place::Operator => matches!(Word::read(bytes), Some(Word::Stop)),
         Place::Link | Place::Side(_) => false,

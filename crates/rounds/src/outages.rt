@@ -1,36 +1,31 @@
-//! When a box's log is told that a place fails, or works again, or takes too little.
+//! When it is logged that a place fails, or works again, or takes less than a frame.
 
 use journal::{Entry, EventLog, Journal, Origin};
 use nat_types::Side;
 use sockets::{Place, Wire};
 
-/// How long a place has to do otherwise than was told last, in centiseconds.
+/// How long a place has failed, or has worked again, when that is logged: in centiseconds. So nothing is logged of
+/// frames that fail now and then.
 const TIMEOUT: u64 = 100;
 
-/// What was told of a place.
+/// What was logged of a place.
 #[derive(Clone, Copy)]
 struct Watched {
     fails: bool,
-    /// Since when it does otherwise.
+    /// Since when it does otherwise, if it does.
     since: Option<u64>,
     is_short: bool,
 }
 
-const UNTOLD: Watched = Watched {
-    fails: false,
-    since: None,
-    is_short: false,
-};
-
 impl Watched {
-    /// Whether it is to be told that it fails now, or works.
-    fn turns(&mut self, fails: bool, moment: u64) -> bool {
+    /// Whether it is to be logged that it fails now, or works again.
+    fn changes(&mut self, fails: bool, now: u64) -> bool {
         if fails == self.fails {
             self.since = None;
             return false;
         }
-        let since = self.since.unwrap_or(moment);
-        if moment.saturating_sub(since) < TIMEOUT {
+        let since = self.since.unwrap_or(now);
+        if now.saturating_sub(since) < TIMEOUT {
             self.since = Some(since);
             return false;
         }
@@ -40,7 +35,7 @@ impl Watched {
     }
 }
 
-/// What was told of the three places of a box.
+/// What was logged of the three places that datagrams come from and go to.
 #[derive(Clone, Copy)]
 pub(crate) struct Outages([Watched; 3]);
 
@@ -51,32 +46,31 @@ const PLACES: [(Place, Origin); 3] = [
 ];
 
 impl Outages {
+    /// Each place works.
     pub(crate) fn none() -> Outages {
-        Outages([UNTOLD; 3])
+        let works = Watched {
+            fails: false,
+            since: None,
+            is_short: false,
+        };
+        Outages([works; 3])
     }
 
-    /// Tells what is due of each place, by what its wire says.
-    pub(crate) fn tell<W: Wire, L: Journal>(
-        &mut self,
-        wire: &W,
-        moment: u64,
-        log: &EventLog<L>,
-    ) {
+    /// Logs what is due of each place, by what its wire says. That it takes less than a frame is logged once.
+    pub(crate) fn log<W: Wire, L: Journal>(&mut self, wire: &W, now: u64, log: &EventLog<L>) {
         for (watched, (place, origin)) in self.0.iter_mut().zip(PLACES) {
             let fails = wire.is_failing(place);
-            if watched.turns(fails, moment) {
-                log.tell(
-                    moment,
-                    if fails {
-                        Entry::Fails(origin)
-                    } else {
-                        Entry::Works(origin)
-                    },
-                );
+            if watched.changes(fails, now) {
+                let entry = if fails {
+                    Entry::Fails(origin)
+                } else {
+                    Entry::Works(origin)
+                };
+                log.write(now, entry);
             }
             if !watched.is_short && wire.losses(place).too_long > 0 {
                 watched.is_short = true;
-                log.tell(moment, Entry::TooLong(origin));
+                log.write(now, Entry::TooLong(origin));
             }
         }
     }

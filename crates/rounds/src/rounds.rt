@@ -1,9 +1,10 @@
 //! The rounds of a box.
 ghost use Rattle.rounds.specs.Runs.{HasTurned, IsTurn, RunsTo};
 
-use crate::answers::{answer_question, look_again, sides_of};
 use crate::messages::Request;
 use crate::outages::Outages;
+use crate::replies::answer_request;
+use crate::standing::{sides_of, update_sides};
 use crate::taking::{take_event, take_message};
 use gateway::{Event, Gateway, Out};
 use journal::{EventLog, Journal};
@@ -14,16 +15,18 @@ use sockets::{LONGEST, Wire, WireFault};
 use std::alloc::Global;
 use std::time::Duration;
 
-/// How many datagrams a round receives at most, so that a flood doesn't keep its tick back.
+/// How many datagrams a round receives at most, so that a flood doesn't keep its tick back. What is left is there for
+/// the next round.
 const MOST: usize = 256;
 
 /// How long a round waits for its first datagram, in milliseconds.
 const WAIT: u64 = 10;
 
-/// Whose box it is.
+/// Whose box it is, to those who ask how it stands.
 #[derive(Clone, Copy, Debug, PartialEq, Eq)]
 pub struct Identity {
     pub id: GatewayId,
+    /// The number of its start.
     pub boot: u64,
     /// A digest of the settings that both boxes must have alike.
     pub digest: u64,
@@ -33,25 +36,27 @@ pub struct Identity {
 #[derive(Clone, Copy, Debug)]
 pub struct Options {
     pub identity: Identity,
-    /// How many rounds it has at most.
+    /// How many rounds it has at most; without a number it runs until it is told to end.
     pub rounds: Option<u32>,
-    /// Whether it counts what carriers tell of the sides.
+    /// Whether it takes what carriers tell of the sides.
     pub track: bool,
 }
 
-/// What may tell a box to end, beside its control socket. It never waits.
+/// What may tell a box to end, beside its control socket.
 pub trait EndSignal {
+    /// Whether it has come. It is asked before each round, and doesn't wait.
     fn has_come(&mut self) -> bool;
 }
 
-/// Who is told that a box runs, as a service manager is.
+/// What a box tells of its run, as to a service manager.
 pub trait Manager {
     /// It has begun, with this boot number.
     fn ready(&mut self, boot: u64);
 
-    /// It goes on. Once a second.
+    /// It goes on: once a second.
     fn alive(&mut self);
 
+    /// It ends.
     fn ending(&mut self);
 }
 
@@ -79,17 +84,34 @@ impl<M: Manager> Manager for Option<M> {
 /// What a box keeps from one event to the next.
 #[derive(Drop)]
 pub(crate) struct State {
+    /// What its gateway told in its last step.
     pub(crate) out: Out,
     pub(crate) counters: Counters,
     pub(crate) sides: Sides,
-    pub(crate) outages: Outages,
+    outages: Outages,
+    /// What is asked, and isn't answered yet.
     pub(crate) request: Option<Request>,
+    /// Whether it was told to end.
     pub(crate) is_ending: bool,
 }
 
-/// Runs a box until it is told to end, or has had so many rounds, and stops its gateway. A round hands in what comes by the
-/// wire, and then one tick; what the gateway tells is sent at once. Of each event that is dropped, and of each change that an
-/// operator watches for, the log is told.
+impl State {
+    fn new(alloc: Global, gateway: &Gateway) -> State {
+        State {
+            out: Out::new(alloc),
+            counters: Counters::new(),
+            sides: sides_of(gateway),
+            outages: Outages::none(),
+            request: None,
+            is_ending: false,
+        }
+    }
+}
+
+/// Runs a box until it is told to end, or has had so many rounds, and stops its gateway. A round takes what comes by
+/// the wire, and then one tick; what the gateway tells is sent at once. The log has each event that is dropped, and
+/// each change that an operator watches for. The manager is told that the box goes on, behind each round in which a
+/// second began; and that it ends, before the gateway is stopped.
 ///
 /// A send that fails is a lost datagram. An event for which memory is refused changes nothing.
 pub fn serve<W: Wire, C: Clock, U: EndSignal, M: Manager, L: Journal>(
@@ -104,18 +126,33 @@ pub fn serve<W: Wire, C: Clock, U: EndSignal, M: Manager, L: Journal>(
 )
     ensures run { RunsTo W.passes gateway.old wire.old gateway.new wire.new }
 {
-    let mut state = State {
-        out: Out::new(alloc),
-        counters: Counters::new(),
-        sides: sides_of(gateway),
-        outages: Outages::none(),
-        request: None,
-        is_ending: false,
-    };
-    all_rounds(gateway, wire, clock, until, manager, &mut state, log, options);
+    let mut state = State::new(alloc, gateway);
+    all_rounds(
+        gateway, wire, clock, until, manager, &mut state, log, options,
+    );
     manager.ending();
     take_event(gateway, Event::Stop, wire, &mut state, log);
-    log.end(gateway.moment());
+    log.finish(gateway.moment());
+}
+
+/// The rounds of `serve` alone: the gateway isn't stopped, and can go on.
+pub fn run_rounds<W: Wire, C: Clock, U: EndSignal, M: Manager, L: Journal>(
+    alloc: Global,
+    gateway: &mut Gateway,
+    wire: &mut W,
+    clock: &mut C,
+    until: &mut U,
+    manager: &mut M,
+    log: &mut EventLog<L>,
+    options: &Options,
+)
+    ensures rounds { HasTurned W.passes gateway.old wire.old gateway.new wire.new }
+{
+    let mut state = State::new(alloc, gateway);
+    all_rounds(
+        gateway, wire, clock, until, manager, &mut state, log, options,
+    );
+    log.finish(gateway.moment());
 }
 
 fn all_rounds<W: Wire, C: Clock, U: EndSignal, M: Manager, L: Journal>(
@@ -137,11 +174,11 @@ fn all_rounds<W: Wire, C: Clock, U: EndSignal, M: Manager, L: Journal>(
             return;
         }
         round(gateway, wire, clock, &mut buffer, state, log, options);
-        let moment = gateway.moment();
-        if last / 100 < moment / 100 {
+        let now = gateway.moment();
+        if last / 100 < now / 100 {
             manager.alive();
         }
-        last = moment;
+        last = now;
     }
 }
 
@@ -157,15 +194,15 @@ fn round<W: Wire, C: Clock, L: Journal>(
     ensures round { HasTurned W.passes gateway.old wire.old gateway.new wire.new }
 {
     take_what_comes(gateway, wire, buffer, state, log, options.track);
-    take_event(gateway, Event::Tick(clock.moment()), wire, state, log);
-    look_again(&mut state.sides, gateway);
-    answer_question(gateway, wire, options.identity, buffer, state, log);
-    let moment = gateway.moment();
-    state.outages.tell(wire, moment, log);
-    log.turn(moment);
+    take_event(gateway, Event::Tick(clock.now()), wire, state, log);
+    update_sides(&mut state.sides, gateway);
+    answer_request(gateway, wire, options.identity, buffer, state, log);
+    let now = gateway.moment();
+    state.outages.log(wire, now, log);
+    log.advance_to(now);
 }
 
-/// Hands in what has come; the first is waited for.
+/// Takes what has come. The first datagram is waited for.
 fn take_what_comes<W: Wire, L: Journal>(
     gateway: &mut Gateway,
     wire: &mut W,
@@ -185,7 +222,7 @@ fn take_what_comes<W: Wire, L: Journal>(
     }
 }
 
-/// Hands in what comes next, and says whether there may be more.
+/// Takes the next datagram, and says whether there may be more. Where it is lost, there may.
 fn take_next<W: Wire, L: Journal>(
     gateway: &mut Gateway,
     wire: &mut W,

@@ -1,21 +1,21 @@
-//! What a gateway is handed, and what is sent of what it tells.
+//! What a gateway takes, and what is sent of what it tells.
 ghost use Rattle.std.specs.Prelude.{◌≡◌, OnErr, OnOk};
 ghost use Rattle.output.specs.Output.{none_told};
-ghost use Rattle.sockets.specs.Wires.{nothing, sent};
+ghost use Rattle.sockets.specs.Wires.{sent};
 ghost use Rattle.spec_step.specs.Shown.{scene};
 ghost use Rattle.spec_step.specs.Steps.{IsStepOn};
-ghost use Rattle.rounds.specs.Runs.{AreSent, IsQuiet, Takes, TakesAny, TakesReplied, all_sent};
+ghost use Rattle.rounds.specs.Runs.{AreSent, Takes, TakesAny, TakesReplied, all_sent};
 
-use crate::changes::{cause_of, origin_of, tell_step};
-use crate::messages::{Response, event_of, is_end, reply_to, view_of};
+use crate::changes::{cause_of, log_step, origin_of};
+use crate::messages::{event_of, is_stop, response_to, view_of};
+use crate::replies::reply;
 use crate::rounds::State;
-use control::{HEARD, refusal_bytes};
 use gateway::{Event, Gateway, NoMemory, Out, Outcome};
 use journal::{EventLog, Journal, Origin};
 use reports::{Count, Counters};
 use sockets::{Place, Wire};
 
-/// Hands in what came at a place, if it is an event, and replies to a word.
+/// Takes what came at a place, if it is an event, and replies to a word.
 pub(crate) fn take_message<W: Wire, L: Journal>(
     gateway: &mut Gateway,
     place: Place,
@@ -29,36 +29,14 @@ pub(crate) fn take_message<W: Wire, L: Journal>(
         gateway.new wire.new }
 {
     state.counters.count(origin_at(place), Count::Received);
-    state.is_ending = state.is_ending || is_end(place, bytes);
+    state.is_ending = state.is_ending || is_stop(place, bytes);
     let view = view_of(gateway);
     let event = event_of(&view, place, bytes, track);
     let is_done = take_any(gateway, event, wire, state, log);
-    reply(reply_to(&view, place, bytes), is_done, wire, state);
+    reply(response_to(&view, place, bytes), is_done, wire, state);
 }
 
-/// Replies to a word at once, or keeps its request. To a word that was heard, and for which memory was refused, nothing is
-/// said.
-fn reply<W: Wire>(reply: Option<Response>, is_done: bool, wire: &mut W, state: &mut State)
-    ensures quiet { IsQuiet W.passes wire.old wire.new }
-{
-    match reply {
-        None => {}
-        Some(Response::Later(request)) => state.request = Some(request),
-        Some(Response::Refused(refusal)) => answer(&refusal_bytes(refusal), wire, state),
-        Some(Response::Heard) if is_done => answer(HEARD, wire, state),
-        Some(Response::Heard) => answer(&[], wire, state),
-    }
-}
-
-/// Answers who said the last word.
-pub(crate) fn answer<W: Wire>(bytes: &[u8], wire: &mut W, state: &mut State)
-    ensures passes { W.passes wire.old nothing wire.new }
-{
-    wire.answer(bytes);
-    state.counters.count(Origin::Own, Count::Sent);
-}
-
-/// The same, if it is one.
+/// Takes an event, if there is one, and says whether that is done.
 fn take_any<W: Wire, L: Journal>(
     gateway: &mut Gateway,
     event: Option<Event<'_>>,
@@ -74,8 +52,8 @@ fn take_any<W: Wire, L: Journal>(
     }
 }
 
-/// Hands in an event, sends what the gateway tells, and tells the operator of it. It says whether that is done: it isn't where
-/// memory was refused.
+/// Steps the gateway by an event, sends what it tells, and logs what has changed. Says whether that is done: it isn't
+/// where memory was refused.
 pub(crate) fn take_event<W: Wire, L: Journal>(
     gateway: &mut Gateway,
     event: Event<'_>,
@@ -86,18 +64,18 @@ pub(crate) fn take_event<W: Wire, L: Journal>(
     ensures taken { Takes W.passes event.entry gateway.old wire.old gateway.new wire.new }
 {
     let before = view_of(gateway);
-    let outcome = stepped(gateway, event, &mut state.out);
+    let outcome = step(gateway, event, &mut state.out);
     send_all(wire, &state.out, &mut state.counters);
     let cause = cause_of(outcome);
     if let Some(cause) = cause {
         state.counters.count(origin_of(&event), Count::Lost(cause));
     }
-    tell_step(log, &event, cause, &before, &view_of(gateway));
+    log_step(log, &event, cause, &before, &view_of(gateway));
     outcome.is_ok()
 }
 
-/// Hands it to the gateway, which tells of that alone.
-fn stepped(gateway: &mut Gateway, event: Event<'_>, out: &mut Out) -> Result<Outcome, NoMemory>
+/// Steps the gateway, which tells of that step alone.
+fn step(gateway: &mut Gateway, event: Event<'_>, out: &mut Out) -> Result<Outcome, NoMemory>
     ensures step { OnOk result (IsStepOn (scene gateway.old none_told) event.entry
         (scene gateway.new out.new)) }
     ensures err { OnErr result (gateway.new ≡ gateway.old) }
@@ -119,6 +97,7 @@ fn send_all<W: Wire>(wire: &mut W, out: &Out, counters: &mut Counters)
     }
 }
 
+/// Sends a datagram, and counts it, if it was sent.
 fn send<W: Wire>(wire: &mut W, to: Place, bytes: &[u8], counters: &mut Counters)
     ensures passes { W.passes wire.old (sent to bytes.now) wire.new }
 {

@@ -1,6 +1,5 @@
 //! Why a text holds no settings.
 use crate::Key;
-use outlets::told_to_show;
 use std::alloc::{AllocError, AllocFailed};
 use std::fmt;
 use thiserror::Error;
@@ -53,27 +52,25 @@ impl SettingFault {
 
 impl fmt::Display for SettingFault {
     ghost use Rattle.std.specs.Fmt.{WritesOnOk};
-    ghost use Rattle.std.specs.Prelude.{OnErr, Some};
-    ghost use Rattle.outlets.specs.Showing.{HasRefused};
+    ghost use Rattle.std.specs.Prelude.{Some};
     ghost use Rattle.settings_file.specs.Faults.{fault_text};
 
     ghost output = { λ f. Some (fault_text f) };
 
     fn fmt<W: fmt::Write>(&self, f: &mut fmt::Formatter<W>) -> fmt::Result
         ensures writes { WritesOnOk W.write_str_gives f.old result (fault_text self.now) f.new }
-        ensures refused { OnErr result (HasRefused f.new) }
     {
-        told_to_show(f, self.name())?;
+        f.write_str(self.name())?;
         match self {
             SettingFault::Missing(key)
             | SettingFault::BadValue(key)
             | SettingFault::CantWork(key) => {
-                told_to_show(f, " ")?;
+                f.write_str(" ")?;
                 fmt::Display::fmt(key, f)
             }
             SettingFault::UnknownKey(path) => {
-                told_to_show(f, " ")?;
-                told_to_show(f, path.as_str())
+                f.write_str(" ")?;
+                f.write_str(path.as_str())
             }
             SettingFault::NotToml
             | SettingFault::RangesOverlap

@@ -1,10 +1,8 @@
 //! The keys that settings have, and their texts.
 ghost use Rattle.std.specs.Fmt.{WritesOnOk};
-ghost use Rattle.std.specs.Prelude.{◌≡◌, OnErr, Some};
-ghost use Rattle.outlets.specs.Showing.{HasRefused};
+ghost use Rattle.std.specs.Prelude.{◌≡◌, Some};
 ghost use Rattle.settings_file.specs.Keys.{section_text, name_text, key, key_text, whole};
 
-use outlets::told_to_show;
 use std::fmt;
 
 /// A table of the settings, or the list of static neighbours.
@@ -136,13 +134,12 @@ impl fmt::Display for Key {
 
     fn fmt<W: fmt::Write>(&self, f: &mut fmt::Formatter<W>) -> fmt::Result
         ensures writes { WritesOnOk W.write_str_gives f.old result (key_text self.now) f.new }
-        ensures refused { OnErr result (HasRefused f.new) }
     {
-        told_to_show(f, self.section.as_str())?;
+        f.write_str(self.section.as_str())?;
         match self.name {
             Some(name) => {
-                told_to_show(f, ".")?;
-                told_to_show(f, name.as_str())
+                f.write_str(".")?;
+                f.write_str(name.as_str())
             }
             None => Ok(()),
         }

@@ -1,5 +1,4 @@
-mod Playing
-mod Taking
-mod Putting
-mod Telling
-mod Blocks
+mod Parts
+mod Lines
+mod Steps
+mod Turning

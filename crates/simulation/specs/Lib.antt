@@ -1,10 +1,3 @@
-pub mod Texts
-pub mod Status
-pub mod Outputs
-pub mod Refusals
-pub mod Stops
-pub mod Tapes
-pub mod Watched
-pub mod Clocks
-pub mod Packets
-pub mod Captures
+pub mod Printed
+pub mod Lines
+pub mod Runs

@@ -1,14 +1,20 @@
-//! Runs a script on a new world of settings from a text, and prints what it does.
+//! Runs scripts of events on a pair of gateways, and prints what they do: `sim` hands each event in, and `loop` first sends what
+//! it brings through a UDP socket.
 #![tactic(auto)]
 
-mod clocks;
-mod progress;
-mod shown;
-mod simulation;
-mod tapes;
-mod writing;
+mod capture;
+mod lines;
+mod loopback;
+pub mod looped;
+mod moments;
+mod script;
+pub mod sim;
+mod tables;
+mod told;
+mod words;
 
-pub use clocks::Clocks;
-pub use progress::{Progress, Unwatched};
-pub use simulation::{play, simulate, simulate_captured, simulate_watched};
-pub use tapes::{Capture, Unbegun};
+pub use capture::Capture;
+pub use loopback::Loopback;
+pub use looped::Channel;
+pub use script::{Job, read_job};
+pub use sim::Progress;

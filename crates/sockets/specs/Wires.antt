@@ -14,7 +14,7 @@ message_of (Ok (Some found)) buffer = received found.0 (take found.1 buffer)
 message_of (Ok None) buffer = nothing
 message_of (Err fault) buffer = nothing
 
--- what a wire is before a message passes it, and is then
+-- what a wire is before a message passes it, and what it is then
 abbrev pub Passes : Type 0 → Type 1
 Passes W = W → Message → W → Type 0
 

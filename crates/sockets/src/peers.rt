@@ -1,8 +1,8 @@
-//! Who is heard at a place, and what lies before what is sent there.
+//! Whom a place speaks with, and how a datagram for it looks.
 ghost use Rattle.std.specs.Prelude.{◌≤◌, IfSome};
 
 use crate::vxlan::HEADER;
-use crate::{End, LONGEST, Network};
+use crate::{Arrived, End, LONGEST, Network};
 use addresses::Ip;
 
 /// Who sent a datagram.
@@ -13,25 +13,26 @@ pub enum Sender {
     Interface,
 }
 
-/// Whom a place is for.
+/// Whom a place speaks with. It accepts datagrams of nobody else.
 #[derive(Clone, Copy, Debug, PartialEq, Eq)]
 pub enum Peer {
+    /// Exactly this address and port.
     Udp(End),
+    /// This address, by VXLAN in this network. Its port may be any: a kernel sends each flow from a port of its
+    /// own.
     Vxlan(Ip, Network),
+    /// Whoever is on an interface's network.
     Interface,
 }
 
 impl Peer {
-    /// How many bytes a datagram of so many has for this place, from the front of the buffer on; none if it isn't its sender's.
-    pub(crate) fn hears(
-        self,
-        sender: Sender,
-        count: usize,
-        buffer: &mut [u8; LONGEST],
-    ) -> Option<usize>
-        requires { count ≤ LONGEST }
-        ensures { IfSome result (λ heard. heard ≤ LONGEST) }
+    /// Accepts a datagram that arrived in the buffer if it is the peer's, and gives the length of what it carries,
+    /// which is then at the buffer's front. A stranger's gives `None`.
+    pub(crate) fn accept(self, arrived: Arrived, buffer: &mut [u8; LONGEST]) -> Option<usize>
+        requires { arrived.count ≤ LONGEST }
+        ensures { IfSome result (λ length. length ≤ LONGEST) }
     {
+        let Arrived { count, sender } = arrived;
         match self {
             Peer::Udp(end) if sender == Sender::End(end) => Some(count),
             Peer::Interface if sender == Sender::Interface => Some(count),
@@ -46,10 +47,10 @@ impl Peer {
         }
     }
 
-    /// Lays bytes into the buffer behind what stands before them there, and says how many there are then; none if they are too
+    /// Writes the datagram that carries these bytes into the buffer, and gives its length; `None` where it is too
     /// long.
-    pub(crate) fn lay(self, bytes: &[u8], buffer: &mut [u8; LONGEST]) -> Option<usize>
-        ensures { IfSome result (λ count. count ≤ LONGEST) }
+    pub(crate) fn encapsulate(self, bytes: &[u8], buffer: &mut [u8; LONGEST]) -> Option<usize>
+        ensures { IfSome result (λ length. length ≤ LONGEST) }
     {
         let start = match self {
             Peer::Vxlan(_, network) => {

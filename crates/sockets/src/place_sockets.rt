@@ -1,30 +1,13 @@
-//! A place of a box over a socket, or over what a test has in memory.
+//! A place of a box over what carries its datagrams.
 ghost use Rattle.std.specs.Prelude.{◌≤◌, IfOk, IfSome};
 
-use crate::{Peer, LONGEST, Losses, SendFault, Sender, WireFault};
+use crate::{LONGEST, Losses, Peer, SendFault, Transport, WireFault};
 
-/// How many datagrams of strangers are passed over at most before the next place has its turn.
-const MOST: usize = 64;
+/// How many datagrams of strangers one call passes over at most, so that a flood of them keeps no other place
+/// waiting.
+const MOST_STRANGERS: usize = 64;
 
-/// A datagram that came: how many bytes of the buffer it has, and who sent it.
-#[derive(Clone, Copy, Debug, PartialEq, Eq)]
-pub struct Arrived {
-    pub count: usize,
-    pub sender: Sender,
-}
-
-/// What datagrams come and go by. No call waits.
-pub trait Transport {
-    /// Sends the first bytes of the buffer, so many.
-    fn send(&mut self, buffer: &[u8; LONGEST], count: usize) -> Result<(), SendFault>
-        requires { count ≤ LONGEST };
-
-    /// The next datagram, if one is there.
-    fn receive(&mut self, buffer: &mut [u8; LONGEST]) -> Result<Option<Arrived>, WireFault>
-        ensures { IfOk result (λ found. IfSome found (λ one. one.count ≤ LONGEST)) };
-}
-
-/// A place of a box. Of all that comes there just the peer's is heard.
+/// A place of a box. Of all that arrives there it accepts what its peer sent.
 #[derive(Drop)]
 pub struct PlaceSocket<C> {
     transport: C,
@@ -32,7 +15,9 @@ pub struct PlaceSocket<C> {
     strangers: u64,
     is_failing: bool,
     losses: Losses,
+    /// Something may have arrived since the last look.
     is_ready: bool,
+    /// The datagram that is sent next, as it is sent.
     buffer: [u8; LONGEST],
 }
 
@@ -56,30 +41,38 @@ impl<C: Transport> PlaceSocket<C> {
         &self.transport
     }
 
-    /// Something was reported.
+    /// A poll has reported the transport.
     pub fn wake(&mut self) {
         self.is_ready = true;
     }
 
+    /// Whether something may have arrived, as far as is known.
     pub fn is_ready(&self) -> bool {
         self.is_ready
     }
 
-    /// How many datagrams of strangers came.
+    /// How many datagrams of strangers arrived.
     pub fn strangers(&self) -> u64 {
         self.strangers
     }
 
+    /// Whether the last datagram couldn't be sent, or to receive one failed.
     pub fn is_failing(&self) -> bool {
         self.is_failing
     }
 
+    /// How many datagrams weren't sent.
     pub fn losses(&self) -> Losses {
         self.losses
     }
 
+    /// Sends bytes to the peer.
+    ///
+    /// # Errors
+    ///
+    /// Where they weren't sent. They are lost then, and counted.
     pub fn send(&mut self, bytes: &[u8]) -> Result<(), SendFault> {
-        let sent = match self.peer.lay(bytes, &mut self.buffer) {
+        let sent = match self.peer.encapsulate(bytes, &mut self.buffer) {
             Some(count) => self.transport.send(&self.buffer, count),
             None => Err(SendFault::TooLong),
         };
@@ -88,11 +81,16 @@ impl<C: Transport> PlaceSocket<C> {
         sent
     }
 
-    /// The peer's next datagram: so many bytes at the front of the buffer.
+    /// The peer's next datagram: so many bytes at the front of the buffer. After a transport had nothing, or failed
+    /// twice, it isn't asked again before a poll reports it, so that what always fails doesn't keep the box busy.
+    ///
+    /// # Errors
+    ///
+    /// Where to receive failed. Nothing was received then.
     pub fn receive(&mut self, buffer: &mut [u8; LONGEST]) -> Result<Option<usize>, WireFault>
         ensures { IfOk result (λ found. IfSome found (λ count. count ≤ LONGEST)) }
     {
-        for _ in 0..MOST {
+        for _ in 0..MOST_STRANGERS {
             if !self.is_ready {
                 return Ok(None);
             }
@@ -103,13 +101,12 @@ impl<C: Transport> PlaceSocket<C> {
                     return Ok(None);
                 }
                 Err(WireFault) => {
-                    // Where it fails again, it is looked at once it is reported.
                     self.is_ready = !self.is_failing;
                     self.is_failing = true;
                     return Err(WireFault);
                 }
             };
-            if let Some(count) = self.peer.hears(arrived.sender, arrived.count, buffer) {
+            if let Some(count) = self.peer.accept(arrived, buffer) {
                 self.is_failing = false;
                 return Ok(Some(count));
             }

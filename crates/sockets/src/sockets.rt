@@ -1,9 +1,9 @@
-//! The wire of a box: the sockets of its places, and its control socket.
+//! The sockets of a box: those of its places, and its control socket.
 ghost use Rattle.std.specs.Prelude.{◌≤◌, IfOk, IfSome};
 ghost use Rattle.sockets.specs.Wires.{AnyWay};
 
-use crate::raw_sockets::Socket;
-use crate::{PlaceSocket, LONGEST, Losses, Place, SendFault, Ways, Wire, WireFault};
+use crate::transports::Socket;
+use crate::{LONGEST, Losses, Place, PlaceSocket, SendFault, Ways, Wire, WireFault};
 use control::Control;
 use mio::{Events, Poll, Token};
 use nat_types::{GatewayId, Side};
@@ -15,17 +15,20 @@ use std::time::Duration;
 use thiserror::Error;
 
 const LINK: Token = Token(0);
+
 const INSIDE: Token = Token(1);
+
 const OUTSIDE: Token = Token(2);
-/// The control socket and its clients.
+/// The token of the control socket and of its clients.
 pub const CONTROL: Token = Token(3);
 
-/// How many reports there is buffer for at once.
-const REPORTS: usize = 8;
+/// How many events one poll reports at most.
+const EVENTS: usize = 8;
 
-/// Why a box has no wire.
+/// Why a box has no sockets.
 #[derive(Clone, Copy, Debug, PartialEq, Eq, Error)]
 pub enum SocketFault {
+    /// A port can't be bound, or a socket or descriptor can't be polled.
     #[error("socket 1 NoSocket")]
     NoSocket,
     #[error("memory 1 NoMemory")]
@@ -44,7 +47,7 @@ impl From<io::Error> for SocketFault {
     }
 }
 
-/// The ports of a box on the loopback address: of each place its own and the other one.
+/// The ports of a box on the loopback address: of each place its own one, and the one that it sends to.
 #[derive(Clone, Copy, Debug, PartialEq, Eq)]
 pub struct Ports {
     pub link: (u16, u16),
@@ -53,7 +56,7 @@ pub struct Ports {
 }
 
 impl Ports {
-    /// Those that settings give a box.
+    /// The ports that settings give a box.
     pub fn of(settings: &Settings, id: GatewayId) -> Ports {
         let (own, other) = match id {
             GatewayId::Zero => (&settings.zero, &settings.one),
@@ -67,7 +70,7 @@ impl Ports {
     }
 }
 
-/// The wire of a box.
+/// The sockets of a box, polled together.
 #[derive(Drop)]
 pub struct Sockets {
     poll: Poll,
@@ -76,16 +79,17 @@ pub struct Sockets {
     inside: PlaceSocket<Socket>,
     outside: PlaceSocket<Socket>,
     control: Control,
-    /// Whose turn it is.
+    /// The place that is looked at first, so that none is passed over for long.
     next: Place,
 }
 
 impl Sockets {
-    /// The sockets of these ways.
+    /// Opens the sockets of these ways, and has the control socket polled with them. The descriptors of the ways
+    /// were inherited before ([`Ways::inherit`]).
     ///
     /// # Errors
     ///
-    /// `NoSocket` where one can't be had, or watched; `NoMemory`.
+    /// `NoSocket` where one can't be opened or polled; `NoMemory`.
     pub fn open<R: Net + AllocGlobal>(
         rt: &R,
         ways: &Ways,
@@ -97,7 +101,7 @@ impl Sockets {
         let link = Socket::open(rt, registry, LINK, ways.link, ports.link)?;
         let inside = Socket::open(rt, registry, INSIDE, ways.inside, ports.inside)?;
         let outside = Socket::open(rt, registry, OUTSIDE, ways.outside, ports.outside)?;
-        let events = Events::with_capacity(rt.alloc(), REPORTS)?;
+        let events = Events::with_capacity(rt.alloc(), EVENTS)?;
         control.register(registry)?;
         Ok(Sockets {
             link: PlaceSocket::new(link, ways.link.peer(ports.link)),
@@ -110,7 +114,7 @@ impl Sockets {
         })
     }
 
-    /// How many datagrams of strangers came to a place; of the operator's, how many clients were refused.
+    /// How many datagrams of strangers came to a place; of the operator's place, how many clients were refused.
     pub fn strangers(&self, place: Place) -> u64 {
         match self.place_socket(place) {
             Some(place_socket) => place_socket.strangers(),
@@ -127,7 +131,7 @@ impl Sockets {
         }
     }
 
-    /// What has come, of the place whose turn it is or of the next one that has something.
+    /// The next datagram that is there, of the place that is looked at first or of one behind it.
     fn take(&mut self, buffer: &mut [u8; LONGEST]) -> Result<Option<(Place, usize)>, WireFault>
         ensures { IfOk result (λ found. IfSome found (λ one. one.1 ≤ LONGEST)) }
     {
@@ -147,7 +151,7 @@ impl Sockets {
         Ok(None)
     }
 
-    /// Waits until something is reported, or the limit has passed.
+    /// Waits until a place has something, or the limit has passed.
     fn wait(&mut self, limit: Duration) -> Result<(), WireFault> {
         if self.poll.poll(&mut self.events, Some(limit)).is_err() {
             return Err(WireFault);
@@ -179,7 +183,8 @@ impl Wire for Sockets {
         limit: Duration,
         buffer: &mut [u8; LONGEST],
     ) -> Result<Option<(Place, usize)>, WireFault> {
-        // Where a flood keeps one place ready, the others are looked at all the same.
+        // A place that had nothing isn't asked again before a poll reports it: without this look a flood at one
+        // place would hide the others for as long as it lasts.
         if !limit.is_zero() && self.is_any_ready() {
             self.wait(Duration::ZERO)?;
         }
@@ -227,6 +232,7 @@ impl Wire for Sockets {
     }
 }
 
+/// The place that is looked at next.
 fn after(place: Place) -> Place {
     match place {
         Place::Link => Place::Side(Side::Inside),

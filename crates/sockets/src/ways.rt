@@ -1,6 +1,6 @@
 //! By what way each place of a box is reached.
 
-use crate::{End, Ends, Peer, Network, Ports};
+use crate::{End, Ends, Network, Peer, Ports};
 use mio::net::UdpSocket;
 use platform::Inherited;
 use std::net::{Net, SocketAddr};
@@ -9,16 +9,19 @@ use thiserror::Error;
 /// By what way a place is reached.
 #[derive(Clone, Copy, Debug, PartialEq, Eq)]
 pub enum Way {
-    /// By the ports of the settings, on this machine.
+    /// UDP between two ports of the loopback address, which the settings give.
     Loopback,
+    /// UDP between two ends, each frame a datagram.
     Udp(Ends),
+    /// UDP between two ends, each frame behind a header of VXLAN with this network.
     Vxlan(Ends, Network),
-    /// By a descriptor that was inherited.
+    /// An open descriptor that was inherited, each frame a read or a write.
     Descriptor(u16),
 }
 
 impl Way {
-    /// As `loopback`, `udp:OWN,OTHER`, `vxlan:OWN,OTHER,NUMBER` or `descriptor:N`.
+    /// Reads `loopback`, `udp:OWN,OTHER`, `vxlan:OWN,OTHER,NETWORK` or `descriptor:N`, where an end is as
+    /// `10.1.0.1:7000`, and N isn't one of the three standard descriptors.
     pub fn read(text: &str) -> Option<Way> {
         if text == "loopback" {
             return Some(Way::Loopback);
@@ -37,7 +40,7 @@ impl Way {
         }
     }
 
-    /// Who is heard by it.
+    /// Whom a place speaks with by it. On the loopback address that is the second of these ports.
     pub fn peer(self, ports: (u16, u16)) -> Peer {
         match self {
             Way::Loopback => Peer::Udp(Ends::on_loopback(ports).other),
@@ -62,11 +65,12 @@ pub struct Ways {
 pub struct NoDescriptor(pub u16);
 
 impl Ways {
-    /// Whether the descriptors that they name are open; they don't block from now on.
+    /// Makes the descriptors of the ways non-blocking. It comes before anything is opened: else what the box opens
+    /// itself could be taken for a descriptor that it inherited.
     ///
     /// # Errors
     ///
-    /// The first that isn't.
+    /// The first that isn't open, of the inside, the outside and the link.
     pub fn inherit(&self) -> Result<(), NoDescriptor> {
         for way in [self.inside, self.outside, self.link] {
             if let Way::Descriptor(number) = way {
@@ -79,7 +83,7 @@ impl Ways {
     }
 }
 
-/// The first end of a box at which no socket can be bound by itself.
+/// The first of a box's own ends at which no socket can be bound, of the link, the inside and the outside.
 pub fn first_unbound<R: Net>(rt: &R, ways: &Ways, ports: Ports) -> Option<End> {
     let places = [
         (ways.link, ports.link),

@@ -1,0 +1,135 @@
+//! What a box replies to a word.
+
+use addresses::Protocol;
+use cases_words::Case;
+use control::Reply;
+use journal::{Cause, Origin};
+use nat_types::EntryState;
+use packet_rules::Reason;
+use reports::{Count, Counters, GatewayReport, Page, PairCounts, Report, SideReport};
+use std::fmt::Display;
+
+/// Prints a reply: that the word is taken, or why it isn't; or how the box stands, or which pairs it has.
+pub(crate) fn show_reply(bytes: &[u8], case: &mut Case) {
+    match Reply::read(bytes) {
+        Some(Reply::Heard) => case.tell("answer heard"),
+        Some(Reply::Refused(refusal)) => tell_refused(case, refusal),
+        Some(Reply::Report(bytes)) => show_report_of(bytes, case),
+        Some(Reply::Page(bytes)) => show_page_of(bytes, case),
+        None => {
+            case.say("  answer of ", bytes.len());
+            case.put(" bytes\n");
+        }
+    }
+}
+
+/// Prints why something is refused.
+fn tell_refused<D: Display + Drop>(case: &mut Case, fault: D) {
+    case.say("  answer ", fault);
+    case.end();
+}
+
+fn show_report_of(bytes: &[u8], case: &mut Case) {
+    match Report::read(bytes) {
+        Ok(report) => show_report(&report, case),
+        Err(fault) => tell_refused(case, fault),
+    }
+}
+
+fn show_page_of(bytes: &[u8], case: &mut Case) {
+    match Page::read(bytes) {
+        Ok(page) => show_page(&page, case),
+        Err(fault) => tell_refused(case, fault),
+    }
+}
+
+/// How a box stands, in six lines and more.
+fn show_report(report: &Report, case: &mut Case) {
+    case.say("  answer box ", report.id);
+    case.say(" boot ", report.boot);
+    case.say(" digest ", report.digest);
+    case.say(" at ", report.gateway.uptime);
+    show_gateway(&report.gateway, case);
+    show_side("inside", &report.sides.inside, case);
+    show_side("outside", &report.sides.outside, case);
+    for protocol in [Protocol::Icmp, Protocol::Tcp, Protocol::Udp] {
+        show_pairs(&report.gateway.pairs, protocol, case);
+    }
+    show_ports(&report.gateway, case);
+    show_counts(report, case);
+    case.say("    lines left out ", report.lines_left_out);
+    case.end();
+}
+
+fn show_gateway(gateway: &GatewayReport, case: &mut Case) {
+    case.say("\n    synced ", gateway.synced);
+    case.say(" away ", gateway.away);
+    case.say(" peer ", gateway.peer.boot);
+    case.show(" heard ", gateway.peer.heard);
+    case.say(" serves ", gateway.peer.serves);
+    case.end();
+}
+
+fn show_ports(gateway: &GatewayReport, case: &mut Case) {
+    let ports = gateway.ports;
+    case.say("    ports ", ports.owned);
+    case.say(" free icmp ", ports.free_icmp);
+    case.say(" tcp ", ports.free_tcp);
+    case.say(" udp ", ports.free_udp);
+    case.say("\n    waiting ", gateway.waiting.pair);
+    case.say(" ", gateway.waiting.next_hop);
+    case.end();
+}
+
+/// The role of a side, and whether its cable is in; each with the timestamp since when.
+fn show_side(name: &str, side: &SideReport, case: &mut Case) {
+    case.say("    ", name);
+    case.show(" ", side.role);
+    case.say(" ", side.role_since);
+    case.say(" up ", side.up);
+    case.say(" ", side.up_since);
+    case.end();
+}
+
+/// How many entries of a protocol have each state.
+fn show_pairs(pairs: &PairCounts, protocol: Protocol, case: &mut Case) {
+    case.say("    ", protocol);
+    case.say(" pending ", pairs.of(protocol, EntryState::Pending));
+    case.say(" doomed ", pairs.of(protocol, EntryState::Doomed));
+    case.say(" live ", pairs.of(protocol, EntryState::Live));
+    case.say(" closing ", pairs.of(protocol, EntryState::Closing));
+    case.say(" held ", pairs.of(protocol, EntryState::Held));
+    case.end();
+}
+
+/// What came, was sent, failed and was too long; and what was dropped for the reasons 1 and 16.
+fn show_counts(report: &Report, case: &mut Case) {
+    show_count("inside", &report.counters, Origin::Inside, case);
+    show_count("outside", &report.counters, Origin::Outside, case);
+    show_count("link", &report.counters, Origin::Link, case);
+    show_count("own", &report.counters, Origin::Own, case);
+}
+
+fn show_count(name: &str, counters: &Counters, origin: Origin, case: &mut Case) {
+    let short = Count::Lost(Cause::Dropped(Reason::ShortFrame));
+    let bad = Count::Lost(Cause::Dropped(Reason::BadDatagram));
+    case.say("    ", name);
+    case.say(" in ", counters.of(origin, Count::Received));
+    case.say(" out ", counters.of(origin, Count::Sent));
+    case.say(" failed ", counters.of(origin, Count::SendFailed));
+    case.say(" long ", counters.of(origin, Count::TooLong));
+    case.say(" 1 ", counters.of(origin, short));
+    case.say(" 16 ", counters.of(origin, bad));
+    case.end();
+}
+
+/// Each entry of a page, and whether others follow.
+fn show_page(page: &Page, case: &mut Case) {
+    case.tell("answer page");
+    for entry in page.entries.as_slice().iter().flatten() {
+        case.say("    ", entry.pair);
+        case.end();
+    }
+    case.say("    more ", page.more);
+    case.end();
+}

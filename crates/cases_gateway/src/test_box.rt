@@ -1,0 +1,264 @@
+//! A box whose wire lies in memory.
+
+use crate::any_gateway::{AnyGateway, Orders};
+use crate::lines::Lines;
+use crate::managers::CountingManager;
+use crate::wires::{Datagram, FailingWire, Limit, MemoryWire, Outage, StepClock};
+use cases_words::Case;
+use gateway::Hashers;
+use nat_types::{GatewayId, Side};
+use rounds::{Identity, Options};
+use settings::Settings;
+use sockets::Place;
+use std::alloc::Global;
+use std::cell::RefCell;
+use std::io::{self, Write};
+
+/// The digest of the settings, as far as a box in memory is asked.
+const DIGEST: u64 = 7;
+
+/// A gateway with its wire, its clock and its manager. It goes by `end` alone.
+pub(crate) struct TestBox<G> {
+    gateway: G,
+    identity: Identity,
+    pub(crate) wire: MemoryWire,
+    clock: StepClock,
+    manager: CountingManager,
+}
+
+/// How a box is run.
+#[derive(Clone, Copy)]
+pub(crate) struct Run {
+    /// How many rounds it has at most.
+    pub(crate) rounds: Option<u32>,
+    /// How many centiseconds pass from one to the next.
+    pub(crate) pace: u64,
+    pub(crate) track: bool,
+    pub(crate) orders: Orders,
+}
+
+impl<G: AnyGateway> TestBox<G> {
+    /// A gateway of that number in that boot, at moment 0; none where there is no such gateway.
+    pub(crate) fn new(
+        alloc: Global,
+        settings: &Settings,
+        id: GatewayId,
+        boot: u64,
+        found: bool,
+    ) -> Option<TestBox<G>> {
+        let gateway = G::begun(alloc, settings, Hashers::fixed(), id, boot, found)?;
+        let digest = DIGEST;
+        Some(TestBox {
+            gateway,
+            identity: Identity { id, boot, digest },
+            wire: MemoryWire::new(alloc),
+            clock: StepClock { now: 0, pace: 0 },
+            manager: CountingManager::new(),
+        })
+    }
+
+    /// Ends its gateway, and gives its memory back.
+    pub(crate) fn end(self) {
+        let TestBox {
+            gateway,
+            identity: _,
+            wire,
+            clock,
+            manager,
+        } = self;
+        gateway.end();
+        drop(wire);
+        drop(clock);
+        drop(manager);
+    }
+
+    /// Prepares the next rounds.
+    ///
+    /// - `come PLACE HEX`, `come PLACE HEX N`: a datagram comes, or comes N times
+    /// - `fails PLACE N M`: a place fails in the rounds N to M of the next line of rounds
+    /// - `takes PLACE N`: a place takes at most N bytes at once from now on
+    pub(crate) fn prepare(&mut self, case: &mut Case) {
+        case.back();
+        match case.word() {
+            "come" => self.come(case),
+            "fails" => self.fail(case),
+            "takes" => self.limit(case),
+            _ => case.fault(),
+        }
+    }
+
+    fn come(&mut self, case: &mut Case) {
+        let place = place_in(case);
+        let bytes = case.bytes();
+        let count = if case.left() == 0 { 1 } else { case.times() };
+        for _ in 0..count {
+            self.bring(place, bytes.as_slice(), case);
+        }
+    }
+
+    fn fail(&mut self, case: &mut Case) {
+        let outage = Outage {
+            place: place_in(case),
+            first: case.times(),
+            last: case.times(),
+        };
+        case.keep(self.wire.outages.push(outage));
+    }
+
+    fn limit(&mut self, case: &mut Case) {
+        self.wire.limit = Some(Limit {
+            place: place_in(case),
+            most: case.count(),
+        });
+    }
+
+    /// A datagram comes.
+    pub(crate) fn bring(&mut self, place: Place, bytes: &[u8], case: &mut Case) {
+        let copied = Vec::from_slice(case.alloc, bytes);
+        let bytes = case.or_none(copied);
+        case.keep(self.wire.coming.push(Datagram { place, bytes }));
+    }
+
+    /// Runs as the next words say, and prints what comes of it.
+    ///
+    /// - `rounds N M`, `rounds N M untracked`: rounds, and no end
+    /// - `serves ..`: the box runs to its end (`run_in`)
+    pub(crate) fn run(&mut self, case: &mut Case) {
+        if case.is_first("rounds", "serves") {
+            self.run_on(case);
+        } else {
+            self.run_to_end(case);
+        }
+    }
+
+    fn run_on(&mut self, case: &mut Case) {
+        let (rounds, pace) = (case.times(), case.number());
+        let track = case.left() == 0;
+        let lines = RefCell::new(Vec::new(case.alloc));
+        self.go_on(rounds, pace, track, &lines);
+        self.wire.show(case);
+        case.text(lines.into_inner().as_slice());
+    }
+
+    /// Has so many rounds, at each of which so many centiseconds more have passed.
+    pub(crate) fn go_on(&mut self, rounds: u32, pace: u64, track: bool, lines: &RefCell<Vec<u8>>) {
+        let orders = Orders {
+            told: None,
+            stops: false,
+        };
+        let rounds = Some(rounds);
+        let run = Run {
+            rounds,
+            pace,
+            track,
+            orders,
+        };
+        self.run_with(run, 0, open(lines));
+        self.wire.outages.clear();
+    }
+
+    fn run_to_end(&mut self, case: &mut Case) {
+        let run = run_in(case);
+        let lines = RefCell::new(Vec::new(case.alloc));
+        let mut output = Vec::new(case.alloc);
+        case.keep(self.serve(run, 0, open(&lines), &mut output));
+        self.wire.show(case);
+        case.text(lines.into_inner().as_slice());
+        case.text(output.as_slice());
+        self.manager.show(case);
+    }
+
+    /// Runs the box to its end, and writes `end`. The call of its wire with that number fails; at 0 none does.
+    pub(crate) fn serve<O: Write>(
+        &mut self,
+        run: Run,
+        failing: u64,
+        lines: Lines<'_>,
+        output: &mut O,
+    ) -> io::Result<()> {
+        self.manager.begin();
+        self.run_with(run, failing, lines);
+        output.write_all(b"end\n")?;
+        output.flush()
+    }
+
+    fn run_with(&mut self, run: Run, failing: u64, lines: Lines<'_>) {
+        let options = Options {
+            identity: self.identity,
+            rounds: run.rounds,
+            track: run.track,
+        };
+        self.clock.pace = run.pace;
+        self.wire.begin();
+        let alloc = self.wire.alloc;
+        let mut wire = FailingWire {
+            wire: &mut self.wire,
+            left: failing,
+        };
+        self.gateway.run(
+            alloc,
+            &mut wire,
+            &mut self.clock,
+            &mut self.manager,
+            lines,
+            run.orders,
+            &options,
+        );
+    }
+}
+
+/// Lines that are kept.
+pub(crate) fn open(text: &RefCell<Vec<u8>>) -> Lines<'_> {
+    Lines {
+        text,
+        is_closed: false,
+    }
+}
+
+/// As `4 360`, or `- 360 told 3`: how many rounds, how many centiseconds apart, and after how many it is told to end.
+fn run_in(case: &mut Case) -> Run {
+    let rounds = rounds_in(case);
+    let pace = case.number();
+    let orders = Orders {
+        told: told_in(case),
+        stops: true,
+    };
+    Run {
+        rounds,
+        pace,
+        track: true,
+        orders,
+    }
+}
+
+/// A number of rounds, or any for `-`.
+fn rounds_in(case: &mut Case) -> Option<u32> {
+    if case.word() == "-" {
+        return None;
+    }
+    case.back();
+    Some(case.times())
+}
+
+fn told_in(case: &mut Case) -> Option<u32> {
+    if case.left() == 0 {
+        return None;
+    }
+    if case.word() != "told" {
+        case.fault();
+    }
+    Some(case.times())
+}
+
+/// What a place is called.
+const PLACES: [(&str, Place); 4] = [
+    ("link", Place::Link),
+    ("inside", Place::Side(Side::Inside)),
+    ("outside", Place::Side(Side::Outside)),
+    ("operator", Place::Operator),
+];
+
+/// The place that the next word names.
+fn place_in(case: &mut Case) -> Place {
+    case.pick(&PLACES, Place::Link)
+}

@@ -1,0 +1,179 @@
+//! The gateway of a case.
+
+use crate::any_gateway::AnyGateway;
+use crate::changing::{Trial, change};
+use crate::datagrams::spelled;
+use crate::printing::print_step;
+use cases_words::Case;
+use gateway::{Event, Hashers, Out, Outcome, Reason};
+use nat_types::GatewayId;
+use settings::Settings;
+
+/// A gateway, and the datagram that came to it last. It goes by `end`.
+pub(crate) struct TestGateway<G> {
+    id: GatewayId,
+    gateway: G,
+    last: Vec<u8>,
+    out: Out,
+}
+
+impl<G: AnyGateway> TestGateway<G> {
+    /// As `0 boot 1 founded`: a gateway of that number in that boot; none where there is no such gateway.
+    pub(crate) fn new(settings: &Settings, case: &mut Case) -> Option<TestGateway<G>> {
+        let id = case.gateway();
+        let boot = after("boot", case);
+        let found = case.left() == 1;
+        match G::begun(case.alloc, settings, Hashers::fixed(), id, boot, found) {
+            Some(gateway) => Some(TestGateway {
+                id,
+                gateway,
+                last: Vec::new(case.alloc),
+                out: Out::new(case.alloc),
+            }),
+            None => {
+                case.fault();
+                None
+            }
+        }
+    }
+
+    /// Ends its gateway, and gives its memory back.
+    pub(crate) fn end(self) {
+        let TestGateway {
+            id: _,
+            gateway,
+            last,
+            out,
+        } = self;
+        gateway.end();
+        drop(last);
+        drop(out);
+    }
+
+    /// What happens to the gateway of a case.
+    ///
+    /// - `tick MOMENT`, `frame SIDE HEX`: the clock goes on; a frame comes
+    /// - `letter ..`: a datagram comes, in words (`datagrams::spelled`)
+    /// - `bytes HEX`, `again`: a datagram of these bytes comes; the last datagram comes once more
+    /// - `cuts HEX`: a datagram comes cut at every length
+    /// - `frame-cuts SIDE HEX`, `frame-changes SIDE HEX`: a frame comes cut at every length; with every byte changed to
+    ///   every other value
+    /// - `frame-cuts SIDE HEX from MOMENT`, `frame-changes SIDE HEX from MOMENT`: the same, each frame in a second of
+    ///   its own, the first one at that moment
+    /// - `table`: how the gateway stands
+    pub(crate) fn happen(&mut self, case: &mut Case) {
+        case.back();
+        match case.word() {
+            "tick" => self.step(Event::Tick(case.number()), case),
+            "frame" => self.frame(case),
+            "letter" => self.datagram(case),
+            "bytes" => self.bytes(case),
+            "again" => self.again(case),
+            "cuts" => self.cuts(case),
+            "frame-cuts" => self.frame_cuts(case),
+            "frame-changes" => self.frame_changes(case),
+            "table" => self.gateway.table(case),
+            _ => case.fault(),
+        }
+    }
+
+    /// One step; prints what comes of it, and what is told.
+    fn step(&mut self, event: Event<'_>, case: &mut Case) {
+        let outcome = self.gateway.step(event, &mut self.out, case);
+        print_step(outcome, &self.out, case);
+    }
+
+    fn frame(&mut self, case: &mut Case) {
+        let side = case.side();
+        let bytes = case.bytes();
+        self.step(Event::Frame(side, bytes.as_slice()), case);
+    }
+
+    /// A datagram in words comes, as the other gateway's.
+    fn datagram(&mut self, case: &mut Case) {
+        self.last = spelled(self.id.other(), case);
+        self.again(case);
+    }
+
+    /// A datagram of any bytes comes.
+    fn bytes(&mut self, case: &mut Case) {
+        self.last = case.bytes();
+        self.again(case);
+    }
+
+    /// The last datagram comes once more.
+    fn again(&mut self, case: &mut Case) {
+        let event = Event::Datagram(self.last.as_slice());
+        let outcome = self.gateway.step(event, &mut self.out, case);
+        print_step(outcome, &self.out, case);
+    }
+
+    /// A datagram is cut at every length below its own; prints how many of these are dropped with reason 16, with
+    /// nothing told.
+    fn cuts(&mut self, case: &mut Case) {
+        let bytes = case.bytes();
+        let mut dropped = 0u32;
+        for length in 0..bytes.len() {
+            if self.drops(&bytes[..length], case) {
+                dropped = dropped.saturating_add(1);
+            }
+        }
+        case.say("  dropped 16: ", dropped);
+        case.say(" of ", bytes.len());
+        case.end();
+    }
+
+    /// Whether a datagram is dropped as a wrong one, with nothing told.
+    fn drops(&mut self, bytes: &[u8], case: &mut Case) -> bool {
+        let event = Event::Datagram(bytes);
+        let outcome = self.gateway.step(event, &mut self.out, case);
+        outcome == Outcome::Dropped(Reason::BadDatagram) && has_told_nothing(&self.out)
+    }
+
+    /// A frame comes in cut at every length below its own, from no byte on.
+    fn frame_cuts(&mut self, case: &mut Case) {
+        let side = case.side();
+        let bytes = case.bytes();
+        let frame = bytes.as_slice();
+        let mut trial = Trial::new(side, pace_in(case));
+        for length in 0..frame.len() {
+            trial.try_frame(&mut self.gateway, &frame[..length], &mut self.out, case);
+        }
+        trial.tell(case);
+    }
+
+    /// A frame comes in with every byte changed to every other value.
+    fn frame_changes(&mut self, case: &mut Case) {
+        let side = case.side();
+        let mut frame = case.bytes();
+        let mut trial = Trial::new(side, pace_in(case));
+        change(
+            &mut trial,
+            &mut self.gateway,
+            frame.as_mut_slice(),
+            &mut self.out,
+            case,
+        );
+        trial.tell(case);
+    }
+}
+
+/// The number behind a word.
+pub(crate) fn after(word: &str, case: &mut Case) -> u64 {
+    if case.word() != word {
+        case.fault();
+    }
+    case.number()
+}
+
+/// The moment of the first frame, where each comes in a second of its own; none where all come at once.
+fn pace_in(case: &mut Case) -> Option<u64> {
+    if case.left() == 0 {
+        return None;
+    }
+    Some(after("from", case))
+}
+
+fn has_told_nothing(out: &Out) -> bool {
+    out.notes().is_empty() && out.datagram_count() == 0 && out.frames().next().is_none()
+}

@@ -1,0 +1,96 @@
+//! A report's texts; and its bytes, whole, cut or changed, and what they are read as.
+
+use cases_words::Case;
+use reports::{JsonText, MetricsText, PlainText, ReadFault, Report};
+
+/// A report of bytes, of which nothing is said.
+fn read_of(bytes: &[u8]) -> Result<Report, ReadFault> {
+    Report::read(bytes)
+}
+
+/// Which text of a report is wanted.
+#[derive(Clone, Copy)]
+pub(crate) enum Kind {
+    People,
+    Json,
+    Metrics,
+}
+
+/// The text of a report, once it was written as bytes and read back.
+pub(crate) fn tell_text(report: &Report, kind: Kind, case: &mut Case) {
+    match read_of(report.bytes().as_slice()) {
+        Ok(report) => put_text(&report, kind, case),
+        Err(_) => case.fault(),
+    }
+}
+
+fn put_text(report: &Report, kind: Kind, case: &mut Case) {
+    match kind {
+        Kind::People => case.put(PlainText(report)),
+        Kind::Json => case.put(JsonText(report)),
+        Kind::Metrics => case.put(MetricsText(report)),
+    }
+}
+
+/// How many bytes it has, and some of them.
+pub(crate) fn tell_bytes(report: &Report, case: &mut Case) {
+    let (from, count) = (case.count(), case.count());
+    let bytes = report.bytes();
+    case.put(bytes.len());
+    case.put(" bytes: ");
+    case.hex("", part_of(bytes.as_slice(), from, count));
+    case.end();
+}
+
+/// So many bytes from a place on, or as many as there are.
+fn part_of(bytes: &[u8], from: usize, count: usize) -> &[u8] {
+    let behind = bytes.get(from..).unwrap_or(&[]);
+    behind.get(..count).unwrap_or(behind)
+}
+
+/// A copy of a report's bytes.
+fn bytes_of(report: &Report, case: &mut Case) -> Vec<u8> {
+    let copied = Vec::from_slice(case.alloc, report.bytes().as_slice());
+    case.or_none(copied)
+}
+
+/// How many of the shorter lengths are refused, and whether one more byte is.
+pub(crate) fn tell_cuts(report: &Report, case: &mut Case) {
+    let mut bytes = bytes_of(report, case);
+    case.say("refused: ", count_refused(bytes.as_slice()));
+    case.say(" of ", bytes.len());
+    case.keep(bytes.push(0));
+    case.say(", one more byte ", read_of(bytes.as_slice()).is_err());
+    case.end();
+}
+
+fn count_refused(bytes: &[u8]) -> u32 {
+    let mut refused = 0u32;
+    for length in 0..bytes.len() {
+        if read_of(&bytes[..length]).is_err() {
+            refused = refused.saturating_add(1);
+        }
+    }
+    refused
+}
+
+/// What bytes are read as of which one is another.
+pub(crate) fn tell_changed(report: &Report, case: &mut Case) {
+    let mut bytes = bytes_of(report, case);
+    let at = case.count();
+    let byte = case.byte();
+    match bytes.get_mut(at) {
+        Some(place) => *place = byte,
+        None => case.fault(),
+    }
+    tell_read(report, bytes.as_slice(), case);
+}
+
+fn tell_read(report: &Report, bytes: &[u8], case: &mut Case) {
+    match read_of(bytes) {
+        Ok(read) if read == *report => case.put("the same"),
+        Ok(_) => case.put("another report"),
+        Err(fault) => case.put(fault),
+    }
+    case.end();
+}

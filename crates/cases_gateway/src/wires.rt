@@ -1,0 +1,274 @@
+//! Wires in memory, and a clock that goes by steps.
+ghost use Rattle.std.specs.Prelude.{◌≤◌, IfSome};
+ghost use Rattle.sockets.specs.Wires.{AnyWay};
+
+use crate::replies::show_reply;
+use cases_words::Case;
+use control::Word;
+use nat_types::Side;
+use platform::Clock;
+use sockets::{LONGEST, Losses, Place, SendFault, Wire, WireFault};
+use std::alloc::Global;
+use std::time::Duration;
+
+/// A datagram, and where it came from or went to.
+#[derive(Drop)]
+pub(crate) struct Datagram {
+    pub(crate) place: Place,
+    pub(crate) bytes: Vec<u8>,
+}
+
+/// A place fails in some of the next rounds, of which the first has the number 1.
+#[derive(Clone, Copy)]
+pub(crate) struct Outage {
+    pub(crate) place: Place,
+    pub(crate) first: u32,
+    pub(crate) last: u32,
+}
+
+impl Outage {
+    fn is_of(&self, place: Place, round: u32) -> bool {
+        self.place == place && self.first <= round && round <= self.last
+    }
+}
+
+/// A place takes no more bytes than these at once.
+#[derive(Clone, Copy)]
+pub(crate) struct Limit {
+    pub(crate) place: Place,
+    pub(crate) most: usize,
+}
+
+/// What is to come by a wire, and what was sent by it.
+#[derive(Drop)]
+pub(crate) struct MemoryWire {
+    pub(crate) alloc: Global,
+    pub(crate) coming: Vec<Datagram>,
+    /// How many of them have come.
+    pub(crate) come: usize,
+    /// The places that fail in the next rounds.
+    pub(crate) outages: Vec<Outage>,
+    /// How often nothing more was there, which is once a round.
+    round: u32,
+    /// The place that takes less than it is sent, if one does, and how much it lost.
+    pub(crate) limit: Option<Limit>,
+    losses: Losses,
+    /// Whether the client that said the last word waits for its answer. Before that no other is heard.
+    awaits: bool,
+    pub(crate) sent: Vec<Datagram>,
+}
+
+impl MemoryWire {
+    pub(crate) fn new(alloc: Global) -> MemoryWire {
+        MemoryWire {
+            alloc,
+            coming: Vec::new(alloc),
+            come: 0,
+            outages: Vec::new(alloc),
+            round: 0,
+            limit: None,
+            losses: Losses::default(),
+            awaits: false,
+            sent: Vec::new(alloc),
+        }
+    }
+
+    /// The next rounds begin: nothing was sent in them.
+    pub(crate) fn begin(&mut self) {
+        self.sent.clear();
+        self.round = 0;
+    }
+
+    /// The next datagram that is to come, if one is.
+    fn next(&mut self, buffer: &mut [u8; LONGEST]) -> Option<(Place, usize)>
+        ensures within { IfSome result (λ datagram. datagram.1 ≤ 4096) }
+    {
+        let datagram = self.coming.get(self.come)?;
+        let is_said = datagram.place == Place::Operator;
+        if is_said && self.awaits {
+            return None;
+        }
+        self.come = self.come.saturating_add(1);
+        let count = copied(datagram.bytes.as_slice(), buffer);
+        self.awaits = self.awaits || (is_said && Word::read(&buffer[..count]).is_some());
+        Some((datagram.place, count))
+    }
+
+    /// Keeps what is sent, where its place takes as much.
+    fn keep(&mut self, to: Place, bytes: &[u8]) -> Result<(), SendFault> {
+        if let Some(limit) = self.limit
+            && limit.place == to
+            && limit.most < bytes.len()
+        {
+            return Err(SendFault::TooLong);
+        }
+        let bytes = Vec::from_slice(self.alloc, bytes).map_err(|_| SendFault::Failed)?;
+        let datagram = Datagram { place: to, bytes };
+        self.sent.push(datagram).map_err(|_| SendFault::Failed)
+    }
+
+    /// What another wire sent on the link comes, after what is to come already.
+    pub(crate) fn bring_from(&mut self, other: &MemoryWire, case: &mut Case) {
+        for datagram in &other.sent {
+            if datagram.place == Place::Link {
+                let place = datagram.place;
+                let bytes = case.or_none(datagram.bytes.clone());
+                case.keep(self.coming.push(Datagram { place, bytes }));
+            }
+        }
+    }
+
+    /// Prints what was sent, and how many datagrams are still to come, if any.
+    pub(crate) fn show(&self, case: &mut Case) {
+        for datagram in &self.sent {
+            show_datagram(datagram, case);
+        }
+        let left = self.coming.len().saturating_sub(self.come);
+        if 0 < left {
+            case.say("  left ", left);
+            case.end();
+        }
+    }
+
+    /// Prints where what was sent went to, in order, and how many datagrams have come.
+    pub(crate) fn count(&self, case: &mut Case) {
+        case.put("  sent");
+        for datagram in &self.sent {
+            case.say(" ", name_of(datagram.place));
+        }
+        case.say(", came ", self.come);
+        case.end();
+    }
+}
+
+fn name_of(place: Place) -> &'static str {
+    match place {
+        Place::Link => "link",
+        Place::Side(Side::Inside) => "inside",
+        Place::Side(Side::Outside) => "outside",
+        Place::Operator => "operator",
+    }
+}
+
+fn show_datagram(datagram: &Datagram, case: &mut Case) {
+    if datagram.place == Place::Operator {
+        return show_reply(datagram.bytes.as_slice(), case);
+    }
+    case.say("  ", name_of(datagram.place));
+    case.hex(" ", datagram.bytes.as_slice());
+    case.end();
+}
+
+impl Wire for MemoryWire {
+    ghost passes = { AnyWay };
+
+    fn receive(
+        &mut self,
+        _limit: Duration,
+        buffer: &mut [u8; LONGEST],
+    ) -> Result<Option<(Place, usize)>, WireFault> {
+        let next = self.next(buffer);
+        if next.is_none() {
+            self.round = self.round.saturating_add(1);
+        }
+        Ok(next)
+    }
+
+    fn send(&mut self, to: Place, bytes: &[u8]) -> Result<(), WireFault> {
+        let sent = self.keep(to, bytes);
+        self.losses.count(sent);
+        sent.map_err(|_| WireFault)
+    }
+
+    fn answer(&mut self, bytes: &[u8]) {
+        self.awaits = false;
+        let _no_memory = self.keep(Place::Operator, bytes);
+    }
+
+    fn is_failing(&self, place: Place) -> bool {
+        self.outages
+            .iter()
+            .any(|outage| outage.is_of(place, self.round))
+    }
+
+    fn losses(&self, place: Place) -> Losses {
+        match self.limit {
+            Some(limit) if limit.place == place => self.losses,
+            _ => Losses::default(),
+        }
+    }
+}
+
+/// Copies bytes as far as the buffer goes, and gives how many.
+fn copied(bytes: &[u8], buffer: &mut [u8; LONGEST]) -> usize
+    ensures { result ≤ 4096 }
+{
+    let count = bytes.len().min(LONGEST);
+    buffer[..count].copy_from_slice(&bytes[..count]);
+    count
+}
+
+/// A wire of which one call fails: a send, or a receive. That call doesn't reach the wire below.
+#[derive(Drop)]
+pub(crate) struct FailingWire<'a> {
+    pub(crate) wire: &'a mut MemoryWire,
+    /// How many calls are left up to the one that fails; 0: none fails.
+    pub(crate) left: u64,
+}
+
+impl<'a> FailingWire<'a> {
+    /// Counts a call, and says whether it is the one that fails.
+    fn fails(&mut self) -> bool {
+        let fails = self.left == 1;
+        self.left = self.left.saturating_sub(1);
+        fails
+    }
+}
+
+impl<'a> Wire for FailingWire<'a> {
+    ghost passes = { AnyWay };
+
+    fn receive(
+        &mut self,
+        limit: Duration,
+        buffer: &mut [u8; LONGEST],
+    ) -> Result<Option<(Place, usize)>, WireFault> {
+        if self.fails() {
+            return Err(WireFault);
+        }
+        self.wire.receive(limit, buffer)
+    }
+
+    fn send(&mut self, to: Place, bytes: &[u8]) -> Result<(), WireFault> {
+        if self.fails() {
+            return Err(WireFault);
+        }
+        self.wire.send(to, bytes)
+    }
+
+    fn answer(&mut self, bytes: &[u8]) {
+        self.wire.answer(bytes);
+    }
+
+    fn is_failing(&self, place: Place) -> bool {
+        self.wire.is_failing(place)
+    }
+
+    fn losses(&self, place: Place) -> Losses {
+        self.wire.losses(place)
+    }
+}
+
+/// A clock that goes on by as much at each reading, in centiseconds.
+#[derive(Drop)]
+pub(crate) struct StepClock {
+    pub(crate) now: u64,
+    pub(crate) pace: u64,
+}
+
+impl Clock for StepClock {
+    fn now(&mut self) -> u64 {
+        self.now = self.now.saturating_add(self.pace);
+        self.now
+    }
+}

@@ -1,0 +1,187 @@
+//! A tapped wire, and what the lines say of captures and of a service manager.
+
+use crate::files::{capture_to_file, fill_stream, look_at_file, write_file};
+use crate::managers::{read_manager, tell_manager};
+use crate::wires::{Coming, MemoryWire};
+use crate::words::{bytes_in, name_of, place_in, shown, writer_state_in};
+use crate::writers::{Printer, SetClock, WriterState};
+use captures::{LiveCapture, Tapped};
+use cases_words::{Actor, Case};
+use nat_types::GatewayId;
+use sockets::{LONGEST, Wire};
+use std::cell::{Cell, RefCell};
+use std::time::Duration;
+
+/// What the lines set: the state of the capture's writer, the clock, and what the wire answers.
+#[derive(Drop)]
+pub(crate) struct Controls {
+    state: Cell<WriterState>,
+    time: Cell<u64>,
+    coming: RefCell<Coming>,
+}
+
+impl Controls {
+    pub(crate) fn new() -> Controls {
+        Controls {
+            state: Cell::new(WriterState::Open),
+            time: Cell::new(0),
+            coming: RefCell::new(Coming::Nothing),
+        }
+    }
+}
+
+type TappedMemory<'a> = Tapped<MemoryWire<'a>, SetClock<'a>, Printer<'a>>;
+
+/// The tapped wire that was begun last, if one was. What it writes and sends is printed at once.
+#[derive(Drop)]
+pub(crate) struct Taps<'a> {
+    rt: HostRuntime,
+    controls: &'a Controls,
+    wire: Option<TappedMemory<'a>>,
+}
+
+impl<'a> Taps<'a> {
+    pub(crate) fn new(rt: HostRuntime, controls: &'a Controls) -> Taps<'a> {
+        Taps {
+            rt,
+            controls,
+            wire: None,
+        }
+    }
+
+    /// A gateway's tapped wire; or none where the head of its capture can't be written.
+    fn begin(&mut self, case: &mut Case) {
+        self.wire = begun(self.rt, self.controls, case.gateway());
+        if self.wire.is_none() {
+            case.tell("none");
+        }
+    }
+}
+
+impl Actor for Taps<'_> {
+    /// - `begin ID`: a capture is begun anew
+    /// - `page room`, `page none`, `page fails`, `page takes COUNT`: its writer takes all from now on; a write would wait; it
+    ///   fails; it takes so many bytes at most
+    /// - `clock TIME`: the clock stands there
+    /// - what `act_on` and `act_on_files` do
+    fn act(&mut self, case: &mut Case) {
+        case.title("> ", "\n");
+        case.flush(&self.rt);
+        match case.word() {
+            "begin" => self.begin(case),
+            "page" => self.controls.state.set(writer_state_in(case)),
+            "clock" => self.controls.time.set(case.number()),
+            "come" | "send" | "refuse" | "end" => match self.wire.as_mut() {
+                Some(wire) => act_on(self.controls, wire, case),
+                None => case.fault(),
+            },
+            _ => act_on_files(&self.rt, case),
+        }
+    }
+}
+
+fn begun<'a>(rt: HostRuntime, controls: &'a Controls, id: GatewayId) -> Option<TappedMemory<'a>> {
+    let printer = Printer::new(rt, &controls.state);
+    match LiveCapture::start(rt.alloc(), printer) {
+        Ok(capture) => {
+            let wire = MemoryWire::new(rt, &controls.coming);
+            let clock = SetClock::new(&controls.time);
+            Some(Tapped::new(wire, id, clock, capture))
+        }
+        Err(_) => None,
+    }
+}
+
+/// - `manager TEXT`, `tell ..`: a service manager's descriptor is read; one is told something
+/// - `write PATH BYTES`: a file has these bytes
+/// - `look PATH`: a file is opened for a capture, which isn't begun; it is printed what it has
+/// - `file PATH`: a packet is captured to a file, of which is printed what it has
+/// - `stream PACKETS`: so many are captured to a stream that nobody reads, and then somebody does
+fn act_on_files(rt: &HostRuntime, case: &mut Case) {
+    case.back();
+    match case.word() {
+        "manager" => read_manager(case),
+        "tell" => tell_manager(rt, case),
+        "write" => write_file(rt, case),
+        "look" => look_at_file(rt, case),
+        "file" => capture_to_file(rt, case),
+        "stream" => fill_stream(rt, case),
+        _ => case.fault(),
+    }
+}
+
+/// - `come PLACE BYTES`, `come nothing`, `come fault`: the wire is asked for a datagram, and answers so
+/// - `send PLACE BYTES`, `refuse PLACE BYTES`: it is to send; the wire refuses it
+/// - `end`: the capture is flushed, and how many packets it lacks is printed
+fn act_on(controls: &Controls, wire: &mut TappedMemory<'_>, case: &mut Case) {
+    case.back();
+    match case.word() {
+        "come" => {
+            let coming = coming_in(case);
+            set_coming(controls, coming, case);
+            receive(wire, case);
+        }
+        "send" => {
+            set_coming(controls, Coming::Nothing, case);
+            send(wire, case);
+        }
+        "refuse" => {
+            set_coming(controls, Coming::Fault, case);
+            send(wire, case);
+        }
+        _ => {
+            wire.flush();
+            case.say("  left out ", wire.left_out());
+            case.end();
+        }
+    }
+}
+
+/// Says what the wire answers next.
+fn set_coming(controls: &Controls, coming: Coming, case: &mut Case) {
+    match controls.coming.try_borrow_mut() {
+        Ok(mut place) => *place = coming,
+        Err(_) => case.fault(),
+    }
+}
+
+fn coming_in(case: &mut Case) -> Coming {
+    match case.word() {
+        "nothing" => Coming::Nothing,
+        "fault" => Coming::Fault,
+        _ => {
+            case.back();
+            Coming::Datagram(place_in(case), bytes_in(case))
+        }
+    }
+}
+
+/// Asks the wire for a datagram, and prints what it answers.
+fn receive(wire: &mut TappedMemory<'_>, case: &mut Case) {
+    let mut buffer = [0; LONGEST];
+    match wire.receive(Duration::ZERO, &mut buffer) {
+        Ok(Some((place, count))) => {
+            case.say("  came ", name_of(place));
+            tell_bytes(case, buffer.get(..count).unwrap_or(&[]));
+        }
+        Ok(None) => case.tell("nothing"),
+        Err(_) => case.tell("fault"),
+    }
+}
+
+fn tell_bytes(case: &mut Case, bytes: &[u8]) {
+    match shown(case.alloc, bytes) {
+        Ok(text) => case.say(" ", text.as_str()),
+        Err(_) => case.fault(),
+    }
+    case.end();
+}
+
+/// Sends by the wire, and prints where that fails.
+fn send(wire: &mut TappedMemory<'_>, case: &mut Case) {
+    let place = place_in(case);
+    let bytes = bytes_in(case);
+    if wire.send(place, bytes.as_slice()).is_err() {
+        case.tell("fault");
+    }
+}

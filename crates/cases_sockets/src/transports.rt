@@ -1,0 +1,90 @@
+//! A transport in memory, of which a call may fail.
+ghost use Rattle.std.specs.Prelude.{◌≤◌};
+
+use sockets::{Arrived, LONGEST, SendFault, Sender, Transport, WireFault};
+use std::alloc::Global;
+
+/// A datagram that is to arrive.
+#[derive(Drop)]
+pub(crate) struct Datagram {
+    pub(crate) sender: Sender,
+    pub(crate) bytes: Vec<u8>,
+}
+
+/// What is to arrive, and what was sent.
+#[derive(Drop)]
+pub(crate) struct Memory {
+    alloc: Global,
+    coming: Vec<Datagram>,
+    /// How many of them have arrived.
+    arrived: usize,
+    pub(crate) sent: Vec<Vec<u8>>,
+    /// How many calls there are up to the one that fails; none does where it is 0.
+    pub(crate) left: u64,
+    /// Each call fails.
+    pub(crate) is_stuck: bool,
+    /// How many bytes a datagram may have.
+    pub(crate) longest: usize,
+}
+
+impl Memory {
+    pub(crate) fn new(alloc: Global, coming: Vec<Datagram>) -> Memory {
+        Memory {
+            alloc,
+            coming,
+            arrived: 0,
+            sent: Vec::new(alloc),
+            left: 0,
+            is_stuck: false,
+            longest: LONGEST,
+        }
+    }
+
+    /// Nothing is to arrive.
+    pub(crate) fn empty(alloc: Global) -> Memory {
+        Memory::new(alloc, Vec::new(alloc))
+    }
+
+    /// Counts a call, and says whether it fails.
+    fn fails(&mut self) -> bool {
+        let fails = self.is_stuck || self.left == 1;
+        self.left = self.left.saturating_sub(1);
+        fails
+    }
+}
+
+impl Transport for Memory {
+    fn send(&mut self, buffer: &[u8; LONGEST], count: usize) -> Result<(), SendFault> {
+        if self.fails() {
+            return Err(SendFault::Failed);
+        }
+        if count > self.longest {
+            return Err(SendFault::TooLong);
+        }
+        let bytes = Vec::from_slice(self.alloc, &buffer[..count]).map_err(|_| SendFault::Failed)?;
+        self.sent.push(bytes).map_err(|_| SendFault::Failed)
+    }
+
+    fn receive(&mut self, buffer: &mut [u8; LONGEST]) -> Result<Option<Arrived>, WireFault> {
+        if self.fails() {
+            return Err(WireFault);
+        }
+        let Some(datagram) = self.coming.get(self.arrived) else {
+            return Ok(None);
+        };
+        self.arrived = self.arrived.saturating_add(1);
+        Ok(Some(Arrived {
+            count: copied(datagram.bytes.as_slice(), buffer),
+            sender: datagram.sender,
+        }))
+    }
+}
+
+/// Copies bytes into a buffer as far as they fit, and says how many.
+pub(crate) fn copied(bytes: &[u8], buffer: &mut [u8; LONGEST]) -> usize
+    ensures { result ≤ LONGEST }
+{
+    let count = bytes.len().min(LONGEST);
+    buffer[..count].copy_from_slice(&bytes[..count]);
+    count
+}

@@ -1,2 +1,0 @@
-mod Looping
-mod Turning

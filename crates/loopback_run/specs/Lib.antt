@@ -1,3 +1,0 @@
-pub mod Runs
-pub mod Texts
-pub mod Turns

@@ -1,0 +1,197 @@
+//! A report as JSON. No name and no value in it has a character that would want escaping.
+
+use crate::names::{PROTOCOLS, dropped, left_out, origin_name, role_name};
+use crate::units::Seconds;
+use crate::{Count, Counters, GatewayReport, PairCounts, PeerReport, Report, SideReport};
+use addresses::Protocol;
+use journal::{Cause, Origin, reason_name};
+use nat_types::EntryState;
+use std::fmt::{self, Display, Formatter};
+
+/// A report as one JSON object, and a line's end. Times are in seconds with two decimals; the digest is a text of 16
+/// hexadecimal digits.
+#[derive(Clone, Copy)]
+pub struct JsonText<'a>(pub &'a Report);
+
+impl Display for JsonText<'_> {
+    fn fmt<W: fmt::Write>(&self, f: &mut Formatter<W>) -> fmt::Result {
+        let report = self.0;
+        let (gateway, sides, counters) = (&report.gateway, &report.sides, &report.counters);
+        write_box(f, report)?;
+        write_side(f, "inside", &sides.inside, gateway.uptime)?;
+        write_side(f, "outside", &sides.outside, gateway.uptime)?;
+        write_peer(f, &gateway.peer)?;
+        write_pairs(f, &gateway.pairs)?;
+        write_ports(f, gateway)?;
+        write_traffic(f, counters)?;
+        write_dropped(f, counters)?;
+        write_left_out(f, report)
+    }
+}
+
+/// A member whose value is an object of numbers, behind a text: `,"waiting":{"pair":0,"next_hop":2}`.
+fn write_numbers<W: fmt::Write>(
+    f: &mut Formatter<W>,
+    before: &str,
+    name: &str,
+    numbers: &[(&str, u64)],
+) -> fmt::Result {
+    write!(f, "{before}\"{name}\":")?;
+    let mut lead = "{";
+    for (member, number) in numbers {
+        write!(f, "{lead}\"{member}\":{number}")?;
+        lead = ",";
+    }
+    f.write_str("}")
+}
+
+/// Which box it is, and how it stands. The object stays open.
+fn write_box<W: fmt::Write>(f: &mut Formatter<W>, report: &Report) -> fmt::Result {
+    let (id, boot, uptime) = (report.id, report.boot, Seconds(report.gateway.uptime));
+    let (synced, away, digest) = (report.gateway.synced, report.gateway.away, report.digest);
+    write!(f, "{{\"box\":{id},\"boot\":{boot},\"up_seconds\":{uptime}")?;
+    write!(
+        f,
+        ",\"synced\":{synced},\"away\":{away},\"digest\":\"{digest:016x}\""
+    )
+}
+
+fn write_side<W: fmt::Write>(
+    f: &mut Formatter<W>,
+    name: &str,
+    side: &SideReport,
+    now: u64,
+) -> fmt::Result {
+    let (role, up) = (role_name(side.role), side.up);
+    let since = Seconds(now.saturating_sub(side.role_since));
+    write!(f, ",\"{name}\":{{\"role\":\"{role}\"")?;
+    write!(f, ",\"since_seconds\":{since},\"up\":{up}}}")
+}
+
+fn write_peer<W: fmt::Write>(f: &mut Formatter<W>, peer: &PeerReport) -> fmt::Result {
+    let (boot, serves) = (peer.boot, peer.serves);
+    write!(f, ",\"peer\":{{\"boot\":{boot},\"heard_seconds\":")?;
+    match peer.heard {
+        Some(heard) => write!(f, "{}", Seconds(heard))?,
+        None => f.write_str("null")?,
+    }
+    write!(f, ",\"serves\":{serves}}}")
+}
+
+fn write_pairs<W: fmt::Write>(f: &mut Formatter<W>, counts: &PairCounts) -> fmt::Result {
+    let mut before = ",\"pairs\":{";
+    for protocol in PROTOCOLS {
+        write_states(f, before, counts, protocol)?;
+        before = ",";
+    }
+    f.write_str("}")
+}
+
+/// How many entries of a protocol have each state.
+fn write_states<W: fmt::Write>(
+    f: &mut Formatter<W>,
+    before: &str,
+    counts: &PairCounts,
+    protocol: Protocol,
+) -> fmt::Result {
+    let name = match protocol {
+        Protocol::Icmp => "icmp",
+        Protocol::Tcp => "tcp",
+        Protocol::Udp => "udp",
+    };
+    write_numbers(
+        f,
+        before,
+        name,
+        &[
+            ("pending", counts.of(protocol, EntryState::Pending)),
+            ("doomed", counts.of(protocol, EntryState::Doomed)),
+            ("live", counts.of(protocol, EntryState::Live)),
+            ("closing", counts.of(protocol, EntryState::Closing)),
+            ("held", counts.of(protocol, EntryState::Held)),
+        ],
+    )
+}
+
+fn write_ports<W: fmt::Write>(f: &mut Formatter<W>, gateway: &GatewayReport) -> fmt::Result {
+    let (ports, waiting) = (&gateway.ports, &gateway.waiting);
+    write_numbers(
+        f,
+        ",",
+        "ports",
+        &[
+            ("owned", ports.owned),
+            ("free_icmp", ports.free_icmp),
+            ("free_tcp", ports.free_tcp),
+            ("free_udp", ports.free_udp),
+        ],
+    )?;
+    write_numbers(
+        f,
+        ",",
+        "waiting",
+        &[("pair", waiting.pair), ("next_hop", waiting.next_hop)],
+    )
+}
+
+fn write_traffic<W: fmt::Write>(f: &mut Formatter<W>, counters: &Counters) -> fmt::Result {
+    write_place(f, ",\"frames\":{", "inside", counters, Origin::Inside)?;
+    write_place(f, ",", "outside", counters, Origin::Outside)?;
+    f.write_str("}")?;
+    write_place(f, ",", "datagrams", counters, Origin::Link)?;
+    write_place(f, ",", "words", counters, Origin::Own)
+}
+
+/// What was received and sent at a place, and what wasn't sent.
+fn write_place<W: fmt::Write>(
+    f: &mut Formatter<W>,
+    before: &str,
+    name: &str,
+    counters: &Counters,
+    origin: Origin,
+) -> fmt::Result {
+    write_numbers(
+        f,
+        before,
+        name,
+        &[
+            ("in", counters.of(origin, Count::Received)),
+            ("out", counters.of(origin, Count::Sent)),
+            ("failed", counters.of(origin, Count::SendFailed)),
+            ("too_long", counters.of(origin, Count::TooLong)),
+        ],
+    )
+}
+
+fn write_dropped<W: fmt::Write>(f: &mut Formatter<W>, counters: &Counters) -> fmt::Result {
+    let mut before = ",\"dropped\":{";
+    for origin in Origin::ALL {
+        write!(f, "{before}\"{}\":", origin_name(origin))?;
+        write_reasons(f, counters, origin)?;
+        before = ",";
+    }
+    f.write_str("}")
+}
+
+/// An object of how many were dropped at a place for each reason.
+fn write_reasons<W: fmt::Write>(
+    f: &mut Formatter<W>,
+    counters: &Counters,
+    origin: Origin,
+) -> fmt::Result {
+    let mut lead = "{";
+    for cause in Cause::ALL {
+        if let Cause::Dropped(reason) = cause {
+            let (name, count) = (reason_name(reason), dropped(counters, origin, reason));
+            write!(f, "{lead}\"{name}\":{count}")?;
+            lead = ",";
+        }
+    }
+    f.write_str("}")
+}
+
+/// What was left out, and the end of the object and of its line.
+fn write_left_out<W: fmt::Write>(f: &mut Formatter<W>, report: &Report) -> fmt::Result {
+    let (events, lines) = (left_out(&report.counters), report.lines_left_out);
+    writeln!(f, ",\"left_out\":{events},\"lines_left_out\":{lines}}}")
+}

@@ -1,0 +1,159 @@
+//! A report for people.
+
+use crate::names::{dropped, left_out, origin_name, role_name};
+use crate::units::{Grouped, Seconds, Span};
+use crate::{Count, Counters, GatewayReport, PeerReport, Report, SideReport};
+use addresses::Protocol;
+use journal::{Cause, Origin, reason_name};
+use nat_types::EntryState;
+use std::fmt::{self, Display, Formatter};
+
+/// A report for people: a line for each thing, with its name before it.
+#[derive(Clone, Copy)]
+pub struct PlainText<'a>(pub &'a Report);
+
+impl Display for PlainText<'_> {
+    fn fmt<W: fmt::Write>(&self, f: &mut Formatter<W>) -> fmt::Result {
+        let report = self.0;
+        let (gateway, sides) = (&report.gateway, &report.sides);
+        write_box(f, report)?;
+        write_side(f, "inside   ", &sides.inside, gateway.uptime)?;
+        write_side(f, "outside  ", &sides.outside, gateway.uptime)?;
+        write_peer(f, &gateway.peer)?;
+        write_pairs(f, gateway)?;
+        write_ports(f, gateway)?;
+        write_traffic(f, &report.counters)?;
+        for origin in Origin::ALL {
+            write_dropped(f, &report.counters, origin)?;
+        }
+        write_left_out(f, report)
+    }
+}
+
+/// Which box it is, and how it stands.
+fn write_box<W: fmt::Write>(f: &mut Formatter<W>, report: &Report) -> fmt::Result {
+    let (id, boot, uptime) = (report.id, report.boot, Span(report.gateway.uptime));
+    write!(f, "box {id}, boot {boot}, up {uptime}, ")?;
+    f.write_str(if report.gateway.synced {
+        "synced"
+    } else {
+        "not synced"
+    })?;
+    f.write_str(if report.gateway.away { ", away" } else { "" })?;
+    let digest = report.digest;
+    write!(f, "\nsettings {digest:016x}\n")
+}
+
+fn write_side<W: fmt::Write>(
+    f: &mut Formatter<W>,
+    name: &str,
+    side: &SideReport,
+    now: u64,
+) -> fmt::Result {
+    let role = role_name(side.role);
+    let role_span = Span(now.saturating_sub(side.role_since));
+    let cable = if side.up { "in" } else { "out" };
+    let cable_span = Span(now.saturating_sub(side.up_since));
+    write!(f, "{name}{role} for {role_span}, ")?;
+    writeln!(f, "cable {cable} for {cable_span}")
+}
+
+fn write_peer<W: fmt::Write>(f: &mut Formatter<W>, peer: &PeerReport) -> fmt::Result {
+    if peer.boot == 0 {
+        return f.write_str("peer     not known\n");
+    }
+    let boot = peer.boot;
+    write!(f, "peer     boot {boot}, ")?;
+    match peer.heard {
+        Some(heard) => write!(f, "heard {} s ago, ", Seconds(heard))?,
+        None => f.write_str("not heard, ")?,
+    }
+    f.write_str(if peer.serves {
+        "serves\n"
+    } else {
+        "doesn't serve\n"
+    })
+}
+
+/// How many entries of each protocol have each state, and how many ports are free.
+fn write_pairs<W: fmt::Write>(f: &mut Formatter<W>, gateway: &GatewayReport) -> fmt::Result {
+    write_protocol(f, "icmp     ", Protocol::Icmp, gateway)?;
+    write_protocol(f, "tcp      ", Protocol::Tcp, gateway)?;
+    write_protocol(f, "udp      ", Protocol::Udp, gateway)
+}
+
+fn write_protocol<W: fmt::Write>(
+    f: &mut Formatter<W>,
+    name: &str,
+    protocol: Protocol,
+    gateway: &GatewayReport,
+) -> fmt::Result {
+    let of = |state| Grouped(gateway.pairs.of(protocol, state));
+    let (pending, doomed) = (of(EntryState::Pending), of(EntryState::Doomed));
+    let (live, closing) = (of(EntryState::Live), of(EntryState::Closing));
+    let (held, free) = (of(EntryState::Held), Grouped(gateway.ports.free(protocol)));
+    write!(f, "{name}pending {pending}, doomed {doomed}, ")?;
+    write!(f, "live {live}, closing {closing}, ")?;
+    writeln!(f, "held {held}, ports free {free}")
+}
+
+fn write_ports<W: fmt::Write>(f: &mut Formatter<W>, gateway: &GatewayReport) -> fmt::Result {
+    let owned = Grouped(gateway.ports.owned);
+    let (pair, next_hop) = (gateway.waiting.pair, gateway.waiting.next_hop);
+    writeln!(f, "ports    {owned} owned")?;
+    writeln!(
+        f,
+        "waiting  {pair} of 64 for a pair, {next_hop} of 64 for a next hop"
+    )
+}
+
+/// The line of each place, as it begins.
+const PLACES: [(&str, Origin); 4] = [
+    ("frames   inside  ", Origin::Inside),
+    ("frames   outside ", Origin::Outside),
+    ("link     ", Origin::Link),
+    ("words    ", Origin::Own),
+];
+
+/// What was received and sent at each place, and what wasn't sent.
+fn write_traffic<W: fmt::Write>(f: &mut Formatter<W>, counters: &Counters) -> fmt::Result {
+    for (name, origin) in PLACES {
+        let received = Grouped(counters.of(origin, Count::Received));
+        let sent = Grouped(counters.of(origin, Count::Sent));
+        let failed = Grouped(counters.of(origin, Count::SendFailed));
+        let too_long = Grouped(counters.of(origin, Count::TooLong));
+        write!(f, "{name}{received} in, {sent} out, ")?;
+        writeln!(f, "{failed} not sent, {too_long} too long")?;
+    }
+    Ok(())
+}
+
+/// The line of what was dropped at a place, if something was: each reason for which something was, with its number.
+fn write_dropped<W: fmt::Write>(
+    f: &mut Formatter<W>,
+    counters: &Counters,
+    origin: Origin,
+) -> fmt::Result {
+    let mut is_first = true;
+    for cause in Cause::ALL {
+        if let Cause::Dropped(reason) = cause
+            && dropped(counters, origin, reason) > 0
+        {
+            if is_first {
+                write!(f, "dropped  {}: ", origin_name(origin))?;
+            } else {
+                f.write_str(", ")?;
+            }
+            is_first = false;
+            let count = Grouped(dropped(counters, origin, reason));
+            write!(f, "{} {} {count}", reason.number(), reason_name(reason))?;
+        }
+    }
+    if is_first { Ok(()) } else { f.write_str("\n") }
+}
+
+fn write_left_out<W: fmt::Write>(f: &mut Formatter<W>, report: &Report) -> fmt::Result {
+    let events = Grouped(left_out(&report.counters));
+    let lines = Grouped(report.lines_left_out);
+    writeln!(f, "left out {events} events, {lines} lines of the log")
+}

@@ -1,0 +1,111 @@
+//! What is replied to an operator's word.
+ghost use Rattle.std.specs.Prelude.{◌≤◌};
+ghost use Rattle.rounds.specs.Runs.{IsQuiet};
+ghost use Rattle.sockets.specs.Wires.{nothing};
+
+use crate::messages::{Request, Response};
+use crate::rounds::{Identity, State};
+use crate::standing::{gateway_report, page_behind};
+use control::{HEARD, PAGE, REPORT, refusal_bytes};
+use gateway::Gateway;
+use journal::{EventLog, Journal, Origin};
+use nat_types::{NoMemory, Side};
+use reports::{Count, Counters, Report};
+use sockets::{LONGEST, Place, Wire};
+
+/// Replies to a word at once, or keeps its request. A word that is taken, and for which memory was refused, has an
+/// empty reply.
+pub(crate) fn reply<W: Wire>(
+    response: Option<Response>,
+    is_done: bool,
+    wire: &mut W,
+    state: &mut State,
+)
+    ensures quiet { IsQuiet W.passes wire.old wire.new }
+{
+    match response {
+        None => {}
+        Some(Response::Later(request)) => state.request = Some(request),
+        Some(Response::Refused(refusal)) => answer(&refusal_bytes(refusal), wire, state),
+        Some(Response::Heard) if is_done => answer(HEARD, wire, state),
+        Some(Response::Heard) => answer(&[], wire, state),
+    }
+}
+
+/// Answers the client that said the last word, and counts the answer.
+fn answer<W: Wire>(bytes: &[u8], wire: &mut W, state: &mut State)
+    ensures passes { W.passes wire.old nothing wire.new }
+{
+    wire.answer(bytes);
+    state.counters.count(Origin::Own, Count::Sent);
+}
+
+/// Answers the request of this round, if there is one. Where memory is refused for the answer, it is empty.
+pub(crate) fn answer_request<W: Wire, L: Journal>(
+    gateway: &Gateway,
+    wire: &mut W,
+    identity: Identity,
+    buffer: &mut [u8; LONGEST],
+    state: &mut State,
+    log: &EventLog<L>,
+)
+    ensures quiet { IsQuiet W.passes wire.old wire.new }
+{
+    let Some(request) = state.request.take() else {
+        return;
+    };
+    let count = match request {
+        Request::Status => match report_of(gateway, wire, identity, state, log) {
+            Ok(report) => put(REPORT, report.bytes().as_slice(), buffer),
+            Err(NoMemory) => 0,
+        },
+        Request::Pairs(after) => put(PAGE, page_behind(gateway, after).bytes().as_slice(), buffer),
+    };
+    answer(&buffer[..count], wire, state);
+}
+
+/// Puts a head and bytes into the buffer, and gives how many there are.
+fn put(head: [u8; 2], bytes: &[u8], buffer: &mut [u8; LONGEST]) -> usize
+    ensures { result ≤ LONGEST }
+{
+    let count = bytes.len().min(LONGEST - 2);
+    buffer[..2].copy_from_slice(&head);
+    buffer[2..2 + count].copy_from_slice(&bytes[..count]);
+    2 + count
+}
+
+/// Whose box it is, and how it stands.
+fn report_of<W: Wire, L: Journal>(
+    gateway: &Gateway,
+    wire: &W,
+    identity: Identity,
+    state: &State,
+    log: &EventLog<L>,
+) -> Result<Report, NoMemory> {
+    Ok(Report {
+        id: identity.id,
+        boot: identity.boot,
+        digest: identity.digest,
+        gateway: gateway_report(gateway)?,
+        sides: state.sides,
+        counters: with_losses(state.counters, wire),
+        lines_left_out: log.lines_left_out(),
+    })
+}
+
+const PLACES: [(Place, Origin); 4] = [
+    (Place::Side(Side::Inside), Origin::Inside),
+    (Place::Side(Side::Outside), Origin::Outside),
+    (Place::Link, Origin::Link),
+    (Place::Operator, Origin::Own),
+];
+
+/// What was counted, with what the wire has counted itself.
+fn with_losses<W: Wire>(mut counters: Counters, wire: &W) -> Counters {
+    for (place, origin) in PLACES {
+        let losses = wire.losses(place);
+        counters.add(origin, Count::TooLong, losses.too_long);
+        counters.add(origin, Count::SendFailed, losses.failed);
+    }
+    counters
+}

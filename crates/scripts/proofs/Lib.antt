@@ -1,3 +1,0 @@
-mod Numbers
-mod Rows
-mod Shortage

@@ -1,4 +1,0 @@
-pub mod Script
-pub mod Faults
-pub mod Limits
-pub mod Memory

@@ -1,0 +1,63 @@
+-- Lines, as they are written part by part.
+use Rattle.std.proofs.Common.{◌≡◌, ◌∙◌, ◌++◌, ◌∷◌, ℕ, List, [], codes, decimal, flat_map, length, ap, arith, refl, append_assoc}
+use Rattle.hex.specs.Hex.{encode_lower}
+use Rattle.addresses.specs.declared.transport.Port.{Port}
+use Rattle.nat_types.specs.declared.events.WorldEvent.{WorldEvent}
+use Rattle.nat_types.specs.declared.gateways.GatewayId.{GatewayId}
+use Rattle.nat_types.specs.declared.gateways.GatewayId.TheVariants.{Zero, One}
+use Rattle.nat_types.specs.declared.gateways.Side.{Side}
+use Rattle.nat_types.specs.declared.pairs.Pair.{Pair}
+use Rattle.output.specs.Output.{Output}
+use Rattle.bindings.specs.Entries.{is_pair}
+use Rattle.frame_sim.specs.World.{World, gateway_at, owned_by, pairs_of}
+use Rattle.frame_sim.specs.declared.events.Step.{Step}
+use Rattle.simulation.specs.Lines.{answer_text, event_line, frame_line, gateway_lines, gateway_of, held_line, id_text, link_line, link_lines, note_line, one_more, owned_from, owned_lines, sent_by, side_text, state_line, state_text, step_lines, told_lines, with_sent}
+use Rattle.simulation.specs.declared.lines.Counts.{Counts}
+
+-- ---- what a step told
+
+five_front : (a b c d e f g : List ℕ) → a ++ b ++ c ++ d ++ e ++ f ++ g ≡ (a ++ b ++ c ++ d ++ e) ++ (f ++ g)
+five_front a b c d e f g = simp append_assoc refl
+
+pub frame_split : (i : GatewayId) (side : Side) (bytes id of : List ℕ) → id ≡ id_text i → of ≡ side_text side
+    → frame_line i (record { side = side; bytes = bytes })
+    ≡ (codes "frame " ++ id ++ codes " " ++ of ++ codes " ") ++ (encode_lower bytes ++ codes "\n")
+frame_split i side bytes id of is_id is_side =
+    rw (is_id, is_side) (five_front (codes "frame ") (id_text i) (codes " ") (side_text side) (codes " ") (encode_lower bytes) (codes "\n"))
+
+pub link_split : (i : GatewayId) (number : ℕ) (bytes id : List ℕ) → id ≡ id_text i
+    → link_line i number bytes
+    ≡ (codes "link " ++ id ++ codes " " ++ decimal number ++ codes " ") ++ (encode_lower bytes ++ codes "\n")
+link_split i number bytes id is_id =
+    rw is_id (five_front (codes "link ") (id_text i) (codes " ") (decimal number) (codes " ") (encode_lower bytes) (codes "\n"))
+
+pub told_split : (i : GatewayId) (sent : ℕ) (told : Output) → told_lines i sent told
+    ≡ flat_map (frame_line i) told.frames ++ (link_lines i sent told.datagrams ++ flat_map note_line told.notes)
+told_split i sent told = append_assoc (flat_map (frame_line i) told.frames) (link_lines i sent told.datagrams) (flat_map note_line told.notes)
+
+-- ---- a step
+
+pub events_kept : (i : GatewayId) (sent : ℕ) (counts : Counts) → (with_sent i sent counts).events ≡ counts.events
+events_kept Zero sent counts = refl
+events_kept One sent counts = refl
+
+pub step_split : (counts : Counts) (e : WorldEvent) (s : Step) (id : GatewayId) (sent number : ℕ)
+    → id ≡ gateway_of e → sent ≡ sent_by id counts → number ≡ one_more counts.events
+    → step_lines counts e s ≡ told_lines id sent s.out ++ event_line number (answer_text s.answer)
+step_split counts e s id sent number is_id is_sent is_number = rw (is_number, is_sent, is_id) refl
+
+-- ---- a table
+
+-- the first port, and those behind it
+pub owned_first : (i : GatewayId) (ps qs : List Port) (p : Port) → ps ≡ p ∷ qs → owned_lines i ps ≡ owned_from i p p qs
+owned_first i ps qs p is = rw is refl
+
+pub owned_none : (i : GatewayId) (ps : List Port) → length ps ≡ 0 → owned_lines i ps ≡ []
+owned_none i [] is = refl
+owned_none i (p ∷ ps) is = absurd (omega arith)
+
+pub gateway_split : (w : World) (i : GatewayId) (ports : List Port) (pairs : List Pair) (id state : List ℕ)
+    → id ≡ id_text i → state ≡ state_text (gateway_at w i) → ports ≡ owned_by (gateway_at w i) → pairs ≡ pairs_of is_pair (gateway_at w i)
+    → gateway_lines w i ≡ (codes "state " ++ id ++ codes " " ++ state ++ codes "\n") ++ (owned_lines i ports ++ flat_map (held_line i) pairs)
+gateway_split w i ports pairs id state is_id is_state is_ports is_pairs = rw (is_id, is_state, is_ports, is_pairs)
+    (append_assoc (state_line i (gateway_at w i)) (owned_lines i (owned_by (gateway_at w i))) (flat_map (held_line i) (pairs_of is_pair (gateway_at w i))))

@@ -1,0 +1,88 @@
+//! The words of lines.
+ghost use Rattle.std.specs.Prelude.{◌≡◌};
+ghost use Rattle.simulation.specs.Lines.{gateway_of, id_text, protocol_text, side_text};
+
+use addresses::{Ip, Protocol};
+use nat_types::{GatewayId, Pair, Side, WorldEvent};
+use std::fmt::{self, Display, Formatter};
+
+/// The gateway that an event happens to.
+pub(crate) fn gateway_of(event: &WorldEvent) -> GatewayId
+    ensures { result ≡ gateway_of event.now }
+{
+    match event {
+        WorldEvent::Frame(id, _, _)
+        | WorldEvent::Tick(id, _)
+        | WorldEvent::Stop(id)
+        | WorldEvent::Deliver(id, _)
+        | WorldEvent::Crash(id)
+        | WorldEvent::Boot(id, _)
+        | WorldEvent::PeerOff(id, _)
+        | WorldEvent::Side(id, _, _) => *id,
+    }
+}
+
+pub(crate) fn id_text(id: GatewayId) -> &'static str
+    ensures { result.now ≡ id_text id }
+{
+    match id {
+        GatewayId::Zero => "0",
+        GatewayId::One => "1",
+    }
+}
+
+pub(crate) fn side_text(side: Side) -> &'static str
+    ensures { result.now ≡ side_text side }
+{
+    match side {
+        Side::Inside => "inside",
+        Side::Outside => "outside",
+    }
+}
+
+fn protocol_text(protocol: Protocol) -> &'static str
+    ensures { result.now ≡ protocol_text protocol }
+{
+    match protocol {
+        Protocol::Icmp => "icmp",
+        Protocol::Tcp => "tcp",
+        Protocol::Udp => "udp",
+    }
+}
+
+/// An address, as `192.168.1.10`.
+#[derive(Clone, Copy)]
+struct AddressText(Ip);
+
+impl Display for AddressText {
+    ghost use Rattle.std.specs.Prelude.{Some};
+    ghost use Rattle.simulation.specs.Lines.{address_text};
+
+    ghost output = { λ a. Some (address_text a.0) };
+
+    fn fmt<W: fmt::Write>(&self, f: &mut Formatter<W>) -> fmt::Result {
+        let number = self.0.0;
+        let (a, b) = (number / 0x100_0000, number / 0x1_0000 % 256);
+        let (c, d) = (number / 0x100 % 256, number % 256);
+        write!(f, "{a}.{b}.{c}.{d}")
+    }
+}
+
+/// A pair, as `udp 20000 192.168.1.10 5000`.
+#[derive(Clone, Copy)]
+pub(crate) struct PairText<'a>(pub(crate) &'a Pair);
+
+impl Display for PairText<'_> {
+    ghost use Rattle.std.specs.Prelude.{Some};
+    ghost use Rattle.simulation.specs.Lines.{pair_text};
+
+    ghost output = { λ p. Some (pair_text p.0.now) };
+
+    fn fmt<W: fmt::Write>(&self, f: &mut Formatter<W>) -> fmt::Result {
+        let protocol = protocol_text(self.0.key.protocol);
+        let outside = self.0.key.port.0;
+        let address = AddressText(self.0.endpoint.address);
+        let inside = self.0.endpoint.port.0;
+        write!(f, "{protocol} {outside} {address} {inside}")
+    }
+}

@@ -1,0 +1,165 @@
+//! What carries the datagrams of a place: a socket, or a descriptor that was inherited.
+ghost use Rattle.std.specs.Prelude.{◌≤◌, IfOk, IfSome};
+
+use crate::{End, Ends, LONGEST, SendFault, Sender, Way, WireFault};
+use mio::net::UdpSocket;
+use mio::unix::SourceFd;
+use mio::{Interest, Registry, Token};
+use platform::Inherited;
+use std::io::{self, ErrorKind, Read, Write};
+use std::net::{Net, SocketAddr};
+use std::os::fd::AsRawFd;
+
+/// The error of a datagram that is longer than its interface takes (`EMSGSIZE` of Linux).
+const EMSGSIZE: i32 = 90;
+
+/// A datagram that arrived: how many bytes of the receiver's buffer it has, and who sent it.
+#[derive(Clone, Copy, Debug, PartialEq, Eq)]
+pub struct Arrived {
+    pub count: usize,
+    pub sender: Sender,
+}
+
+/// What carries the datagrams of a place. No call waits.
+pub trait Transport {
+    /// Sends the first bytes of the buffer, so many, as one datagram.
+    ///
+    /// # Errors
+    ///
+    /// Where it wasn't sent. It is lost then.
+    fn send(&mut self, buffer: &[u8; LONGEST], count: usize) -> Result<(), SendFault>
+        requires { count ≤ LONGEST };
+
+    /// Receives the next datagram, if one is there.
+    ///
+    /// # Errors
+    ///
+    /// Where to receive failed. Nothing arrived then.
+    fn receive(&mut self, buffer: &mut [u8; LONGEST]) -> Result<Option<Arrived>, WireFault>
+        ensures { IfOk result (λ found. IfSome found (λ one. one.count ≤ LONGEST)) };
+}
+
+/// The socket or descriptor by which a place is reached.
+#[derive(Drop)]
+pub(crate) enum Socket {
+    /// It receives from one address and sends there. What others send takes no buffer in it.
+    Connected(UdpSocket),
+    /// It receives from anybody, and sends to this address: a kernel sends each flow of VXLAN from a port of its
+    /// own.
+    Open(UdpSocket, SocketAddr),
+    Inherited(Inherited),
+}
+
+impl Socket {
+    /// Opens what a way needs, and has a poll report it under a token. On the loopback address the place has these
+    /// ports: its own one, and the other.
+    ///
+    /// # Errors
+    ///
+    /// Those of the system.
+    pub(crate) fn open<R: Net>(
+        rt: &R,
+        registry: &Registry,
+        token: Token,
+        way: Way,
+        ports: (u16, u16),
+    ) -> io::Result<Socket> {
+        let mut socket = match way {
+            Way::Loopback => Socket::connect(rt, Ends::on_loopback(ports))?,
+            Way::Udp(ends) => Socket::connect(rt, ends)?,
+            Way::Vxlan(ends, _) => {
+                let socket = UdpSocket::bind(rt, SocketAddr::from(ends.own))?;
+                Socket::Open(socket, SocketAddr::from(ends.other))
+            }
+            Way::Descriptor(number) => Socket::Inherited(Inherited::open(number)?),
+        };
+        socket.register(registry, token)?;
+        Ok(socket)
+    }
+
+    fn connect<R: Net>(rt: &R, ends: Ends) -> io::Result<Socket> {
+        let socket = UdpSocket::bind(rt, SocketAddr::from(ends.own))?;
+        socket.connect(SocketAddr::from(ends.other))?;
+        Ok(Socket::Connected(socket))
+    }
+
+    fn register(&mut self, registry: &Registry, token: Token) -> io::Result<()> {
+        let readable = Interest::READABLE;
+        match self {
+            Socket::Connected(socket) => registry.register(socket, token, readable),
+            Socket::Open(socket, _) => registry.register(socket, token, readable),
+            Socket::Inherited(inherited) => {
+                registry.register(&mut SourceFd(&inherited.as_raw_fd()), token, readable)
+            }
+        }
+    }
+
+    /// Where a connected socket says that an earlier datagram found nobody, this one is sent after that: else the
+    /// first one after the peer's return would be lost.
+    fn write(&mut self, bytes: &[u8]) -> io::Result<usize> {
+        match self {
+            Socket::Connected(socket) => match socket.send(bytes) {
+                Err(error) if error.kind() == ErrorKind::ConnectionRefused => socket.send(bytes),
+                sent => sent,
+            },
+            Socket::Open(socket, other) => socket.send_to(bytes, *other),
+            Socket::Inherited(inherited) => inherited.write(bytes),
+        }
+    }
+
+    /// Here, too, a connected socket may say first that an earlier datagram found nobody. A descriptor that gives
+    /// no bytes is closed at its other end.
+    fn read(&mut self, buffer: &mut [u8; LONGEST]) -> io::Result<Arrived>
+        ensures { IfOk result (λ one. one.count ≤ LONGEST) }
+    {
+        match self {
+            Socket::Connected(socket) => match receive_from(socket, buffer) {
+                Err(error) if error.kind() == ErrorKind::ConnectionRefused => {
+                    receive_from(socket, buffer)
+                }
+                arrived => arrived,
+            },
+            Socket::Open(socket, _) => receive_from(socket, buffer),
+            Socket::Inherited(inherited) => match inherited.read(buffer)? {
+                0 => Err(ErrorKind::UnexpectedEof.into()),
+                count => Ok(Arrived {
+                    count,
+                    sender: Sender::Interface,
+                }),
+            },
+        }
+    }
+}
+
+impl Transport for Socket {
+    fn send(&mut self, buffer: &[u8; LONGEST], count: usize) -> Result<(), SendFault> {
+        match self.write(&buffer[..count]) {
+            Ok(sent) if sent == count => Ok(()),
+            Ok(_) => Err(SendFault::Failed),
+            Err(error) => match error.raw_os_error() {
+                Some(EMSGSIZE) => Err(SendFault::TooLong),
+                _ => Err(SendFault::Failed),
+            },
+        }
+    }
+
+    fn receive(&mut self, buffer: &mut [u8; LONGEST]) -> Result<Option<Arrived>, WireFault> {
+        match self.read(buffer) {
+            Ok(arrived) => Ok(Some(arrived)),
+            Err(error) if error.kind() == ErrorKind::WouldBlock => Ok(None),
+            Err(_) => Err(WireFault),
+        }
+    }
+}
+
+fn receive_from(socket: &mut UdpSocket, buffer: &mut [u8; LONGEST]) -> io::Result<Arrived>
+    ensures { IfOk result (λ one. one.count ≤ LONGEST) }
+{
+    match socket.recv_from(buffer)? {
+        (count, SocketAddr::V4(from)) => Ok(Arrived {
+            count,
+            sender: Sender::End(End::from(from)),
+        }),
+        (_, SocketAddr::V6(_)) => Err(ErrorKind::InvalidData.into()),
+    }
+}
