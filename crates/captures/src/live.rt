@@ -1,5 +1,4 @@
 //! A capture that is written while a box runs, and never waited for.
-ghost use Rattle.std.specs.Prelude.{◌≤◌, length, vec_len};
 ghost use Rattle.std.specs.Io.{WritesAtMost};
 
 use crate::{Packet, write_head, write_packet};
