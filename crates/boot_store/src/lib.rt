@@ -16,4 +16,5 @@ pub use failures::Failures;
 pub use faults::BootFault;
 pub use laws::boot_numbers_rise;
 pub use model::{ModelDisk, Trouble};
+pub use slots::slot_number;
 pub use starts::{init, next_boot, zero_file};

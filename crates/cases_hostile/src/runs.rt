@@ -3,11 +3,12 @@
 use crate::telling::{digest_of, write_pairs, write_refusal, write_step};
 use anyhow::Result;
 use cases_words::{Actor, Case};
-use faults::{Fault, Job, job_of};
+use faults::Fault;
 use frame_sim::{AuditFault, Step, World, audit};
 use gateway::Outcome;
 use nat_types::{GatewayId, NoMemory, WorldEvent};
 use settings::Settings;
+use simulation::{Job, read_job};
 use std::alloc::Global;
 use std::fs;
 use std::io::{self, Write};
@@ -45,7 +46,7 @@ fn text_at(rt: &HostRuntime, name: &str, kind: &str) -> Result<String> {
 
 /// The job of two texts, of which nothing is said, so that what a caller has to show stays small.
 fn read(alloc: Global, settings: &str, script: &str) -> Result<Job, Fault> {
-    job_of(alloc, settings, script)
+    read_job(alloc, settings, script)
 }
 
 /// A new world, of which nothing is said either.

@@ -1,10 +1,11 @@
 //! The audit of a script's world: whether its trace and tables are those of a pair that keeps its promises.
 
 use cases_words::Case;
-use faults::{Fault, Job, job_of};
+use faults::Fault;
 use frame_sim::{AuditFault, World, audit};
 use nat_types::{GatewayId, NoMemory, WorldEvent};
 use settings::Settings;
+use simulation::{Job, read_job};
 use std::alloc::Global;
 
 /// Runs a script, and prints what is wrong once it is run, or that nothing is; or event by event, and prints how many events it
@@ -21,7 +22,7 @@ pub(crate) fn audited(settings: &str, script: &str, after_each: bool, case: &mut
 
 /// The job of two texts, of which nothing is said, so that what a caller has to show stays small.
 fn read(alloc: Global, settings: &str, script: &str) -> Result<Job, Fault> {
-    job_of(alloc, settings, script)
+    read_job(alloc, settings, script)
 }
 
 /// A new world, of which nothing is said either.

@@ -1,6 +1,5 @@
 //! Boot files that `check` is shown.
 use anyhow::Result;
-use runtimes::Hand;
 use std::fs::{self, OpenFile, OpenOptions, Permissions};
 use std::io::Write;
 use std::os::unix::fs::PermissionsExt;
@@ -18,7 +17,7 @@ fn slot(number: u64) -> [u8; 16] {
 
 /// A boot file whose first slot has these bytes, cut at a length. Its mode is 0600, whatever the mask of new files is.
 fn make_one(rt: &HostRuntime, path: &str, first: &[u8], length: u64) -> Result<()> {
-    boot_file::create(&mut boot_file::Machine::new(Hand::new(rt)), path)?;
+    boot_file::create(rt, path)?;
     let mut file = OpenOptions::new().write(true).open(rt, path)?;
     file.write_all(first)?;
     file.set_len(length)?;

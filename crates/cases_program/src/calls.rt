@@ -1,9 +1,8 @@
 //! Boot files in the working folder, one call a line.
 
 use crate::disks::started;
-use boot_file::{Machine, create, open};
+use boot_file::{create, open};
 use cases_words::{Actor, Case};
-use runtimes::Hand;
 use std::fs;
 use std::os::unix::fs::PermissionsExt;
 
@@ -36,7 +35,7 @@ fn answer(rt: &HostRuntime, case: &mut Case) {
 
 fn make(rt: &HostRuntime, case: &mut Case) {
     let path = case.name();
-    match create(&mut Machine::new(Hand::new(rt)), path.as_str()) {
+    match create(rt, path.as_str()) {
         Ok(_) => show(rt, path.as_str(), "made", case),
         Err(fault) => case.refused(fault),
     }
@@ -62,7 +61,7 @@ fn show(rt: &HostRuntime, path: &str, answer: &str, case: &mut Case) {
 
 fn start(rt: &HostRuntime, found: bool, case: &mut Case) {
     let path = case.name();
-    match open(&mut Machine::new(Hand::new(rt)), path.as_str()) {
+    match open(rt, path.as_str()) {
         Ok(mut disk) => {
             started(&mut disk, found, case);
             show(rt, path.as_str(), "", case);

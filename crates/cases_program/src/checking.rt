@@ -1,12 +1,12 @@
 //! Cases of `check` and `compare`.
 use crate::edits::edited;
 use crate::full::Full;
+use crate::rows::settled;
 use cases_words::{Actor, Case, unbuffered};
-use checks::{Request, Source, ThisMachine, check, compare, tell_of};
-use faults::text_of;
+use checks::{Request, check, compare};
+use faults::{Fault, read_text, report_at};
 use nat_types::GatewayId;
-use outlets::Output;
-use runtimes::Hand;
+use std::io::Write;
 use std::{fs, mem};
 
 /// Where an edited text lies while it is checked.
@@ -51,70 +51,24 @@ fn all_edited(sample: &str, case: &mut Case) -> String {
     text
 }
 
-/// The text of a file; why there is none is told on `errors`.
-fn text_at(rt: &HostRuntime, path: &str, errors: &mut Vec<u8>) -> Option<String> {
-    match text_of(&mut Hand::new(rt), path) {
-        Ok(text) => Some(text),
-        Err(fault) => {
-            tell_of(rt.alloc(), &fault, path, errors);
-            None
-        }
-    }
-}
-
-/// What `check` says of the edited sample.
-fn say_checked<O: Output>(
-    rt: &HostRuntime,
-    request: &Request<'_>,
-    output: &mut O,
-    errors: &mut Vec<u8>,
-) -> u8 {
-    match text_at(rt, EDITED, errors) {
-        Some(text) => {
-            let mut around = ThisMachine::new(Hand::new(rt));
-            check(
-                rt.alloc(),
-                &mut around,
-                text.as_str(),
-                request,
-                output,
-                errors,
-            )
-        }
-        None => 1,
-    }
-}
-
-/// What `compare` says of another file beside the sample.
-fn say_compared<O: Output>(
-    rt: &HostRuntime,
-    path: &str,
-    output: &mut O,
-    errors: &mut Vec<u8>,
-) -> u8 {
-    match (text_at(rt, SAMPLE, errors), text_at(rt, path, errors)) {
-        (Some(sample), Some(other)) => {
-            let one = Source {
-                path: SAMPLE,
-                text: sample.as_str(),
-            };
-            let other = Source {
-                path,
-                text: other.as_str(),
-            };
-            compare(rt.alloc(), one, other, output, errors)
-        }
-        _ => 1,
-    }
-}
-
 /// What `check` says of the edited sample; with `compare` what `compare` says of it beside the sample, and with `other=PATH`
 /// of the file there.
-fn say<O: Output>(rt: &HostRuntime, options: &str, output: &mut O, errors: &mut Vec<u8>) -> u8 {
+fn say<O: Write>(
+    rt: &HostRuntime,
+    options: &str,
+    output: &mut O,
+    errors: &mut Vec<u8>,
+) -> Result<u8, Fault> {
     match (option(options, "compare"), option(options, "other=")) {
-        (Some(_), _) => say_compared(rt, EDITED, output, errors),
-        (None, Some(other)) => say_compared(rt, other, output, errors),
-        (None, None) => say_checked(rt, &request(options), output, errors),
+        (Some(_), _) => compare(rt, SAMPLE, EDITED, output, errors),
+        (None, Some(other)) => compare(rt, SAMPLE, other, output, errors),
+        (None, None) => {
+            let text = match read_text(rt, EDITED) {
+                Ok(text) => text,
+                Err(fault) => return Ok(report_at(rt.alloc(), &fault, EDITED, errors)),
+            };
+            check(rt, text.as_str(), &request(options), output)
+        }
     }
 }
 
@@ -125,6 +79,7 @@ fn tell(rt: &HostRuntime, options: &str, case: &mut Case) {
         Some(_) => say(rt, options, &mut unbuffered(rt.alloc(), Full), &mut errors),
         None => say(rt, options, &mut case.out, &mut errors),
     };
+    let status = settled(rt.alloc(), status, &mut errors);
     case.text(errors.as_slice());
     case.say("  status ", status);
     case.end();

@@ -3,14 +3,13 @@
 use crate::edits::replaced;
 use anyhow::{Context, Result};
 use cases_words::Case;
-use faults::text_of;
-use runtimes::Hand;
+use faults::read_text;
 use std::fs;
 
 /// The text of the file of a name and a kind.
 pub(crate) fn text_at(rt: &HostRuntime, name: &str, kind: &str) -> Result<String> {
     let path = format!(in rt.alloc(); "{name}.{kind}")?;
-    Ok(text_of(&mut Hand::new(rt), path.as_str())?)
+    Ok(read_text(rt, path.as_str())?)
 }
 
 /// Writes the file NAME, where the rest of the line is `NAME;OLD;NEW`: S.toml with its first line OLD replaced by NEW.

@@ -1,11 +1,9 @@
-//! A passage in memory.
+//! A channel in memory.
 
-use loopback_run::{Channel, Passed, PortFault};
-use nat_types::GatewayId;
-use settings::Settings;
-use sockets::Place;
+use captures::Interface;
+use simulation::Channel;
 
-/// A passage that loses each of so many, and receives all others.
+/// A channel that loses each of so many, and passes all others.
 #[derive(Drop)]
 pub(crate) struct Memory {
     every: u64,
@@ -20,17 +18,12 @@ impl Memory {
 }
 
 impl Channel for Memory {
-    /// It has no ports that could be refused.
-    fn open(&mut self, _settings: &Settings) -> Result<(), PortFault> {
-        Ok(())
-    }
-
-    fn pass(&mut self, _id: GatewayId, _place: Place, _bytes: &[u8]) -> Passed {
+    fn pass(&mut self, _interface: Interface, _bytes: &[u8]) -> bool {
         self.since = self.since.saturating_add(1);
-        if self.since != self.every {
-            return Passed::Received;
+        let is_lost = self.since == self.every;
+        if is_lost {
+            self.since = 0;
         }
-        self.since = 0;
-        Passed::Lost
+        !is_lost
     }
 }

@@ -4,11 +4,10 @@ use crate::audits;
 use crate::files::text_at;
 use crate::narrow::Narrow;
 use cases_words::{Actor, Case, unbuffered};
-use faults::text_of;
-use outlets::Output;
-use runtimes::Hand;
-use simulation::simulate;
+use faults::{Fault, read_text, report};
+use simulation::{Progress, sim};
 use std::alloc::{AllocError, Global};
+use std::io::Write;
 
 #[derive(Drop)]
 pub(crate) struct Rows {
@@ -28,9 +27,9 @@ impl Actor for Rows {
         match case.word() {
             "line" => {
                 let script = case.rest();
-                simulated(sample(&self.rt, case).as_str(), script.as_str(), case);
+                simulated(&self.rt, sample(&self.rt, case).as_str(), script.as_str(), case);
             }
-            "settings" => simulated(case.rest().as_str(), "", case),
+            "settings" => simulated(&self.rt, case.rest().as_str(), "", case),
             "times" => repeated(&self.rt, case),
             "room" => crowded(&self.rt, case),
             "file" => opened(&self.rt, case),
@@ -60,32 +59,48 @@ fn scripted(rt: &HostRuntime, case: &mut Case) {
     let settings = case.or_empty(read);
     match verb.as_str() {
         "script" | "with" => {
-            simulated(settings.as_str(), script.as_str(), case);
+            simulated(rt, settings.as_str(), script.as_str(), case);
             audits::audited(settings.as_str(), script.as_str(), false, case);
         }
         "each" | "each-with" => {
             audits::audited(settings.as_str(), script.as_str(), true, case);
         }
-        "fault" => simulated(settings.as_str(), script.as_str(), case),
+        "fault" => simulated(rt, settings.as_str(), script.as_str(), case),
         _ => case.fault(),
     }
 }
 
-/// The status of a script. What a caller has to show stays small where this says nothing of it.
-pub(crate) fn status_of<O: Output>(
-    alloc: Global,
+/// Nobody who watches a run.
+struct Nobody;
+
+impl Progress for Nobody {
+    fn reached(&mut self, _done: usize, _all: usize) {}
+}
+
+/// The status of a script, whose fault is reported.
+pub(crate) fn status_of<O: Write>(
+    rt: &HostRuntime,
     settings: &str,
     script: &str,
     output: &mut O,
     errors: &mut Vec<u8>,
 ) -> u8 {
-    simulate(alloc, settings, script, output, errors)
+    let status = sim::run(rt, settings, script, None, &mut Nobody, output);
+    settled(rt.alloc(), status, errors)
+}
+
+/// The status of a run, whose fault is reported.
+pub(crate) fn settled(alloc: Global, status: Result<u8, Fault>, errors: &mut Vec<u8>) -> u8 {
+    match status {
+        Ok(status) => status,
+        Err(fault) => report(alloc, &fault, errors),
+    }
 }
 
 /// Output, faults and status of a script.
-fn simulated(settings: &str, script: &str, case: &mut Case) {
+fn simulated(rt: &HostRuntime, settings: &str, script: &str, case: &mut Case) {
     let mut errors = Vec::new(case.alloc);
-    let status = status_of(case.alloc, settings, script, &mut case.out, &mut errors);
+    let status = status_of(rt, settings, script, &mut case.out, &mut errors);
     tell(status, errors.as_slice(), case);
 }
 
@@ -102,7 +117,7 @@ fn repeated(rt: &HostRuntime, case: &mut Case) {
     let line = case.rest();
     let made = lines_of(case.alloc, line.as_str(), count);
     let script = case.or_empty(made);
-    simulated(sample(rt, case).as_str(), script.as_str(), case);
+    simulated(rt, sample(rt, case).as_str(), script.as_str(), case);
 }
 
 fn lines_of(alloc: Global, line: &str, count: u32) -> Result<String, AllocError> {
@@ -121,7 +136,7 @@ fn crowded(rt: &HostRuntime, case: &mut Case) {
     let settings = sample(rt, case);
     let mut errors = Vec::new(case.alloc);
     let status = status_of(
-        case.alloc,
+        rt,
         settings.as_str(),
         script.as_str(),
         &mut narrow,
@@ -132,13 +147,13 @@ fn crowded(rt: &HostRuntime, case: &mut Case) {
 
 /// A script's file that may not be one.
 fn opened(rt: &HostRuntime, case: &mut Case) {
-    match text_of(&mut Hand::new(rt), case.word()) {
+    match read_text(rt, case.word()) {
         Ok(text) => {
             case.put(text.len());
             case.put(" bytes\n");
         }
         Err(fault) => {
-            let status = fault.tell(case.alloc, &mut case.out);
+            let status = report(case.alloc, &fault, &mut case.out);
             case.say("status ", status);
             case.end();
         }

@@ -52,7 +52,7 @@ fn tell(words: &[String], case: &mut Case) {
             case.put("  taken");
         }
         Err(fault) => {
-            let status = fault.tell(case.alloc, &mut case.out);
+            let status = fault.report(case.alloc, &mut case.out);
             case.say("  status ", status);
         }
     }

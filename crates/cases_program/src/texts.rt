@@ -14,8 +14,7 @@ use crate::tasks::Tasks;
 use crate::{boots, sample};
 use anyhow::Result;
 use cases_words::{Case, play};
-use checks::digest;
-use runtimes::Hand;
+use gate::digest;
 use settings::Settings;
 use std::fs;
 
@@ -55,7 +54,7 @@ fn say_built(case: &mut Case) -> Result<()> {
 
 fn try_checks(rt: &HostRuntime, sample: &str, case: &mut Case) -> Result<()> {
     boots::make(rt)?;
-    let locked = boot_file::open(&mut boot_file::Machine::new(Hand::new(rt)), "locked")?;
+    let locked = boot_file::open(rt, "locked")?;
     let tried = play(rt, "checks.cases", Checks { rt: *rt, sample }, case);
     drop(locked);
     tried

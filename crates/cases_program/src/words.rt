@@ -5,10 +5,8 @@ use crate::tasks::words_of;
 use crate::{files, listening};
 use anyhow::{Context, Result};
 use cases_words::{Actor, Case};
-use commands::{Hands, act};
+use commands::act;
 use mio::net::UdpSocket;
-use outlets::Output;
-use runtimes::Hand;
 use std::alloc::Global;
 use std::os::fd::AsRawFd;
 
@@ -46,13 +44,13 @@ impl Actor for Words {
 }
 
 /// The status of words. What a caller has to show stays small where this says nothing of it.
-fn status_of<O: Output>(
+fn status_of(
     rt: &HostRuntime,
     words: &[String],
-    output: &mut O,
+    output: &mut Vec<u8>,
     errors: &mut Vec<u8>,
 ) -> u8 {
-    act(Hands::new(rt), words, false, output, errors)
+    act(rt, words, output, errors, false)
 }
 
 /// Output, faults and status of the words that are left.
@@ -85,7 +83,7 @@ fn heard(rt: &HostRuntime, case: &mut Case) {
 
 /// The same, while a box runs on a boot file.
 fn held(rt: &HostRuntime, case: &mut Case) {
-    match boot_file::open(&mut boot_file::Machine::new(Hand::new(rt)), case.word()) {
+    match boot_file::open(rt, case.word()) {
         Ok(disk) => {
             acted(rt, case);
             drop(disk);

@@ -1,115 +1,107 @@
-//! Says every fault and every warning of settings.
+//! Checks a text of settings.
 
-use crate::boots::say_boot_file;
-use crate::ends::{refuse, say};
-use crate::places::say_places;
-use crate::saying::{fault_count, say_faults, say_total, say_warnings};
-use crate::sights::sights_for;
-use crate::tallies::{NOTHING, Tally};
-use crate::{Request, Sights, Surroundings};
-use outlets::{Output, Tells};
+use crate::boot_files::report_boot_file;
+use crate::places::report_places;
+use crate::reports::Report;
+use crate::{Doubt, Request, Warning, warnings_of};
+use faults::Fault;
+use nat_types::GatewayId;
 use settings::Settings;
-use settings_file::{Look, look};
+use settings_file::{Key, Look, Section, look};
 use std::alloc::{AllocError, Global};
+use std::fs::{File, Files};
+use std::io::Write;
 
-/// Says every fault and every warning of a text of settings on `output`, each on a line with its key, and at the end how
-/// many they are. The answer is the exit status: 0, or 1 where there is a fault (or, where it is strict, a warning), or
-/// `output` can't be written, or memory is refused; the last two are told on `errors`.
-pub fn check<P: Surroundings, O: Output, E: Tells>(
-    alloc: Global,
-    around: &mut P,
+/// Says every fault and every warning of a text of settings, each on a line with its key; what is found of the interfaces,
+/// the address and the boot file that a request names; and at the end how many faults and warnings there are. The answer is
+/// the exit status: 1 where there is a fault, or, where the request is strict, a warning, else 0.
+///
+/// # Errors
+///
+/// `NotWritten`; `NoMemory`, and then nothing is written.
+pub fn check<R: Files<File = File> + AllocGlobal, W: Write>(
+    rt: &R,
     text: &str,
     request: &Request<'_>,
-    output: &mut O,
-    errors: &mut E,
-) -> u8 {
-    match report_of(alloc, around, text, request) {
-        Ok(report) => {
-            let status = report.tally.status(request.strict);
-            say(report.text.as_str(), status, output, errors)
-        }
-        Err(_) => refuse(errors),
+    output: &mut W,
+) -> Result<u8, Fault> {
+    let mut report = Report::new(rt.alloc());
+    let look = look(rt.alloc(), text)?;
+    report_faults(&look, &mut report)?;
+    if let Look::Held(settings, _) = &look {
+        report_settings(rt, settings, request, &mut report)?;
+    }
+    report.write(request.strict, output)
+}
+
+/// The faults of a text.
+fn report_faults(look: &Look, report: &mut Report) -> Result<(), AllocError> {
+    match look {
+        Look::NotToml => report.fault("settings 1 NotToml"),
+        Look::UnknownKeys(paths) => report_unknown(paths.as_slice(), report),
+        Look::MissingKeys(keys) => report_keys(keys.as_slice(), "2 Missing", report),
+        Look::BadValues(keys) => report_keys(keys.as_slice(), "3 BadValue", report),
+        Look::RangesOverlap => report.fault("settings 4 RangesOverlap"),
+        Look::SameIds => report.fault("settings 5 SameIds"),
+        Look::Held(_, keys) => report_keys(keys.as_slice(), "7 CantWork", report),
     }
 }
 
-/// What is said of a text, and how many faults and warnings that is.
-#[derive(Drop)]
-struct Report {
-    text: String,
-    tally: Tally,
-}
-
-/// All that is to be said of a text, and of what the request names.
-fn report_of<P: Surroundings>(
-    alloc: Global,
-    around: &mut P,
-    text: &str,
-    request: &Request<'_>,
-) -> Result<Report, AllocError> {
-    let look = look(alloc, text)?;
-    report_on(alloc, around, &look, request)
-}
-
-/// The same of what is seen of a text.
-fn report_on<P: Surroundings>(
-    alloc: Global,
-    around: &mut P,
-    seen: &Look,
-    request: &Request<'_>,
-) -> Result<Report, AllocError> {
-    let sights = sights_for(around, seen, request)?;
-    let mut text = String::new(alloc);
-    let tally = say_all(alloc, seen, request, &sights, &mut text)?;
-    Ok(Report { text, tally })
-}
-
-/// Says each fault of a text, of settings what there is beside these, and at the end how many they are.
-fn say_all(
-    alloc: Global,
-    seen: &Look,
-    request: &Request<'_>,
-    sights: &Sights,
-    text: &mut String,
-) -> Result<Tally, AllocError> {
-    say_faults(seen, text)?;
-    let more = say_more(alloc, seen, request, sights, text)?;
-    let tally = Tally {
-        faults: fault_count(seen).saturating_add(more.faults),
-        warnings: more.warnings,
-    };
-    say_total(tally, text)?;
-    Ok(tally)
-}
-
-/// Says of settings what there is beside their faults.
-fn say_more(
-    alloc: Global,
-    seen: &Look,
-    request: &Request<'_>,
-    sights: &Sights,
-    text: &mut String,
-) -> Result<Tally, AllocError> {
-    match seen {
-        Look::Held(settings, _) => say_held(alloc, settings, request, sights, text),
-        Look::NotToml
-        | Look::UnknownKeys(_)
-        | Look::MissingKeys(_)
-        | Look::BadValues(_)
-        | Look::RangesOverlap
-        | Look::SameIds => Ok(NOTHING),
+fn report_unknown(paths: &[String], report: &mut Report) -> Result<(), AllocError> {
+    for path in paths {
+        report.fault(format_args!("settings 6 UnknownKey {path}"))?;
     }
+    Ok(())
 }
 
-/// Says each warning of settings, and what was found of the places and the boot file that the request names.
-fn say_held(
-    alloc: Global,
+fn report_keys(keys: &[Key], fault: &str, report: &mut Report) -> Result<(), AllocError> {
+    for key in keys {
+        report.fault(format_args!("settings {fault} {key}"))?;
+    }
+    Ok(())
+}
+
+/// What there is of settings beside faults.
+fn report_settings<R: Files<File = File> + AllocGlobal>(
+    rt: &R,
     settings: &Settings,
     request: &Request<'_>,
-    sights: &Sights,
-    text: &mut String,
-) -> Result<Tally, AllocError> {
-    let warnings = say_warnings(alloc, settings, request.id, text)?;
-    let places = say_places(settings, request, sights, text)?;
-    let boot_file = say_boot_file(request.id, sights.boot_file, text)?;
-    Ok(warnings.and(places).and(boot_file))
+    report: &mut Report,
+) -> Result<(), AllocError> {
+    report_warnings(rt.alloc(), settings, request.id, report)?;
+    report_places(rt, settings, request, report)?;
+    match request.id {
+        Some(id) => report_boot_file(rt, settings, id, report),
+        None => Ok(()),
+    }
+}
+
+/// The warnings of settings; as a fault what keeps the box from starting that is looked at.
+fn report_warnings(
+    alloc: Global,
+    settings: &Settings,
+    id: Option<GatewayId>,
+    report: &mut Report,
+) -> Result<(), AllocError> {
+    let warnings = warnings_of(alloc, settings)?;
+    for warning in warnings.as_slice() {
+        let key = warning.key;
+        if stops(id, warning) {
+            report.fault(format_args!("socket 2 LongPath {key}"))?;
+        } else {
+            let doubt = warning.doubt.as_str();
+            report.warning(format_args!("{key}: {doubt}"))?;
+        }
+    }
+    Ok(())
+}
+
+/// Whether the box that is looked at can't start: its control socket would have too long a path.
+fn stops(id: Option<GatewayId>, warning: &Warning) -> bool {
+    let is_own = match id {
+        Some(GatewayId::Zero) => matches!(warning.key.section, Section::GatewayZero),
+        Some(GatewayId::One) => matches!(warning.key.section, Section::GatewayOne),
+        None => false,
+    };
+    is_own && matches!(warning.doubt, Doubt::LongPath)
 }

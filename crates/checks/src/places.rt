@@ -1,174 +1,77 @@
-//! Says what is wrong with the places of a box: its interfaces, and its address on the link.
+//! What is found of a box's places: its interfaces, and its address on the link.
 
-use crate::pieces::{Piece, put};
-use crate::tallies::{FAULT, NOTHING, Tally, WARNING};
-use crate::{Request, Sights};
+use crate::Request;
+use crate::reports::Report;
 use addresses::Ip;
+use faults::{Fault, read_text};
 use nat_types::Side;
 use settings::Settings;
 use std::alloc::AllocError;
+use std::fs::Files;
+use std::net::Ipv4Addr;
 
 /// The least MTU with which an interface takes each frame of a box: 1,514 bytes with the Ethernet header.
 const LEAST_MTU: u32 = 1500;
 
-fn side_name(side: Side) -> &'static str {
-    match side {
-        Side::Inside => "inside",
-        Side::Outside => "outside",
-    }
-}
-
-/// Says what was found of the interface of a side, where its name is given.
-fn say_interface(
-    side: Side,
-    name: Option<&str>,
-    mtu: Option<u32>,
-    text: &mut String,
-) -> Result<Tally, AllocError> {
-    match name {
-        Some(name) => say_mtu(side, name, mtu, text),
-        None => Ok(NOTHING),
-    }
-}
-
-/// Whether frames are too long for an interface.
-fn is_short(mtu: u32) -> bool {
-    mtu < LEAST_MTU
-}
-
-/// Says that frames are too long for an interface.
-fn say_short(side: Side, name: &str, mtu: u32, text: &mut String) -> Result<Tally, AllocError> {
-    let side = side_name(side);
-    put(
-        text,
-        &[
-            Piece::Text("warning: "),
-            Piece::Text(side),
-            Piece::Text(" "),
-            Piece::Text(name),
-            Piece::Text(": its MTU is "),
-            Piece::Number(u64::from(mtu)),
-            Piece::Text(", and frames need 1500\n"),
-        ],
-    )?;
-    Ok(WARNING)
-}
-
-/// Says that there is no such interface.
-fn say_absent(side: Side, name: &str, text: &mut String) -> Result<Tally, AllocError> {
-    let side = side_name(side);
-    put(
-        text,
-        &[
-            Piece::Text("warning: "),
-            Piece::Text(side),
-            Piece::Text(" "),
-            Piece::Text(name),
-            Piece::Text(": no such interface\n"),
-        ],
-    )?;
-    Ok(WARNING)
-}
-
-/// Says what is wrong with the MTU of an interface; where it has none there is no such interface.
-fn say_mtu(
-    side: Side,
-    name: &str,
-    mtu: Option<u32>,
-    text: &mut String,
-) -> Result<Tally, AllocError> {
-    match mtu {
-        Some(mtu) if is_short(mtu) => say_short(side, name, mtu, text),
-        Some(_) => Ok(NOTHING),
-        None => say_absent(side, name, text),
-    }
-}
-
-/// Whether an address lies in the network of a side.
-fn lies_on(settings: &Settings, side: Side, ip: Ip) -> bool {
-    settings.interface(side).network().contains(ip)
-}
-
-/// Says that the link lies in the network of a side.
-fn say_link_line(side: Side, address: &str, text: &mut String) -> Result<(), AllocError> {
-    let side = side_name(side);
-    put(
-        text,
-        &[
-            Piece::Text("warning: link "),
-            Piece::Text(address),
-            Piece::Text(": it lies in the network of the "),
-            Piece::Text(side),
-            Piece::Text(", whose cable it goes down with\n"),
-        ],
-    )
-}
-
-/// Says whether an address on the link lies in the network of a side.
-fn say_link_on(
-    settings: &Settings,
-    side: Side,
-    address: &str,
-    ip: Ip,
-    text: &mut String,
-) -> Result<Tally, AllocError> {
-    if !lies_on(settings, side, ip) {
-        return Ok(NOTHING);
-    }
-    say_link_line(side, address, text)?;
-    Ok(WARNING)
-}
-
-/// Says in which networks an address on the link lies.
-fn say_address(
-    settings: &Settings,
-    address: &str,
-    ip: Ip,
-    text: &mut String,
-) -> Result<Tally, AllocError> {
-    let inside = say_link_on(settings, Side::Inside, address, ip, text)?;
-    let outside = say_link_on(settings, Side::Outside, address, ip, text)?;
-    Ok(inside.and(outside))
-}
-
-/// Says of a text on the link that it is no address.
-fn say_no_address(address: &str, text: &mut String) -> Result<Tally, AllocError> {
-    put(
-        text,
-        &[
-            Piece::Text("fault: link "),
-            Piece::Text(address),
-            Piece::Text(": no IPv4 address\n"),
-        ],
-    )?;
-    Ok(FAULT)
-}
-
-/// Says what is wrong with the box's own address on the link, where it is given.
-fn say_link(
-    settings: &Settings,
-    address: Option<&str>,
-    ip: Option<Ip>,
-    text: &mut String,
-) -> Result<Tally, AllocError> {
-    let Some(address) = address else {
-        return Ok(NOTHING);
-    };
-    match ip {
-        Some(ip) => say_address(settings, address, ip, text),
-        None => say_no_address(address, text),
-    }
-}
-
-/// Says what was found of the places that a request names.
-pub(crate) fn say_places(
+/// What is wrong with the places that a request names.
+pub(crate) fn report_places<R: Files + AllocGlobal>(
+    rt: &R,
     settings: &Settings,
     request: &Request<'_>,
-    sights: &Sights,
-    text: &mut String,
-) -> Result<Tally, AllocError> {
-    let inside = say_interface(Side::Inside, request.inside, sights.inside, text)?;
-    let outside = say_interface(Side::Outside, request.outside, sights.outside, text)?;
-    let link = say_link(settings, request.link, sights.link, text)?;
-    Ok(inside.and(outside).and(link))
+    report: &mut Report,
+) -> Result<(), AllocError> {
+    report_interface(rt, Side::Inside, request.inside, report)?;
+    report_interface(rt, Side::Outside, request.outside, report)?;
+    match request.link {
+        Some(text) => report_link(settings, text, report),
+        None => Ok(()),
+    }
+}
+
+/// What is wrong with the interface of a side, if one is named.
+fn report_interface<R: Files + AllocGlobal>(
+    rt: &R,
+    side: Side,
+    name: Option<&str>,
+    report: &mut Report,
+) -> Result<(), AllocError> {
+    let Some(name) = name else {
+        return Ok(());
+    };
+    match mtu_of(rt, name)? {
+        Some(mtu) if mtu >= LEAST_MTU => Ok(()),
+        Some(mtu) => report.warning(format_args!(
+            "{side} {name}: its MTU is {mtu}, and frames need 1500"
+        )),
+        None => report.warning(format_args!("{side} {name}: no such interface")),
+    }
+}
+
+/// The MTU of the interface of a name, if there is one.
+fn mtu_of<R: Files + AllocGlobal>(rt: &R, name: &str) -> Result<Option<u32>, AllocError> {
+    let path = format!(in rt.alloc(); "/sys/class/net/{name}/mtu")?;
+    match read_text(rt, path.as_str()) {
+        Ok(text) => Ok(text.as_str().trim().parse().ok()),
+        Err(Fault::NoMemory) => Err(AllocError),
+        Err(_) => Ok(None),
+    }
+}
+
+/// What is wrong with the address on the link that a text is to be.
+fn report_link(settings: &Settings, text: &str, report: &mut Report) -> Result<(), AllocError> {
+    let Ok(address) = text.parse::<Ipv4Addr>() else {
+        return report.fault(format_args!("link {text}: no IPv4 address"));
+    };
+    for side in [Side::Inside, Side::Outside] {
+        if settings
+            .interface(side)
+            .network()
+            .contains(Ip(address.to_bits()))
+        {
+            report.warning(format_args!(
+                "link {text}: it lies in the network of the {side}, whose cable it goes down with"
+            ))?;
+        }
+    }
+    Ok(())
 }

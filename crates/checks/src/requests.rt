@@ -1,4 +1,4 @@
-//! What is to be checked, and compared.
+//! What is to be checked.
 
 use nat_types::GatewayId;
 
@@ -15,11 +15,4 @@ pub struct Request<'a> {
     pub outside: Option<&'a str>,
     /// The box's own address on the link, as `10.0.0.1`, where it is looked at.
     pub link: Option<&'a str>,
-}
-
-/// The text of a settings file, and the file's path, which faults name.
-#[derive(Clone, Copy, Debug)]
-pub struct Source<'a> {
-    pub path: &'a str,
-    pub text: &'a str,
 }

@@ -163,7 +163,7 @@ fn write_input<W: Write>(
     let packet = Packet {
         interface,
         direction: Direction::Inbound,
-        moment,
+        timestamp: moment,
         bytes,
     };
     write_packet(output, &packet)
@@ -174,7 +174,7 @@ fn write_frames<W: Write>(output: &mut W, id: GatewayId, moment: u64, out: &Out)
         let packet = Packet {
             interface: Interface::Side(id, frame.side),
             direction: Direction::Outbound,
-            moment,
+            timestamp: moment,
             bytes: frame.bytes,
         };
         write_packet(output, &packet)?;
@@ -192,7 +192,7 @@ fn write_datagrams<W: Write>(
         let packet = Packet {
             interface: Interface::Link(id),
             direction: Direction::Outbound,
-            moment,
+            timestamp: moment,
             bytes,
         };
         write_packet(output, &packet)?;

@@ -11,8 +11,8 @@ use std::net::{Ipv4Addr, Net, SocketAddr, SocketAddrV4, UdpSocket};
 use std::rt::Clock;
 use std::time::{Duration, Instant};
 
-/// How long what was sent is waited for.
-const LIMIT: Duration = Duration::from_millis(1_000);
+/// How long what was sent is waited for, in milliseconds.
+const LIMIT: u64 = 1_000;
 
 /// More bytes than any that are sent.
 const CAPACITY: usize = 4_096;
@@ -63,7 +63,7 @@ impl Port {
     fn receive(&self, sent: &[u8]) -> Received {
         let mut buffer = [0; CAPACITY];
         match self.socket.recv_from(&mut buffer) {
-            Ok((count, _)) if buffer[..count] == *sent => Received::Same,
+            Ok((count, _)) if &buffer[..count] == sent => Received::Same,
             Ok(_) => Received::Other,
             Err(error) => match error.kind() {
                 ErrorKind::WouldBlock | ErrorKind::TimedOut => Received::Other,
@@ -85,7 +85,7 @@ enum Received {
 /// What is left of the limit, if anything is.
 fn time_left<R: Clock>(rt: &R, start: Instant) -> Option<Duration> {
     let spent = start.elapsed(rt).ok()?;
-    let left = LIMIT.checked_sub(spent)?;
+    let left = Duration::from_millis(LIMIT).checked_sub(spent)?;
     if left.is_zero() { None } else { Some(left) }
 }
 
