@@ -1,5 +1,6 @@
 #!/usr/bin/env python3
-"""Tries the commands of docs/OPERATING.md, "Joining the boxes", as they stand there, on two machines made of namespaces.
+"""Tries the commands of docs/INSTALL.md, "Joining the boxes", and of docs/OPERATING.md, as they stand there, on two machines
+made of namespaces.
 
     sudo demo/joining.py [--program FILE] [--root FOLDER] [--before FILE] [--wireguard] [--list]
 
@@ -51,7 +52,8 @@ from namespaces import Namespace
 from pair import FOLDER, PYTHON, SERVER, Surroundings, wait_until
 
 TOP = FOLDER.parent
-PAGE = TOP / "docs" / "OPERATING.md"
+INSTALL = TOP / "docs" / "INSTALL.md"
+OPERATING = TOP / "docs" / "OPERATING.md"
 PLACES = {"where you build": ("builder",), "on both machines": ("box 0", "box 1"), "on box 0": ("box 0",),
           "on box 1": ("box 1",)}
 TUNNEL = "What the link trusts"
@@ -105,14 +107,14 @@ class Block:
 
 
 def blocks():
-    """The blocks of "Joining the boxes" that are commands or files, in their order."""
-    text = PAGE.read_text(encoding="utf-8")
-    part = text[text.index("## Joining the boxes") : text.index("## Starts")]
+    """The blocks of both pages that are commands or files, in their order."""
+    text = INSTALL.read_text(encoding="utf-8")
+    part = text[text.index("## Joining the boxes") :] + OPERATING.read_text(encoding="utf-8")
     section, lead, found = "", "", []
     lines = iter(part.splitlines())
     for line in lines:
-        if line.startswith("### "):
-            section = line[4:]
+        if line.startswith(("## ", "### ")):
+            section = line.lstrip("#").strip()
         elif line.startswith("```"):
             inside = []
             for other in lines:

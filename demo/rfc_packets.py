@@ -72,7 +72,7 @@ def order(bench, report):
     numbers = range(bench.first + 6010, bench.first + 6018, 2)
     seen = [port_of(bench.send(UDP, End(HOSTS[3], number), PLACES[0])) for number in numbers]
     steps = {later - port for port, later in zip(seen, seen[1:])} if None not in seen else {0}
-    report.note(bench, "7857 8", "four new pairs' ports in no plain order", told(seen), len(steps) > 1)
+    report.note(bench, "7857 9", "four new pairs' ports in no plain order", told(seen), len(steps) > 1)
 
 
 def protocols(bench, report):
@@ -81,7 +81,7 @@ def protocols(bench, report):
     port = port_of(bench.send(UDP, end, PLACES[0]))
     found = bench.tcp(End(REMOTES[0], 53), bench.outside(port), SYN, patient=False)
     to = found and (found.target, found.target_port)
-    report.note(bench, "7857 5", "TCP to a UDP pair's port doesn't reach its end", yes(to == end.place), to != end.place)
+    report.note(bench, "7857 6", "TCP to a UDP pair's port doesn't reach its end", yes(to == end.place), to != end.place)
 
 
 def let_in(bench, protocol, end):
@@ -279,7 +279,7 @@ def identification(bench, report):
     header = PLAIN._replace(identification=0x1234)
     found = [bench.udp(End(host, 5000), PLACES[0], header) for host in HOSTS[:2]]
     seen = [each and f"{each.identification:04x}" for each in found]
-    report.note(bench, "7857 9", "two hosts' 1234 leave as two numbers", told(seen), len(set(seen)) == 2)
+    report.note(bench, "7857 10", "two hosts' 1234 leave as two numbers", told(seen), len(set(seen)) == 2)
 
 
 AT_A_BOX = (mapping, apart, parity, order, protocols, filtering, hairpin, steady, connections, contents, own_messages,

@@ -56,7 +56,7 @@ def across(bench, report):
     identifier = port_of(bench.ping(End(HOSTS[1], 5000), REMOTES[0].address))
     found = bench.ping(End(HOSTS[0], identifier or 1), bench.virtual, patient=False)
     reached = any(arrived(found, ECHO, host) for host in HOSTS)
-    report.note(bench, "7857 11", "an Echo to the outside address reaches a host", yes(reached), reached)
+    report.note(bench, "7857 12", "an Echo to the outside address reaches a host", yes(reached), reached)
     found = bench.icmp(HOSTS[0], REMOTES[0].address, 9, 0, bytes(4))
     report.note(bench, "5508 REQ-11", "what is neither query nor error doesn't go out", yes(found), not found)
 

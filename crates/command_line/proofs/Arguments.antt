@@ -6,7 +6,6 @@ use Rattle.clap.specs.declared.builder.command.Command.{Command}
 use Rattle.command_line.specs.Arguments.{TakesSo, app_in, rule_for, with_all, with_each}
 use Rattle.command_line.specs.Line.{line_app, wanting_command}
 use Rattle.command_line.specs.declared.outlines.Outline.{Outline}
-use Rattle.command_line.specs.declared.outlines.TheConstants.{COMMANDS}
 use Rattle.command_line.specs.declared.options.Argument.{Argument}
 
 all_more : (a : App) (xs : List Argument) (x : Argument) → with_all a (xs ++ x ∷ []) ≡ with_rule (with_all a xs) (rule_for x)
@@ -33,11 +32,8 @@ pub one_command : (c : Command) (a : App) (os : List Outline) (i : ℕ) (o : Out
 one_command c a os i o within told =
     subst (TakesSo c) (sym (ap (with_each a) (take_more os i o within) ∙ each_more a (take i os) _)) told
 
--- those of the line are
-is_line : wanting_command (with_each (new_app (codes "natpair")) COMMANDS) ≡ line_app
-is_line = refl
-
-pub all_commands : (c : Command) (i : ℕ) → length COMMANDS ≤ i
-    → TakesSo c (wanting_command (with_each (new_app (codes "natpair")) (take i COMMANDS))) → TakesSo c line_app
-all_commands c i none told =
-    subst (TakesSo c) (ap (λ (os : List Outline). wanting_command (with_each (new_app (codes "natpair")) os)) (take_all i COMMANDS none) ∙ is_line) told
+-- once none is left the program is the line
+pub all_commands : (c : Command) (os : List Outline) (i : ℕ) → length os ≤ i → wanting_command (with_each (new_app (codes "natpair")) os) ≡ line_app
+    → TakesSo c (wanting_command (with_each (new_app (codes "natpair")) (take i os))) → TakesSo c line_app
+all_commands c os i none is told =
+    subst (TakesSo c) (ap (λ (ps : List Outline). wanting_command (with_each (new_app (codes "natpair")) ps)) (take_all i os none) ∙ is) told

@@ -6,7 +6,7 @@ ghost use Rattle.command_line.specs.Line.{line_app, wanting_command};
 
 use crate::VERSION;
 use crate::options::Argument;
-use crate::outlines::{COMMANDS, Outline};
+use crate::outlines::{Outline, outlines};
 use clap::Command;
 use std::alloc::{AllocError, Global};
 
@@ -63,7 +63,8 @@ pub(crate) fn line<'a>(alloc: Global) -> Result<Command<'a>, AllocError>
     ensures { IfOk result (λ c. TakesSo c line_app) }
 {
     let mut program = Command::new(alloc, "natpair");
-    for outline in &COMMANDS {
+    let all = outlines();
+    for outline in all {
         program = with_command(program, command(alloc, outline)?)?;
     }
     Ok(with_texts(

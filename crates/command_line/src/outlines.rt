@@ -1,4 +1,8 @@
 //! What is told `clap` of each command.
+ghost use Rattle.std.specs.Prelude.{◌≡◌, codes};
+ghost use Rattle.clap.specs.Words.{new_app};
+ghost use Rattle.command_line.specs.Arguments.{with_each};
+ghost use Rattle.command_line.specs.Line.{line_app, wanting_command};
 
 use crate::options::{Argument, Form};
 use clap::builder::ValueParser;
@@ -59,7 +63,13 @@ const CAPTURE: Argument<'static> = Argument(
 const RUN: &[Argument<'static>] = &[SETTINGS, SCRIPT, CAPTURE];
 
 /// All commands, in the order of the help.
-pub(crate) const COMMANDS: [Outline<'static>; 10] = [
+pub(crate) fn outlines() -> &'static [Outline<'static>]
+    ensures { wanting_command (with_each (new_app (codes "natpair")) result.now) ≡ line_app }
+{
+    &COMMANDS
+}
+
+static COMMANDS: [Outline<'static>; 10] = [
     Outline {
         name: "init",
         about: "Creates a boot file; one that exists is left as it is and refused",

@@ -36,36 +36,21 @@ pub(crate) fn log_step<L: Journal>(
     if let Some(cause) = cause {
         log.write_dropped(now, origin_of(event), cause);
     }
-    log_change(
-        log,
-        now,
-        (before.away, after.away),
-        Entry::Away,
-        Entry::Back,
-    );
+    let away = (before.away, after.away);
+    log_change(log, now, away, Entry::Away, Entry::Back);
     for side in [Side::Inside, Side::Outside] {
         let role = role_of(after, side, has_stopped);
         if role != role_of(before, side, false) {
             log.write(now, Entry::Role(side, role));
         }
     }
-    log_change(
-        log,
-        now,
-        (before.synced, after.synced),
-        Entry::Synced,
-        Entry::Unsynced,
-    );
+    let synced = (before.synced, after.synced);
+    log_change(log, now, synced, Entry::Synced, Entry::Unsynced);
     if before.peer != after.peer {
         log.write(now, Entry::PeerBoot(after.peer));
     }
-    log_change(
-        log,
-        now,
-        (before.heard, after.heard),
-        Entry::PeerHeard,
-        Entry::PeerSilent,
-    );
+    let heard = (before.heard, after.heard);
+    log_change(log, now, heard, Entry::PeerHeard, Entry::PeerSilent);
     if has_stopped {
         log.write(now, Entry::Stopped);
     }

@@ -2,14 +2,10 @@
 use Rattle.std.proofs.Common.{◌≡◌, ◌∙◌, ℕ, List, false, true, Option, Some, None, Result, Ok, Err, IfOk, IfErr, OnOk, refl, sym, subst, string_bytes}
 use Rattle.settings_file.specs.declared.faults.SettingFault.{SettingFault}
 use Rattle.settings_file.specs.declared.faults.SettingFault.TheVariants as faults
-use Rattle.settings_file.specs.declared.faults.ValueFault.{ValueFault}
-use Rattle.settings_file.specs.declared.faults.ValueFault.TheVariants as values
 use Rattle.settings_file.specs.declared.values.Values.{Values}
 use Rattle.settings_file.specs.Assembled.{AreValues, IsAssembled, TellsValues, overlap_of, same_ids_of}
-use Rattle.settings_file.specs.Faults.{IsOfToml, TellsCantWork, TellsFirst, TellsMissing, TellsUnknown, told}
+use Rattle.settings_file.specs.Faults.{TellsBad}
 use Rattle.toml.specs.Data.{Members}
-use Rattle.toml.specs.Errors.{IsMemory}
-use Rattle.toml.specs.declared.de.error.Error.{Error}
 use Rattle.settings.specs.declared.ranges.PortRange.{PortRange}
 use Rattle.settings.specs.declared.gateway_settings.GatewaySettings.{GatewaySettings}
 use Rattle.settings.specs.declared.whole.Settings.{Settings}
@@ -60,11 +56,11 @@ no_refusal : (t : Members) → first_unknown t ≡ None → first_missing t ≡ 
 unfolding refusal_of
 no_refusal t u m b p i = rw (u, m, b, p, i) refl
 
-refuses_unknown : (t : Members) (p : List ℕ) → first_unknown t ≡ Some p → refusal_of t ≡ Some (unknown_key p)
+pub refuses_unknown : (t : Members) (p : List ℕ) → first_unknown t ≡ Some p → refusal_of t ≡ Some (unknown_key p)
 unfolding refusal_of
 refuses_unknown t p u = rw u refl
 
-refuses_missing : (t : Members) (k : Key) → first_unknown t ≡ None → first_missing t ≡ Some k → refusal_of t ≡ Some (missing k)
+pub refuses_missing : (t : Members) (k : Key) → first_unknown t ≡ None → first_missing t ≡ Some k → refusal_of t ≡ Some (missing k)
 unfolding refusal_of
 refuses_missing t k u m = rw (u, m) refl
 
@@ -83,43 +79,16 @@ refuses_ids : (t : Members) → first_unknown t ≡ None → first_missing t ≡
 unfolding refusal_of
 refuses_ids t u m b p i = rw (u, m, b, p, i) refl
 
--- a fault of an unknown key
-pub told_unknown : (t : Members) (least : Option (List ℕ)) (e : SettingFault) → least ≡ first_unknown t → TellsUnknown least e → Tells (Some t) e
-told_unknown t least (faults.NotToml) is h = absurd h
-told_unknown t least (faults.UnknownKey p) is h = refuses_unknown t (string_bytes p) (sym is ∙ h)
-told_unknown t least (faults.Missing k) is h = absurd h
-told_unknown t least (faults.BadValue k) is h = absurd h
-told_unknown t least (faults.RangesOverlap) is h = absurd h
-told_unknown t least (faults.SameIds) is h = absurd h
-told_unknown t least (faults.CantWork k) is h = absurd h
-told_unknown t least (faults.NoMemory) is h = absurd h
-
--- a fault of a key that is missing
-pub told_missing : (t : Members) (e : SettingFault) → first_unknown t ≡ None → TellsMissing (first_missing t) e → Tells (Some t) e
-told_missing t (faults.NotToml) u h = absurd h
-told_missing t (faults.UnknownKey p) u h = absurd h
-told_missing t (faults.Missing k) u h = refuses_missing t k u h
-told_missing t (faults.BadValue k) u h = absurd h
-told_missing t (faults.RangesOverlap) u h = absurd h
-told_missing t (faults.SameIds) u h = absurd h
-told_missing t (faults.CantWork k) u h = absurd h
-told_missing t (faults.NoMemory) u h = absurd h
-
--- a fault of settings that can't work
-told_cant : (t : Members) (s : Settings) (e : SettingFault) → refusal_of t ≡ None → HoldsValues t s → TellsCantWork (cant_work s) e → Tells (Some t) e
-told_cant t s (faults.NotToml) free values h = absurd h
-told_cant t s (faults.UnknownKey p) free values h = absurd h
-told_cant t s (faults.Missing k) free values h = absurd h
-told_cant t s (faults.BadValue k) free values h = absurd h
-told_cant t s (faults.RangesOverlap) free values h = absurd h
-told_cant t s (faults.SameIds) free values h = absurd h
-told_cant t s (faults.CantWork k) free values h = (s, (t, refl, free, values), h)
-told_cant t s (faults.NoMemory) free values h = absurd h
-
 -- a fault of the values
-pub told_values : (t : Members) (f : ValueFault) → first_unknown t ≡ None → first_missing t ≡ None → TellsFirst (first_bad_value t) f → Tells (Some t) (told f)
-told_values t (values.BadValue k) u m h = refuses_value t k u m h
-told_values t (values.NoMemory) u m h = tt
+pub told_values : (t : Members) (f : SettingFault) → first_unknown t ≡ None → first_missing t ≡ None → TellsBad (first_bad_value t) f → Tells (Some t) f
+told_values t (faults.NotToml) u m h = absurd h
+told_values t (faults.UnknownKey p) u m h = absurd h
+told_values t (faults.Missing k) u m h = absurd h
+told_values t (faults.BadValue k) u m h = refuses_value t k u m h
+told_values t (faults.RangesOverlap) u m h = absurd h
+told_values t (faults.SameIds) u m h = absurd h
+told_values t (faults.CantWork k) u m h = absurd h
+told_values t (faults.NoMemory) u m h = tt
 
 -- settings made of the values of a document
 holds : (t : Members) (v : Values) (s : Settings) → AreValues t v → IsAssembled v s → HoldsValues t s
@@ -174,25 +143,10 @@ pub told_of : (t : Members) (v : Values) (r : Result Settings SettingFault) → 
 told_of t v (Ok s) u m b a h = tt
 told_of t v (Err e) u m b a h = told_assembled t v e u m b a h
 
--- what comes of settings that are held
-pub read_of : (t : Members) (s : Settings) (r : Result Settings SettingFault) → refusal_of t ≡ None → HoldsValues t s
-    → IfOk r (λ x. x ≡ s) → OnOk r (Works s) → IfOk r (IsReadFrom (Some t))
-read_of t s (Ok x) free values same works = subst (λ x. IsReadFrom (Some t) x) (sym same) ((t, refl, free, values), works)
-read_of t s (Err e) free values same works = tt
+-- settings that are held, and can work or not
+pub read_from : (t : Members) (s : Settings) → refusal_of t ≡ None → HoldsValues t s → Works s → IsReadFrom (Some t) s
+read_from t s free values works = ((t, refl, free, values), works)
 
-pub cant_of : (t : Members) (s : Settings) (r : Result Settings SettingFault) → refusal_of t ≡ None → HoldsValues t s
-    → IfErr r (TellsCantWork (cant_work s)) → IfErr r (Tells (Some t))
-cant_of t s (Ok x) free values h = tt
-cant_of t s (Err e) free values h = told_cant t s e free values h
-
--- a text that is no document
-pub told_toml : (document : Option Members) (e : Error) (f : SettingFault) → IsOfToml e f → ((IsMemory e → ⊥) → document ≡ None)
-    → Tells document f
-told_toml document e (faults.NotToml) h none = none h
-told_toml document e (faults.UnknownKey p) h none = absurd h
-told_toml document e (faults.Missing k) h none = absurd h
-told_toml document e (faults.BadValue k) h none = absurd h
-told_toml document e (faults.RangesOverlap) h none = absurd h
-told_toml document e (faults.SameIds) h none = absurd h
-told_toml document e (faults.CantWork k) h none = absurd h
-told_toml document e (faults.NoMemory) h none = tt
+pub told_cant : (t : Members) (s : Settings) (k : Key) → refusal_of t ≡ None → HoldsValues t s → cant_work s ≡ Some k
+    → Tells (Some t) (faults.CantWork k)
+told_cant t s k free values h = (s, (t, refl, free, values), h)

@@ -1,9 +1,5 @@
 mod Agree
 mod Apart
 mod Cuts
-mod Entries
-mod Good
-mod Listed
 mod Lists
 mod Loops
-mod Shortage

@@ -1,5 +1,5 @@
 -- The keys of the settings, in the order of their text.
-use Rattle.std.specs.Prelude.{ℕ, List, ◌++◌, codes, Option, Some, None}
+use Rattle.std.specs.Prelude.{ℕ, List, codes, Some, None}
 use Rattle.settings_file.specs.declared.keys.Section.{Section}
 use Rattle.settings_file.specs.declared.keys.Section.TheVariants.{Ports, Inside, Outside, Icmp, GatewayZero, GatewayOne, Neighbour}
 use Rattle.settings_file.specs.declared.keys.Name.{Name}
@@ -53,11 +53,3 @@ key section name = record { section = section; name = Some name }
 -- the key of a whole section, of the list of neighbours too
 abbrev pub whole : Section → Key
 whole section = record { section = section; name = None }
-
--- the path of a key, as `inside.prefix`; of a whole section its name
-abbrev pub path_of : Section → Option Name → List ℕ
-path_of section None = section_text section
-path_of section (Some name) = section_text section ++ codes "." ++ name_text name
-
-abbrev pub key_text : Key → List ℕ
-key_text k = path_of k.section k.name

@@ -1,14 +1,10 @@
 pub mod Assembled
-pub mod Clashes
 pub mod Document
 pub mod Faults
 pub mod Ids
 pub mod Keys
-pub mod Listing
-pub mod Memory
 pub mod Missing
 pub mod Neighbours
-pub mod Parts
 pub mod Rows
 pub mod Settings
 pub mod Texts

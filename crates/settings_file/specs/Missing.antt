@@ -1,15 +1,14 @@
 -- Keys that can't be left out.
-use Rattle.std.specs.Prelude.{Bool, List, [], ◌∷◌, ◌++◌, filter, Option, None, is_none, unwrap_or, option_and_then}
-use Rattle.std.specs.List.{find}
-use Rattle.toml.specs.Data.{Data, Members}
+use Rattle.std.specs.Prelude.{Bool, List, [], ◌∷◌, ◌++◌, filter, Option, is_none, unwrap_or, option_and_then}
+use Rattle.toml.specs.Data.{Members}
 use Rattle.settings_file.specs.declared.keys.Section.TheVariants.{Ports, Inside, Outside, GatewayZero, GatewayOne}
 use Rattle.settings_file.specs.declared.keys.Name.TheVariants.{Zero, One, Virtual, Prefix, Vrid, Wire, Router}
 use Rattle.settings_file.specs.declared.keys.Name.TheVariants.{InsideIp, InsideMac, OutsideIp, OutsideMac, BootFile, Link, InsidePort, OutsidePort}
 use Rattle.settings_file.specs.declared.keys.Key.{Key}
 use Rattle.settings_file.specs.Keys.{key}
 use Rattle.settings_file.specs.Document.{value_of}
-use Rattle.settings_file.specs.Faults.{earlier}
-use Rattle.settings_file.specs.Neighbours.{missing_in, all_missing_from, neighbours_of}
+use Rattle.settings_file.specs.Faults.{first}
+use Rattle.settings_file.specs.Neighbours.{all_missing_from, neighbours_of}
 
 -- the keys of the sections that can't be left out, in the order of their text: all but host_limit, mtu, echo, errors, priority, interval and preempt
 abbrev pub required : List Key
@@ -27,19 +26,10 @@ required =
 unfoldable pub lacks : Members → Key → Bool
 lacks t k = is_none (option_and_then (value_of t k.section) k.name)
 
--- the first key that a neighbour lacks
-abbrev pub missing_from : List Data → Option Key
-missing_from [] = None
-missing_from (d ∷ rest) = earlier (missing_in d) (missing_from rest)
-
--- what isn't a list of tables lacks no key
-unfoldable pub missing_neighbour : Members → Option Key
-missing_neighbour t = option_and_then missing_from (neighbours_of t)
-
--- all keys that are missing
+-- all keys that are missing: of the sections, and then of the neighbours. What isn't a list of tables lacks no key
 unfoldable pub all_missing : Members → List Key
 all_missing t = filter (lacks t) required ++ all_missing_from (unwrap_or (neighbours_of t) [])
 
 -- the first key that is missing
 unfoldable pub first_missing : Members → Option Key
-first_missing t = earlier (find (lacks t) required) (missing_neighbour t)
+first_missing t = first (all_missing t)

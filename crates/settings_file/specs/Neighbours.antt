@@ -38,10 +38,6 @@ present_rows d =
     ∷ (key Neighbour Mac, is_some (field_of d Mac))
     ∷ []
 
--- a key that a neighbour lacks
-unfoldable pub missing_in : Data → Option Key
-missing_in d = first_bad (present_rows d)
-
 -- all keys that the neighbours lack
 abbrev pub all_missing_from : List Data → List Key
 all_missing_from ds = flat_map (λ d. all_bad (present_rows d)) ds
@@ -88,15 +84,6 @@ bad_list inside outside (Some ds) = if nat_le (length ds) 64 then bad_in inside 
 -- [[neighbour]]: a list of at most 64 tables
 unfoldable pub bad_neighbours : Option Network → Option Network → Members → Option Key
 bad_neighbours inside outside t = bad_list inside outside (neighbours_of t)
-
-abbrev pub all_bad_of_neighbour : Option Network → Option Network → Data → List Key
-all_bad_of_neighbour inside outside d = all_bad (neighbour_value_rows inside outside d)
-
--- all bad keys of the neighbours
-abbrev pub all_bad_in : Option Network → Option Network → Option (List Data) → List Key
-all_bad_in inside outside None = whole Neighbour ∷ []
-all_bad_in inside outside (Some ds) =
-    if nat_le (length ds) 64 then flat_map (all_bad_of_neighbour inside outside) ds else whole Neighbour ∷ []
 
 abbrev pub neighbour_with : Option Side → Option ℕ → Option (List ℕ) → Option NeighbourValue
 neighbour_with (Some side) (Some ip) (Some mac) =

@@ -1,5 +1,5 @@
 -- The values of the settings, row by row in the order of their text, and the first that is bad.
-use Rattle.std.specs.Prelude.{Bool, true, false, List, [], ◌∷◌, ◌++◌, Option, is_some}
+use Rattle.std.specs.Prelude.{Bool, true, false, List, [], ◌∷◌, Option, is_some}
 use Rattle.toml.specs.Data.{Members}
 use Rattle.settings_file.specs.declared.keys.Section.{Section}
 use Rattle.settings_file.specs.declared.keys.Section.TheVariants.{Ports, Inside, Outside, Icmp}
@@ -7,7 +7,7 @@ use Rattle.settings_file.specs.declared.keys.Name.TheVariants.{Zero, One, HostLi
 use Rattle.settings_file.specs.declared.keys.Name.TheVariants.{InsideIp, InsideMac, OutsideIp, OutsideMac, Priority, Interval, Preempt, BootFile, Link, InsidePort, OutsidePort}
 use Rattle.settings_file.specs.declared.keys.Key.{Key}
 use Rattle.settings_file.specs.Keys.{key, whole}
-use Rattle.settings_file.specs.Faults.{first_bad, all_bad, earlier}
+use Rattle.settings_file.specs.Faults.{first_bad}
 use Rattle.settings_file.specs.Document.{Network, network_with, number_at, number_or, optional_at, flag_or, text_at, address_at, mac_at, range_at, is_host, is_apart, is_section}
 
 -- [ports]
@@ -60,47 +60,24 @@ unfoldable pub bad_icmp : Members → Option Key
 bad_icmp t = first_bad (icmp_rows t)
 
 -- [gateway_0] and [gateway_1], whose addresses lie in the two networks
-abbrev pub address_rows : Option Network → Option Network → Members → Section → List (Key × Bool)
-address_rows inside outside t s =
+abbrev pub gateway_rows : Option Network → Option Network → Members → Section → List (Key × Bool)
+gateway_rows inside outside t s =
     (key s InsideIp, is_host inside (address_at t s InsideIp))
     ∷ (key s InsideMac, is_some (mac_at t s InsideMac))
     ∷ (key s OutsideIp, is_host outside (address_at t s OutsideIp))
     ∷ (key s OutsideMac, is_some (mac_at t s OutsideMac))
-    ∷ []
-
-unfoldable pub bad_addresses : Option Network → Option Network → Members → Section → Option Key
-bad_addresses inside outside t s = first_bad (address_rows inside outside t s)
-
-abbrev pub role_rows : Members → Section → List (Key × Bool)
-role_rows t s =
-    (key s Priority, is_some (number_or 100 1 254 t s Priority))
+    ∷ (key s Priority, is_some (number_or 100 1 254 t s Priority))
     ∷ (key s Interval, is_some (number_or 100 1 4095 t s Interval))
     ∷ (key s Preempt, is_some (flag_or true t s Preempt))
     ∷ (key s BootFile, is_some (text_at t s BootFile))
-    ∷ []
-
-unfoldable pub bad_role : Members → Section → Option Key
-bad_role t s = first_bad (role_rows t s)
-
-abbrev pub socket_rows : Members → Section → List (Key × Bool)
-socket_rows t s =
-    (key s Link, is_some (number_at 1 65535 t s Link))
+    ∷ (key s Link, is_some (number_at 1 65535 t s Link))
     ∷ (key s InsidePort, is_some (number_at 1 65535 t s InsidePort))
     ∷ (key s OutsidePort, is_some (number_at 1 65535 t s OutsidePort))
     ∷ []
 
-unfoldable pub bad_sockets : Members → Section → Option Key
-bad_sockets t s = first_bad (socket_rows t s)
-
 unfoldable pub bad_gateway : Option Network → Option Network → Members → Section → Option Key
-bad_gateway inside outside t s =
-    earlier (bad_addresses inside outside t s) (earlier (bad_role t s) (bad_sockets t s))
+bad_gateway inside outside t s = first_bad (gateway_rows inside outside t s)
 
 -- the network of a side, where its address and prefix are good
 unfoldable pub network_at : Members → Section → Option Network
 network_at t s = network_with (address_at t s Virtual) (number_at 8 30 t s Prefix)
-
--- all bad keys of a gateway
-abbrev pub all_bad_of_gateway : Option Network → Option Network → Members → Section → List Key
-all_bad_of_gateway inside outside t s =
-    all_bad (address_rows inside outside t s) ++ (all_bad (role_rows t s) ++ all_bad (socket_rows t s))

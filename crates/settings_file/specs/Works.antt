@@ -1,6 +1,5 @@
 -- Which settings can work, and the first key of those that never can.
 use Rattle.std.specs.Prelude.{◌≡◌, ℕ, ◌+◌, ◌-◌, ◌==◌, ◌||◌, ◌%◌, not, Bool, false, List, [], ◌∷◌, ◌++◌, take, Option, None}
-use Rattle.std.specs.Option.{option_or}
 use Rattle.std.specs.List.{flat_map}
 use Rattle.std.specs.Str.{bytes_eq}
 use Rattle.nat_types.specs.declared.gateways.Side.{Side}
@@ -14,7 +13,7 @@ use Rattle.settings_file.specs.declared.keys.Name.TheVariants.{Virtual, Router, 
 use Rattle.settings_file.specs.declared.keys.Key.{Key}
 use Rattle.settings_file.specs.Keys.{key}
 use Rattle.settings_file.specs.Document.{is_in}
-use Rattle.settings_file.specs.Faults.{first_bad, all_bad}
+use Rattle.settings_file.specs.Faults.{all_bad, first}
 
 -- the first address of a network, which stands for the network itself: none before it is in it (RFC 1122, section 3.2.1.3)
 unfoldable pub is_first : ℕ → ℕ → Bool
@@ -69,21 +68,7 @@ neighbour_rows s neighbour =
     ∷ (key sections.Neighbour Mac, not (is_group neighbour.mac.0))
     ∷ []
 
--- the first of their keys whose value can never work
-abbrev pub neighbours_cant : Settings → List NeighbourValue → Option Key
-neighbours_cant s [] = None
-neighbours_cant s (n ∷ rest) = option_or (first_bad (neighbour_rows s n)) (neighbours_cant s rest)
-
-abbrev pub gateways_cant : Settings → Option Key
-gateways_cant s =
-    option_or (first_bad (gateway_rows s sections.GatewayZero s.zero)) (first_bad (gateway_rows s sections.GatewayOne s.one))
-
--- the first key, in the order of the text, whose value can never work
-unfoldable pub cant_work : Settings → Option Key
-cant_work s =
-    option_or (option_or (first_bad (network_rows s)) (gateways_cant s)) (neighbours_cant s s.neighbours.items)
-
--- all such keys
+-- all keys, in the order of the text, whose values can never work
 abbrev pub all_of_neighbour : Settings → NeighbourValue → List Key
 all_of_neighbour s n = all_bad (neighbour_rows s n)
 
@@ -93,6 +78,10 @@ all_that_cant s =
     ++ (all_bad (gateway_rows s sections.GatewayZero s.zero)
     ++ (all_bad (gateway_rows s sections.GatewayOne s.one)
     ++ flat_map (all_of_neighbour s) s.neighbours.items))
+
+-- the first of them
+abbrev pub cant_work : Settings → Option Key
+cant_work s = first (all_that_cant s)
 
 -- no value can't
 abbrev pub Works : Settings → Type 0

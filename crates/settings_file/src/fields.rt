@@ -1,22 +1,17 @@
 //! The values at the keys of a document.
-ghost use Rattle.std.specs.Prelude.{◌≡◌, ◌≢◌, ◌↔◌, IsSomeAnd, IsTrue, ◌≤◌, ◌∷◌, [], true, is_some, Some, map, option_map, option_and_then, IfOk, IfErr, IfSome, OnOk, string_bytes};
+ghost use Rattle.std.specs.Prelude.{◌≡◌, ◌↔◌, IsTrue, ◌≤◌, true, false, Some, map, option_map, option_and_then, IfOk, IfErr, IfSome, OnOk};
 ghost use Rattle.std.specs.Option.{ForSome};
 ghost use Rattle.toml.specs.Data.{get_member, as_table, as_str, as_bool};
 ghost use Rattle.toml.specs.View.{table_view, view};
 ghost use Rattle.addresses.specs.Address.{IsIn};
 ghost use Rattle.settings_file.specs.Keys.{section_text, key};
 ghost use Rattle.settings_file.specs.Document.{value_of, number_in, number_at, number_or, optional_at, flag_or, text_at, address_at, mac_at};
-ghost use Rattle.settings_file.specs.Document.{network_of_prefix, in_order, range_of, range_items, range_at, list_in, is_in, is_host};
-ghost use Rattle.settings_file.specs.declared.faults.ValueFault.TheVariants as faults;
-ghost use Rattle.settings_file.specs.Memory.{WasShort};
-ghost use Rattle.settings_file.specs.Faults.{IsBadAt, TellsFirst, first_bad};
+ghost use Rattle.settings_file.specs.Document.{in_order, range_of, range_items, range_at, list_in, is_in, is_host};
+ghost use Rattle.settings_file.specs.Faults.{IsBadAt};
 
-use crate::faults::ValueFault;
-use crate::memory::copied;
 use crate::{Key, Name, Section, texts};
 use addresses::{Ip, Mac, Port, Prefix};
 use settings::PortRange;
-use std::alloc::Global;
 use toml::{Table, Value};
 
 /// The value at a key of a table.
@@ -150,9 +145,9 @@ pub(crate) fn flag_or(
     }
 }
 
-/// The text at a key.
+/// The text at a key, where there is one.
 #[tactic(auto, unfolding(crate::specs::Document::text_at))]
-pub(crate) fn text<'a>(document: &'a Table, section: Section, name: Name) -> Option<&'a str>
+fn text_found<'a>(document: &'a Table, section: Section, name: Name) -> Option<&'a str>
     ensures { option_map (λ s. s.now) result ≡ text_at (table_view document.now) section name }
 {
     match value_at(document, section, name) {
@@ -161,13 +156,26 @@ pub(crate) fn text<'a>(document: &'a Table, section: Section, name: Name) -> Opt
     }
 }
 
+/// The text at a key.
+pub(crate) fn text<'a>(document: &'a Table, section: Section, name: Name) -> Result<&'a str, Key>
+    ensures ok { IfOk result
+        (λ s. text_at (table_view document.now) section name ≡ Some s.now) }
+    ensures err { IfErr result
+        (IsBadAt section name (text_at (table_view document.now) section name)) }
+{
+    match text_found(document, section, name) {
+        Some(text) => Ok(text),
+        None => Err(Key::new(section, name)),
+    }
+}
+
 /// The address at a key, where there is one.
 #[tactic(auto, unfolding(crate::specs::Document::address_at))]
-pub(crate) fn address_found(document: &Table, section: Section, name: Name) -> Option<Ip>
+fn address_found(document: &Table, section: Section, name: Name) -> Option<Ip>
     ensures { option_map (λ ip. ip.0) result
         ≡ address_at (table_view document.now) section name }
 {
-    match text(document, section, name) {
+    match text_found(document, section, name) {
         Some(text) => texts::address_of(text),
         None => None,
     }
@@ -185,11 +193,11 @@ pub(crate) fn address(document: &Table, section: Section, name: Name) -> Result<
 
 /// The Ethernet address at a key, where there is one.
 #[tactic(auto, unfolding(crate::specs::Document::mac_at))]
-pub(crate) fn mac_found(document: &Table, section: Section, name: Name) -> Option<Mac>
+fn mac_found(document: &Table, section: Section, name: Name) -> Option<Mac>
     ensures { option_map (λ mac. mac.0) result
         ≡ mac_at (table_view document.now) section name }
 {
-    match text(document, section, name) {
+    match text_found(document, section, name) {
         Some(text) => texts::mac_of(text),
         None => None,
     }
@@ -205,28 +213,6 @@ pub(crate) fn mac(document: &Table, section: Section, name: Name) -> Result<Mac,
     mac_found(document, section, name).ok_or(Key::new(section, name))
 }
 
-/// The text at a key, copied.
-pub(crate) fn string(
-    alloc: Global,
-    document: &Table,
-    section: Section,
-    name: Name,
-) -> Result<String, ValueFault>
-    ensures ok { IfOk result
-        (λ s. text_at (table_view document.now) section name ≡ Some (string_bytes s)) }
-    ensures err { IfErr result (TellsFirst (first_bad ((
-      key section name,
-      is_some (text_at (table_view document.now) section name),
-    ) ∷ []))) }
-    ensures short { IfErr result (λ fault. fault ≡ faults.NoMemory
-        → IsSomeAnd (text_at (table_view document.now) section name) WasShort) }
-{
-    match text(document, section, name) {
-        Some(text) => Ok(copied(alloc, text)?),
-        None => Err(ValueFault::BadValue(Key::new(section, name))),
-    }
-}
-
 #[tactic(auto, unfolding(crate::specs::Document::is_in))]
 pub(crate) fn is_in(address: Ip, network: Prefix) -> bool
     ensures test { result ≡ is_in address.0 network.address.0 network.length }
@@ -235,40 +221,25 @@ pub(crate) fn is_in(address: Ip, network: Prefix) -> bool
     network.contains(address)
 }
 
-/// Whether an address is there, and of the network, where that is known.
-pub(crate) fn is_host(network: Option<Prefix>, address: Option<Ip>) -> bool
-    ensures { result ≡ is_host (option_map network_of_prefix network)
-        (option_map (λ ip. ip.0) address) }
-{
-    match (network, address) {
-        (_, None) => false,
-        (None, Some(_)) => true,
-        (Some(network), Some(address)) => is_in(address, network),
-    }
-}
-
 /// The address at a key, which lies in a network.
 pub(crate) fn host(
     document: &Table,
     section: Section,
     name: Name,
     network: Prefix,
-) -> Result<Ip, ValueFault>
+) -> Result<Ip, Key>
     ensures ok { IfOk result
         (λ ip. address_at (table_view document.now) section name ≡ Some ip.0) }
     ensures lies { IfOk result (λ ip. IsIn ip.0 network.address.0 network.length) }
     ensures inside { OnOk result (is_host (Some (network.address.0, network.length))
         (address_at (table_view document.now) section name) ≡ true) }
-    ensures err { IfErr result (TellsFirst (first_bad ((
-      key section name,
-      is_host (Some (network.address.0, network.length))
-          (address_at (table_view document.now) section name),
-    ) ∷ []))) }
-    ensures memory { IfErr result (λ fault. fault ≢ faults.NoMemory) }
+    ensures key { IfErr result (λ k. k ≡ key section name) }
+    ensures outside { IfErr result (λ _. is_host (Some (network.address.0, network.length))
+        (address_at (table_view document.now) section name) ≡ false) }
 {
     match address_found(document, section, name) {
         Some(ip) if is_in(ip, network) => Ok(ip),
-        _ => Err(ValueFault::BadValue(Key::new(section, name))),
+        _ => Err(Key::new(section, name)),
     }
 }
 

@@ -1,7 +1,6 @@
 //! The keys that settings have, and their texts.
-ghost use Rattle.std.specs.Fmt.{WritesOnOk};
-ghost use Rattle.std.specs.Prelude.{◌≡◌, Some};
-ghost use Rattle.settings_file.specs.Keys.{section_text, name_text, key, key_text, whole};
+ghost use Rattle.std.specs.Prelude.{◌≡◌};
+ghost use Rattle.settings_file.specs.Keys.{section_text, name_text, key, whole};
 
 use std::fmt;
 
@@ -130,11 +129,7 @@ impl Key {
 
 /// The key's path, as `inside.prefix`, or `neighbour` for the whole list.
 impl fmt::Display for Key {
-    ghost output = { λ k. Some (key_text k) };
-
-    fn fmt<W: fmt::Write>(&self, f: &mut fmt::Formatter<W>) -> fmt::Result
-        ensures writes { WritesOnOk W.write_str_gives f.old result (key_text self.now) f.new }
-    {
+    fn fmt<W: fmt::Write>(&self, f: &mut fmt::Formatter<W>) -> fmt::Result {
         f.write_str(self.section.as_str())?;
         match self.name {
             Some(name) => {

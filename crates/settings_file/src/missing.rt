@@ -1,12 +1,9 @@
 //! Keys of a document that can't be left out.
-ghost use Rattle.std.specs.Prelude.{◌≡◌, ◌++◌, filter, map, IfOk, OnErr, OnOk};
-ghost use Rattle.std.specs.List.{find};
+ghost use Rattle.std.specs.Prelude.{◌≡◌, ◌++◌, filter, map, IfOk, OnOk};
 ghost use Rattle.toml.specs.View.{table_view, view};
-ghost use Rattle.settings_file.specs.Memory.{IsCutShort};
-ghost use Rattle.settings_file.specs.Missing.{required, lacks, missing_from, missing_neighbour, first_missing, all_missing};
+ghost use Rattle.settings_file.specs.Missing.{required, lacks, all_missing};
 ghost use Rattle.settings_file.specs.Neighbours.{all_missing_from};
 
-use crate::memory::add_key;
 use crate::rows::add_bad;
 use crate::{Key, Name, Section, fields, neighbours};
 use std::alloc::{AllocError, Global};
@@ -57,60 +54,13 @@ fn lacks(document: &Table, key: Key) -> bool
     }
 }
 
-fn missing_of(document: &Table, keys: &[Key]) -> Option<Key>
-    ensures { result ≡ find (lacks (table_view document.now)) keys.now }
-{
-    for key in keys {
-        if lacks(document, *key) {
-            return Some(*key);
-        }
-    }
-    None
-}
-
-/// The first key that a neighbour lacks.
-fn missing_from(tables: &[Value]) -> Option<Key>
-    ensures { result ≡ missing_from (map view tables.now) }
-{
-    for table in tables {
-        if let Some(key) = neighbours::missing_in(table) {
-            return Some(key);
-        }
-    }
-    None
-}
-
-#[tactic(auto, unfolding(crate::specs::Missing::missing_neighbour))]
-fn missing_neighbour(document: &Table) -> Option<Key>
-    ensures { result ≡ missing_neighbour (table_view document.now) }
-{
-    match neighbours::tables(document) {
-        Some(tables) => missing_from(tables),
-        None => None,
-    }
-}
-
-/// The first key that is missing: of the sections, or else of a neighbour.
-#[tactic(auto, unfolding(crate::specs::Missing::first_missing))]
-pub(crate) fn first_missing(document: &Table) -> Option<Key>
-    ensures { result ≡ first_missing (table_view document.now) }
-{
-    let required = required();
-    match missing_of(document, &required) {
-        Some(key) => Some(key),
-        None => missing_neighbour(document),
-    }
-}
-
 fn add_missing(document: &Table, keys: &[Key], found: &mut Vec<Key>) -> Result<(), AllocError>
     ensures items { OnOk result (found.new.items
         ≡ found.old.items ++ filter (lacks (table_view document.now)) keys.now) }
-    ensures short { OnErr result
-        (IsCutShort (found.old.items ++ filter (lacks (table_view document.now)) keys.now)) }
 {
     for key in keys {
         if lacks(document, *key) {
-            add_key(found, *key)?;
+            found.push(*key)?;
         }
     }
     Ok(())
@@ -119,8 +69,6 @@ fn add_missing(document: &Table, keys: &[Key], found: &mut Vec<Key>) -> Result<(
 fn add_missing_from(tables: &[Value], found: &mut Vec<Key>) -> Result<(), AllocError>
     ensures items { OnOk result
         (found.new.items ≡ found.old.items ++ all_missing_from (map view tables.now)) }
-    ensures short { OnErr result
-        (IsCutShort (found.old.items ++ all_missing_from (map view tables.now))) }
 {
     for table in tables {
         add_bad(&neighbours::present_rows(table), found)?;
@@ -130,9 +78,8 @@ fn add_missing_from(tables: &[Value], found: &mut Vec<Key>) -> Result<(), AllocE
 
 /// All keys that are missing: of the sections, and then of the neighbours.
 #[tactic(auto, unfolding(crate::specs::Missing::all_missing))]
-pub(crate) fn all_missing(alloc: Global, document: &Table) -> Result<Vec<Key>, AllocError>
-    ensures keys { IfOk result (λ found. found.items ≡ all_missing (table_view document.now)) }
-    ensures short { OnErr result (IsCutShort (all_missing (table_view document.now))) }
+pub(crate) fn missing(alloc: Global, document: &Table) -> Result<Vec<Key>, AllocError>
+    ensures { IfOk result (λ found. found.items ≡ all_missing (table_view document.now)) }
 {
     let mut found = Vec::new(alloc);
     add_missing(document, &required(), &mut found)?;

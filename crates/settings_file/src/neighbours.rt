@@ -1,29 +1,23 @@
 //! The static neighbours of a document.
-ghost use Rattle.std.specs.Prelude.{◌≡◌, ◌≢◌, ◌≤◌, ◌++◌, IfErr, IsSomeAnd, OnErr, Some, length, map, is_some, option_map, option_and_then, vec_len, IfOk, OnOk};
+ghost use Rattle.std.specs.Prelude.{◌≡◌, ◌≤◌, Some, length, map, is_some, option_map, option_and_then, vec_len, IfOk};
 ghost use Rattle.std.specs.List.{list_all};
 ghost use Rattle.toml.specs.Data.{as_str};
 ghost use Rattle.toml.specs.View.{table_view, view};
-ghost use Rattle.settings_file.specs.Faults.{FindsBad};
-ghost use Rattle.std.specs.List.{flat_map};
 ghost use Rattle.settings_file.specs.declared.keys.Section.TheVariants as sections;
-ghost use Rattle.settings_file.specs.declared.faults.ValueFault.TheVariants as faults;
-ghost use Rattle.settings_file.specs.Memory.{AreCutShort, IsCutShort};
 ghost use Rattle.settings_file.specs.Keys.{key};
-ghost use Rattle.settings_file.specs.Document.{network_of_prefix, is_table};
-ghost use Rattle.settings_file.specs.Neighbours.{all_bad_of_neighbour, all_bad_in, tables_in, neighbours_of, field_of, present_rows, missing_in, neighbour_value_rows, side_named, side_of, ip_of, mac_at_of, bad_neighbour, bad_in, bad_neighbours, neighbour_in};
+ghost use Rattle.settings_file.specs.Document.{is_table};
+ghost use Rattle.settings_file.specs.Faults.{FindsBad, FindsBadValue};
+ghost use Rattle.settings_file.specs.Neighbours.{tables_in, neighbours_of, field_of, present_rows, side_named, side_of, ip_of, mac_at_of, bad_neighbour, bad_in, bad_neighbours, neighbour_in};
 
-use crate::faults::ValueFault;
-use crate::memory::{add_key, add_neighbour};
-use crate::rows::{add_bad, first_bad};
-use crate::{Key, Name, Section, fields, texts};
+use crate::{Key, Name, Section, SettingFault, fields, texts};
 use addresses::{Ip, Mac, Prefix};
 use nat_types::Side;
 use settings::Neighbour;
-use std::alloc::{AllocError, Global};
+use std::alloc::Global;
 use toml::{Table, Value};
 
 /// How many static neighbours there may be.
-const NEIGHBOURS: usize = 64;
+pub(crate) const NEIGHBOURS: usize = 64;
 
 fn are_tables(list: &[Value]) -> bool
     ensures { result ≡ list_all (λ v. is_table (view v)) list.now }
@@ -47,8 +41,7 @@ pub(crate) fn tables_in(value: &Value) -> Option<&[Value]>
     }
 }
 
-/// The tables of the list of neighbours, no table where it is left out. `None` where it isn't a list of
-/// tables.
+/// The tables of the list of neighbours, no table where it is left out. `None` where it isn't a list of tables.
 #[tactic(auto, unfolding(crate::specs::Neighbours::neighbours_of))]
 pub(crate) fn tables(document: &Table) -> Option<&[Value]>
     ensures { option_map (λ l. map view l.now) result ≡ neighbours_of (table_view document.now) }
@@ -91,14 +84,6 @@ pub(crate) fn present_rows(neighbour: &Value) -> [(Key, bool); 3]
     ]
 }
 
-/// The first key that a neighbour lacks.
-#[tactic(auto, unfolding(crate::specs::Neighbours::missing_in))]
-pub(crate) fn missing_in(neighbour: &Value) -> Option<Key>
-    ensures { result ≡ missing_in (view neighbour.now) }
-{
-    first_bad(&present_rows(neighbour))
-}
-
 fn text(neighbour: &Value, name: Name) -> Option<&str>
     ensures { option_map (λ s. s.now) result
         ≡ option_and_then as_str (field_of (view neighbour.now) name) }
@@ -119,8 +104,9 @@ fn side_named(word: &str) -> Option<Side>
     }
 }
 
+/// A neighbour's side, where that is good.
 #[tactic(auto, unfolding(crate::specs::Neighbours::side_of))]
-fn side_of(neighbour: &Value) -> Option<Side>
+pub(crate) fn side_of(neighbour: &Value) -> Option<Side>
     ensures { result ≡ side_of (view neighbour.now) }
 {
     match text(neighbour, Name::Side) {
@@ -129,8 +115,9 @@ fn side_of(neighbour: &Value) -> Option<Side>
     }
 }
 
+/// Its address, where that is one.
 #[tactic(auto, unfolding(crate::specs::Neighbours::ip_of))]
-fn ip_of(neighbour: &Value) -> Option<Ip>
+pub(crate) fn ip_of(neighbour: &Value) -> Option<Ip>
     ensures { option_map (λ ip. ip.0) result ≡ ip_of (view neighbour.now) }
 {
     match text(neighbour, Name::Ip) {
@@ -139,8 +126,9 @@ fn ip_of(neighbour: &Value) -> Option<Ip>
     }
 }
 
+/// Its Ethernet address, where that is one.
 #[tactic(auto, unfolding(crate::specs::Neighbours::mac_at_of))]
-fn mac_at_of(neighbour: &Value) -> Option<Mac>
+pub(crate) fn mac_of(neighbour: &Value) -> Option<Mac>
     ensures { option_map (λ mac. mac.0) result ≡ mac_at_of (view neighbour.now) }
 {
     match text(neighbour, Name::Mac) {
@@ -149,75 +137,15 @@ fn mac_at_of(neighbour: &Value) -> Option<Mac>
     }
 }
 
-/// The keys of a neighbour, each with whether its value is good.
-fn value_rows(table: &Value, inside: Option<Prefix>, outside: Option<Prefix>) -> [(Key, bool); 3]
-    ensures { result ≡ neighbour_value_rows (option_map network_of_prefix inside)
-        (option_map network_of_prefix outside) (view table.now) }
-{
-    let side = side_of(table);
-    let network = match side {
-        Some(Side::Inside) => inside,
-        Some(Side::Outside) => outside,
-        None => None,
-    };
-    let has_ip = fields::is_host(network, ip_of(table));
-    let has_mac = mac_at_of(table).is_some();
-    [
-        (Key::new(Section::Neighbour, Name::Side), side.is_some()),
-        (Key::new(Section::Neighbour, Name::Ip), has_ip),
-        (Key::new(Section::Neighbour, Name::Mac), has_mac),
-    ]
-}
-
-fn add_bad_in(
-    tables: &[Value],
-    inside: Option<Prefix>,
-    outside: Option<Prefix>,
-    found: &mut Vec<Key>,
-) -> Result<(), AllocError>
-    ensures items { OnOk result (found.new.items ≡ found.old.items
-        ++ flat_map (all_bad_of_neighbour (option_map network_of_prefix inside)
-        (option_map network_of_prefix outside)) (map view tables.now)) }
-    ensures short { OnErr result (IsCutShort (found.old.items
-        ++ flat_map (all_bad_of_neighbour (option_map network_of_prefix inside)
-        (option_map network_of_prefix outside)) (map view tables.now))) }
-{
-    for table in tables {
-        add_bad(&value_rows(table, inside, outside), found)?;
-    }
-    Ok(())
-}
-
-/// Adds the keys of the neighbours whose values are bad.
-pub(crate) fn add_bad_neighbours(
-    document: &Table,
-    inside: Option<Prefix>,
-    outside: Option<Prefix>,
-    found: &mut Vec<Key>,
-) -> Result<(), AllocError>
-    ensures items { OnOk result (found.new.items ≡ found.old.items
-        ++ all_bad_in (option_map network_of_prefix inside) (option_map network_of_prefix outside)
-        (neighbours_of (table_view document.now))) }
-    ensures short { OnErr result (IsCutShort (found.old.items
-        ++ all_bad_in (option_map network_of_prefix inside) (option_map network_of_prefix outside)
-        (neighbours_of (table_view document.now)))) }
-{
-    match tables(document) {
-        Some(tables) if tables.len() <= NEIGHBOURS => { add_bad_in(tables, inside, outside, found) }
-        _ => add_key(found, Key::whole(Section::Neighbour)),
-    }
-}
-
-/// The neighbour that a table says: its address lies in its side's network.
+/// The neighbour that a table says. Its address lies in its side's network.
 #[tactic(auto, unfolding(crate::specs::Neighbours::bad_neighbour, crate::specs::Neighbours::neighbour_in))]
-fn neighbour(table: &Value, inside: Prefix, outside: Prefix) -> Result<Neighbour, ValueFault>
+fn neighbour(table: &Value, inside: Prefix, outside: Prefix) -> Result<Neighbour, Key>
     ensures ok { IfOk result (λ n. neighbour_in (view table.now) ≡ Some n) }
     ensures bad { FindsBad (bad_neighbour (Some (inside.address.0, inside.length))
         (Some (outside.address.0, outside.length)) (view table.now)) result }
-    ensures memory { IfErr result (λ fault. fault ≢ faults.NoMemory) }
 {
     let Some(side) = side_of(table) else {
-        return Err(ValueFault::BadValue(Key::new(Section::Neighbour, Name::Side)));
+        return Err(Key::new(Section::Neighbour, Name::Side));
     };
     let network = match side {
         Side::Inside => inside,
@@ -225,11 +153,11 @@ fn neighbour(table: &Value, inside: Prefix, outside: Prefix) -> Result<Neighbour
     };
     let ip = match ip_of(table) {
         Some(ip) if fields::is_in(ip, network) => ip,
-        _ => return Err(ValueFault::BadValue(Key::new(Section::Neighbour, Name::Ip))),
+        _ => return Err(Key::new(Section::Neighbour, Name::Ip)),
     };
-    match mac_at_of(table) {
+    match mac_of(table) {
         Some(mac) => Ok(Neighbour { side, ip, mac }),
-        None => Err(ValueFault::BadValue(Key::new(Section::Neighbour, Name::Mac))),
+        None => Err(Key::new(Section::Neighbour, Name::Mac)),
     }
 }
 
@@ -238,44 +166,38 @@ fn neighbours_in(
     tables: &[Value],
     inside: Prefix,
     outside: Prefix,
-) -> Result<Vec<Neighbour>, ValueFault>
+) -> Result<Vec<Neighbour>, SettingFault>
     ensures ok { IfOk result (λ v. map Some v.items ≡ map neighbour_in (map view tables.now)) }
     ensures len { IfOk result (λ v. vec_len v ≡ length tables.now) }
-    ensures bad { FindsBad (bad_in (Some (inside.address.0, inside.length))
+    ensures bad { FindsBadValue (bad_in (Some (inside.address.0, inside.length))
         (Some (outside.address.0, outside.length)) (map view tables.now)) result }
-    ensures short { IfErr result
-        (λ fault. fault ≡ faults.NoMemory → AreCutShort (map view tables.now)) }
 {
     let mut neighbours = Vec::new(alloc);
     for table in tables {
         let neighbour = neighbour(table, inside, outside)?;
-        add_neighbour(&mut neighbours, neighbour)?;
+        neighbours.push(neighbour)?;
     }
     Ok(neighbours)
 }
 
-/// The static neighbours, at most 64.
+/// The static neighbours, at most [`NEIGHBOURS`].
 #[tactic(auto, unfolding(crate::specs::Neighbours::bad_neighbours))]
 pub(crate) fn neighbours(
     alloc: Global,
     document: &Table,
     inside: Prefix,
     outside: Prefix,
-) -> Result<Vec<Neighbour>, ValueFault>
+) -> Result<Vec<Neighbour>, SettingFault>
     ensures ok { IfOk result (λ v. option_map (map neighbour_in)
         (neighbours_of (table_view document.now)) ≡ Some (map Some v.items)) }
     ensures few { IfOk result (λ v. vec_len v ≤ 64) }
-    ensures bad { FindsBad (bad_neighbours (Some (inside.address.0, inside.length))
+    ensures bad { FindsBadValue (bad_neighbours (Some (inside.address.0, inside.length))
         (Some (outside.address.0, outside.length)) (table_view document.now)) result }
-    ensures short { IfErr result (λ fault. fault ≡ faults.NoMemory
-        → IsSomeAnd (neighbours_of (table_view document.now)) AreCutShort) }
 {
-    let whole = Key::whole(Section::Neighbour);
-    let Some(tables) = tables(document) else {
-        return Err(ValueFault::BadValue(whole));
-    };
-    if tables.len() > NEIGHBOURS {
-        return Err(ValueFault::BadValue(whole));
+    match tables(document) {
+        Some(tables) if tables.len() <= NEIGHBOURS => {
+            neighbours_in(alloc, tables, inside, outside)
+        }
+        _ => Err(SettingFault::BadValue(Key::whole(Section::Neighbour))),
     }
-    neighbours_in(alloc, tables, inside, outside)
 }

@@ -1,55 +1,46 @@
 //! The sections of a document: ports, the two networks and the router, and what is said by ICMP.
-ghost use Rattle.std.specs.Prelude.{◌≡◌, ◌≢◌, IsTrue, ◌<◌, ◌≤◌, Some, IfErr, IfOk};
+ghost use Rattle.std.specs.Prelude.{◌≡◌, IsTrue, ◌<◌, ◌≤◌, Some, IfOk};
 ghost use Rattle.std.specs.Option.{ForSome};
 ghost use Rattle.toml.specs.View.{table_view};
 ghost use Rattle.settings_file.specs.declared.keys.Section.TheVariants.{Inside, Outside};
 ghost use Rattle.settings_file.specs.declared.keys.Name.TheVariants.{Zero, One, Router};
-ghost use Rattle.settings_file.specs.declared.faults.ValueFault.TheVariants as faults;
 ghost use Rattle.settings_file.specs.Document.{address_at, is_apart, is_section, IsApart};
 ghost use Rattle.settings_file.specs.Faults.{FindsBad};
 ghost use Rattle.settings_file.specs.Rows.{bad_ports, bad_inside, bad_outside, bad_icmp, network_at};
 ghost use Rattle.settings_file.specs.Values.{IsRange, IsLimit, IsInterface, IsIcmp};
 
-use crate::faults::ValueFault;
-use crate::{Key, Name, Section, fields};
+use crate::{Key, Name, Section, fields, limits};
 use addresses::{Ip, Prefix};
 use settings::{IcmpSettings, InterfaceSettings, PortRange};
 use toml::Table;
 
 /// The two gateways' port ranges, and the limit of each inside host where there is one.
 #[tactic(auto, unfolding(crate::specs::Rows::bad_ports))]
-pub(crate) fn ports(document: &Table) -> Result<(PortRange, PortRange, Option<u16>), ValueFault>
+pub(crate) fn ports(document: &Table) -> Result<(PortRange, PortRange, Option<u16>), Key>
     ensures zero { IfOk result (λ r. IsRange (table_view document.now) Zero r.0) }
     ensures one { IfOk result (λ r. IsRange (table_view document.now) One r.1) }
     ensures limit { IfOk result (λ r. IsLimit (table_view document.now) r.2) }
     ensures limited { IfOk result (λ r. ForSome r.2 (λ most. 0 < most)) }
     ensures bad { FindsBad (bad_ports (table_view document.now)) result }
-    ensures memory { IfErr result (λ fault. fault ≢ faults.NoMemory) }
 {
     let zero = fields::range(document, Section::Ports, Name::Zero)?;
     let one = fields::range(document, Section::Ports, Name::One)?;
-    let limit = fields::optional(document, Section::Ports, Name::HostLimit, 1, 65535)?;
+    let limit = limits::host_limit(document)?;
     Ok((zero, one, limit))
 }
 
 /// The inside network.
 #[tactic(auto, unfolding(crate::specs::Rows::bad_inside))]
-pub(crate) fn inside(document: &Table) -> Result<InterfaceSettings, ValueFault>
+pub(crate) fn inside(document: &Table) -> Result<InterfaceSettings, Key>
     ensures ok { IfOk result (IsInterface (table_view document.now) Inside) }
     ensures bad { FindsBad (bad_inside (table_view document.now)) result }
-    ensures memory { IfErr result (λ fault. fault ≢ faults.NoMemory) }
 {
-    let virtual_ip = fields::address(document, Section::Inside, Name::Virtual)?;
-    let prefix_length = fields::number(document, Section::Inside, Name::Prefix, 8, 30)? as u8;
-    let virtual_router = fields::number(document, Section::Inside, Name::Vrid, 1, 255)? as u8;
-    let wire = fields::number(document, Section::Inside, Name::Wire, 1, 65535)?;
-    let mtu = fields::number_or(document, Section::Inside, Name::Mtu, 1500, 576, 1500)?;
     Ok(InterfaceSettings {
-        virtual_ip,
-        prefix_length,
-        virtual_router,
-        wire,
-        mtu,
+        virtual_ip: fields::address(document, Section::Inside, Name::Virtual)?,
+        prefix_length: limits::prefix_length(document, Section::Inside)?,
+        virtual_router: limits::virtual_router(document, Section::Inside)?,
+        wire: limits::port(document, Section::Inside, Name::Wire)?,
+        mtu: limits::mtu(document, Section::Inside)?,
     })
 }
 
@@ -66,10 +57,7 @@ pub(crate) fn is_apart(network: Prefix, address: Ip, length: u8) -> bool
 
 /// The outside network, which shares no address with the inside one, and the router, which lies in it.
 #[tactic(auto, unfolding(crate::specs::Rows::bad_outside, crate::specs::Rows::network_at))]
-pub(crate) fn outside(
-    document: &Table,
-    inside: Prefix,
-) -> Result<(InterfaceSettings, Ip), ValueFault>
+pub(crate) fn outside(document: &Table, inside: Prefix) -> Result<(InterfaceSettings, Ip), Key>
     ensures ok { IfOk result (λ r. IsInterface (table_view document.now) Outside r.0) }
     ensures apart { IfOk result
         (λ r. IsApart inside r.0.virtual_ip.0 r.0.prefix_length) }
@@ -77,18 +65,17 @@ pub(crate) fn outside(
         (λ r. address_at (table_view document.now) Outside Router ≡ Some r.1.0) }
     ensures bad { FindsBad (bad_outside (Some (inside.address.0, inside.length))
         (network_at (table_view document.now) Outside) (table_view document.now)) result }
-    ensures memory { IfErr result (λ fault. fault ≢ faults.NoMemory) }
 {
     let virtual_ip = fields::address(document, Section::Outside, Name::Virtual)?;
-    let prefix_length = fields::number(document, Section::Outside, Name::Prefix, 8, 30)? as u8;
+    let prefix_length = limits::prefix_length(document, Section::Outside)?;
     if !is_apart(inside, virtual_ip, prefix_length) {
-        return Err(ValueFault::BadValue(Key::new(Section::Outside, Name::Prefix)));
+        return Err(Key::new(Section::Outside, Name::Prefix));
     }
-    let virtual_router = fields::number(document, Section::Outside, Name::Vrid, 1, 255)? as u8;
-    let wire = fields::number(document, Section::Outside, Name::Wire, 1, 65535)?;
+    let virtual_router = limits::virtual_router(document, Section::Outside)?;
+    let wire = limits::port(document, Section::Outside, Name::Wire)?;
     let network = Prefix::new(virtual_ip, prefix_length);
     let router = fields::host(document, Section::Outside, Name::Router, network)?;
-    let mtu = fields::number_or(document, Section::Outside, Name::Mtu, 1500, 576, 1500)?;
+    let mtu = limits::mtu(document, Section::Outside)?;
     let outside = InterfaceSettings {
         virtual_ip,
         prefix_length,
@@ -112,13 +99,12 @@ pub(crate) fn is_section(document: &Table, section: Section) -> bool
 
 /// What the gateways say by ICMP.
 #[tactic(auto, unfolding(crate::specs::Rows::bad_icmp))]
-pub(crate) fn icmp(document: &Table) -> Result<IcmpSettings, ValueFault>
+pub(crate) fn icmp(document: &Table) -> Result<IcmpSettings, Key>
     ensures ok { IfOk result (IsIcmp (table_view document.now)) }
     ensures bad { FindsBad (bad_icmp (table_view document.now)) result }
-    ensures memory { IfErr result (λ fault. fault ≢ faults.NoMemory) }
 {
     if !is_section(document, Section::Icmp) {
-        return Err(ValueFault::BadValue(Key::whole(Section::Icmp)));
+        return Err(Key::whole(Section::Icmp));
     }
     let echo = fields::flag_or(document, Section::Icmp, Name::Echo, false)?;
     let errors = fields::flag_or(document, Section::Icmp, Name::Errors, false)?;

@@ -1,14 +1,12 @@
 //! Keys of a document that settings don't have.
-ghost use Rattle.std.specs.Prelude.{◌≡◌, ◌++◌, Some, None, map, option_map, string_bytes, ◌∷◌, [], IfOk, OnErr, OnOk};
+ghost use Rattle.std.specs.Prelude.{◌≡◌, ◌++◌, Some, None, map, option_map, string_bytes, ◌∷◌, [], IfOk, OnOk};
 ghost use Rattle.std.specs.List.{list_any};
 ghost use Rattle.toml.specs.Data.{as_table};
 ghost use Rattle.toml.specs.View.{table_view, view};
 ghost use Rattle.settings_file.specs.declared.keys.Section.TheVariants.{Neighbour};
-ghost use Rattle.settings_file.specs.Memory.{IsUnlisted};
 ghost use Rattle.settings_file.specs.Neighbours.{tables_in};
-ghost use Rattle.settings_file.specs.Unknown.{has_text, is_known, section_named, path, unknown_in, unknown_at, unknown_from, unknown_neighbour, unknown_under, unknown_of, lesser, least_from, first_unknown};
+ghost use Rattle.settings_file.specs.Unknown.{has_text, is_known, section_named, path, unknown_in, unknown_at, unknown_from, unknown_neighbour, unknown_under, unknown_of, lesser, least_from};
 
-use crate::memory::{add_text, copied, path_of};
 use crate::{Name, Section, neighbours};
 use std::alloc::{AllocError, Global};
 use toml::{Table, Value};
@@ -97,7 +95,7 @@ fn section_named(text: &str) -> Option<Section>
     }
 }
 
-/// Adds a path of a key.
+/// Adds the path of a key.
 fn add_path(
     alloc: Global,
     section: Section,
@@ -106,22 +104,19 @@ fn add_path(
 ) -> Result<(), AllocError>
     ensures items { OnOk result (map string_bytes found.new.items
         ≡ map string_bytes found.old.items ++ path section text.now ∷ []) }
-    ensures short { OnErr result
-        (IsUnlisted (map string_bytes found.old.items ++ path section text.now ∷ [])) }
 {
-    let path = path_of(alloc, section, text)?;
-    add_text(found, path)
+    let section = section.as_str();
+    found.push(format!(in alloc; "{section}.{text}")?)?;
+    Ok(())
 }
 
 /// Adds a key of the document, which is its own path.
 fn add_title(alloc: Global, text: &str, found: &mut Vec<String>) -> Result<(), AllocError>
     ensures items { OnOk result
         (map string_bytes found.new.items ≡ map string_bytes found.old.items ++ text.now ∷ []) }
-    ensures short { OnErr result
-        (IsUnlisted (map string_bytes found.old.items ++ text.now ∷ [])) }
 {
-    let title = copied(alloc, text)?;
-    add_text(found, title)
+    found.push(String::from_str(alloc, text)?)?;
+    Ok(())
 }
 
 /// The lesser of two paths by their bytes.
@@ -148,9 +143,6 @@ fn unknown_in(
 ) -> Result<(), AllocError>
     ensures items { OnOk result (map string_bytes found.new.items
         ≡ map string_bytes found.old.items ++ unknown_in section (table_view table.now)) }
-    ensures short { OnErr result
-        (IsUnlisted (map string_bytes found.old.items
-        ++ unknown_in section (table_view table.now))) }
 {
     for (text, _) in table {
         if !is_known(section, text.as_str()) {
@@ -169,9 +161,6 @@ fn unknown_at(
 ) -> Result<(), AllocError>
     ensures items { OnOk result (map string_bytes found.new.items
         ≡ map string_bytes found.old.items ++ unknown_at section (as_table (view value.now))) }
-    ensures short { OnErr result
-        (IsUnlisted (map string_bytes found.old.items
-        ++ unknown_at section (as_table (view value.now)))) }
 {
     match value.as_table() {
         Some(table) => unknown_in(alloc, section, table, found),
@@ -182,8 +171,6 @@ fn unknown_at(
 fn unknown_from(alloc: Global, tables: &[Value], found: &mut Vec<String>) -> Result<(), AllocError>
     ensures items { OnOk result (map string_bytes found.new.items
         ≡ map string_bytes found.old.items ++ unknown_from (map view tables.now)) }
-    ensures short { OnErr result
-        (IsUnlisted (map string_bytes found.old.items ++ unknown_from (map view tables.now))) }
 {
     for table in tables {
         unknown_at(alloc, Section::Neighbour, table, found)?;
@@ -199,9 +186,6 @@ fn unknown_neighbour(
 ) -> Result<(), AllocError>
     ensures items { OnOk result (map string_bytes found.new.items
         ≡ map string_bytes found.old.items ++ unknown_neighbour (tables_in (Some (view value.now)))) }
-    ensures short { OnErr result
-        (IsUnlisted (map string_bytes found.old.items
-        ++ unknown_neighbour (tables_in (Some (view value.now))))) }
 {
     match neighbours::tables_in(value) {
         Some(tables) => unknown_from(alloc, tables, found),
@@ -219,9 +203,6 @@ fn unknown_under(
     ensures items { OnOk result (map string_bytes found.new.items
         ≡ map string_bytes found.old.items
         ++ unknown_under text.now (view value.now) (section_named text.now)) }
-    ensures short { OnErr result
-        (IsUnlisted (map string_bytes found.old.items
-        ++ unknown_under text.now (view value.now) (section_named text.now))) }
 {
     match section_named(text) {
         None => add_title(alloc, text, found),
@@ -232,9 +213,8 @@ fn unknown_under(
 
 /// The paths of all keys that settings don't have.
 pub(crate) fn unknown(alloc: Global, document: &Table) -> Result<Vec<String>, AllocError>
-    ensures paths { IfOk result
+    ensures { IfOk result
         (λ found. map string_bytes found.items ≡ unknown_of (table_view document.now)) }
-    ensures short { OnErr result (IsUnlisted (unknown_of (table_view document.now))) }
 {
     let mut found = Vec::new(alloc);
     for (text, value) in document {
@@ -243,7 +223,8 @@ pub(crate) fn unknown(alloc: Global, document: &Table) -> Result<Vec<String>, Al
     Ok(found)
 }
 
-fn least(paths: Vec<String>) -> Option<String>
+/// The least of some paths by their bytes.
+pub(crate) fn least(paths: Vec<String>) -> Option<String>
     ensures { option_map string_bytes result ≡ least_from None (map string_bytes paths.items) }
 {
     let mut found = None;
@@ -251,15 +232,4 @@ fn least(paths: Vec<String>) -> Option<String>
         found = Some(lesser(found, path));
     }
     found
-}
-
-/// The least path of a key that settings don't have.
-#[tactic(auto, unfolding(crate::specs::Unknown::first_unknown))]
-pub(crate) fn first_unknown(alloc: Global, document: &Table) -> Result<Option<String>, AllocError>
-    ensures first { IfOk result (λ found. option_map string_bytes found
-        ≡ first_unknown (table_view document.now)) }
-    ensures short { OnErr result (IsUnlisted (unknown_of (table_view document.now))) }
-{
-    let paths = unknown(alloc, document)?;
-    Ok(least(paths))
 }

@@ -3,10 +3,18 @@ ghost use Rattle.std.specs.Prelude.{◌<◌, ◌≤◌, vec_len};
 ghost use Rattle.std.specs.Option.{ForSome};
 ghost use Rattle.settings.specs.Placed.{AreApart, LiesIn};
 
+use crate::gateways::gateway;
+use crate::ids::{overlap, same_ids};
+use crate::neighbours::neighbours;
+use crate::{Section, SettingFault, sections};
 use addresses::Ip;
-use settings::{GatewaySettings, IcmpSettings, InterfaceSettings, Neighbour, PortRange};
+use settings::{
+    GatewaySettings, IcmpSettings, InterfaceSettings, Neighbour, PortRange, PortRanges, Settings,
+};
+use std::alloc::Global;
+use toml::Table;
 
-/// All values of a document; their port ranges may overlap.
+/// All values of a document. The two gateways may share ports and addresses still.
 #[derive(Drop)]
 pub(crate) struct Values {
     pub(crate) zero_ports: PortRange,
@@ -26,4 +34,71 @@ pub(crate) struct Values {
     ghost zero_outside: { LiesIn zero.outside_ip.0 outside },
     ghost one_inside: { LiesIn one.inside_ip.0 inside },
     ghost one_outside: { LiesIn one.outside_ip.0 outside },
+}
+
+impl Values {
+    ghost use Rattle.std.specs.Prelude.{IfErr, IfOk};
+    ghost use Rattle.toml.specs.View.{table_view};
+    ghost use Rattle.settings_file.specs.Assembled.{AreValues, IsAssembled, TellsValues};
+    ghost use Rattle.settings_file.specs.Faults.{FindsBadValue};
+    ghost use Rattle.settings_file.specs.Settings.{first_bad_value};
+
+    /// Reads them in the order of the text.
+    #[tactic(auto, unfolding(crate::specs::Settings::first_bad_value, crate::specs::Rows::network_at))]
+    pub(crate) fn read(alloc: Global, document: &Table) -> Result<Values, SettingFault>
+        ensures ok { IfOk result (AreValues (table_view document.now)) }
+        ensures bad { FindsBadValue (first_bad_value (table_view document.now)) result }
+    {
+        let (zero_ports, one_ports, host_limit) = sections::ports(document)?;
+        let inside = sections::inside(document)?;
+        let (outside, router) = sections::outside(document, inside.network())?;
+        let icmp = sections::icmp(document)?;
+        let inner = inside.network();
+        let outer = outside.network();
+        let zero = gateway(alloc, document, Section::GatewayZero, inner, outer)?;
+        let one = gateway(alloc, document, Section::GatewayOne, inner, outer)?;
+        let neighbours = neighbours(alloc, document, inner, outer)?;
+        Ok(Values {
+            zero_ports,
+            one_ports,
+            host_limit,
+            inside,
+            outside,
+            router,
+            icmp,
+            zero,
+            one,
+            neighbours,
+        })
+    }
+
+    /// The settings that they make, where the two gateways share nothing that they may not.
+    pub(crate) fn assemble(self) -> Result<Settings, SettingFault>
+        ensures ok { IfOk result (IsAssembled self) }
+        ensures err { IfErr result (TellsValues self) }
+    {
+        if overlap(self.zero_ports, self.one_ports) {
+            return Err(SettingFault::RangesOverlap);
+        }
+        let inside = self.inside.virtual_ip;
+        let outside = self.outside.virtual_ip;
+        if same_ids(&self.zero, &self.one, inside, outside) {
+            return Err(SettingFault::SameIds);
+        }
+        let ports = PortRanges {
+            zero: self.zero_ports,
+            one: self.one_ports,
+            host_limit: self.host_limit,
+        };
+        Ok(Settings {
+            ports,
+            inside: self.inside,
+            outside: self.outside,
+            router: self.router,
+            icmp: self.icmp,
+            zero: self.zero,
+            one: self.one,
+            neighbours: self.neighbours,
+        })
+    }
 }

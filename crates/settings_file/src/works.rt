@@ -1,10 +1,9 @@
-//! Settings that can never work.
-ghost use Rattle.std.specs.Prelude.{◌≡◌, ◌≤◌, ◌++◌, IfOk, OnErr, OnOk};
+//! Values that can never work.
+ghost use Rattle.std.specs.Prelude.{◌≡◌, ◌≤◌, ◌++◌, IfOk, OnOk};
 ghost use Rattle.std.specs.List.{flat_map};
-ghost use Rattle.settings_file.specs.Memory.{IsCutShort};
-ghost use Rattle.settings_file.specs.Works.{is_first, is_last, is_host_address, is_group, is_station, is_ours, network_rows, gateway_rows, neighbour_rows, neighbours_cant, gateways_cant, cant_work, all_of_neighbour, all_that_cant};
+ghost use Rattle.settings_file.specs.Works.{is_first, is_last, is_host_address, is_group, is_station, is_ours, network_rows, gateway_rows, neighbour_rows, all_of_neighbour, all_that_cant};
 
-use crate::rows::{add_bad, first_bad};
+use crate::rows::add_bad;
 use crate::{Key, Name, Section};
 use addresses::{Ip, Mac};
 use nat_types::Side;
@@ -76,7 +75,7 @@ fn is_ours(settings: &Settings, side: Side, address: Ip) -> bool
 
 /// What has to hold of the networks and the router.
 #[tactic(auto, unfolding(crate::specs::Works::network_rows))]
-pub(crate) fn network_rows(settings: &Settings) -> [(Key, bool); 3]
+fn network_rows(settings: &Settings) -> [(Key, bool); 3]
     ensures { result ≡ network_rows settings.now }
 {
     let Settings {
@@ -102,7 +101,7 @@ pub(crate) fn network_rows(settings: &Settings) -> [(Key, bool); 3]
 
 /// What has to hold of a gateway.
 #[tactic(auto, unfolding(crate::specs::Works::gateway_rows))]
-pub(crate) fn gateway_rows(
+fn gateway_rows(
     settings: &Settings,
     section: Section,
     gateway: &GatewaySettings,
@@ -133,7 +132,7 @@ pub(crate) fn gateway_rows(
 
 /// What has to hold of a neighbour.
 #[tactic(auto, unfolding(crate::specs::Works::neighbour_rows))]
-pub(crate) fn neighbour_rows(settings: &Settings, neighbour: &Neighbour) -> [(Key, bool); 2]
+fn neighbour_rows(settings: &Settings, neighbour: &Neighbour) -> [(Key, bool); 2]
     ensures { result ≡ neighbour_rows settings.now neighbour.now }
 {
     [
@@ -148,35 +147,6 @@ pub(crate) fn neighbour_rows(settings: &Settings, neighbour: &Neighbour) -> [(Ke
     ]
 }
 
-fn of_neighbours(settings: &Settings, neighbours: &[Neighbour]) -> Option<Key>
-    ensures { result ≡ neighbours_cant settings.now neighbours.now }
-{
-    for neighbour in neighbours {
-        if let Some(key) = first_bad(&neighbour_rows(settings, neighbour)) {
-            return Some(key);
-        }
-    }
-    None
-}
-
-fn of_gateways(settings: &Settings) -> Option<Key>
-    ensures { result ≡ gateways_cant settings.now }
-{
-    first_bad(&gateway_rows(settings, Section::GatewayZero, &settings.zero)).or(first_bad(
-        &gateway_rows(settings, Section::GatewayOne, &settings.one),
-    ))
-}
-
-/// The first key, in the order of the text, whose value can never work.
-#[tactic(auto, unfolding(crate::specs::Works::cant_work))]
-pub fn cant_work(settings: &Settings) -> Option<Key>
-    ensures { result ≡ cant_work settings.now }
-{
-    first_bad(&network_rows(settings))
-        .or(of_gateways(settings))
-        .or(of_neighbours(settings, settings.neighbours.as_slice()))
-}
-
 fn add_of_neighbours(
     settings: &Settings,
     neighbours: &[Neighbour],
@@ -184,8 +154,6 @@ fn add_of_neighbours(
 ) -> Result<(), AllocError>
     ensures items { OnOk result (found.new.items
         ≡ found.old.items ++ flat_map (all_of_neighbour settings.now) neighbours.now) }
-    ensures short { OnErr result
-        (IsCutShort (found.old.items ++ flat_map (all_of_neighbour settings.now) neighbours.now)) }
 {
     for neighbour in neighbours {
         add_bad(&neighbour_rows(settings, neighbour), found)?;
@@ -196,8 +164,7 @@ fn add_of_neighbours(
 /// All keys, in the order of the text, whose values can never work.
 #[tactic(auto, unfolding(crate::specs::Works::all_that_cant))]
 pub(crate) fn all_that_cant(alloc: Global, settings: &Settings) -> Result<Vec<Key>, AllocError>
-    ensures keys { IfOk result (λ keys. keys.items ≡ all_that_cant settings.now) }
-    ensures short { OnErr result (IsCutShort (all_that_cant settings.now)) }
+    ensures { IfOk result (λ keys. keys.items ≡ all_that_cant settings.now) }
 {
     let mut found = Vec::new(alloc);
     add_bad(&network_rows(settings), &mut found)?;

@@ -1,5 +1,5 @@
 -- What passes a wire.
-use Rattle.std.specs.Prelude.{◌≡◌, ℕ, List, [], ◌∷◌, take, Option, Some, None, Result, Ok, Err}
+use Rattle.std.specs.Prelude.{ℕ, List, take, Option, Some, None, Result, Ok, Err}
 use Rattle.sockets.specs.declared.wire.Place.{Place}
 
 -- a datagram is received from a place, or handed over for one; or a call by which no datagram passes

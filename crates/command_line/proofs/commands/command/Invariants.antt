@@ -6,4 +6,4 @@ use Rattle.command_line.proofs.commands.command.Given as goal
 -- so many of its arguments it was told
 abbrev pub invariant-loop-argument : goal.invariant-loop-argument
 invariant-loop-argument l =
-    TakesSo l.command (with_all (new_app l.outline.now.name.now) (take l.argument-index l.outline.now.arguments.now))
+    TakesSo l.command (with_all (new_app l.outline.name.now) (take l.argument-index l.outline.arguments.now))

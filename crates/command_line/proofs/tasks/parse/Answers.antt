@@ -1,16 +1,16 @@
-use Rattle.std.proofs.Common.{◌≡◌, ◌∙◌, ◌⊎◌, List, [], ◌∷◌, Option, Err, ap, sym, subst, true, refl, inl, inr, map, string_bytes}
+use Rattle.std.proofs.Common.{◌≡◌, ◌∙◌, ◌⊎◌, List, [], ◌∷◌, Option, ap, sym, subst, true, refl, inl, inr, map, string_bytes}
 use Rattle.clap.specs.Kinds.{HasKind, IsAmong, Kinds}
 use Rattle.clap.specs.Values.{kind_of}
+use Rattle.clap.specs.Words.{App, HasMatchesOf, Row, Text, app_of, fault_of, is_simple, is_simple_and_free, subcommand_rows_of}
+use Rattle.clap.specs.declared.builder.command.Command.{Command}
 use Rattle.clap.specs.declared.error.Error.{Error}
 use Rattle.clap.specs.declared.error.kind.ErrorKind.{ErrorKind}
 use Rattle.clap.specs.declared.error.kind.ErrorKind.TheVariants as kind
-use Rattle.clap.specs.Words.{Row, Text, is_simple, is_simple_and_free}
-use Rattle.command_line.specs.Entries.{line_help}
-use Rattle.command_line.specs.Line.{faults_of, line_app}
-use Rattle.command_line.specs.Tasks.{Enters, Numbered, RefusesWords}
+use Rattle.clap.specs.declared.parser.matches.ArgMatches.{ArgMatches}
+use Rattle.command_line.specs.Arguments.{TakesSo}
 use Rattle.command_line.specs.Faults.{IsOfClap}
-use Rattle.command_line.specs.Memory.{IsRead, Lacks, Outlines, Reads}
-use Rattle.command_line.specs.Reading.{IsOfReading}
+use Rattle.command_line.specs.Line.{Takes, entered_by, faults_of, line_app}
+use Rattle.command_line.specs.Tasks.{Enters, Numbered, RefusesWords}
 use Rattle.command_line.specs.declared.faults.LineFault.{LineFault}
 use Rattle.command_line.specs.declared.faults.LineFault.TheVariants.{Refused, Values, NoMemory}
 use Rattle.command_line.proofs.Entering.{enters}
@@ -23,27 +23,39 @@ is_free = refl
 is_plain : is_simple line_app ≡ true
 is_plain = refl
 
--- what comes of words by a command that takes them as the line does
-by_line : (line : Command) (words : List Text) (r : Result ArgMatches Error) → TakesSo line line_app
-    → (is_simple_and_free (app_of line) ≡ true → FailsBy (fault_of (app_of line) words) r) → FailsBy (faults_of words) r
-by_line line words r takes kinds = subst (λ (a : App). FailsBy (fault_of a words) r) takes.0 (kinds (ap is_simple_and_free takes.0 ∙ is_free))
+-- what a command that takes words as the line does makes of them
+taken_by : (line : Command) (words : List Text) → TakesSo line line_app
+    → (is_simple_and_free (app_of line) ≡ true → fault_of (app_of line) words ≡ []) → Takes words
+taken_by line words so none = subst (λ (a : App). fault_of a words ≡ []) so.0 (none (ap is_simple_and_free so.0 ∙ is_free))
 
-matches_by_line : (line : Command) (words : List Text) (r : Result ArgMatches Error) → TakesSo line line_app
-    → IfOk r (HasMatchesOf (app_of line) words) → IfOk r (HasMatchesOf line_app words)
-matches_by_line line words r takes has = subst (λ (a : App). IfOk r (HasMatchesOf a words)) takes.0 has
+values_by : (line : Command) (words : List Text) (m : ArgMatches) → TakesSo line line_app → HasMatchesOf (app_of line) words m
+    → subcommand_rows_of m ≡ entered_by words
+values_by line words m so has = (subst (λ (a : App). HasMatchesOf a words m) so.0 has is_plain).1
+
+kinds_by : (line : Command) (words : List Text) (e : Error) → TakesSo line line_app
+    → (is_simple_and_free (app_of line) ≡ true → HasKind (fault_of (app_of line) words) e) → HasKind (faults_of words) e
+kinds_by line words e so has = subst (λ (a : App). HasKind (fault_of a words) e) so.0 (has (ap is_simple_and_free so.0 ∙ is_free))
 
 pub returns-in-Ok-clause-taken : goal.returns-in-Ok-clause-taken
-returns-in-Ok-clause-taken c =
-    by_line c.in_ok-line.line (map string_bytes c.args.words.now) c.try_get_matches_from.result c.in_ok-line.ensures c.try_get_matches_from.ensures.kinds
+returns-in-Ok-clause-taken c = taken_by c.in_ok-line.line (map string_bytes c.args.words.now) c.in_ok-line.ensures c.in-Ok.ensures.kinds
 
 pub returns-in-Ok-clause-values : goal.returns-in-Ok-clause-values
-returns-in-Ok-clause-values c = (c.in-Ok.ensures.matches is_plain).1
+returns-in-Ok-clause-values c =
+    values_by c.in_ok-line.line (map string_bytes c.args.words.now) c.in-Ok.matches c.in_ok-line.ensures c.in-Ok.ensures.matches
 
 pub returns-in-Ok-clause-numbers : goal.returns-in-Ok-clause-numbers
-returns-in-Ok-clause-numbers c = subst (λ (o : Option (Text × List Row)). Numbered o) (sym values) (numbered (map string_bytes c.args.words.now) taken)
+returns-in-Ok-clause-numbers c =
+    let words = map string_bytes c.args.words.now in
+    let taken = taken_by c.in_ok-line.line words c.in_ok-line.ensures c.in-Ok.ensures.kinds in
+    let values = values_by c.in_ok-line.line words c.in-Ok.matches c.in_ok-line.ensures c.in-Ok.ensures.matches in
+    subst (λ (o : Option (Text × List Row)). Numbered o) (sym values) (numbered words taken)
 
 pub returns-in-Ok-clause-one : goal.returns-in-Ok-clause-one
-returns-in-Ok-clause-one c = subst (λ (o : Option (Text × List Row)). Enters o) (sym values) (enters (map string_bytes c.args.words.now) taken)
+returns-in-Ok-clause-one c =
+    let words = map string_bytes c.args.words.now in
+    let taken = taken_by c.in_ok-line.line words c.in_ok-line.ensures c.in-Ok.ensures.kinds in
+    let values = values_by c.in_ok-line.line words c.in-Ok.matches c.in_ok-line.ensures c.in-Ok.ensures.matches in
+    subst (λ (o : Option (Text × List Row)). Enters o) (sym values) (enters words taken)
 
 -- an error of another kind than memory is among the kinds
 among : (kinds : Kinds) (e : Error) → HasKind kinds e → (kind_of e ≡ kind.OutOfMemory → ⊥) → IsAmong (kind_of e) kinds
@@ -72,6 +84,6 @@ refuses words e (Values why) h kinds = absurd h
 refuses words e NoMemory h kinds = tt
 
 pub returns-in-Err-clause-err : goal.returns-in-Err-clause-err
-returns-in-Err-clause-err g c =
+returns-in-Err-clause-err c =
     refuses (map string_bytes c.args.words.now) c.in-Err.error c.from.result c.from.ensures
-    (c.in-Err.ensures.kinds line_app line_help c.in_ok-line.ensures.told is_free)
+    (kinds_by c.in_ok-line.line (map string_bytes c.args.words.now) c.in-Err.error c.in_ok-line.ensures c.in-Err.ensures.kinds)

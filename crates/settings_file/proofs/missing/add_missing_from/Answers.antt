@@ -1,10 +1,8 @@
 use Rattle.std.proofs.Common.{◌∙◌, ◌++◌, ap, map, refl, subst}
 use Rattle.toml.specs.View.{view}
 use Rattle.settings_file.specs.Faults.{all_bad}
-use Rattle.settings_file.specs.Memory.{IsCutShort}
 use Rattle.settings_file.specs.Neighbours.{all_missing_from}
 use Rattle.settings_file.proofs.Loops.{found_all, found_item}
-use Rattle.settings_file.proofs.Shortage.{any_err, cut_item}
 use Rattle.settings_file.proofs.missing.add_missing_from.Goals as goal
 
 pub loop-table-preserved : goal.loop-table-preserved
@@ -13,15 +11,7 @@ loop-table-preserved c =
     let added = c.in_ok-add_bad.ensures.items ∙ ap (λ rows. l.found.items ++ all_bad rows) c.present_rows.ensures in
     found_item (λ vs. all_missing_from (map view vs)) _ l.found.items _ _ c.args.tables.now l.table-index c.table-item.result c.table-item.is c.loop-table-test.true added refl l.invariant
 
-pub returns-clause-items : goal.returns-clause-items
-returns-clause-items c =
+pub returns : goal.returns
+returns c =
     let l = c.loop-table in
-    found_all (λ vs. all_missing_from (map view vs)) _ _ c.args.tables.now l.table-index refl c.loop-table-test.false l.invariant
-
-pub returns-in_err-add_bad-clause-short : goal.returns-in_err-add_bad-clause-short
-returns-in_err-add_bad-clause-short c =
-    let l = c.loop-table in
-    let short = subst (λ rows. IsCutShort (l.found.items ++ all_bad rows)) c.present_rows.ensures c.in_err-add_bad.ensures.short in
-    any_err c.from_residual.result
-    (cut_item (λ vs. all_missing_from (map view vs)) _ l.found.items _ c.args.tables.now l.table-index c.table-item.result c.table-item.is
-    c.loop-table-test.true refl l.invariant short)
+    record { items = found_all (λ vs. all_missing_from (map view vs)) _ _ c.args.tables.now l.table-index refl c.loop-table-test.false l.invariant }

@@ -6,8 +6,6 @@ use Rattle.settings_file.specs.declared.keys.Key.{Key}
 use Rattle.settings_file.specs.Faults.{earlier}
 use Rattle.settings_file.specs.Neighbours.{bad_in, neighbour_in}
 use Rattle.settings_file.proofs.Loops.{found_item}
-use Rattle.settings_file.specs.declared.faults.ValueFault.TheVariants.{NoMemory}
-use Rattle.settings_file.proofs.Shortage.{any_kind, cut_all, cut_up}
 use Rattle.settings_file.proofs.neighbours.neighbours_in.Goals as goal
 
 pub loop-table-preserved : goal.loop-table-preserved
@@ -19,13 +17,13 @@ loop-table-preserved c =
     let rest = drop (i + 1) tables in
     let within = c.loop-table-test.true in
     let bad : List Value → Option Key = λ vs. bad_in (Some (c.args.inside.address.0, c.args.inside.length)) (Some (c.args.outside.address.0, c.args.outside.length)) (map view vs) in
-    let longer = c.in_ok-add_neighbour.ensures.len in
+    let longer = c.in_ok-push.ensures.len in
     let counted = l.invariant.len in
     record {
       len = omega (arith, longer, counted);
       left = sym (ap bad (drop_more tables i table within) ∙ ap (λ v. bad (v ∷ rest)) (sym c.table-item.is) ∙ ap (λ k. earlier k (bad rest)) c.in_ok-neighbour.ensures.bad) ∙ l.invariant.left;
       found = found_item (λ vs. map neighbour_in (map view vs)) [] (map (λ n. Some n) l.neighbours.items) _ (Some c.in_ok-neighbour.neighbour ∷ []) tables i table c.table-item.is within
-          (rw (c.in_ok-add_neighbour.ensures.items, map-append) refl) (ap (λ o. o ∷ map neighbour_in (map view rest)) c.in_ok-neighbour.ensures.ok) l.invariant.found;
+          (rw (c.in_ok-push.ensures.items, map-append) refl) (ap (λ o. o ∷ map neighbour_in (map view rest)) c.in_ok-neighbour.ensures.ok) l.invariant.found;
     }
 
 pub returns-clause-ok : goal.returns-clause-ok
@@ -40,18 +38,3 @@ returns-clause-bad c =
     let l = c.loop-table in
     let bad : List Value → Option Key = λ vs. bad_in (Some (c.args.inside.address.0, c.args.inside.length)) (Some (c.args.outside.address.0, c.args.outside.length)) (map view vs) in
     sym l.invariant.left ∙ ap bad (drop_all l.table-index c.args.tables.now c.loop-table-test.false)
-
-pub returns-in_err-add_neighbour-clause-short : goal.returns-in_err-add_neighbour-clause-short
-returns-in_err-add_neighbour-clause-short c =
-    let l = c.loop-table in
-    let i = l.table-index in
-    let tables = c.args.tables.now in
-    let all : List (Option _) = map neighbour_in (map view tables) in
-    let found = map (λ n. Some n) l.neighbours.items in
-    let rest = map neighbour_in (map view (drop (i + 1) tables)) in
-    let next : map neighbour_in (map view (drop i tables)) ≡ Some c.in_ok-neighbour.neighbour ∷ rest =
-    ap (λ (vs : List Value). map neighbour_in (map view vs)) (drop_more tables i c.table-item.result c.loop-table-test.true)
-    ∙ ap (λ (v : Value). neighbour_in (view v) ∷ rest) (sym c.table-item.is) ∙ ap (λ o. o ∷ rest) c.in_ok-neighbour.ensures.ok in
-    let is = sym l.invariant.found ∙ ap (λ vs. found ++ vs) next ∙ sym (append_assoc found (Some c.in_ok-neighbour.neighbour ∷ []) rest) in
-    any_kind (λ fault. fault ≡ NoMemory) c.from_residual-in_err-add_neighbour.result
-    (cut_up (found ++ Some c.in_ok-neighbour.neighbour ∷ []) all rest is (cut_all (found ++ Some c.in_ok-neighbour.neighbour ∷ []) c.in_err-add_neighbour.ensures.short))

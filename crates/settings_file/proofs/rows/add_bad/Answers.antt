@@ -3,8 +3,7 @@ use Rattle.settings_file.specs.declared.keys.Section.TheVariants.{Ports}
 use Rattle.settings_file.specs.Faults.{all_bad}
 use Rattle.settings_file.specs.Keys.{whole}
 use Rattle.settings_file.proofs.Loops.{bad_row, found_more, found_same, good_row}
-use Rattle.settings_file.proofs.Shortage.{any_err, cut_all, cut_at}
-use Rattle.settings_file.proofs.rows.add_bad.Goals.{then-not-good+in_ok-add_key, else-not-good}
+use Rattle.settings_file.proofs.rows.add_bad.Goals.{then-not-good+in_ok-push, else-not-good}
 use Rattle.settings_file.proofs.rows.add_bad.Goals as goal
 
 pub loop-key-preserved : goal.loop-key-preserved
@@ -15,15 +14,6 @@ loop-key-preserved c =
     let rest = drop (l.key-index + 1) rows in
     let within = c.loop-key-test.true in
     elim c.if-not-good.branch [
-      | then-not-good+in_ok-add_key w ↦ rw w.found-is (found_more all_bad _ l.found.items _ (row.0 ∷ []) rows l.key-index (whole Ports, false) within w.in_ok-add_key.ensures.items (bad_row row rest w.if-not-good.true) l.invariant)
+      | then-not-good+in_ok-push w ↦ rw w.found-is (found_more all_bad _ l.found.items _ (row.0 ∷ []) rows l.key-index (whole Ports, false) within w.in_ok-push.ensures.items (bad_row row rest w.if-not-good.true) l.invariant)
       | else-not-good w ↦ rw w.found-is (found_same all_bad l.found.items _ rows l.key-index (whole Ports, false) within (good_row row rest w.if-not-good.false) l.invariant)
     ]
-
-pub returns-in_err-add_key-clause-short : goal.returns-in_err-add_key-clause-short
-returns-in_err-add_key-clause-short c =
-    let l = c.loop-key in
-    let rows = c.args.rows.now in
-    let row = get_or rows l.key-index (whole Ports, false) in
-    any_err c.from_residual.result
-    (cut_at all_bad _ l.found.items (row.0 ∷ []) rows l.key-index (whole Ports, false) c.loop-key-test.true
-    (bad_row row (drop (l.key-index + 1) rows) c.if-not-good.true) l.invariant (cut_all _ c.in_err-add_key.ensures.short))

@@ -2,7 +2,6 @@ use Rattle.std.proofs.Common.{map, refl, string_bytes}
 use Rattle.toml.specs.View.{view}
 use Rattle.settings_file.specs.Unknown.{unknown_from}
 use Rattle.settings_file.proofs.Loops.{found_all, found_item}
-use Rattle.settings_file.proofs.Shortage.{any_err, unlisted_item}
 use Rattle.settings_file.proofs.unknown.unknown_from.Goals as goal
 
 pub loop-table-preserved : goal.loop-table-preserved
@@ -10,14 +9,7 @@ loop-table-preserved c =
     let l = c.loop-table in
     found_item (λ vs. unknown_from (map view vs)) _ (map string_bytes l.found.items) _ _ c.args.tables.now l.table-index c.table-item.result c.table-item.is c.loop-table-test.true c.in_ok-unknown_at.ensures.items refl l.invariant
 
-pub returns-clause-items : goal.returns-clause-items
-returns-clause-items c =
+pub returns : goal.returns
+returns c =
     let l = c.loop-table in
-    found_all (λ vs. unknown_from (map view vs)) _ _ c.args.tables.now l.table-index refl c.loop-table-test.false l.invariant
-
-pub returns-in_err-unknown_at-clause-short : goal.returns-in_err-unknown_at-clause-short
-returns-in_err-unknown_at-clause-short c =
-    let l = c.loop-table in
-    any_err c.from_residual.result
-    (unlisted_item (λ vs. unknown_from (map view vs)) _ (map string_bytes l.found.items) _ c.args.tables.now l.table-index c.table-item.result
-    c.table-item.is c.loop-table-test.true refl l.invariant c.in_err-unknown_at.ensures.short)
+    record { items = found_all (λ vs. unknown_from (map view vs)) _ _ c.args.tables.now l.table-index refl c.loop-table-test.false l.invariant }

@@ -1,10 +1,8 @@
 use Rattle.std.proofs.Common.{◌∙◌, ◌++◌, ap, refl, subst}
 use Rattle.std.specs.List.{flat_map}
 use Rattle.settings_file.specs.Faults.{all_bad}
-use Rattle.settings_file.specs.Memory.{IsCutShort}
 use Rattle.settings_file.specs.Works.{all_of_neighbour}
 use Rattle.settings_file.proofs.Loops.{found_all, found_more}
-use Rattle.settings_file.proofs.Shortage.{any_err, cut_at}
 use Rattle.settings_file.proofs.works.add_of_neighbours.Goals as goal
 
 pub loop-neighbour-preserved : goal.loop-neighbour-preserved
@@ -13,15 +11,7 @@ loop-neighbour-preserved c =
     let added = c.in_ok-add_bad.ensures.items ∙ ap (λ rows. l.found.items ++ all_bad rows) c.neighbour_rows.ensures in
     found_more (λ ns. flat_map (all_of_neighbour c.args.settings.now) ns) _ l.found.items _ _ c.args.neighbours.now l.neighbour-index _ c.loop-neighbour-test.true added refl l.invariant
 
-pub returns-clause-items : goal.returns-clause-items
-returns-clause-items c =
+pub returns : goal.returns
+returns c =
     let l = c.loop-neighbour in
-    found_all (λ ns. flat_map (all_of_neighbour c.args.settings.now) ns) _ _ c.args.neighbours.now l.neighbour-index refl c.loop-neighbour-test.false l.invariant
-
-pub returns-in_err-add_bad-clause-short : goal.returns-in_err-add_bad-clause-short
-returns-in_err-add_bad-clause-short c =
-    let l = c.loop-neighbour in
-    let short = subst (λ rows. IsCutShort (l.found.items ++ all_bad rows)) c.neighbour_rows.ensures c.in_err-add_bad.ensures.short in
-    any_err c.from_residual.result
-    (cut_at (λ ns. flat_map (all_of_neighbour c.args.settings.now) ns) _ l.found.items _ c.args.neighbours.now l.neighbour-index _
-    c.loop-neighbour-test.true refl l.invariant short)
+    record { items = found_all (λ ns. flat_map (all_of_neighbour c.args.settings.now) ns) _ _ c.args.neighbours.now l.neighbour-index refl c.loop-neighbour-test.false l.invariant }
