@@ -35,11 +35,7 @@ pub fn compare<R: Files + AllocGlobal, W: Write, E: Write>(
 }
 
 /// The text of a file.
-fn text_at<R: Files + AllocGlobal, E: Write>(
-    rt: &R,
-    path: &str,
-    errors: &mut E,
-) -> Option<String> {
+fn text_at<R: Files + AllocGlobal, E: Write>(rt: &R, path: &str, errors: &mut E) -> Option<String> {
     match read_text(rt, path) {
         Ok(text) => Some(text),
         Err(fault) => {

@@ -21,8 +21,14 @@ type Row = (Section, Name, Doubt, bool);
 pub fn warnings_of(alloc: Global, settings: &Settings) -> Result<Vec<Warning>, AllocError> {
     let mut found = Vec::new(alloc);
     add_rows(&network_rows(settings), &mut found)?;
-    add_rows(&gateway_rows(Section::GatewayZero, &settings.zero), &mut found)?;
-    add_rows(&gateway_rows(Section::GatewayOne, &settings.one), &mut found)?;
+    add_rows(
+        &gateway_rows(Section::GatewayZero, &settings.zero),
+        &mut found,
+    )?;
+    add_rows(
+        &gateway_rows(Section::GatewayOne, &settings.one),
+        &mut found,
+    )?;
     add_rows(&pair_rows(&settings.zero, &settings.one), &mut found)?;
     add_neighbours(settings.neighbours.as_slice(), &mut found)?;
     let mut clashes = Vec::new(alloc);
@@ -50,12 +56,37 @@ fn network_rows(settings: &Settings) -> [Row; 6] {
     let same_number = inside.virtual_router == outside.virtual_router;
     let is_network = is_network_address(router, outside.prefix_length);
     [
-        (Section::Ports, Name::Zero, Doubt::OnePort, has_one_port(ports.zero)),
-        (Section::Ports, Name::One, Doubt::OnePort, has_one_port(ports.one)),
-        (Section::Inside, Name::Virtual, Doubt::Martian, is_martian(inside.virtual_ip)),
-        (Section::Outside, Name::Virtual, Doubt::Martian, is_martian(outside.virtual_ip)),
+        (
+            Section::Ports,
+            Name::Zero,
+            Doubt::OnePort,
+            has_one_port(ports.zero),
+        ),
+        (
+            Section::Ports,
+            Name::One,
+            Doubt::OnePort,
+            has_one_port(ports.one),
+        ),
+        (
+            Section::Inside,
+            Name::Virtual,
+            Doubt::Martian,
+            is_martian(inside.virtual_ip),
+        ),
+        (
+            Section::Outside,
+            Name::Virtual,
+            Doubt::Martian,
+            is_martian(outside.virtual_ip),
+        ),
         (Section::Outside, Name::Vrid, Doubt::SameNumber, same_number),
-        (Section::Outside, Name::Router, Doubt::NetworkAddress, is_network),
+        (
+            Section::Outside,
+            Name::Router,
+            Doubt::NetworkAddress,
+            is_network,
+        ),
     ]
 }
 
@@ -64,9 +95,19 @@ fn gateway_rows(section: Section, gateway: &GatewaySettings) -> [Row; 4] {
     let same_mac = gateway.inside_mac == gateway.outside_mac;
     [
         (section, Name::OutsideMac, Doubt::SameMac, same_mac),
-        (section, Name::Interval, Doubt::ShortInterval, gateway.interval == 1),
+        (
+            section,
+            Name::Interval,
+            Doubt::ShortInterval,
+            gateway.interval == 1,
+        ),
         (section, Name::BootFile, Doubt::EmptyPath, path == 0),
-        (section, Name::BootFile, Doubt::LongPath, path > LONGEST_PATH),
+        (
+            section,
+            Name::BootFile,
+            Doubt::LongPath,
+            path > LONGEST_PATH,
+        ),
     ]
 }
 
@@ -74,9 +115,24 @@ fn pair_rows(zero: &GatewaySettings, one: &GatewaySettings) -> [Row; 4] {
     let section = Section::GatewayOne;
     let same_path = zero.boot_file.as_str() == one.boot_file.as_str();
     [
-        (section, Name::Priority, Doubt::SamePriority, zero.priority == one.priority),
-        (section, Name::Interval, Doubt::OtherInterval, zero.interval != one.interval),
-        (section, Name::Preempt, Doubt::OtherPreempt, zero.preempt != one.preempt),
+        (
+            section,
+            Name::Priority,
+            Doubt::SamePriority,
+            zero.priority == one.priority,
+        ),
+        (
+            section,
+            Name::Interval,
+            Doubt::OtherInterval,
+            zero.interval != one.interval,
+        ),
+        (
+            section,
+            Name::Preempt,
+            Doubt::OtherPreempt,
+            zero.preempt != one.preempt,
+        ),
         (section, Name::BootFile, Doubt::SamePath, same_path),
     ]
 }
