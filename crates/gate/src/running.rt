@@ -28,11 +28,7 @@ use std::rt::{Clock, Env};
 pub fn run<
     R: Files<File = File> + Net + Clock + RandomSource + Eprint + Env + Input + AllocGlobal,
     O: Write,
->(
-    rt: &R,
-    start: &Start<'_>,
-    output: &mut O,
-) -> Result<(), Fault> {
+>(rt: &R, start: &Start<'_>, output: &mut O) -> Result<(), Fault> {
     let Parts {
         settings,
         mut manager,
@@ -46,11 +42,32 @@ pub fn run<
     output.flush()?;
     log.write(0, Entry::Boot(identity.boot));
     match capture {
-        None => serve_on(rt, start, identity, &mut gateway, &mut wire, &mut manager, &mut log),
+        None => serve_on(
+            rt,
+            start,
+            identity,
+            &mut gateway,
+            &mut wire,
+            &mut manager,
+            &mut log,
+        ),
         Some((path, file)) => {
             let capture = begin_capture(rt.alloc(), path, file)?;
-            let mut tapped = Tapped::new(wire, start.id, Stopwatch::from_first_reading(rt), capture);
-            serve_on(rt, start, identity, &mut gateway, &mut tapped, &mut manager, &mut log);
+            let mut tapped = Tapped::new(
+                wire,
+                start.id,
+                Stopwatch::from_first_reading(rt),
+                capture,
+            );
+            serve_on(
+                rt,
+                start,
+                identity,
+                &mut gateway,
+                &mut tapped,
+                &mut manager,
+                &mut log,
+            );
             tapped.flush();
             log.write_left_out(tapped.left_out());
         }
@@ -81,7 +98,16 @@ fn serve_on<R: Clock + Input + AllocGlobal, W: Wire, L: Journal>(
     };
     manager.ready(identity.boot);
     let mut clock = Stopwatch::start(rt);
-    serve(rt.alloc(), gateway, wire, &mut clock, &mut until, manager, log, &options);
+    serve(
+        rt.alloc(),
+        gateway,
+        wire,
+        &mut clock,
+        &mut until,
+        manager,
+        log,
+        &options,
+    );
 }
 
 /// Begins a capture in the file at a path, which loses what it has.
