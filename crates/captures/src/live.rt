@@ -34,8 +34,8 @@ impl<F: Write + AsRawFd> NonBlockingWriter for F {
     }
 }
 
-/// A capture whose packets are written whole, or left out and counted. What is missing of the last block is written before
-/// the next one.
+/// A capture whose packets are written whole, or left out and counted. What is missing of the last block is written
+/// before the next one.
 #[derive(Drop)]
 pub struct LiveCapture<W> {
     writer: W,
@@ -69,8 +69,8 @@ impl<W: NonBlockingWriter + Drop> LiveCapture<W> {
 }
 
 impl<W: NonBlockingWriter> LiveCapture<W> {
-    /// Writes a packet, or leaves it out, and says whether it was written. Where the writer takes a part of its block, the
-    /// rest follows before anything else.
+    /// Writes a packet, or leaves it out, and says whether it was written. Where the writer takes a part of its
+    /// block, the rest follows before anything else.
     pub fn write(&mut self, packet: &Packet<'_>) -> bool {
         let is_written = self.flush() && self.write_block(packet);
         if !is_written {

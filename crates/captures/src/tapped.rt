@@ -6,8 +6,8 @@ use platform::Clock;
 use sockets::{LONGEST, Losses, Place, Wire, WireFault};
 use std::time::Duration;
 
-/// A gateway's wire whose frames and datagrams are captured, each once it came or was sent. An operator's words are no
-/// packets. The capture changes nothing of what passes the wire.
+/// A gateway's wire whose frames and datagrams are captured, each once it came or was sent. An operator's words are
+/// no packets. The capture changes nothing of what passes the wire.
 #[derive(Drop)]
 pub struct Tapped<W, C, O> {
     wire: W,

@@ -4,8 +4,8 @@ use cases_words::Case;
 use sockets::{LONGEST, Place, Sockets, Wire};
 use std::time::Duration;
 
-/// In each of 20 rounds both boxes send a datagram on the link, and gateway 0 looks for one. Its wire fails at a call: at an
-/// odd number a datagram is lost, at an even one the datagram stays where it is.
+/// In each of 20 rounds both boxes send a datagram on the link, and gateway 0 looks for one. Its wire fails at a
+/// call: at an odd number a datagram is lost, at an even one the datagram stays where it is.
 pub(crate) fn rounds(sockets: &mut [Sockets], case: &mut Case) {
     let number = case.number();
     match sockets {

@@ -72,8 +72,8 @@ fn show_file(rt: &HostRuntime, path: &str, case: &mut Case) {
     case.end();
 }
 
-/// Captures so many frames to a stream that nobody reads, and prints whether some were left out; then reads all of it, and
-/// prints whether these were the head and whole blocks, those of all that were written.
+/// Captures so many frames to a stream that nobody reads, and prints whether some were left out; then reads all of
+/// it, and prints whether these were the head and whole blocks, those of all that were written.
 pub(crate) fn fill_stream(rt: &HostRuntime, case: &mut Case) {
     match capture_to_stream(rt) {
         Ok((mut capture, other)) => flood(&mut capture, &other, case),

@@ -12,8 +12,8 @@ pub(crate) struct Hearing {
 }
 
 impl Actor for Hearing {
-    /// - `far udp END`, `far vxlan ADDRESS NUMBER`, `far interface`: a new place with this peer; the words behind it are what
-    ///   is to arrive there, from whom and which bytes, each with `from`
+    /// - `far udp END`, `far vxlan ADDRESS NUMBER`, `far interface`: a new place with this peer; the words behind it
+    ///   are what is to arrive there, from whom and which bytes, each with `from`
     /// - `refuse N END ..`: a place that speaks by UDP, and whose transport's call N fails
     /// - `stuck`: a new place, all calls of whose transport fail
     /// - `takes N`: a new place whose transport takes at most N bytes at once
@@ -107,7 +107,8 @@ impl Hearing {
         }
     }
 
-    /// Four times a datagram is sent and one is looked for: how many were sent, how many arrived, and how often either failed.
+    /// Four times a datagram is sent and one is looked for: how many were sent, how many arrived, and how often
+    /// either failed.
     fn counts(&mut self) -> [u32; 3] {
         let mut buffer = [0; LONGEST];
         let mut counts = [0_u32; 3];

@@ -1,6 +1,6 @@
-//! Sockets, and what a box writes down. It does what the lines of its cases say: with texts of ways and words, with a place over
-//! a transport in memory, with boxes on the loopback address, with a tapped wire and a service manager, and with a box's
-//! records. It prints each line before what it leads to.
+//! Sockets, and what a box writes down. It does what the lines of its cases say: with texts of ways and words, with a
+//! place over a transport in memory, with boxes on the loopback address, with a tapped wire and a service manager,
+//! and with a box's records. It prints each line before what it leads to.
 #![tactic(auto)]
 
 mod boxes;

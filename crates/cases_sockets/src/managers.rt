@@ -48,7 +48,8 @@ fn tell<M: Manager>(manager: &mut M, news: News) {
     }
 }
 
-/// Tells a manager something, and prints what it hears; `nobody` before it tells nobody, and `gone` one that has gone.
+/// Tells a manager something, and prints what it hears; `nobody` before it tells nobody, and `gone` one that has
+/// gone.
 pub(crate) fn tell_manager(rt: &HostRuntime, case: &mut Case) {
     match case.word() {
         "nobody" => tell_nobody(case),

@@ -38,11 +38,11 @@ impl Network {
 
 impl Actor for Network {
     /// - `fail N`: rounds of a wire whose call N fails
-    /// - `stranger FROM TO HEX`, `stranger FROM TO N times HEX`, `stranger FROM TO N bytes BYTE`: somebody at FROM sends
-    ///   these bytes to TO
+    /// - `stranger FROM TO HEX`, `stranger FROM TO N times HEX`, `stranger FROM TO N bytes BYTE`: somebody at FROM
+    ///   sends these bytes to TO
     /// - `call NAME N`, `caller N says HEX`, `caller N hears`, `callers go`: clients at a box's control socket
-    /// - `control NAME`, `say NAME`, `ask NAME`, `mode NAME`: makes a control socket and drops it; says a word; asks how the
-    ///   box stands; the folder's mode
+    /// - `control NAME`, `say NAME`, `ask NAME`, `mode NAME`: makes a control socket and drops it; says a word; asks
+    ///   how the box stands; the folder's mode
     /// - `NAME ..`: what a box does (`act_on_box`)
     fn act(&mut self, case: &mut Case) {
         case.title("", "\n");

@@ -60,8 +60,8 @@ impl<'a> Taps<'a> {
 
 impl Actor for Taps<'_> {
     /// - `begin ID`: a capture is begun anew
-    /// - `page room`, `page none`, `page fails`, `page takes COUNT`: its writer takes all from now on; a write would wait; it
-    ///   fails; it takes so many bytes at most
+    /// - `page room`, `page none`, `page fails`, `page takes COUNT`: its writer takes all from now on; a write would
+    ///   wait; it fails; it takes so many bytes at most
     /// - `clock TIME`: the clock stands there
     /// - what `act_on` and `act_on_files` do
     fn act(&mut self, case: &mut Case) {

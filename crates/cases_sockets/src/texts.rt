@@ -25,8 +25,8 @@ impl Actor for Texts {
     /// - `inherit INSIDE OUTSIDE LINK`: opens the descriptors of three ways
     /// - `path TEXT`, `path N`: the control path beside a boot file with this name, or with one of so many bytes
     /// - `word HEX`: the word of these bytes
-    /// - `off N`, `off N forced`, `off known`, `side SIDE UP CARRIER`, `status`, `pairs`, `pairs PROTOCOL PORT`: the bytes of
-    ///   a word
+    /// - `off N`, `off N forced`, `off known`, `side SIDE UP CARRIER`, `status`, `pairs`, `pairs PROTOCOL PORT`: the
+    ///   bytes of a word
     /// - `answer HEX`: the reply of these bytes
     /// - `refusal N`: the bytes of a refusal, and its text
     fn act(&mut self, case: &mut Case) {

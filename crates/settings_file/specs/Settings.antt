@@ -18,8 +18,8 @@ use Rattle.settings_file.specs.Values.{IsRange, IsLimit, IsInterface, IsIcmp, Is
 use Rattle.settings_file.specs.Missing.{first_missing}
 use Rattle.settings_file.specs.Unknown.{first_unknown}
 use Rattle.settings_file.specs.Works.{Works, all_that_cant, cant_work}
-use Rattle.settings_file.specs.declared.looking.Look.{Look}
-use Rattle.settings_file.specs.declared.looking.Look.TheVariants as looks
+use Rattle.settings_file.specs.declared.looks.Look.{Look}
+use Rattle.settings_file.specs.declared.looks.Look.TheVariants as looks
 
 -- settings that stand at the keys of a document
 pub record HoldsValues (t : Members) (settings : Settings) : Type 0 where

@@ -9,29 +9,9 @@ use crate::missing::missing;
 use crate::reading::held;
 use crate::unknown::unknown;
 use crate::works::all_that_cant;
-use crate::{Key, SettingFault};
-use settings::Settings;
+use crate::{Look, SettingFault};
 use std::alloc::{AllocError, Global};
 use toml::Table;
-
-/// What is seen of a text: all faults of the first kind of which it has one, or its settings.
-#[derive(Drop)]
-pub enum Look {
-    /// The text isn't TOML.
-    NotToml,
-    /// The paths of all keys that settings don't have.
-    UnknownKeys(Vec<String>),
-    /// All keys that can't be left out, and aren't there.
-    MissingKeys(Vec<Key>),
-    /// All keys whose values aren't of their type, or not in their limits.
-    BadValues(Vec<Key>),
-    /// The two gateways' port ranges share a port.
-    RangesOverlap,
-    /// The two gateways share an address, a MAC or a loopback port, or one has a virtual address.
-    SameIds,
-    /// The settings, and all keys whose values can never work.
-    Held(Settings, Vec<Key>),
-}
 
 /// What is seen of a text: where [`read`](crate::read) tells one fault, all of its kind.
 ///

@@ -1,4 +1,4 @@
 mod Parts
-mod Lines
+mod Splits
 mod Steps
 mod Turning

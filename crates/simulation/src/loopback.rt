@@ -142,6 +142,13 @@ impl<'a, R: Net> Loopback<'a, R> {
 }
 
 impl<R> Loopback<'_, R> {
+    fn port(&self, interface: Interface) -> &Port {
+        match interface {
+            Interface::Side(id, side) => self.ports(id).side(side),
+            Interface::Link(id) => &self.ports(id).link,
+        }
+    }
+
     fn ports(&self, id: GatewayId) -> &Ports {
         match id {
             GatewayId::Zero => &self.zero,
@@ -152,10 +159,6 @@ impl<R> Loopback<'_, R> {
 
 impl<R: Clock> Channel for Loopback<'_, R> {
     fn pass(&mut self, interface: Interface, bytes: &[u8]) -> bool {
-        let port = match interface {
-            Interface::Side(id, side) => self.ports(id).side(side),
-            Interface::Link(id) => &self.ports(id).link,
-        };
-        port.pass(self.rt, bytes)
+        self.port(interface).pass(self.rt, bytes)
     }
 }

@@ -79,10 +79,11 @@ impl Display for PairText<'_> {
     ghost output = { λ p. Some (pair_text p.0.now) };
 
     fn fmt<W: fmt::Write>(&self, f: &mut Formatter<W>) -> fmt::Result {
-        let protocol = protocol_text(self.0.key.protocol);
-        let outside = self.0.key.port.0;
-        let address = AddressText(self.0.endpoint.address);
-        let inside = self.0.endpoint.port.0;
+        let pair = self.0;
+        let protocol = protocol_text(pair.key.protocol);
+        let outside = pair.key.port.0;
+        let address = AddressText(pair.endpoint.address);
+        let inside = pair.endpoint.port.0;
         write!(f, "{protocol} {outside} {address} {inside}")
     }
 }

@@ -11,7 +11,7 @@ loop-table-preserved c =
     let added = c.in_ok-add_bad.ensures.items ∙ ap (λ rows. l.found.items ++ all_bad rows) c.present_rows.ensures in
     found_item (λ vs. all_missing_from (map view vs)) _ l.found.items _ _ c.args.tables.now l.table-index c.table-item.result c.table-item.is c.loop-table-test.true added refl l.invariant
 
-pub returns-clause-items : goal.returns-clause-items
-returns-clause-items c =
+pub returns : goal.returns
+returns c =
     let l = c.loop-table in
-    found_all (λ vs. all_missing_from (map view vs)) _ _ c.args.tables.now l.table-index refl c.loop-table-test.false l.invariant
+    record { items = found_all (λ vs. all_missing_from (map view vs)) _ _ c.args.tables.now l.table-index refl c.loop-table-test.false l.invariant }

@@ -9,7 +9,7 @@ loop-table-preserved c =
     let l = c.loop-table in
     found_item (λ vs. unknown_from (map view vs)) _ (map string_bytes l.found.items) _ _ c.args.tables.now l.table-index c.table-item.result c.table-item.is c.loop-table-test.true c.in_ok-unknown_at.ensures.items refl l.invariant
 
-pub returns-clause-items : goal.returns-clause-items
-returns-clause-items c =
+pub returns : goal.returns
+returns c =
     let l = c.loop-table in
-    found_all (λ vs. unknown_from (map view vs)) _ _ c.args.tables.now l.table-index refl c.loop-table-test.false l.invariant
+    record { items = found_all (λ vs. unknown_from (map view vs)) _ _ c.args.tables.now l.table-index refl c.loop-table-test.false l.invariant }

@@ -11,7 +11,7 @@ loop-neighbour-preserved c =
     let added = c.in_ok-add_bad.ensures.items ∙ ap (λ rows. l.found.items ++ all_bad rows) c.neighbour_rows.ensures in
     found_more (λ ns. flat_map (all_of_neighbour c.args.settings.now) ns) _ l.found.items _ _ c.args.neighbours.now l.neighbour-index _ c.loop-neighbour-test.true added refl l.invariant
 
-pub returns-clause-items : goal.returns-clause-items
-returns-clause-items c =
+pub returns : goal.returns
+returns c =
     let l = c.loop-neighbour in
-    found_all (λ ns. flat_map (all_of_neighbour c.args.settings.now) ns) _ _ c.args.neighbours.now l.neighbour-index refl c.loop-neighbour-test.false l.invariant
+    record { items = found_all (λ ns. flat_map (all_of_neighbour c.args.settings.now) ns) _ _ c.args.neighbours.now l.neighbour-index refl c.loop-neighbour-test.false l.invariant }

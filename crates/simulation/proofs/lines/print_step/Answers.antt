@@ -1,7 +1,7 @@
 use Rattle.std.proofs.Common.{◌∙◌, ap, refl}
 use Rattle.simulation.specs.Lines.{one_more}
 use Rattle.simulation.specs.declared.lines.Counts.{Counts}
-use Rattle.simulation.proofs.Lines.{events_kept, step_split}
+use Rattle.simulation.proofs.Splits.{events_kept, step_split}
 use Rattle.simulation.proofs.Parts.{part_more, part_none, part_rest}
 use Rattle.simulation.proofs.lines.print_step.Goals as goal
 

@@ -1,6 +1,6 @@
 use Rattle.std.proofs.Common.{◌∙◌, refl}
 use Rattle.std.proofs.KnownBytes.{Appends-trans}
-use Rattle.simulation.proofs.Lines.{gateway_split}
+use Rattle.simulation.proofs.Splits.{gateway_split}
 use Rattle.simulation.proofs.Parts.{part_more, part_none, part_rest}
 use Rattle.simulation.proofs.tables.print_gateway.Goals as goal
 

@@ -4,7 +4,7 @@ use Rattle.std.proofs.lemmas.List.{drop_all, drop_more}
 use Rattle.addresses.specs.declared.transport.Port.{Port}
 use Rattle.nat_types.specs.declared.gateways.GatewayId.{GatewayId}
 use Rattle.simulation.specs.Lines.{begins, ended, owned_from}
-use Rattle.simulation.proofs.Lines.{owned_first, owned_none}
+use Rattle.simulation.proofs.Splits.{owned_first, owned_none}
 use Rattle.simulation.proofs.Parts.{part_more, part_none, part_rest}
 use Rattle.simulation.proofs.tables.print_owned.Goals as goal
 

@@ -1,5 +1,5 @@
 use Rattle.std.proofs.Common.{refl}
-use Rattle.simulation.proofs.Lines.{frame_split}
+use Rattle.simulation.proofs.Splits.{frame_split}
 use Rattle.simulation.proofs.Parts.{part_more, part_none, part_rest}
 use Rattle.simulation.proofs.told.print_frame.Goals as goal
 

@@ -1,6 +1,6 @@
 use Rattle.std.proofs.Common.{ap, flat_map, refl, sym}
 use Rattle.simulation.specs.Lines.{note_line}
-use Rattle.simulation.proofs.Lines.{told_split}
+use Rattle.simulation.proofs.Splits.{told_split}
 use Rattle.simulation.proofs.Parts.{part_more, part_none, part_rest, prints_as}
 use Rattle.simulation.proofs.told.print_told.Goals as goal
 
