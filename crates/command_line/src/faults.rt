@@ -29,9 +29,9 @@ pub enum LineFault {
     #[error("{0}")]
     Refused(clap::Error),
     /// `clap` takes them, but a command's values don't go together.
-    #[error("natpair: {0}\n")]
+    #[error("{0}")]
     Values(ValueFault),
-    #[error("natpair: memory 1 NoMemory\n")]
+    #[error("memory 1 NoMemory")]
     NoMemory,
 }
 
@@ -44,10 +44,14 @@ impl LineFault {
         }
     }
 
-    /// Writes the fault's text, by one write, and gives the status that the program ends with. Where there is no memory for
-    /// the text, a line that says so stands in its place.
+    /// Writes `clap`'s text as it is, else a line behind `natpair: `, by one write, and gives the status that the program ends
+    /// with. Where there is no memory for the text, a line that says so stands in its place.
     pub fn report<E: Write>(&self, alloc: Global, errors: &mut E) -> u8 {
-        let _unwritten = match format!(in alloc; "{self}") {
+        let text = match self {
+            LineFault::Refused(error) => format!(in alloc; "{error}"),
+            _ => format!(in alloc; "natpair: {self}\n"),
+        };
+        let _unwritten = match text {
             Ok(text) => errors.write_all(text.as_bytes()),
             Err(_) => errors.write_all(b"natpair: memory 1 NoMemory\n"),
         };

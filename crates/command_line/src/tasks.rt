@@ -12,8 +12,8 @@ use crate::words::{
     CheckWords, GateWords, PairsWords, PeerOffWords, RunWords, StatusWords, WayWords,
 };
 use crate::{commands, filters, values};
-use clap::error::ErrorKind;
 use clap::ArgMatches;
+use clap::error::ErrorKind;
 use nat_types::{GatewayId, Side};
 use std::alloc::{AllocError, Global};
 

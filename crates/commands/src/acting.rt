@@ -27,13 +27,7 @@ pub fn act<
     R: Files<File = File> + Net + Clock + RandomSource + Eprint + Env + Input + AllocGlobal,
     O: Write,
     E: Write,
->(
-    rt: &R,
-    words: &[String],
-    output: &mut O,
-    errors: &mut E,
-    is_terminal: bool,
-) -> u8 {
+>(rt: &R, words: &[String], output: &mut O, errors: &mut E, is_terminal: bool) -> u8 {
     let task = match command(rt.alloc(), words) {
         Ok(task) => task,
         Err(fault) => return fault.report(rt.alloc(), errors),
@@ -48,13 +42,7 @@ fn carry_out<
     R: Files<File = File> + Net + Clock + RandomSource + Eprint + Env + Input + AllocGlobal,
     O: Write,
     E: Write,
->(
-    rt: &R,
-    task: &Task,
-    output: &mut O,
-    errors: &mut E,
-    is_terminal: bool,
-) -> Result<u8, Fault> {
+>(rt: &R, task: &Task, output: &mut O, errors: &mut E, is_terminal: bool) -> Result<u8, Fault> {
     match task {
         Task::Init(path) => create_boot_file(rt, path.as_str())?,
         Task::Check(words) => return check(rt, words, output, errors),
@@ -95,7 +83,11 @@ fn start_of(words: &GateWords) -> Start<'_> {
         track: words.track,
         until_eof: words.until_eof,
         log: words.log.as_deref(),
-        format: if words.pairs { Format::Pairs } else { Format::Text },
+        format: if words.pairs {
+            Format::Pairs
+        } else {
+            Format::Text
+        },
         capture: words.capture.as_deref(),
         notify: words.notify.as_deref(),
     }

@@ -56,7 +56,14 @@ pub(crate) fn run_sim<R: Files<File = File> + Clock + AllocGlobal, O: Write, E: 
         meter = Some(Meter::start(rt, errors));
     }
     let capture = words.capture.as_deref();
-    sim::run(rt, settings.as_str(), script.as_str(), capture, &mut meter, output)
+    sim::run(
+        rt,
+        settings.as_str(),
+        script.as_str(),
+        capture,
+        &mut meter,
+        output,
+    )
 }
 
 /// Runs a script through sockets on the loopback address.
@@ -67,5 +74,11 @@ pub(crate) fn run_loop<R: Files<File = File> + Net + Clock + AllocGlobal, O: Wri
 ) -> Result<u8, Fault> {
     let settings = read_text(rt, words.settings.as_str())?;
     let script = read_text(rt, words.script.as_str())?;
-    looped::run(rt, settings.as_str(), script.as_str(), words.capture.as_deref(), output)
+    looped::run(
+        rt,
+        settings.as_str(),
+        script.as_str(),
+        words.capture.as_deref(),
+        output,
+    )
 }

@@ -84,6 +84,8 @@ fn say<R: Files + Net + AllocGlobal>(
     word: Word,
 ) -> Result<(), Fault> {
     let path = control_path(rt, settings, id)?;
-    control::say(rt, &path, word.bytes().as_slice())
-        .map_err(|_| Fault::no_control(rt.alloc(), &path))
+    control::say(rt, &path, word.bytes().as_slice()).map_err(|_| Fault::no_control(
+        rt.alloc(),
+        &path,
+    ))
 }

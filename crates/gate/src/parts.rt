@@ -46,16 +46,19 @@ impl<'a, R: Files<File = File> + Net + Eprint + Env + AllocGlobal> Parts<'a, R> 
         ways.inherit()?;
         let manager = start.notify.map(ServiceManager::read).transpose()?;
         check_ports(&settings, start.id, &ways)?;
-        let boot_file = settings.gateway(start.id).boot_file.as_str();
-        let path = ControlPath::beside(alloc, boot_file)?;
-        let disk = boot_file::open(rt, boot_file)
-            .map_err(|fault| Fault::boot_file(alloc, boot_file, fault))?;
-        let control = Control::open(rt, &path, CONTROL)
-            .map_err(|_| Fault::no_control(alloc, &path))?;
+        let file = settings.gateway(start.id).boot_file.as_str();
+        let path = ControlPath::beside(alloc, file)?;
+        let disk = boot_file::open(rt, file).map_err(|why| Fault::boot_file(alloc, file, why))?;
+        let Ok(control) = Control::open(rt, &path, CONTROL) else {
+            return Err(Fault::no_control(alloc, &path));
+        };
         let wire = open_sockets(rt, &ways, Ports::of(&settings, start.id), control)?;
         let sink = Sink::new(StandardError(rt), start.format);
         let log = EventLog::new(FilteredLog::new(sink, read_filter(rt, start.log)?));
-        let capture = start.capture.map(|path| open_capture(rt, path)).transpose()?;
+        let capture = start
+            .capture
+            .map(|path| open_capture(rt, path))
+            .transpose()?;
         Ok(Parts {
             settings,
             manager,

@@ -1,12 +1,12 @@
 //! Runs a box from its start to its end.
 
 use crate::begin::begin;
-use crate::parts::Parts;
+use crate::parts::{BoxLog, Parts};
 use crate::{ServiceManager, Start};
 use captures::{CaptureFile, LiveCapture, Tapped};
 use faults::Fault;
 use gateway::Gateway;
-use journal::{Entry, EventLog, Journal};
+use journal::Entry;
 use platform::{Stopwatch, stdin_has_ended};
 use rounds::{EndSignal, Identity, Manager, Options, serve};
 use sockets::Wire;
@@ -28,31 +28,35 @@ use std::rt::{Clock, Env};
 pub fn run<
     R: Files<File = File> + Net + Clock + RandomSource + Eprint + Env + Input + AllocGlobal,
     O: Write,
->(
-    rt: &R,
-    start: &Start<'_>,
-    output: &mut O,
-) -> Result<(), Fault> {
+>(rt: &R, start: &Start<'_>, output: &mut O) -> Result<(), Fault> {
     let Parts {
         settings,
-        mut manager,
+        manager,
         mut disk,
         mut wire,
-        mut log,
+        log,
         capture,
     } = Parts::open(rt, start)?;
     let (identity, mut gateway) = begin(rt, &mut disk, &settings, start.id, start.found)?;
     writeln!(output, "boot {}", identity.boot)?;
     output.flush()?;
     log.write(0, Entry::Boot(identity.boot));
+    let mut server = Server {
+        rt,
+        start,
+        identity,
+        manager,
+        log,
+    };
     match capture {
-        None => serve_on(rt, start, identity, &mut gateway, &mut wire, &mut manager, &mut log),
+        None => server.serve_on(&mut gateway, &mut wire),
         Some((path, file)) => {
             let capture = begin_capture(rt.alloc(), path, file)?;
-            let mut tapped = Tapped::new(wire, start.id, Stopwatch::from_first_reading(rt), capture);
-            serve_on(rt, start, identity, &mut gateway, &mut tapped, &mut manager, &mut log);
+            let clock = Stopwatch::from_first_reading(rt);
+            let mut tapped = Tapped::new(wire, start.id, clock, capture);
+            server.serve_on(&mut gateway, &mut tapped);
             tapped.flush();
-            log.write_left_out(tapped.left_out());
+            server.log.write_left_out(tapped.left_out());
         }
     }
     writeln!(output, "end")?;
@@ -60,28 +64,42 @@ pub fn run<
     Ok(())
 }
 
-/// Serves on a wire until the box is told to end.
-fn serve_on<R: Clock + Input + AllocGlobal, W: Wire, L: Journal>(
-    rt: &R,
-    start: &Start<'_>,
+/// What serves a gateway on a wire.
+#[derive(Drop)]
+struct Server<'a, R> {
+    rt: &'a R,
+    start: &'a Start<'a>,
     identity: Identity,
-    gateway: &mut Gateway,
-    wire: &mut W,
-    manager: &mut Option<ServiceManager>,
-    log: &mut EventLog<L>,
-) {
-    let options = Options {
-        identity,
-        rounds: start.rounds,
-        track: start.track,
-    };
-    let mut until = StdinEnd {
-        rt,
-        is_watched: start.until_eof,
-    };
-    manager.ready(identity.boot);
-    let mut clock = Stopwatch::start(rt);
-    serve(rt.alloc(), gateway, wire, &mut clock, &mut until, manager, log, &options);
+    manager: Option<ServiceManager>,
+    log: BoxLog<'a, R>,
+}
+
+impl<R: Clock + Eprint + Input + AllocGlobal> Server<'_, R> {
+    /// Serves until the box is told to end.
+    fn serve_on<W: Wire>(&mut self, gateway: &mut Gateway, wire: &mut W) {
+        let (rt, start) = (self.rt, self.start);
+        let options = Options {
+            identity: self.identity,
+            rounds: start.rounds,
+            track: start.track,
+        };
+        let mut until = StdinEnd {
+            rt,
+            is_watched: start.until_eof,
+        };
+        self.manager.ready(self.identity.boot);
+        let mut clock = Stopwatch::start(rt);
+        serve(
+            rt.alloc(),
+            gateway,
+            wire,
+            &mut clock,
+            &mut until,
+            &mut self.manager,
+            &mut self.log,
+            &options,
+        );
+    }
 }
 
 /// Begins a capture in the file at a path, which loses what it has.

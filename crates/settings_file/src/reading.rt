@@ -15,7 +15,6 @@ use std::alloc::Global;
 use toml::Table;
 
 /// The settings that a document holds, whether they can work or not.
-#[tactic(auto, using(crate::proofs::Agree::refuses_unknown, crate::proofs::Agree::refuses_missing, crate::proofs::Agree::told_values))]
 pub(crate) fn held(alloc: Global, document: &Table) -> Result<Settings, SettingFault>
     ensures free { OnOk result (refusal_of (table_view document.now) ≡ None) }
     ensures values { IfOk result (HoldsValues (table_view document.now)) }
@@ -33,7 +32,7 @@ pub(crate) fn held(alloc: Global, document: &Table) -> Result<Settings, SettingF
 }
 
 /// The settings that a document holds, where they can work.
-#[tactic(auto, using(crate::proofs::Agree::read_from, crate::proofs::Agree::told_cant))]
+#[tactic(auto, using(crate::proofs::Agree::read_from))]
 fn settings_of(alloc: Global, document: &Table) -> Result<Settings, SettingFault>
     ensures ok { IfOk result (IsReadFrom (Some (table_view document.now))) }
     ensures err { IfErr result (Tells (Some (table_view document.now))) }

@@ -7,7 +7,7 @@ pub returns : goal.returns
 returns g c = record {
   begun = record {
     rises = λ honest. (let is : c.next_boot.result ≡ Ok c.in_ok-boot.boot = search rules in
-      subst (λ (r : Result ℕ BootFault). Rises (g.D.Disk.now c.args.disk.now) (g.D.Disk.now c.next_boot.new.disk) r) is (c.next_boot.ensures.rises honest));
+        subst (λ (r : Result ℕ BootFault). Rises (g.D.Disk.now c.args.disk.now) (g.D.Disk.now c.next_boot.new.disk) r) is (c.next_boot.ensures.rises honest));
     hashers = c.in_ok-hashers.hashers;
     founds = c.if-found.found;
     begins = search rules;

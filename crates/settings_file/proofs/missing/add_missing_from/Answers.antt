@@ -1,4 +1,4 @@
-use Rattle.std.proofs.Common.{◌∙◌, ◌++◌, ap, map, refl, subst}
+use Rattle.std.proofs.Common.{◌∙◌, ◌++◌, ap, map, refl}
 use Rattle.toml.specs.View.{view}
 use Rattle.settings_file.specs.Faults.{all_bad}
 use Rattle.settings_file.specs.Neighbours.{all_missing_from}

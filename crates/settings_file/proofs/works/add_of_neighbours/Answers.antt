@@ -1,4 +1,4 @@
-use Rattle.std.proofs.Common.{◌∙◌, ◌++◌, ap, refl, subst}
+use Rattle.std.proofs.Common.{◌∙◌, ◌++◌, ap, refl}
 use Rattle.std.specs.List.{flat_map}
 use Rattle.settings_file.specs.Faults.{all_bad}
 use Rattle.settings_file.specs.Works.{all_of_neighbour}
