@@ -71,6 +71,7 @@ fn scripted(rt: &HostRuntime, case: &mut Case) {
 }
 
 /// Nobody who watches a run.
+#[derive(Drop)]
 struct Nobody;
 
 impl Progress for Nobody {
