@@ -115,7 +115,7 @@ fn steps_of<P: Progress>(
 ) -> Result<Vec<Step>, NoMemory>
     ensures { IfOk result (λ steps. AreSteps world.old events.now steps.items world.new) }
 {
-    let mut steps = Vec::new(alloc);
+    let mut steps = Vec::with_capacity(alloc, events.len())?;
     let mut rest = events;
     while !rest.is_empty() {
         progress.reached(steps.len(), events.len());

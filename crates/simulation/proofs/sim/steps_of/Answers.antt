@@ -3,7 +3,7 @@ use Rattle.simulation.proofs.Steps.{all-done, more-done, none-done, two-parts}
 use Rattle.simulation.proofs.sim.steps_of.Goals as goal
 
 pub loop-rest-init : goal.loop-rest-init
-loop-rest-init g c = none-done _ _ _ c.new-steps.ensures.items
+loop-rest-init g c = none-done _ _ _ c.in_ok-steps.ensures.items
 
 pub loop-rest-preserved : goal.loop-rest-preserved
 loop-rest-preserved g c = more-done _ _ _ _ c.loop-rest.rest.now _ _ _ _ _ (two-parts _ _ _ _ c.split_at.ensures.front c.split_at.ensures.back)
