@@ -1,6 +1,6 @@
 //! What is found of a box's boot file.
 
-use crate::reports::Report;
+use crate::findings::Findings;
 use boot_store::slot_number;
 use nat_types::GatewayId;
 use settings::Settings;
@@ -26,7 +26,7 @@ pub(crate) fn report_boot_file<R: Files<File = File>>(
     rt: &R,
     settings: &Settings,
     id: GatewayId,
-    report: &mut Report,
+    findings: &mut Findings,
 ) -> Result<(), AllocError> {
     let section = match id {
         GatewayId::Zero => Section::GatewayZero,
@@ -34,11 +34,11 @@ pub(crate) fn report_boot_file<R: Files<File = File>>(
     };
     let key = Key::new(section, Name::BootFile);
     match look_at(rt, settings.gateway(id).boot_file.as_str()) {
-        Err(_) => report.fault(format_args!("file 1 NoFile {key}")),
-        Ok(None) => report_number(None, key, report),
+        Err(_) => findings.fault(format_args!("file 1 NoFile {key}")),
+        Ok(None) => report_number(None, key, findings),
         Ok(Some(found)) => {
-            report_number(found.number, key, report)?;
-            report_use(found, key, report)
+            report_number(found.number, key, findings)?;
+            report_use(found, key, findings)
         }
     }
 }
@@ -71,28 +71,28 @@ fn number_in(file: &mut File) -> Option<u64> {
 }
 
 /// What its number says. It is a fault where no box starts with it.
-fn report_number(number: Option<u64>, key: Key, report: &mut Report) -> Result<(), AllocError> {
+fn report_number(number: Option<u64>, key: Key, findings: &mut Findings) -> Result<(), AllocError> {
     match number {
-        None => report.fault(format_args!("boot 2 Damaged {key}")),
-        Some(u64::MAX) => report.fault(format_args!("boot 3 BootsUsedUp {key}")),
-        Some(0) => report.note(format_args!("{key}: no start yet")),
-        Some(boot) => report.note(format_args!("{key}: the last start was boot {boot}")),
+        None => findings.fault(format_args!("boot 2 Damaged {key}")),
+        Some(u64::MAX) => findings.fault(format_args!("boot 3 BootsUsedUp {key}")),
+        Some(0) => findings.note(format_args!("{key}: no start yet")),
+        Some(boot) => findings.note(format_args!("{key}: the last start was boot {boot}")),
     }
 }
 
 /// Who else may use it, and whether a box runs on it.
-fn report_use(found: BootFile, key: Key, report: &mut Report) -> Result<(), AllocError> {
+fn report_use(found: BootFile, key: Key, findings: &mut Findings) -> Result<(), AllocError> {
     if let Some(mode) = found.mode {
         // The last six bits are those of others than its owner.
         if mode % 0o100 != 0 {
             let mode = mode % 0o1000;
-            report.warning(format_args!(
+            findings.warning(format_args!(
                 "{key}: its mode is {mode:o}, and 600 keeps others from it"
             ))?;
         }
     }
     if found.is_used {
-        report.note(format_args!("{key}: a gate runs on it"))?;
+        findings.note(format_args!("{key}: a gate runs on it"))?;
     }
     Ok(())
 }

@@ -1,8 +1,8 @@
 //! Checks a text of settings.
 
 use crate::boot_files::report_boot_file;
+use crate::findings::Findings;
 use crate::places::report_places;
-use crate::reports::Report;
 use crate::{Doubt, Request, Warning, warnings_of};
 use faults::Fault;
 use nat_types::GatewayId;
@@ -25,38 +25,38 @@ pub fn check<R: Files<File = File> + AllocGlobal, W: Write>(
     request: &Request<'_>,
     output: &mut W,
 ) -> Result<u8, Fault> {
-    let mut report = Report::new(rt.alloc());
+    let mut findings = Findings::new(rt.alloc());
     let look = look(rt.alloc(), text)?;
-    report_faults(&look, &mut report)?;
+    report_faults(&look, &mut findings)?;
     if let Look::Held(settings, _) = &look {
-        report_settings(rt, settings, request, &mut report)?;
+        report_settings(rt, settings, request, &mut findings)?;
     }
-    report.write(request.strict, output)
+    findings.write(request.strict, output)
 }
 
 /// The faults of a text.
-fn report_faults(look: &Look, report: &mut Report) -> Result<(), AllocError> {
+fn report_faults(look: &Look, findings: &mut Findings) -> Result<(), AllocError> {
     match look {
-        Look::NotToml => report.fault("settings 1 NotToml"),
-        Look::UnknownKeys(paths) => report_unknown(paths.as_slice(), report),
-        Look::MissingKeys(keys) => report_keys(keys.as_slice(), "2 Missing", report),
-        Look::BadValues(keys) => report_keys(keys.as_slice(), "3 BadValue", report),
-        Look::RangesOverlap => report.fault("settings 4 RangesOverlap"),
-        Look::SameIds => report.fault("settings 5 SameIds"),
-        Look::Held(_, keys) => report_keys(keys.as_slice(), "7 CantWork", report),
+        Look::NotToml => findings.fault("settings 1 NotToml"),
+        Look::UnknownKeys(paths) => report_unknown(paths.as_slice(), findings),
+        Look::MissingKeys(keys) => report_keys(keys.as_slice(), "2 Missing", findings),
+        Look::BadValues(keys) => report_keys(keys.as_slice(), "3 BadValue", findings),
+        Look::RangesOverlap => findings.fault("settings 4 RangesOverlap"),
+        Look::SameIds => findings.fault("settings 5 SameIds"),
+        Look::Held(_, keys) => report_keys(keys.as_slice(), "7 CantWork", findings),
     }
 }
 
-fn report_unknown(paths: &[String], report: &mut Report) -> Result<(), AllocError> {
+fn report_unknown(paths: &[String], findings: &mut Findings) -> Result<(), AllocError> {
     for path in paths {
-        report.fault(format_args!("settings 6 UnknownKey {path}"))?;
+        findings.fault(format_args!("settings 6 UnknownKey {path}"))?;
     }
     Ok(())
 }
 
-fn report_keys(keys: &[Key], fault: &str, report: &mut Report) -> Result<(), AllocError> {
+fn report_keys(keys: &[Key], fault: &str, findings: &mut Findings) -> Result<(), AllocError> {
     for key in keys {
-        report.fault(format_args!("settings {fault} {key}"))?;
+        findings.fault(format_args!("settings {fault} {key}"))?;
     }
     Ok(())
 }
@@ -66,12 +66,12 @@ fn report_settings<R: Files<File = File> + AllocGlobal>(
     rt: &R,
     settings: &Settings,
     request: &Request<'_>,
-    report: &mut Report,
+    findings: &mut Findings,
 ) -> Result<(), AllocError> {
-    report_warnings(rt.alloc(), settings, request.id, report)?;
-    report_places(rt, settings, request, report)?;
+    report_warnings(rt.alloc(), settings, request.id, findings)?;
+    report_places(rt, settings, request, findings)?;
     match request.id {
-        Some(id) => report_boot_file(rt, settings, id, report),
+        Some(id) => report_boot_file(rt, settings, id, findings),
         None => Ok(()),
     }
 }
@@ -81,16 +81,16 @@ fn report_warnings(
     alloc: Global,
     settings: &Settings,
     id: Option<GatewayId>,
-    report: &mut Report,
+    findings: &mut Findings,
 ) -> Result<(), AllocError> {
     let warnings = warnings_of(alloc, settings)?;
     for warning in warnings.as_slice() {
         let key = warning.key;
         if stops(id, warning) {
-            report.fault(format_args!("socket 2 LongPath {key}"))?;
+            findings.fault(format_args!("socket 2 LongPath {key}"))?;
         } else {
             let doubt = warning.doubt.as_str();
-            report.warning(format_args!("{key}: {doubt}"))?;
+            findings.warning(format_args!("{key}: {doubt}"))?;
         }
     }
     Ok(())

@@ -6,8 +6,8 @@ mod checking;
 mod comparing;
 mod differences;
 mod doubts;
+mod findings;
 mod places;
-mod reports;
 mod requests;
 mod warnings;
 

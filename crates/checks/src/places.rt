@@ -1,7 +1,7 @@
 //! What is found of a box's places: its interfaces, and its address on the link.
 
 use crate::Request;
-use crate::reports::Report;
+use crate::findings::Findings;
 use addresses::Ip;
 use faults::{Fault, read_text};
 use nat_types::Side;
@@ -18,12 +18,12 @@ pub(crate) fn report_places<R: Files + AllocGlobal>(
     rt: &R,
     settings: &Settings,
     request: &Request<'_>,
-    report: &mut Report,
+    findings: &mut Findings,
 ) -> Result<(), AllocError> {
-    report_interface(rt, Side::Inside, request.inside, report)?;
-    report_interface(rt, Side::Outside, request.outside, report)?;
+    report_interface(rt, Side::Inside, request.inside, findings)?;
+    report_interface(rt, Side::Outside, request.outside, findings)?;
     match request.link {
-        Some(text) => report_link(settings, text, report),
+        Some(text) => report_link(settings, text, findings),
         None => Ok(()),
     }
 }
@@ -33,17 +33,17 @@ fn report_interface<R: Files + AllocGlobal>(
     rt: &R,
     side: Side,
     name: Option<&str>,
-    report: &mut Report,
+    findings: &mut Findings,
 ) -> Result<(), AllocError> {
     let Some(name) = name else {
         return Ok(());
     };
     match mtu_of(rt, name)? {
         Some(mtu) if mtu >= LEAST_MTU => Ok(()),
-        Some(mtu) => report.warning(format_args!(
+        Some(mtu) => findings.warning(format_args!(
             "{side} {name}: its MTU is {mtu}, and frames need 1500"
         )),
-        None => report.warning(format_args!("{side} {name}: no such interface")),
+        None => findings.warning(format_args!("{side} {name}: no such interface")),
     }
 }
 
@@ -58,9 +58,9 @@ fn mtu_of<R: Files + AllocGlobal>(rt: &R, name: &str) -> Result<Option<u32>, All
 }
 
 /// What is wrong with the address on the link that a text is to be.
-fn report_link(settings: &Settings, text: &str, report: &mut Report) -> Result<(), AllocError> {
+fn report_link(settings: &Settings, text: &str, findings: &mut Findings) -> Result<(), AllocError> {
     let Ok(address) = text.parse::<Ipv4Addr>() else {
-        return report.fault(format_args!("link {text}: no IPv4 address"));
+        return findings.fault(format_args!("link {text}: no IPv4 address"));
     };
     for side in [Side::Inside, Side::Outside] {
         if settings
@@ -68,7 +68,7 @@ fn report_link(settings: &Settings, text: &str, report: &mut Report) -> Result<(
             .network()
             .contains(Ip(address.to_bits()))
         {
-            report.warning(format_args!(
+            findings.warning(format_args!(
                 "link {text}: it lies in the network of the {side}, whose cable it goes down with"
             ))?;
         }

@@ -7,15 +7,15 @@ use std::io::Write;
 
 /// What is said of settings. It is written once it is whole, so that nothing is said where memory is refused.
 #[derive(Drop)]
-pub(crate) struct Report {
+pub(crate) struct Findings {
     text: String,
     faults: usize,
     warnings: usize,
 }
 
-impl Report {
-    pub(crate) fn new(alloc: Global) -> Report {
-        Report {
+impl Findings {
+    pub(crate) fn new(alloc: Global) -> Findings {
+        Findings {
             text: String::new(alloc),
             faults: 0,
             warnings: 0,
