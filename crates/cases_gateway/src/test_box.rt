@@ -3,7 +3,7 @@
 use crate::any_gateway::{AnyGateway, Orders};
 use crate::lines::Lines;
 use crate::managers::CountingManager;
-use crate::wires::{Datagram, FailingWire, Limit, MemoryWire, Outage, StepClock};
+use crate::wires::{Datagram, Limit, MemoryWire, Outage, StepClock};
 use cases_words::Case;
 use gateway::Hashers;
 use nat_types::{GatewayId, Side};
@@ -189,15 +189,10 @@ impl<G: AnyGateway> TestBox<G> {
             track: run.track,
         };
         self.clock.pace = run.pace;
-        self.wire.begin();
-        let alloc = self.wire.alloc;
-        let mut wire = FailingWire {
-            wire: &mut self.wire,
-            left: failing,
-        };
+        self.wire.begin(failing);
         self.gateway.run(
-            alloc,
-            &mut wire,
+            self.wire.alloc,
+            &mut self.wire,
             &mut self.clock,
             &mut self.manager,
             lines,

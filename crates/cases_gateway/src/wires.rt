@@ -1,4 +1,4 @@
-//! Wires in memory, and a clock that goes by steps.
+//! A wire in memory, and a clock that goes by steps.
 ghost use Rattle.std.specs.Prelude.{◌≤◌, IfSome};
 ghost use Rattle.sockets.specs.Wires.{AnyWay};
 
@@ -53,6 +53,8 @@ pub(crate) struct MemoryWire {
     /// The place that takes less than it is sent, if one does, and how much it lost.
     pub(crate) limit: Option<Limit>,
     losses: Losses,
+    /// How many calls are left up to the one that fails, which is a send or a receive; 0: none fails.
+    left: u64,
     /// Whether the client that said the last word waits for its answer. Before that no other is heard.
     awaits: bool,
     pub(crate) sent: Vec<Datagram>,
@@ -68,15 +70,24 @@ impl MemoryWire {
             round: 0,
             limit: None,
             losses: Losses::default(),
+            left: 0,
             awaits: false,
             sent: Vec::new(alloc),
         }
     }
 
-    /// The next rounds begin: nothing was sent in them.
-    pub(crate) fn begin(&mut self) {
+    /// The next rounds begin: nothing was sent in them. The call with that number fails; at 0 none does.
+    pub(crate) fn begin(&mut self, failing: u64) {
         self.sent.clear();
         self.round = 0;
+        self.left = failing;
+    }
+
+    /// Counts a call, and says whether it is the one that fails.
+    fn fails(&mut self) -> bool {
+        let fails = self.left == 1;
+        self.left = self.left.saturating_sub(1);
+        fails
     }
 
     /// The next datagram that is to come, if one is.
@@ -167,6 +178,9 @@ impl Wire for MemoryWire {
         _limit: Duration,
         buffer: &mut [u8; LONGEST],
     ) -> Result<Option<(Place, usize)>, WireFault> {
+        if self.fails() {
+            return Err(WireFault);
+        }
         let next = self.next(buffer);
         if next.is_none() {
             self.round = self.round.saturating_add(1);
@@ -175,6 +189,9 @@ impl Wire for MemoryWire {
     }
 
     fn send(&mut self, to: Place, bytes: &[u8]) -> Result<(), WireFault> {
+        if self.fails() {
+            return Err(WireFault);
+        }
         let sent = self.keep(to, bytes);
         self.losses.count(sent);
         sent.map_err(|_| WireFault)
@@ -206,57 +223,6 @@ fn copied(bytes: &[u8], buffer: &mut [u8; LONGEST]) -> usize
     let count = bytes.len().min(LONGEST);
     buffer[..count].copy_from_slice(&bytes[..count]);
     count
-}
-
-/// A wire of which one call fails: a send, or a receive. That call doesn't reach the wire below.
-#[derive(Drop)]
-pub(crate) struct FailingWire<'a> {
-    pub(crate) wire: &'a mut MemoryWire,
-    /// How many calls are left up to the one that fails; 0: none fails.
-    pub(crate) left: u64,
-}
-
-impl<'a> FailingWire<'a> {
-    /// Counts a call, and says whether it is the one that fails.
-    fn fails(&mut self) -> bool {
-        let fails = self.left == 1;
-        self.left = self.left.saturating_sub(1);
-        fails
-    }
-}
-
-impl<'a> Wire for FailingWire<'a> {
-    ghost passes = { AnyWay };
-
-    fn receive(
-        &mut self,
-        limit: Duration,
-        buffer: &mut [u8; LONGEST],
-    ) -> Result<Option<(Place, usize)>, WireFault> {
-        if self.fails() {
-            return Err(WireFault);
-        }
-        self.wire.receive(limit, buffer)
-    }
-
-    fn send(&mut self, to: Place, bytes: &[u8]) -> Result<(), WireFault> {
-        if self.fails() {
-            return Err(WireFault);
-        }
-        self.wire.send(to, bytes)
-    }
-
-    fn answer(&mut self, bytes: &[u8]) {
-        self.wire.answer(bytes);
-    }
-
-    fn is_failing(&self, place: Place) -> bool {
-        self.wire.is_failing(place)
-    }
-
-    fn losses(&self, place: Place) -> Losses {
-        self.wire.losses(place)
-    }
 }
 
 /// A clock that goes on by as much at each reading, in centiseconds.
