@@ -54,13 +54,7 @@ fn texts_of(rt: &HostRuntime, settings: &str, script: &str) -> Result<(String, S
     Ok((settings, script))
 }
 
-fn run(
-    rt: &HostRuntime,
-    settings: &str,
-    script: &str,
-    memory: Option<Memory>,
-    case: &mut Case,
-) {
+fn run(rt: &HostRuntime, settings: &str, script: &str, memory: Option<Memory>, case: &mut Case) {
     let alloc = case.alloc;
     let plain = plain(rt, settings, script);
     let (mut output, mut errors) = (Vec::new(alloc), Vec::new(alloc));
@@ -85,7 +79,13 @@ fn through(
     output: &mut Vec<u8>,
 ) -> std::result::Result<u8, Fault> {
     let job = read_job(alloc, settings, script)?;
-    looped::play(alloc, &job, &mut memory, &mut None::<Capture<Vec<u8>>>, output)
+    looped::play(
+        alloc,
+        &job,
+        &mut memory,
+        &mut None::<Capture<Vec<u8>>>,
+        output,
+    )
 }
 
 /// The output of a run without a channel.

@@ -27,7 +27,12 @@ impl Actor for Rows {
         match case.word() {
             "line" => {
                 let script = case.rest();
-                simulated(&self.rt, sample(&self.rt, case).as_str(), script.as_str(), case);
+                simulated(
+                    &self.rt,
+                    sample(&self.rt, case).as_str(),
+                    script.as_str(),
+                    case,
+                );
             }
             "settings" => simulated(&self.rt, case.rest().as_str(), "", case),
             "times" => repeated(&self.rt, case),

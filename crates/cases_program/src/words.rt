@@ -44,12 +44,7 @@ impl Actor for Words {
 }
 
 /// The status of words. What a caller has to show stays small where this says nothing of it.
-fn status_of(
-    rt: &HostRuntime,
-    words: &[String],
-    output: &mut Vec<u8>,
-    errors: &mut Vec<u8>,
-) -> u8 {
+fn status_of(rt: &HostRuntime, words: &[String], output: &mut Vec<u8>, errors: &mut Vec<u8>) -> u8 {
     act(rt, words, output, errors, false)
 }
 
