@@ -51,16 +51,12 @@ pub(crate) fn run_sim<R: Files<File = File> + Clock + AllocGlobal, O: Write, E: 
 ) -> Result<u8, Fault> {
     let settings = read_text(rt, words.settings.as_str())?;
     let script = read_text(rt, words.script.as_str())?;
-    let mut meter = None;
-    if is_terminal {
-        meter = Some(Meter::start(rt, errors));
-    }
-    let capture = words.capture.as_deref();
+    let mut meter = Meter::start(rt, errors, is_terminal);
     sim::run(
         rt,
         settings.as_str(),
         script.as_str(),
-        capture,
+        words.capture.as_deref(),
         &mut meter,
         output,
     )
