@@ -142,7 +142,7 @@ impl AnyGateway for Gateway {
     }
 
     fn page_behind(&self, last: Option<Key>) -> Page {
-        rounds::page_behind(self, last)
+        rounds::page_after(self, last)
     }
 
     fn run<W: Wire>(

@@ -1,11 +1,11 @@
-//! What is logged of a step.
+//! Logs what a step has changed.
 
-use crate::messages::View;
+use crate::views::View;
 use gateway::{Event, Outcome};
 use journal::{Cause, Entry, EventLog, Journal, Origin, Role};
 use nat_types::{NoMemory, Side};
 
-/// Where an event came from.
+/// Returns where an event came from, for the log.
 pub(crate) fn origin_of(event: &Event<'_>) -> Origin {
     match event {
         Event::Frame(side, _) => Origin::of(*side),
@@ -14,7 +14,7 @@ pub(crate) fn origin_of(event: &Event<'_>) -> Origin {
     }
 }
 
-/// Why nothing came of an event, if nothing did.
+/// Returns why nothing came of an event, or None where something did.
 pub(crate) fn cause_of(outcome: Result<Outcome, NoMemory>) -> Option<Cause> {
     match outcome {
         Ok(Outcome::Dropped(reason)) => Some(Cause::Dropped(reason)),
@@ -23,7 +23,7 @@ pub(crate) fn cause_of(outcome: Result<Outcome, NoMemory>) -> Option<Cause> {
     }
 }
 
-/// Logs an event that nothing came of, and each change that it made.
+/// Logs that an event was dropped, if it was, and each change that it made.
 pub(crate) fn log_step<L: Journal>(
     log: &mut EventLog<L>,
     event: &Event<'_>,
@@ -56,7 +56,7 @@ pub(crate) fn log_step<L: Journal>(
     }
 }
 
-/// Logs where something is so that wasn't before, or isn't any more.
+/// Logs that a state of the gateway begins or ends.
 fn log_change<L: Journal>(
     log: &EventLog<L>,
     now: u64,
@@ -71,8 +71,8 @@ fn log_change<L: Journal>(
     }
 }
 
-/// The state of a side's virtual router: it is started while the table is loaded, but not while the gateway is away,
-/// nor once it has stopped.
+/// Returns the state of a side's virtual router. The router is started while the table is loaded, but not while the gateway
+/// is away, nor once it has stopped.
 fn role_of(view: &View, side: Side, has_stopped: bool) -> Role {
     let is_active = match side {
         Side::Inside => view.inside,

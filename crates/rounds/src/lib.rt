@@ -1,14 +1,14 @@
-//! The rounds of a box: it receives, steps its gateway, sends, and replies to its operator, until it is told to end.
+//! The rounds of a box: it receives, steps its gateway, sends, and replies to its operator, until it ends.
 #![tactic(auto)]
 
 mod changes;
+mod gateway_reports;
 mod messages;
 mod outages;
 mod replies;
 mod rounds;
-mod standing;
-mod taking;
+mod steps;
+mod views;
 
-pub use messages::{Request, Response, View, event_of, is_stop, judge, response_to, view_of};
+pub use gateway_reports::{gateway_report, page_after, sides_of, update_sides};
 pub use rounds::{EndSignal, Identity, Manager, Options, run_rounds, serve};
-pub use standing::{gateway_report, page_behind, sides_of, update_sides};

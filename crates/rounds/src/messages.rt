@@ -1,49 +1,93 @@
-//! What came by a wire, as an event of the gateway, and what is replied to it.
+//! What a message asks of a box: an event of its gateway, and a response to its operator.
+ghost use Rattle.std.specs.Prelude.{List, ℕ};
 ghost use Rattle.rounds.specs.Runs.{IsMessage};
+ghost use Rattle.sockets.specs.declared.wire.Place.TheVariants.{Operator};
 
+use crate::views::View;
 use control::{PeerOffRefusal, Word};
-use gateway::{Event, Gateway};
-use nat_types::{Key, Side};
+use gateway::Event;
+use nat_types::Key;
 use sockets::Place;
 
-/// What an operator watches of a gateway.
-#[derive(Clone, Copy, Debug, PartialEq, Eq)]
-pub struct View {
-    /// In centiseconds since the gateway's start.
-    pub timestamp: u64,
-    /// Whether the virtual router of the inside is Active.
-    pub inside: bool,
-    /// The same of the outside.
-    pub outside: bool,
-    /// Whether it gave way to the other gateway.
-    pub away: bool,
-    /// Whether its table is loaded.
-    pub synced: bool,
-    /// The known boot of the other gateway, or 0.
-    pub peer: u64,
-    /// Whether the other gateway was heard at most 300 centiseconds ago.
-    pub heard: bool,
+/// A message, as the box takes it.
+pub(crate) struct Message<'a> {
+    /// The event of the gateway that the message is, if it is one.
+    pub(crate) event: Option<Event<'a>>,
+    /// The response to the operator, if the message is a word.
+    pub(crate) response: Option<Response>,
 }
 
-/// How a gateway stands.
-pub fn view_of(gateway: &Gateway) -> View {
-    View {
-        timestamp: gateway.moment(),
-        inside: gateway.is_active(Side::Inside),
-        outside: gateway.is_active(Side::Outside),
-        away: gateway.is_away(),
-        synced: gateway.synced(),
-        peer: gateway.known_peer(),
-        heard: gateway.hears_peer(),
+/// What an operator asks of a box. A request is answered at the end of the round in which it came.
+#[derive(Clone, Copy, Debug, PartialEq, Eq)]
+pub(crate) enum Request {
+    Status,
+    /// The pairs after a key, or the first ones.
+    Pairs(Option<Key>),
+}
+
+/// What is replied to a word.
+#[derive(Clone, Copy, Debug, PartialEq, Eq)]
+pub(crate) enum Response {
+    /// The word is taken.
+    Heard,
+    /// The word is taken: the box ends after this round.
+    Ending,
+    Refused(PeerOffRefusal),
+    /// The answer to a request follows at the round's end.
+    Later(Request),
+}
+
+/// Reads what came at a place: a frame of a side, a datagram of the other gateway, or an operator's word. Bytes that are
+/// no word are neither an event nor replied to. `track`: a carrier's word on a side counts as an event.
+pub(crate) fn read_message<'a>(
+    view: &View,
+    place: Place,
+    bytes: &'a [u8],
+    track: bool,
+) -> Message<'a>
+    ensures event { IsMessage place bytes.now result.event }
+{
+    let (event, response) = match place {
+        Place::Side(side) => (Some(Event::Frame(side, bytes)), None),
+        Place::Link => (Some(Event::Datagram(bytes)), None),
+        Place::Operator => match Word::read(bytes) {
+            Some(word) => return read_word(view, word, track),
+            None => (None, None),
+        },
+    };
+    Message { event, response }
+}
+
+/// Decides on an operator's word.
+fn read_word<'a>(view: &View, word: Word, track: bool) -> Message<'a>
+    ensures event { (bytes : List ℕ) → IsMessage Operator bytes result.event }
+{
+    let (event, response) = match word {
+        Word::PeerOff { boot, forced } => match judge(view, boot, forced) {
+            Ok(boot) => (Some(Event::PeerOff(boot)), Response::Heard),
+            Err(refusal) => (None, Response::Refused(refusal)),
+        },
+        Word::Side { side, up, carrier } if track || !carrier => {
+            (Some(Event::Side(side, up)), Response::Heard)
+        }
+        Word::Side { .. } => (None, Response::Heard),
+        Word::Stop => (None, Response::Ending),
+        Word::Status => (None, Response::Later(Request::Status)),
+        Word::Pairs(after) => (None, Response::Later(Request::Pairs(after))),
+    };
+    Message {
+        event,
+        response: Some(response),
     }
 }
 
-/// Decides on the word that a boot of the other gateway is off; without a number it is the known one. Gives the boot.
+/// Decides on the word that a boot of the other gateway is off, and returns the boot; without a number the known boot is
+/// meant.
 ///
 /// # Errors
 ///
-/// The first reason against it, in the order of their numbers.
-pub fn judge(view: &View, boot: Option<u64>, forced: bool) -> Result<u64, PeerOffRefusal> {
+/// The first reason against the word, in the order of their numbers.
+fn judge(view: &View, boot: Option<u64>, forced: bool) -> Result<u64, PeerOffRefusal> {
     let boot = boot.unwrap_or(view.peer);
     if !view.synced {
         Err(PeerOffRefusal::NotSynced)
@@ -57,64 +101,5 @@ pub fn judge(view: &View, boot: Option<u64>, forced: bool) -> Result<u64, PeerOf
         Err(PeerOffRefusal::PeerHeard)
     } else {
         Ok(boot)
-    }
-}
-
-/// What came at a place, as an event of a gateway that stands so: a frame of a side, a datagram of the other gateway,
-/// or what an operator's word says. What a carrier tells of a side counts where carriers are tracked. Other words are
-/// no events.
-pub fn event_of<'a>(view: &View, place: Place, bytes: &'a [u8], track: bool) -> Option<Event<'a>>
-    ensures { IsMessage place bytes.now result }
-{
-    match place {
-        Place::Side(side) => Some(Event::Frame(side, bytes)),
-        Place::Link => Some(Event::Datagram(bytes)),
-        Place::Operator => match Word::read(bytes)? {
-            Word::PeerOff { boot, forced } => Some(Event::PeerOff(judge(view, boot, forced).ok()?)),
-            Word::Side { side, up, carrier } if track || !carrier => Some(Event::Side(side, up)),
-            Word::Side { .. } | Word::Stop | Word::Status | Word::Pairs(_) => None,
-        },
-    }
-}
-
-/// What an operator asks of a box. It is answered at the end of the round in which it came.
-#[derive(Clone, Copy, Debug, PartialEq, Eq)]
-pub enum Request {
-    Status,
-    /// The pairs behind a key, or the first ones.
-    Pairs(Option<Key>),
-}
-
-/// What is replied to a word.
-#[derive(Clone, Copy, Debug, PartialEq, Eq)]
-pub enum Response {
-    /// It is taken.
-    Heard,
-    Refused(PeerOffRefusal),
-    /// The answer to a request.
-    Later(Request),
-}
-
-/// What is replied to what came at a place, if that is a word.
-pub fn response_to(view: &View, place: Place, bytes: &[u8]) -> Option<Response> {
-    match place {
-        Place::Link | Place::Side(_) => None,
-        Place::Operator => Some(match Word::read(bytes)? {
-            Word::PeerOff { boot, forced } => match judge(view, boot, forced) {
-                Ok(_) => Response::Heard,
-                Err(refusal) => Response::Refused(refusal),
-            },
-            Word::Stop | Word::Side { .. } => Response::Heard,
-            Word::Status => Response::Later(Request::Status),
-            Word::Pairs(after) => Response::Later(Request::Pairs(after)),
-        }),
-    }
-}
-
-/// Whether what came at a place says that the box is to end.
-pub fn is_stop(place: Place, bytes: &[u8]) -> bool {
-    match place {
-        Place::Operator => matches!(Word::read(bytes), Some(Word::Stop)),
-        Place::Link | Place::Side(_) => false,
     }
 }

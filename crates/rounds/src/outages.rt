@@ -1,31 +1,33 @@
-//! When it is logged that a place fails, or works again, or takes less than a frame.
+//! Logs that a place fails, works again, or takes less than a frame.
 
 use journal::{Entry, EventLog, Journal, Origin};
 use nat_types::Side;
 use sockets::{Place, Wire};
 
-/// How long a place has failed, or has worked again, when that is logged: in centiseconds. So nothing is logged of
-/// frames that fail now and then.
-const TIMEOUT: u64 = 100;
+/// For how many centiseconds a place has failed, or has worked again, when that is logged. So nothing is logged of frames
+/// that fail now and then.
+const DEBOUNCE: u64 = 100;
 
 /// What was logged of a place.
 #[derive(Clone, Copy)]
 struct Watched {
+    /// Whether the place fails, as the log says.
     fails: bool,
-    /// Since when it does otherwise, if it does.
+    /// Since when the place does the contrary, if it does.
     since: Option<u64>,
+    /// Whether the log says that the place takes less than a frame.
     is_short: bool,
 }
 
 impl Watched {
-    /// Whether it is to be logged that it fails now, or works again.
+    /// Whether it is time to log that the place fails, or works again.
     fn changes(&mut self, fails: bool, now: u64) -> bool {
         if fails == self.fails {
             self.since = None;
             return false;
         }
         let since = self.since.unwrap_or(now);
-        if now.saturating_sub(since) < TIMEOUT {
+        if now.saturating_sub(since) < DEBOUNCE {
             self.since = Some(since);
             return false;
         }
@@ -46,7 +48,7 @@ const PLACES: [(Place, Origin); 3] = [
 ];
 
 impl Outages {
-    /// Each place works.
+    /// No place fails.
     pub(crate) fn none() -> Outages {
         let works = Watched {
             fails: false,
@@ -56,7 +58,7 @@ impl Outages {
         Outages([works; 3])
     }
 
-    /// Logs what is due of each place, by what its wire says. That it takes less than a frame is logged once.
+    /// Logs of each place what is due. That a place takes less than a frame is logged once.
     pub(crate) fn log<W: Wire, L: Journal>(&mut self, wire: &W, now: u64, log: &EventLog<L>) {
         for (watched, (place, origin)) in self.0.iter_mut().zip(PLACES) {
             let fails = wire.is_failing(place);

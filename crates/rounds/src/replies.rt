@@ -1,11 +1,11 @@
-//! What is replied to an operator's word.
+//! Replies to an operator's words.
 ghost use Rattle.std.specs.Prelude.{◌≤◌};
 ghost use Rattle.rounds.specs.Runs.{IsQuiet};
 ghost use Rattle.sockets.specs.Wires.{nothing};
 
+use crate::gateway_reports::{gateway_report, page_after};
 use crate::messages::{Request, Response};
-use crate::rounds::{Identity, State};
-use crate::standing::{gateway_report, page_behind};
+use crate::rounds::{Identity, RoundState};
 use control::{HEARD, PAGE, REPORT, refusal_bytes};
 use gateway::Gateway;
 use journal::{EventLog, Journal, Origin};
@@ -13,13 +13,13 @@ use nat_types::{NoMemory, Side};
 use reports::{Count, Counters, Report};
 use sockets::{LONGEST, Place, Wire};
 
-/// Replies to a word at once, or keeps its request. A word that is taken, and for which memory was refused, has an
-/// empty reply.
+/// Replies to a word at once, or keeps its request for the round's end. The reply to a word whose event ran out of memory
+/// (`is_done` is false) is empty.
 pub(crate) fn reply<W: Wire>(
     response: Option<Response>,
     is_done: bool,
     wire: &mut W,
-    state: &mut State,
+    state: &mut RoundState,
 )
     ensures quiet { IsQuiet W.passes wire.old wire.new }
 {
@@ -27,26 +27,30 @@ pub(crate) fn reply<W: Wire>(
         None => {}
         Some(Response::Later(request)) => state.request = Some(request),
         Some(Response::Refused(refusal)) => answer(&refusal_bytes(refusal), wire, state),
+        Some(Response::Ending) => {
+            state.is_ending = true;
+            answer(HEARD, wire, state);
+        }
         Some(Response::Heard) if is_done => answer(HEARD, wire, state),
         Some(Response::Heard) => answer(&[], wire, state),
     }
 }
 
-/// Answers the client that said the last word, and counts the answer.
-fn answer<W: Wire>(bytes: &[u8], wire: &mut W, state: &mut State)
+/// Answers the client of the last word, and counts the answer.
+fn answer<W: Wire>(bytes: &[u8], wire: &mut W, state: &mut RoundState)
     ensures passes { W.passes wire.old nothing wire.new }
 {
     wire.answer(bytes);
     state.counters.count(Origin::Own, Count::Sent);
 }
 
-/// Answers the request of this round, if there is one. Where memory is refused for the answer, it is empty.
+/// Answers the request of this round, if there is one. The answer is empty where there is no memory for it.
 pub(crate) fn answer_request<W: Wire, L: Journal>(
     gateway: &Gateway,
     wire: &mut W,
     identity: Identity,
     buffer: &mut [u8; LONGEST],
-    state: &mut State,
+    state: &mut RoundState,
     log: &EventLog<L>,
 )
     ensures quiet { IsQuiet W.passes wire.old wire.new }
@@ -59,12 +63,13 @@ pub(crate) fn answer_request<W: Wire, L: Journal>(
             Ok(report) => put(REPORT, report.bytes().as_slice(), buffer),
             Err(NoMemory) => 0,
         },
-        Request::Pairs(after) => put(PAGE, page_behind(gateway, after).bytes().as_slice(), buffer),
+        Request::Pairs(after) => put(PAGE, page_after(gateway, after).bytes().as_slice(), buffer),
     };
     answer(&buffer[..count], wire, state);
 }
 
-/// Puts a head and bytes into the buffer, and gives how many there are.
+/// Writes a head and bytes into the buffer, and returns how many bytes there are. What doesn't fit is left out: no report
+/// and no page is that long.
 fn put(head: [u8; 2], bytes: &[u8], buffer: &mut [u8; LONGEST]) -> usize
     ensures { result ≤ LONGEST }
 {
@@ -74,12 +79,12 @@ fn put(head: [u8; 2], bytes: &[u8], buffer: &mut [u8; LONGEST]) -> usize
     2 + count
 }
 
-/// Whose box it is, and how it stands.
+/// Returns the report of a box.
 fn report_of<W: Wire, L: Journal>(
     gateway: &Gateway,
     wire: &W,
     identity: Identity,
-    state: &State,
+    state: &RoundState,
     log: &EventLog<L>,
 ) -> Result<Report, NoMemory> {
     Ok(Report {
@@ -100,7 +105,7 @@ const PLACES: [(Place, Origin); 4] = [
     (Place::Operator, Origin::Own),
 ];
 
-/// What was counted, with what the wire has counted itself.
+/// Adds what the wire has counted itself.
 fn with_losses<W: Wire>(mut counters: Counters, wire: &W) -> Counters {
     for (place, origin) in PLACES {
         let losses = wire.losses(place);

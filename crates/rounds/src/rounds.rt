@@ -1,11 +1,11 @@
 //! The rounds of a box.
 ghost use Rattle.rounds.specs.Runs.{HasTurned, IsTurn, RunsTo};
 
+use crate::gateway_reports::{sides_of, update_sides};
 use crate::messages::Request;
 use crate::outages::Outages;
 use crate::replies::answer_request;
-use crate::standing::{sides_of, update_sides};
-use crate::taking::{take_event, take_message};
+use crate::steps::{take_event, take_message};
 use gateway::{Event, Gateway, Out};
 use journal::{EventLog, Journal};
 use nat_types::GatewayId;
@@ -15,18 +15,17 @@ use sockets::{LONGEST, Wire, WireFault};
 use std::alloc::Global;
 use std::time::Duration;
 
-/// How many datagrams a round receives at most, so that a flood doesn't keep its tick back. What is left is there for
-/// the next round.
-const MOST: usize = 256;
+/// The most messages that a round takes, so that a flood doesn't delay its tick. The next round takes the others.
+const MAX_MESSAGES_PER_ROUND: usize = 256;
 
-/// How long a round waits for its first datagram, in milliseconds.
-const WAIT: u64 = 10;
+/// For how many milliseconds a round waits for its first message.
+const FIRST_MESSAGE_TIMEOUT: u64 = 10;
 
-/// Whose box it is, to those who ask how it stands.
+/// What a report says of the box itself.
 #[derive(Clone, Copy, Debug, PartialEq, Eq)]
 pub struct Identity {
     pub id: GatewayId,
-    /// The number of its start.
+    /// The number of the box's start.
     pub boot: u64,
     /// A digest of the settings that both boxes must have alike.
     pub digest: u64,
@@ -36,31 +35,31 @@ pub struct Identity {
 #[derive(Clone, Copy, Debug)]
 pub struct Options {
     pub identity: Identity,
-    /// How many rounds it has at most; without a number it runs until it is told to end.
+    /// The most rounds; without a number the box runs until it is told to end.
     pub rounds: Option<u32>,
-    /// Whether it takes what carriers tell of the sides.
+    /// Whether a carrier's word, that a side is up or down, counts.
     pub track: bool,
 }
 
-/// What may tell a box to end, beside its control socket.
+/// What ends a box, beside the word at its control socket.
 pub trait EndSignal {
-    /// Whether it has come. It is asked before each round, and doesn't wait.
+    /// Whether the signal has come. Called before each round; never waits.
     fn has_come(&mut self) -> bool;
 }
 
-/// What a box tells of its run, as to a service manager.
+/// A service manager, which is notified of a box's run.
 pub trait Manager {
-    /// It has begun, with this boot number.
+    /// The box has begun, with this boot number.
     fn ready(&mut self, boot: u64);
 
-    /// It goes on: once a second.
+    /// The box goes on: called once a second.
     fn alive(&mut self);
 
-    /// It ends.
+    /// The box ends.
     fn ending(&mut self);
 }
 
-/// Where there is none, nobody is told.
+/// Without a service manager nobody is notified.
 impl<M: Manager> Manager for Option<M> {
     fn ready(&mut self, boot: u64) {
         if let Some(manager) = self {
@@ -81,23 +80,23 @@ impl<M: Manager> Manager for Option<M> {
     }
 }
 
-/// What a box keeps from one event to the next.
+/// What a box keeps beside its gateway from one round to the next.
 #[derive(Drop)]
-pub(crate) struct State {
-    /// What its gateway told in its last step.
+pub(crate) struct RoundState {
+    /// What the gateway's last step told.
     pub(crate) out: Out,
     pub(crate) counters: Counters,
     pub(crate) sides: Sides,
     outages: Outages,
-    /// What is asked, and isn't answered yet.
+    /// The request that is answered at the round's end.
     pub(crate) request: Option<Request>,
-    /// Whether it was told to end.
+    /// Whether this round is the last one.
     pub(crate) is_ending: bool,
 }
 
-impl State {
-    fn new(alloc: Global, gateway: &Gateway) -> State {
-        State {
+impl RoundState {
+    fn new(alloc: Global, gateway: &Gateway) -> RoundState {
+        RoundState {
             out: Out::new(alloc),
             counters: Counters::new(),
             sides: sides_of(gateway),
@@ -108,12 +107,12 @@ impl State {
     }
 }
 
-/// Runs a box until it is told to end, or has had so many rounds, and stops its gateway. A round takes what comes by
-/// the wire, and then one tick; what the gateway tells is sent at once. The log has each event that is dropped, and
-/// each change that an operator watches for. The manager is told that the box goes on, behind each round in which a
-/// second began; and that it ends, before the gateway is stopped.
+/// Runs a box until it is told to end, or has had its rounds, and then stops its gateway. A round takes what comes on the
+/// wire, and then one tick; what the gateway tells is sent at once. The log gets each event that is dropped, and each change
+/// that an operator watches for. The manager is notified after each round in which a second began, and before the gateway is
+/// stopped.
 ///
-/// A send that fails is a lost datagram. An event for which memory is refused changes nothing.
+/// A send that fails is a lost datagram. An event that runs out of memory changes nothing.
 pub fn serve<W: Wire, C: Clock, U: EndSignal, M: Manager, L: Journal>(
     alloc: Global,
     gateway: &mut Gateway,
@@ -126,7 +125,7 @@ pub fn serve<W: Wire, C: Clock, U: EndSignal, M: Manager, L: Journal>(
 )
     ensures run { RunsTo W.passes gateway.old wire.old gateway.new wire.new }
 {
-    let mut state = State::new(alloc, gateway);
+    let mut state = RoundState::new(alloc, gateway);
     all_rounds(
         gateway, wire, clock, until, manager, &mut state, log, options,
     );
@@ -135,7 +134,7 @@ pub fn serve<W: Wire, C: Clock, U: EndSignal, M: Manager, L: Journal>(
     log.finish(gateway.moment());
 }
 
-/// The rounds of `serve` alone: the gateway isn't stopped, and can go on.
+/// Runs the rounds of [`serve`] alone: the gateway isn't stopped, and can go on.
 pub fn run_rounds<W: Wire, C: Clock, U: EndSignal, M: Manager, L: Journal>(
     alloc: Global,
     gateway: &mut Gateway,
@@ -148,7 +147,7 @@ pub fn run_rounds<W: Wire, C: Clock, U: EndSignal, M: Manager, L: Journal>(
 )
     ensures rounds { HasTurned W.passes gateway.old wire.old gateway.new wire.new }
 {
-    let mut state = State::new(alloc, gateway);
+    let mut state = RoundState::new(alloc, gateway);
     all_rounds(
         gateway, wire, clock, until, manager, &mut state, log, options,
     );
@@ -161,7 +160,7 @@ fn all_rounds<W: Wire, C: Clock, U: EndSignal, M: Manager, L: Journal>(
     clock: &mut C,
     until: &mut U,
     manager: &mut M,
-    state: &mut State,
+    state: &mut RoundState,
     log: &mut EventLog<L>,
     options: &Options,
 )
@@ -187,7 +186,7 @@ fn round<W: Wire, C: Clock, L: Journal>(
     wire: &mut W,
     clock: &mut C,
     buffer: &mut [u8; LONGEST],
-    state: &mut State,
+    state: &mut RoundState,
     log: &mut EventLog<L>,
     options: &Options,
 )
@@ -202,19 +201,19 @@ fn round<W: Wire, C: Clock, L: Journal>(
     log.advance_to(now);
 }
 
-/// Takes what has come. The first datagram is waited for.
+/// Takes the messages that have come, at most [`MAX_MESSAGES_PER_ROUND`]. Waits for the first one.
 fn take_what_comes<W: Wire, L: Journal>(
     gateway: &mut Gateway,
     wire: &mut W,
     buffer: &mut [u8; LONGEST],
-    state: &mut State,
+    state: &mut RoundState,
     log: &mut EventLog<L>,
     track: bool,
 )
     ensures messages { HasTurned W.passes gateway.old wire.old gateway.new wire.new }
 {
-    let mut limit = Duration::from_millis(WAIT);
-    for _ in 0..MOST {
+    let mut limit = Duration::from_millis(FIRST_MESSAGE_TIMEOUT);
+    for _ in 0..MAX_MESSAGES_PER_ROUND {
         if !take_next(gateway, wire, limit, buffer, state, log, track) {
             return;
         }
@@ -222,13 +221,13 @@ fn take_what_comes<W: Wire, L: Journal>(
     }
 }
 
-/// Takes the next datagram, and says whether there may be more. Where it is lost, there may.
+/// Takes the next message. Returns whether there may be more: true also where one was lost.
 fn take_next<W: Wire, L: Journal>(
     gateway: &mut Gateway,
     wire: &mut W,
     limit: Duration,
     buffer: &mut [u8; LONGEST],
-    state: &mut State,
+    state: &mut RoundState,
     log: &mut EventLog<L>,
     track: bool,
 ) -> bool

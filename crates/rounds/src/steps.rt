@@ -1,4 +1,4 @@
-//! What a gateway takes, and what is sent of what it tells.
+//! Takes a message or an event: the gateway makes its step, and what the step tells is sent.
 ghost use Rattle.std.specs.Prelude.{◌≡◌, OnErr, OnOk};
 ghost use Rattle.output.specs.Output.{none_told};
 ghost use Rattle.sockets.specs.Wires.{sent};
@@ -7,41 +7,40 @@ ghost use Rattle.spec_step.specs.Steps.{IsStepOn};
 ghost use Rattle.rounds.specs.Runs.{AreSent, Takes, TakesAny, TakesReplied, all_sent};
 
 use crate::changes::{cause_of, log_step, origin_of};
-use crate::messages::{event_of, is_stop, response_to, view_of};
+use crate::messages::read_message;
 use crate::replies::reply;
-use crate::rounds::State;
+use crate::rounds::RoundState;
+use crate::views::View;
 use gateway::{Event, Gateway, NoMemory, Out, Outcome};
 use journal::{EventLog, Journal, Origin};
 use reports::{Count, Counters};
 use sockets::{Place, Wire};
 
-/// Takes what came at a place, if it is an event, and replies to a word.
+/// Takes what came at a place: counts it, steps the gateway where it is an event, and replies where it is a word.
 pub(crate) fn take_message<W: Wire, L: Journal>(
     gateway: &mut Gateway,
     place: Place,
     bytes: &[u8],
     wire: &mut W,
     track: bool,
-    state: &mut State,
+    state: &mut RoundState,
     log: &mut EventLog<L>,
 )
     ensures taken { TakesReplied W.passes place bytes.now gateway.old wire.old
         gateway.new wire.new }
 {
     state.counters.count(origin_at(place), Count::Received);
-    state.is_ending = state.is_ending || is_stop(place, bytes);
-    let view = view_of(gateway);
-    let event = event_of(&view, place, bytes, track);
-    let is_done = take_any(gateway, event, wire, state, log);
-    reply(response_to(&view, place, bytes), is_done, wire, state);
+    let message = read_message(&View::of(gateway), place, bytes, track);
+    let is_done = take_any(gateway, message.event, wire, state, log);
+    reply(message.response, is_done, wire, state);
 }
 
-/// Takes an event, if there is one, and says whether that is done.
+/// Takes an event, if there is one. Returns false where the gateway was out of memory.
 fn take_any<W: Wire, L: Journal>(
     gateway: &mut Gateway,
     event: Option<Event<'_>>,
     wire: &mut W,
-    state: &mut State,
+    state: &mut RoundState,
     log: &mut EventLog<L>,
 ) -> bool
     ensures taken { TakesAny W.passes event.entry gateway.old wire.old gateway.new wire.new }
@@ -52,29 +51,29 @@ fn take_any<W: Wire, L: Journal>(
     }
 }
 
-/// Steps the gateway by an event, sends what it tells, and logs what has changed. Says whether that is done: it isn't
-/// where memory was refused.
+/// Steps the gateway by an event, sends what the step tells, counts and logs what was lost, and logs what has changed.
+/// Returns false where the gateway was out of memory: then nothing has changed.
 pub(crate) fn take_event<W: Wire, L: Journal>(
     gateway: &mut Gateway,
     event: Event<'_>,
     wire: &mut W,
-    state: &mut State,
+    state: &mut RoundState,
     log: &mut EventLog<L>,
 ) -> bool
     ensures taken { Takes W.passes event.entry gateway.old wire.old gateway.new wire.new }
 {
-    let before = view_of(gateway);
+    let before = View::of(gateway);
     let outcome = step(gateway, event, &mut state.out);
     send_all(wire, &state.out, &mut state.counters);
     let cause = cause_of(outcome);
     if let Some(cause) = cause {
         state.counters.count(origin_of(&event), Count::Lost(cause));
     }
-    log_step(log, &event, cause, &before, &view_of(gateway));
+    log_step(log, &event, cause, &before, &View::of(gateway));
     outcome.is_ok()
 }
 
-/// Steps the gateway, which tells of that step alone.
+/// Steps the gateway. Afterwards `out` has what this step tells, and nothing else.
 fn step(gateway: &mut Gateway, event: Event<'_>, out: &mut Out) -> Result<Outcome, NoMemory>
     ensures step { OnOk result (IsStepOn (scene gateway.old none_told) event.entry
         (scene gateway.new out.new)) }
@@ -85,7 +84,7 @@ fn step(gateway: &mut Gateway, event: Event<'_>, out: &mut Out) -> Result<Outcom
     gateway.step(event, &mut out.page)
 }
 
-/// Sends what was told: the frames by their sides, the datagrams by the link.
+/// Sends the frames at their sides, then the datagrams over the link.
 fn send_all<W: Wire>(wire: &mut W, out: &Out, counters: &mut Counters)
     ensures sent { AreSent W.passes (all_sent out.now) wire.old wire.new }
 {
@@ -97,7 +96,7 @@ fn send_all<W: Wire>(wire: &mut W, out: &Out, counters: &mut Counters)
     }
 }
 
-/// Sends a datagram, and counts it, if it was sent.
+/// Sends a frame or a datagram. One that can't be sent is lost, and not counted as sent.
 fn send<W: Wire>(wire: &mut W, to: Place, bytes: &[u8], counters: &mut Counters)
     ensures passes { W.passes wire.old (sent to bytes.now) wire.new }
 {

@@ -1,4 +1,4 @@
-//! How a gateway stands, and which pairs it has, for reports.
+//! What a report says of a gateway, and the pages of its pairs.
 
 use addresses::{Port, Protocol};
 use arrayvec::ArrayVec;
@@ -10,11 +10,12 @@ use reports::{
     WaitingCounts,
 };
 
-/// How a gateway stands. It goes once over the whole table, and once over the owned ports for each protocol.
+/// Returns the gateway's part of a report. The time is one pass over the whole table, and one over the owned ports for each
+/// protocol.
 ///
 /// # Errors
 ///
-/// Where memory for the list of its owned ports is refused.
+/// Where there is no memory for the list of the owned ports.
 pub fn gateway_report(gateway: &Gateway) -> Result<GatewayReport, NoMemory> {
     let owned = gateway.owned()?;
     let now = gateway.moment();
@@ -41,7 +42,7 @@ pub fn gateway_report(gateway: &Gateway) -> Result<GatewayReport, NoMemory> {
     })
 }
 
-/// Its entries, counted by one pass over the table.
+/// Counts the entries of the table.
 fn pairs_of(gateway: &Gateway) -> PairCounts {
     let mut counts = PairCounts::new();
     let mut last = None;
@@ -54,15 +55,15 @@ fn pairs_of(gateway: &Gateway) -> PairCounts {
     counts
 }
 
-/// On how many of these ports no entry of a protocol stands.
+/// Counts the ports on which there is no entry of a protocol.
 fn free_ports(gateway: &Gateway, protocol: Protocol, ports: &[Port]) -> u64 {
     let is_free = |port: Port| gateway.entry(Key { protocol, port }).is_none();
     ports.iter().filter(|port| is_free(**port)).count() as u64
 }
 
-/// The first entries behind a key, or of the table, as many as a page has. A list that is read on from the last key of
-/// each page has each entry that stays once.
-pub fn page_behind(gateway: &Gateway, after: Option<Key>) -> Page {
+/// Returns the first entries after a key, or of the table, at most [`MOST_ENTRIES`]. A client that asks for the next page by
+/// the last key of each one sees every entry that stays in the table exactly once.
+pub fn page_after(gateway: &Gateway, after: Option<Key>) -> Page {
     let mut entries = ArrayVec::new();
     let mut last = after;
     let mut more = false;
@@ -78,7 +79,7 @@ pub fn page_behind(gateway: &Gateway, after: Option<Key>) -> Page {
     Page { entries, more }
 }
 
-/// Both sides, as a gateway has them when its box begins.
+/// Returns both sides as a gateway has them at its box's start.
 pub fn sides_of(gateway: &Gateway) -> Sides {
     let report = |side: Side| SideReport::new(gateway.role(side), gateway.is_in(side));
     Sides {
@@ -87,7 +88,7 @@ pub fn sides_of(gateway: &Gateway) -> Sides {
     }
 }
 
-/// Sees both sides again, as the gateway has them now.
+/// Updates both sides to what the gateway has now.
 pub fn update_sides(sides: &mut Sides, gateway: &Gateway) {
     let now = gateway.moment();
     let (inside, outside) = (Side::Inside, Side::Outside);
