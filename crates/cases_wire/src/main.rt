@@ -23,7 +23,7 @@ use cases_words::{Actor, Case, play};
 use routers::Routers;
 use rules::Rules;
 
-/// The files whose calls need nothing that the lines before have set up.
+/// The files whose calls need nothing that earlier lines have set up.
 const FILES: [&str; 10] = [
     "sums.cases",
     "frames.cases",
