@@ -32,7 +32,7 @@ pub record Passes (long version header sum offset protocol : ℕ) (other : Bool)
   pub from_some : 0 < from
   pub to_some : 0 < to
 
--- where none of three tests is true together, not one of them is
+-- where none of three tests is true, each of them is false
 pub three-clear : (a b d : Bool) → (a || b || d) ≡ false → (a ≡ false) × ((b ≡ false) × (d ≡ false))
 three-clear false false false e = (refl, (refl, refl))
 three-clear false false true e = cc

@@ -107,6 +107,7 @@ begins-cut kind m bytes long =
 abbrev other_message : ℕ → List ℕ → Bool
 other_message n bytes = (n == 1) && not (begins_with Echo bytes) && not (begins_with Reply bytes)
 
+-- the flow can be read from a protocol's number and the bytes after a header
 record Tells (n : ℕ) (bytes : List ℕ) : Type 0 where
   long : 8 ≤ length bytes
   translated : IsTrue (is_translated n)

@@ -9,8 +9,8 @@
 //! ```
 //!
 //! The words of a Reply are identifier and sequence number, and its data are those of the Echo. The first word of an
-//! error is 0; the second is the most bytes that a packet may have, or 0; its data are the beginning of the packet that
-//! it is about. 192.168.1.1 answers 192.168.1.10:
+//! error is 0, the second is the most bytes that a packet may have, or 0, and the error's data are the beginning of the
+//! packet that it is about. 192.168.1.1 answers 192.168.1.10:
 //!
 //! ```text
 //! 45         00 0020     0000   4000           40     01   b781     c0a80101    c0a8010a
