@@ -26,7 +26,7 @@ first-byte : (bytes more : List ℕ) → 1 ≤ length bytes → slice_index (byt
 first-byte [] more some = absurd (omega (arith, some))
 first-byte (x ∷ bytes) more some = refl
 
--- the byte at the end of the first part is the middle's first
+-- the byte after the first of three parts is the first byte of the middle
 seam : (first middle last : List ℕ) (h : ℕ) → length first ≡ h → 1 ≤ length middle → slice_index ((first ++ middle) ++ last) h ≡ slice_index middle 0
 seam first middle last h is_h some =
     let whole = (first ++ middle) ++ last in

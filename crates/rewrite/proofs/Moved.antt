@@ -149,7 +149,7 @@ sum-same w x y p q h = omega arith
 sum-other : (v w x y p q : ℕ) → x + p ≡ y + q → v + x + (w + p) ≡ w + y + (v + q)
 sum-other v w x y p q h = omega arith
 
--- the words that are replaced, and those that are written, add up in any order
+-- the words that are replaced, and those that are written, add up in the order of the definitions
 regroup_old : (hops check a b c d : ℕ) → hops + (check + (a + (b + (c + (d + 0))))) ≡ check + (hops + (a + b) + (c + d))
 regroup_old hops check a b c d = omega arith
 
