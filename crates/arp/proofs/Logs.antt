@@ -51,7 +51,7 @@ tally-place a (Some e ∷ log) zero at = let is : eqb e.address.0 a ≡ true = a
 tally-place a (None ∷ log) (suc i) at = tally-place a log i (record { within = omega (arith, at.within); is = at.is })
 tally-place a (Some e ∷ log) (suc i) at = omega (arith, tally-place a log i (record { within = omega (arith, at.within); is = at.is }))
 
--- a log without the entry of an address is the log whose place of it is emptied
+-- a log whose place of an address is emptied has all entries but that of the address
 pub kept-clear : (a : ℕ) (log : List (Option CacheEntry)) (i : ℕ) → IsPlaceOf a log i → tally a (entry_addresses (kept log)) ≤ 1 → kept (set log i None) ≡ without a (kept log)
 kept-clear a [] i at once = absurd (omega (arith, at.within))
 kept-clear a (None ∷ log) zero at once = cc
@@ -77,7 +77,7 @@ front-clear (suc n) (None ∷ log) zero front = front
 front-clear (suc n) (Some e ∷ log) i front = cc
 front-clear (suc n) (None ∷ log) (suc i) front = front-clear n log i front
 
--- a log is its first entry and the log whose first place is emptied
+-- the entries of a log are its first one, and those of the log whose first entry's place is emptied
 pub kept-first : (log : List (Option CacheEntry)) (i : ℕ) (e : CacheEntry) → i < length log → get_or log i None ≡ Some e → kept (take i log) ≡ [] → kept log ≡ e ∷ kept (set log i None)
 kept-first [] i e within is front = absurd (omega (arith, within))
 kept-first (None ∷ log) zero e within is front = cc

@@ -33,6 +33,8 @@ pub struct Learnt {
 }
 
 impl Learnt {
+    /// Returns an empty log and index with capacity for all that may be learnt, or an `AllocError`
+    /// when out of memory.
     pub fn new(alloc: Global) -> Result<Self, AllocError>
         ensures none { IfOk result (λ l. kept l.log.items ≡ []) }
         ensures holds { IfOk result (λ l. IsLearnt l) }
