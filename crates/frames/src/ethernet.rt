@@ -29,7 +29,7 @@ use thiserror::Error;
 /// The bytes of the longest frame: its header and a body of 1,500 bytes.
 pub const LONGEST: usize = 1514;
 
-/// Where the header's fields lie.
+/// The places of the header's fields.
 mod field {
     use std::ops::Range;
 
@@ -78,6 +78,7 @@ pub struct EthView<'a> {
 }
 
 impl<'a> EthView<'a> {
+    /// Returns a view of the frame, or TooShort where the bytes are fewer than the 14 of a header.
     pub fn parse(bytes: &'a [u8]) -> Result<EthView<'a>, FrameFault>
         ensures ok { IsOk result ↔ IsFrame bytes.now }
         ensures bytes { IfOk result (λ v. v.bytes.now ≡ bytes.now) }
@@ -147,6 +148,7 @@ impl<'a> EthViewMut<'a> {
         }
     }
 
+    /// Returns a writing view of bytes that begin with a whole header, without a test.
     pub fn new(bytes: &'a mut [u8]) -> EthViewMut<'a>
         requires { IsFrame bytes.old }
         ensures bytes { result.bytes.now ≡ bytes.old }
