@@ -11,8 +11,8 @@
 //! +--------------------+-----------------+----------------+----------------+
 //! ```
 //!
-//! Flags stand at 6, the TTL at 8, the protocol at 9, the checksum at 10, the source at 12, the
-//! destination at 16, options from 20 on. A UDP packet from 192.168.1.10 to 198.51.100.7:
+//! The flags are at byte 6, the TTL at 8, the protocol at 9, the checksum at 10, the source at 12,
+//! the destination at 16, options from 20 on. A UDP packet from 192.168.1.10 to 198.51.100.7:
 //!
 //! ```text
 //! 45         00 001e     0001   0000  40     11  8ee1     c0a8010a     c6336407
