@@ -118,8 +118,8 @@ impl Cache {
 
     /// Whether a request for a neighbour's address is due after a packet was sent to it at the time
     /// `now`, in centiseconds. It is due where the neighbour isn't fixed, was learnt or renewed
-    /// 90,000 ago or more, and was last requested 100 ago or more. The call then notes `now` as the
-    /// time of the last request.
+    /// 90,000 ago or more, and was last requested 100 ago or more. Where a request is due, the call
+    /// notes `now` as the time of the last request.
     #[inline(always)]
     pub fn ask(&mut self, address: Ip, now: u64) -> bool
         ensures asks { result ≡ asks_at address.0 now self.old }

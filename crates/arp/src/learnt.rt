@@ -95,8 +95,8 @@ fn valid_mac(place: Option<CacheEntry>, now: u64) -> Option<Mac>
     }
 }
 
-/// Whether a request for that address is due at `now`, after a packet was sent by its entry. Notes
-/// the time of the request where one is due.
+/// Whether a request for that address is due at `now`, after a packet was sent to it. Notes the time
+/// of the request where one is due.
 pub fn ask_in(learnt: &mut Learnt, address: Ip, now: u64) -> bool
     requires { IsLearnt learnt.old }
     ensures asks { result ≡ learnt_asks address.0 now (kept learnt.old.log.items) }
