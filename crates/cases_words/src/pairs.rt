@@ -24,8 +24,8 @@ impl Case {
         }
     }
 
-    /// Reads protocol, outside port, inside address and inside port, as `udp 20000 192.168.1.10
-    /// 5000`.
+    /// Reads protocol, outside port, inside address and inside port, as
+    /// `udp 20000 192.168.1.10 5000`.
     pub fn pair(&mut self) -> Pair {
         let key = self.key();
         let address = self.ip();

@@ -28,7 +28,7 @@ impl<A: Actor> Actor for &mut A {
 /// Does what each line of a file says, but for empty lines and comments, and drops the actor.
 ///
 /// # Errors
-/// The file can't be read, or a line is wrong: the first such line is the text of the error.
+/// The file can't be read, or a line is wrong: the error has the first such line.
 pub fn play<R: Files + AllocGlobal, A: Actor + Drop>(
     rt: &R,
     name: &str,
