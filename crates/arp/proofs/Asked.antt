@@ -1,10 +1,10 @@
--- A neighbour that was asked for is the same neighbour.
+-- A request changes no neighbour but for the time of its last request.
 use Rattle.std.proofs.Common.{◌≡◌, ℕ, ◌-◌, Bool, true, false, cond, ◌==◌, ◌&&◌, nat_lt, Some, List, [], ◌∷◌, map, refl, ap}
 use Rattle.arp.specs.declared.caches.CacheEntry.{CacheEntry}
 use Rattle.arp.specs.Neighbours.{Neighbours, asked_at, fixed_mac, learnt_asked, learnt_mac, mac_at, or_else}
 use Rattle.arp.specs.Macs.{AllSix, KnowsMacs}
 
--- the neighbours without the moments at which they were asked for
+-- an entry without the time of its last request
 abbrev pub forgetful_entry : CacheEntry → CacheEntry
 forgetful_entry e = record e { asked = 0 }
 

@@ -1,4 +1,4 @@
--- Asking for an address: what is answered, and what it leaves of a log.
+-- Whether a request is due for an address, and what is in a log after the request.
 use Rattle.std.proofs.Common.{◌≡◌, ◌≤◌, ◌+◌, ℕ, zero, suc, Bool, true, false, ◌||◌, ◌&&◌, cond, eqb, Option, Some, None, List, [], ◌∷◌, length, get_or, set, take, refl, ◌∙◌, ap, arith}
 use Rattle.std.proofs.lemmas.List.{length-map}
 use Rattle.arp.specs.declared.caches.CacheEntry.{CacheEntry}
@@ -7,7 +7,7 @@ use Rattle.arp.specs.Neighbours.{wants_asking, learnt_asks, asked_entry, learnt_
 use Rattle.arp.specs.Log.{kept, place_asks, place_asked, entry_addresses, tally, IsPlaceOf, IsIndexed}
 use Rattle.arp.proofs.Logs.{tally-place}
 
--- of an address that isn't there
+-- no request is due for an address that isn't in the log
 pub asks-none : (a now : ℕ) (es : List CacheEntry) → tally a (entry_addresses es) ≡ 0 → learnt_asks a now es ≡ false
 asks-none a now [] none = refl
 asks-none a now (e ∷ es) none = by (eqb e.address.0 a) none (asks-none a now es)
@@ -24,7 +24,7 @@ asked-none a now (e ∷ es) none = by (eqb e.address.0 a) none (asked-none a now
     by true none rest = absurd (omega (arith, none))
     by false none rest = ap (λ (ds : List CacheEntry). e ∷ ds) (rest (omega (arith, none)))
 
--- of the address of a place
+-- whether a request is due for an address is what its place says
 or-none : (b : Bool) → b ≡ (b || false)
 or-none true = refl
 or-none false = refl
@@ -70,7 +70,7 @@ front-asked (suc n) now (None ∷ log) zero front = front
 front-asked (suc n) now (Some e ∷ log) i front = cc
 front-asked (suc n) now (None ∷ log) (suc i) front = front-asked n now log i front
 
--- the index stays
+-- a request changes no address of the log
 same-address : (b : Bool) (now : ℕ) (e : CacheEntry) → (let d : CacheEntry = cond b (record e { asked = now }) e in d).address.0 ≡ e.address.0
 same-address true now e = refl
 same-address false now e = refl

@@ -1,4 +1,4 @@
--- A log and its index agree, after each step that both take.
+-- A log and its index still agree after each change of both.
 use Rattle.std.proofs.Common.{◌≡◌, ◌≤◌, ◌<◌, ◌+◌, ◌-◌, ℕ, suc, Bool, true, false, cond, eqb, Result, Ok, Err, IfOk, IfErr, Option, Some, None, List, [], ◌∷◌, ◌++◌, length, get_or, set, take, refl, ◌∙◌, sym, ap, subst, arith}
 use Rattle.std.specs.List.{insert, remove}
 use Rattle.std.specs.List.Sorted.{IsSearchInRange, IsBinarySearchResult, IsNonDecreasingBy}
@@ -30,7 +30,7 @@ spots-remove index i = rw (map-append, take-map, drop-map) refl
 pub newest-few : {X : Type 0} (n : ℕ) (xs : List X) → length xs ≤ n → newest n xs ≡ xs
 newest-few n xs few = let none : length xs - n ≡ 0 = omega (arith, few) in rw none refl
 
--- the log's empty places were thrown out
+-- they agree after the log's empty places were removed
 pub indexed-renumbered : (log log' : List (Option CacheEntry)) (start : ℕ) (index index' : List Spot) → IsIndexed log start index → kept log' ≡ kept log → spot_addresses index' ≡ spot_addresses index → IsIndexed log' 0 index'
 indexed-renumbered log log' start index index' old entries spots = record {
   rising = subst IsRising (sym spots) old.rising;
@@ -41,7 +41,7 @@ indexed-renumbered log log' start index index' old entries spots = record {
   front = refl;
 }
 
--- an entry was renewed
+-- they agree after an entry was renewed
 pub indexed-renewed : (log log' : List (Option CacheEntry)) (start : ℕ) (index index' : List Spot) (e : CacheEntry) (i : ℕ) → IsIndexed log start index → IsAt (spot_addresses index) e.address.0 i → kept log' ≡ without e.address.0 (kept log) → length log' ≡ length log → kept (take start log') ≡ [] → spot_addresses index' ≡ spot_addresses index → IsIndexed (log' ++ Some e ∷ []) start index'
 indexed-renewed log log' start index index' e i old at entries len front spots = record {
   rising = subst IsRising (sym spots) old.rising;
@@ -59,15 +59,15 @@ indexed-renewed log log' start index index' e i old at entries len front spots =
     by a true is = grind (arith, nat_tests, old.same a, once)
     by a false is = omega (arith, old.same a)
 
--- the address of a spot is counted once
+-- an address that is in the index is in the log once
 pub indexed-once : (log : List (Option CacheEntry)) (start : ℕ) (index : List Spot) (a i : ℕ) → IsIndexed log start index → IsAt (spot_addresses index) a i → tally a (entry_addresses (kept log)) ≡ 1
 indexed-once log start index a i old at = old.same a ∙ tally-at (spot_addresses index) old.rising a i at
 
--- one that renews another keeps within the most
+-- a renewal drops no other entry
 pub renewed-few : (log : List (Option CacheEntry)) (start : ℕ) (index : List Spot) (a i : ℕ) → IsIndexed log start index → IsAt (spot_addresses index) a i → newest 1023 (without a (kept log)) ≡ without a (kept log)
 renewed-few log start index a i old at = newest-few 1023 (without a (kept log)) (omega (arith, length-without a (kept log), indexed-once log start index a i old at, old.count, old.most))
 
--- an entry of another address was added
+-- they agree after an entry of another address was added
 pub indexed-added : (log : List (Option CacheEntry)) (start : ℕ) (index : List Spot) (e : CacheEntry) (s : Spot) (i : ℕ) → IsIndexed log start index → length index < 1024 → s.address.0 ≡ e.address.0 → IsGapFor (spot_addresses index) e.address.0 i → IsIndexed (log ++ Some e ∷ []) start (insert index i s)
 indexed-added log start index e s i old fewer is gap = record {
   rising = rw (spots-insert, is) (rising-insert (spot_addresses index) e.address.0 i gap old.rising);
@@ -81,7 +81,7 @@ indexed-added log start index e s i old fewer is gap = record {
     len : length (insert index i s) ≡ length index + 1
     len = length-insert index i s (omega (arith, gap.within, length-map index (λ (t : Spot). t.address.0)))
 
--- the first entry was dropped
+-- they agree after the first entry was dropped
 pub indexed-dropped : (log : List (Option CacheEntry)) (start : ℕ) (index : List Spot) (e : CacheEntry) (p i : ℕ) → IsIndexed log start index → IsFirst log p e → IsAt (spot_addresses index) e.address.0 i → IsIndexed (set log p None) (p + 1) (remove index i)
 indexed-dropped log start index e p i old first at = record {
   rising = rw spots-remove (rising-remove (spot_addresses index) i at.within old.rising);
@@ -98,14 +98,14 @@ indexed-dropped log start index e p i old first at = record {
     len : length (remove index i) + 1 ≡ length index
     len = length-remove index i (omega (arith, at.within, length-map index (λ (t : Spot). t.address.0)))
 
--- the first entry was dropped, and one of another address added
+-- they agree after the first entry was dropped and one of another address added
 pub indexed-supplanted : (log : List (Option CacheEntry)) (start : ℕ) (index : List Spot) (old : CacheEntry) (p out : ℕ) (e : CacheEntry) (s : Spot) (at : ℕ) → IsIndexed log start index → IsFirst log p old → IsAt (spot_addresses index) old.address.0 out → s.address.0 ≡ e.address.0 → IsGapFor (spot_addresses index) e.address.0 at → IsIndexed (set log p None ++ Some e ∷ []) (p + 1) (insert (remove index out) (place_without out at) s)
 indexed-supplanted log start index old p out e s at holds first there is gap = indexed-added (set log p None) (p + 1) (remove index out) e s (place_without out at) (indexed-dropped log start index old p out holds first there) (omega (arith, length-remove index out within, holds.most)) is (rw spots-remove (gap-remove (spot_addresses index) e.address.0 at out gap there.within))
   where
     within : out < length index
     within = omega (arith, there.within, length-map index (λ (t : Spot). t.address.0))
 
--- what a search of the index finds
+-- a binary search of the index finds an address, or the place where it would be inserted
 module _ (index : List Spot) (rising : IsRising (spot_addresses index)) (k : ℕ) where
   blank : Spot
   blank = record { address = record { 0 = 0 }; place = 0 }

@@ -1,4 +1,4 @@
--- What stands in a log, after a place is emptied and an entry is put behind.
+-- The entries of a log after a place is emptied or an entry is appended.
 use Rattle.std.proofs.Common.{◌≡◌, ◌≤◌, ◌<◌, ◌+◌, ℕ, zero, suc, Bool, true, false, not, cond, eqb, Option, Some, None, List, [], ◌∷◌, ◌++◌, length, get_or, set, take, refl, sym, ap, arith}
 use Rattle.std.proofs.lemmas.Bool.Decides.{nat_tests}
 use Rattle.std.proofs.lemmas.List.{map-append, take_more}
@@ -18,7 +18,7 @@ pub tally-push : (x : ℕ) (es : List CacheEntry) (e : CacheEntry) → tally x (
 tally-push x [] e = omega arith
 tally-push x (d ∷ es) e = omega (arith, tally-push x es e)
 
--- without an address
+-- a list in which an address isn't is the same without that address
 pub without-none : (a : ℕ) (es : List CacheEntry) → tally a (entry_addresses es) ≡ 0 → without a es ≡ es
 without-none a [] none = refl
 without-none a (e ∷ es) none = by (eqb e.address.0 a) none (without-none a es)
@@ -43,7 +43,7 @@ tally-without x a (e ∷ es) = by (eqb e.address.0 a) refl (tally-without x a es
     by true is rest = grind (arith, nat_tests)
     by false is rest = grind (arith, nat_tests)
 
--- a place of an address is counted
+-- an address that has a place in a log is in it once at least
 pub tally-place : (a : ℕ) (log : List (Option CacheEntry)) (i : ℕ) → IsPlaceOf a log i → 1 ≤ tally a (entry_addresses (kept log))
 tally-place a [] i at = absurd (omega (arith, at.within))
 tally-place a (None ∷ log) zero at = cc
@@ -51,7 +51,7 @@ tally-place a (Some e ∷ log) zero at = let is : eqb e.address.0 a ≡ true = a
 tally-place a (None ∷ log) (suc i) at = tally-place a log i (record { within = omega (arith, at.within); is = at.is })
 tally-place a (Some e ∷ log) (suc i) at = omega (arith, tally-place a log i (record { within = omega (arith, at.within); is = at.is }))
 
--- the place is emptied
+-- a log whose place of an address is emptied has all entries but that of the address
 pub kept-clear : (a : ℕ) (log : List (Option CacheEntry)) (i : ℕ) → IsPlaceOf a log i → tally a (entry_addresses (kept log)) ≤ 1 → kept (set log i None) ≡ without a (kept log)
 kept-clear a [] i at once = absurd (omega (arith, at.within))
 kept-clear a (None ∷ log) zero at once = cc
@@ -77,7 +77,7 @@ front-clear (suc n) (None ∷ log) zero front = front
 front-clear (suc n) (Some e ∷ log) i front = cc
 front-clear (suc n) (None ∷ log) (suc i) front = front-clear n log i front
 
--- the first entry's place is emptied
+-- the entries of a log are its first one, and those of the log whose first entry's place is emptied
 pub kept-first : (log : List (Option CacheEntry)) (i : ℕ) (e : CacheEntry) → i < length log → get_or log i None ≡ Some e → kept (take i log) ≡ [] → kept log ≡ e ∷ kept (set log i None)
 kept-first [] i e within is front = absurd (omega (arith, within))
 kept-first (None ∷ log) zero e within is front = cc
@@ -91,7 +91,7 @@ front-first (x ∷ log) zero front = refl
 front-first (None ∷ log) (suc i) front = front-first log i front
 front-first (Some e ∷ log) (suc i) front = cc
 
--- what a look-up gives
+-- no hardware address is found for an address that isn't in the log
 pub mac-none : (a now : ℕ) (es : List CacheEntry) → tally a (entry_addresses es) ≡ 0 → learnt_mac a now es ≡ None
 mac-none a now [] none = refl
 mac-none a now (e ∷ es) none = grind (arith, nat_tests, mac-none a now es (omega (arith, none)))
@@ -109,7 +109,7 @@ mac-place a now (Some e ∷ log) (suc i) at once = grind (arith, nat_tests, tall
     there : IsPlaceOf a log i
     there = record { within = omega (arith, at.within); is = at.is }
 
--- the empty places are thrown out
+-- a log without its empty places has the same entries
 pub kept-filter : (log : List (Option CacheEntry)) → kept (filter is_some log) ≡ kept log
 kept-filter [] = refl
 kept-filter (None ∷ log) = kept-filter log
@@ -125,7 +125,7 @@ length-kept [] = omega arith
 length-kept (None ∷ log) = omega (arith, length-kept log)
 length-kept (Some e ∷ log) = omega (arith, length-kept log)
 
--- one place more of a search
+-- a search that goes on by a place of another address has still found none
 pub tally-more : (a : ℕ) (log : List (Option CacheEntry)) (i : ℕ) → i < length log → tally a (entry_addresses (kept (take i log))) ≡ 0 → is_of a (get_or log i None) ≡ false → tally a (entry_addresses (kept (take (i + 1) log))) ≡ 0
 tally-more a log i within none other = rw (take_more log i None within, kept-append, map-append, tally-append) (one (get_or log i None) other)
   where
@@ -140,6 +140,6 @@ pub nothing-left : (p : Option CacheEntry) → ((e : CacheEntry) → p ≡ Some 
 nothing-left None other = refl
 nothing-left (Some e) other = absurd (other e refl)
 
--- an entry is counted
+-- an address that is the first entry's is in the list once at least
 pub tally-first : (e : CacheEntry) (es es' : List CacheEntry) → es ≡ e ∷ es' → 1 ≤ tally e.address.0 (entry_addresses es)
 tally-first e es es' is = rw is (grind (arith, nat_tests))

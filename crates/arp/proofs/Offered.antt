@@ -2,11 +2,11 @@
 
 -- Known hardware addresses have six bytes.
 pub use Rattle.arp.proofs.Wholes.{near-six}
--- a cache that learns one more
+-- they still do after a cache learns a neighbour
 pub use Rattle.arp.proofs.Wholes.{learn-six}
--- a cache of which a neighbour was asked for
+-- they still do after a neighbour was requested
 pub use Rattle.arp.proofs.Asked.{asked-six}
--- A neighbour that was asked for is the same neighbour.
+-- A request changes no hardware address that is found.
 pub use Rattle.arp.proofs.Asked.{mac-asked}
--- the neighbours without the moments at which they were asked for
+-- the neighbours without the times of their last requests
 pub use Rattle.arp.proofs.Asked.{forgetful, forgetful-asked, mac-forgetful}

@@ -1,4 +1,4 @@
--- What was written is read again.
+-- A packet that was written is read as the same packet.
 use Rattle.std.proofs.Common.{◌≡◌, ℕ, ◌<◌, ◌≤◌, ◌^◌, nat_lt, if◌then◌else◌, Some, None, List, [], ◌∷◌, ◌++◌, get_or, sym, ap, subst, arith}
 use Rattle.std.proofs.Math.Path.{ap₂}
 use Rattle.std.proofs.lemmas.Bool.{le-ltb}
@@ -14,14 +14,14 @@ use Rattle.arp.proofs.Spelling.{six}
 fits : (x : ℕ) → x < 2 ^ 32 → x < 256 ^ 4
 fits x h = omega (arith, h)
 
--- a packet of these parts
+-- the packet of these parts
 abbrev of_parts : Operation → List ℕ → ℕ → List ℕ → ℕ → ArpPacket
 of_parts o s x t y = record { operation = o; sender_mac = record { 0 = s }; sender_ip = record { 0 = x }; target_mac = record { 0 = t }; target_ip = record { 0 = y } }
 
 long_enough : (n : ℕ) → 28 ≤ n → (if nat_lt n 28 then Some TooShort else None) ≡ None
 long_enough n h = ap (λ b. if b then Some TooShort else None) (le-ltb n 28 h)
 
--- with its hardware addresses laid open
+-- a packet with six bytes for each hardware address is read as the same packet
 laid_open : (o : Operation) (a b c d e f x g h i j k l y : ℕ) (rest : List ℕ) → x < 2 ^ 32 → y < 2 ^ 32
     → IsReadAs (packet_bytes (of_parts o (a ∷ b ∷ c ∷ d ∷ e ∷ f ∷ []) x (g ∷ h ∷ i ∷ j ∷ k ∷ l ∷ []) y) ++ rest) (of_parts o (a ∷ b ∷ c ∷ d ∷ e ∷ f ∷ []) x (g ∷ h ∷ i ∷ j ∷ k ∷ l ∷ []) y)
 laid_open Request a b c d e f x g h i j k l y rest hx hy = (

@@ -1,4 +1,4 @@
--- A list in which one is taken away and another put in, by a move of what lies between them.
+-- A list in which one item is removed and another inserted, by moving the items between them.
 use Rattle.std.proofs.Common.{◌≡◌, ◌≢◌, ◌≤◌, ◌<◌, ◌+◌, ◌-◌, ℕ, List, length, get_or, set, subst, arith}
 use Rattle.std.specs.List.{insert, remove, CopiedTo, SameBelow, SameFrom}
 use Rattle.std.proofs.lemmas.List.{length-set, get_or-set_same, get_or-set_other, same_lists}
@@ -37,7 +37,7 @@ module _ {X : Type 0} (xs ys : List X) (out at : ℕ) (s : X) (there : out < len
     left_next : out ≤ k → get_or rest k d ≡ get_or xs (k + 1) d
     left_next le = get_or-remove_above xs out d k le there
 
-  -- the ones between move down
+  -- the items between them move down
   pub moved-down : out < at → at ≤ length xs → CopiedTo xs ys (out + 1) out (at - (out + 1)) → SameBelow xs ys out → SameFrom xs ys (out + (at - (out + 1))) → set ys (at - 1) s ≡ insert rest (at - 1) s
   moved-down before within copied low high = same_lists (set ys (at - 1) s) (insert rest (at - 1) s)
       (omega (arith, length-set ys (at - 1) s, length-insert rest (at - 1) s inside, length_rest, same_length))
@@ -50,7 +50,7 @@ module _ {X : Type 0} (xs ys : List X) (out at : ℕ) (s : X) (there : out < len
       inside : at - 1 ≤ length rest
       inside = omega (arith, within, before, length_rest)
 
-  -- the ones between move up
+  -- the items between them move up
   pub moved-up : at ≤ out → CopiedTo xs ys at (at + 1) (out - at) → SameBelow xs ys (at + 1) → SameFrom xs ys (at + 1 + (out - at)) → set ys at s ≡ insert rest at s
   moved-up before copied low high = same_lists (set ys at s) (insert rest at s)
       (omega (arith, length-set ys at s, length-insert rest at s inside, length_rest, same_length))

@@ -1,4 +1,4 @@
--- Packets from their parts, and their parts back.
+-- Packets made of their parts, and the parts read from packets.
 use Rattle.std.proofs.Common.{◌≡◌, ℕ, List, [], ◌∷◌, ◌++◌, length, get_or, refl, sym, ◌∙◌, ap, arith}
 use Rattle.std.proofs.Math.Path.{ap₂}
 use Rattle.byteorder.specs.Endian.{big_bytes}
@@ -23,7 +23,7 @@ four (a ∷ b ∷ []) h = absurd (omega arith)
 four (a ∷ []) h = absurd (omega arith)
 four [] h = absurd (omega arith)
 
--- the parts of a packet, one after the other
+-- the parts of a packet, one after the other, are its bytes
 pub joined : (o : ℕ) (s i t j : List ℕ) → length s ≡ 6 → length i ≡ 4 → length t ≡ 6 → length j ≡ 4
     → 0 ∷ 1 ∷ 8 ∷ 0 ∷ 6 ∷ 4 ∷ 0 ∷ o
     ∷ get_or s 0 0 ∷ get_or s 1 0 ∷ get_or s 2 0 ∷ get_or s 3 0 ∷ get_or s 4 0 ∷ get_or s 5 0

@@ -1,4 +1,4 @@
--- What is read was spelled so.
+-- Bytes that are read as a packet begin with the bytes of that packet.
 use Rattle.std.proofs.Common.{◌≡◌, ◌⊎◌, ⊎_elim, ℕ, ◌+◌, ◌*◌, ◌/◌, ◌%◌, ◌<◌, ◌≤◌, ◌==◌, if◌then◌else◌, List, [], ◌∷◌, ◌++◌, length, slice_index, take, drop, refl, sym, ◌∙◌, ap, subst, arith, length-drop, take-append-drop}
 use Rattle.std.proofs.Math.Path.{ap₂}
 use Rattle.std.proofs.Math.Seq.{take-add}
@@ -8,7 +8,7 @@ use Rattle.arp.specs.declared.packets.Operation.{Operation}
 use Rattle.arp.specs.declared.packets.Operation.TheVariants.{Request, Reply}
 use Rattle.arp.specs.Packet.{ethernet_ipv4, operation_number, packet_bytes, packet_of, IsArp, Spells}
 
--- four bytes are those of their number
+-- four bytes are those of the number that they spell
 digits : (a b c d : ℕ) → a < 256 → b < 256 → c < 256 → d < 256
     → let n = a * 16777216 + (b * 65536 + (c * 256 + (d * 1 + 0))) in (n / 16777216 % 256 ≡ a) × (n / 65536 % 256 ≡ b) × (n / 256 % 256 ≡ c) × (n % 256 ≡ d)
 digits a b c d ha hb hc hd = (omega arith, omega arith, omega arith, omega arith)
@@ -22,7 +22,7 @@ number_bytes (a ∷ b ∷ c ∷ d ∷ xs) h small =
     let e = digits a b c d (small 0) (small 1) (small 2) (small 3) in
     ap₂ (λ (p q : List ℕ). p ++ q) (ap₂ (λ (x y : ℕ). x ∷ y ∷ []) e.0 e.1) (ap₂ (λ (x y : ℕ). x ∷ y ∷ []) e.2 e.3)
 
--- the operation's number
+-- a number that is 1 or 2 is that of its operation
 operation_is : (n : ℕ) → (n ≡ 1) ⊎ (n ≡ 2) → n ≡ operation_number (if n == 1 then Request else Reply)
 operation_is n either =
     let P : ℕ → Type 0 = λ m. m ≡ operation_number (if m == 1 then Request else Reply) in
@@ -34,7 +34,7 @@ operation_fits : (o : Operation) → operation_number o < 256
 operation_fits Request = omega arith
 operation_fits Reply = omega arith
 
--- the types, lengths and operation
+-- bytes with these types, lengths and operation are the first eight of a packet
 starts : (a b c d e f g h o : ℕ) → a * 256 + (b * 1 + 0) ≡ 1 → c * 256 + (d * 1 + 0) ≡ 2048 → d < 256 → e ≡ 6 → f ≡ 4 → g * 256 + (h * 1 + 0) ≡ o → o < 256
     → a ∷ b ∷ c ∷ d ∷ e ∷ f ∷ g ∷ h ∷ [] ≡ ethernet_ipv4 ++ (0 ∷ o ∷ [])
 starts a b c d e f g h o ab cd hd he hf gh small =

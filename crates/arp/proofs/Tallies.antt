@@ -1,4 +1,4 @@
--- How often an address comes in a list that rises, and what an edit does to it.
+-- How often an address is in a rising list, and in the list after a change.
 use Rattle.std.proofs.Common.{◌≡◌, ◌≢◌, ◌≤◌, ◌<◌, ◌+◌, ◌-◌, ℕ, zero, suc, cond, eqb, List, [], ◌∷◌, ◌++◌, length, get_or, take, drop, refl, ap, subst, arith}
 use Rattle.std.specs.List.{insert, remove}
 use Rattle.std.proofs.lemmas.Bool.Decides.{nat_tests}
@@ -6,7 +6,7 @@ use Rattle.std.proofs.lemmas.List.{take-append-drop}
 use Rattle.std.proofs.lemmas.List.Edits.{length-insert, get_or-insert_below, get_or-insert_at, get_or-insert_above, length-remove, get_or-remove_below, get_or-remove_above}
 use Rattle.arp.specs.Log.{tally, place_without, IsRising, IsAt, IsGapFor}
 
--- none has it
+-- x is never in a list in which no place has it
 pub tally-none : (x : ℕ) (xs : List ℕ) → ((j : ℕ) → j < length xs → get_or xs j 0 ≢ x) → tally x xs ≡ 0
 tally-none x [] other = refl
 tally-none x (y ∷ xs) other = grind (arith, nat_tests, other 0 (omega arith), tally-none x xs (λ j lt. other (suc j) (omega (arith, lt))))
@@ -17,7 +17,7 @@ tally-gap xs x i gap = tally-none x xs (λ j lt same. grind (arith, gap.lower j,
 rising-tail : (y : ℕ) (xs : List ℕ) → IsRising (y ∷ xs) → IsRising xs
 rising-tail y xs rising i j lt within = rising (suc i) (suc j) (omega (arith, lt)) (omega (arith, within))
 
--- in a list that rises it comes once
+-- x is once in a rising list in which a place has it
 pub tally-at : (xs : List ℕ) → IsRising xs → (x i : ℕ) → IsAt xs x i → tally x xs ≡ 1
 tally-at [] rising x i at = absurd (omega (arith, at.within))
 tally-at (y ∷ xs) rising x zero at = grind (arith, nat_tests, at.is, tally-none x xs (λ j lt same. omega (arith, rising 0 (suc j) (omega arith) (omega (arith, lt)), at.is, same)))
@@ -52,7 +52,7 @@ rising-remove xs at there rising i j lt within =
     let above : (i : ℕ) → at ≤ i → get_or new i 0 ≡ get_or xs (i + 1) 0 = λ i above. get_or-remove_above xs at 0 i above there in
     grind (arith, below i, above i, below j, above j, rising i j, rising i (j + 1), rising (i + 1) (j + 1))
 
--- what would go to a place goes there, or to the one before, once another is taken away
+-- the place at which x would be inserted stays the same, or is one lower, once another item is removed
 pub gap-remove : (xs : List ℕ) (x at out : ℕ) → IsGapFor xs x at → out < length xs → IsGapFor (remove xs out) x (place_without out at)
 gap-remove xs x at out gap there =
     let length_new = length-remove xs out there in

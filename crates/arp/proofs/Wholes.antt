@@ -45,7 +45,7 @@ pub push-six : {X : Type 0} (mac_in : X → Mac) (xs : List X) (x : X) → AllSi
 push-six mac_in [] x all is = (is, tt)
 push-six mac_in (y ∷ xs) x all is = (all.0, push-six mac_in xs x all.1 is)
 
--- a cache that learns one more
+-- all known hardware addresses have six bytes after one more is learnt
 pub learn-six : (near : Neighbours) (e : CacheEntry) → KnowsMacs near → length e.mac.0 ≡ 6 → KnowsMacs (record near { learnt = with_entry e near.learnt })
 learn-six near e knows six = record {
   fixed = knows.fixed;

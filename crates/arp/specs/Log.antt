@@ -1,4 +1,4 @@
--- The log of what was learnt, and its index by address.
+-- The log of the neighbours that were learnt, and its index by address.
 use Rattle.std.specs.Prelude.{◌≡◌, ◌≤◌, ◌<◌, ◌+◌, ◌-◌, ℕ, Bool, true, false, ◌==◌, nat_lt, List, [], ◌∷◌, length, map, take, slice_index, slice_index_or, vec_capacity, Option, Some, None, if◌then◌else◌}
 use Rattle.addresses.specs.declared.ethernet.Mac.{Mac}
 use Rattle.arp.specs.declared.caches.TheConstants.{ENTRIES, VALID_FOR}
@@ -19,17 +19,17 @@ abbrev pub is_of : ℕ → Option CacheEntry → Bool
 is_of address None = false
 is_of address (Some e) = e.address.0 == address
 
--- the hardware address that a place gives, if its entry is valid
+-- the hardware address of a place's entry, if the entry is valid
 abbrev pub valid_mac : ℕ → Option CacheEntry → Option Mac
 valid_mac now None = None
 valid_mac now (Some e) = if nat_lt (now - e.at) VALID_FOR then Some e.mac else None
 
--- a place has an entry that is to be asked for
+-- a place has an entry for which a request is due
 abbrev pub place_asks : ℕ → Option CacheEntry → Bool
 place_asks now None = false
 place_asks now (Some e) = wants_asking now e
 
--- its entry was asked for at the moment `now`
+-- the place after its entry was requested at the time `now`
 abbrev pub place_asked : ℕ → Option CacheEntry → Option CacheEntry
 place_asked now None = None
 place_asked now (Some e) = Some (record e { asked = now })
@@ -40,7 +40,7 @@ entry_addresses entries = map (λ e. e.address.0) entries
 abbrev pub spot_addresses : List Spot → List ℕ
 spot_addresses spots = map (λ s. s.address.0) spots
 
--- how often an address comes
+-- how often an address is in a list
 abbrev pub tally : ℕ → List ℕ → ℕ
 tally address [] = 0
 tally address (a ∷ rest) = (if a == address then 1 else 0) + tally address rest
@@ -48,18 +48,18 @@ tally address (a ∷ rest) = (if a == address then 1 else 0) + tally address res
 abbrev pub IsRising : List ℕ → Type 0
 IsRising xs = (i j : ℕ) → i < j → j < length xs → slice_index xs i < slice_index xs j
 
--- place i has it
+-- x is at place i of a list
 pub record IsAt (xs : List ℕ) (x i : ℕ) : Type 0 where
   pub within : i < length xs
   pub is : slice_index xs i ≡ x
 
--- it would go to place i: lower ones before it, and greater ones from it on
+-- x would be inserted at place i: lower numbers are before it, and greater ones from it on
 pub record IsGapFor (xs : List ℕ) (x i : ℕ) : Type 0 where
   pub within : i ≤ length xs
   pub lower : (j : ℕ) → j < i → slice_index xs j < x
   pub greater : (j : ℕ) → i ≤ j → j < length xs → x < slice_index xs j
 
--- where place `at` is once place `out` is taken away
+-- the place that is `at` once place `out` is removed
 abbrev pub place_without : ℕ → ℕ → ℕ
 place_without out at = if nat_lt out at then at - 1 else at
 
@@ -68,13 +68,14 @@ pub record IsPlaceOf (address : ℕ) (log : List (Option CacheEntry)) (i : ℕ) 
   pub within : i < length log
   pub is : is_of address (slice_index_or log i None) ≡ true
 
--- the first entry is that of place i
+-- the first entry of the log is that of place i
 pub record IsFirst (log : List (Option CacheEntry)) (i : ℕ) (e : CacheEntry) : Type 0 where
   pub within : i < length log
   pub is : slice_index_or log i None ≡ Some e
   pub before : kept (take i log) ≡ []
 
--- the index has each entry's address once, in order; the places before the start are empty
+-- a log and its index agree: the index has each entry's address once, in order, and the places before the start are
+-- empty
 pub record IsIndexed (log : List (Option CacheEntry)) (start : ℕ) (index : List Spot) : Type 0 where
   pub rising : IsRising (spot_addresses index)
   pub same : (a : ℕ) → tally a (entry_addresses (kept log)) ≡ tally a (spot_addresses index)
@@ -83,7 +84,7 @@ pub record IsIndexed (log : List (Option CacheEntry)) (start : ℕ) (index : Lis
   pub within : start ≤ length log
   pub front : kept (take start log) ≡ []
 
--- that, and room for all that may be learnt
+-- log and index agree, and their capacity suffices for all that may be learnt
 pub record IsLearnt (l : Learnt) : Type 0 where
   pub indexed : IsIndexed l.log.items l.start l.index.items
   pub places : length l.log.items ≤ PLACES

@@ -1,11 +1,11 @@
--- For want of which memory there is no cache.
+-- The memory that a cache needs, and which may be refused.
 use Rattle.std.specs.Prelude.{◌⊎◌, ℕ}
 use Rattle.memory.specs.Memory.{WasRefused}
 
--- of what may be learnt: a log with 2,048 places, or an index with 1,024
+-- the memory for what may be learnt was refused: for a log of 2,048 places, or for an index of 1,024
 abbrev pub LacksLearnt : Type 0
 LacksLearnt = WasRefused 2048 ⊎ WasRefused 1024
 
--- that, or the list of so many fixed neighbours
+-- that memory, or the memory for the list of so many fixed neighbours, was refused
 abbrev pub LacksCache : ℕ → Type 0
 LacksCache fixed = LacksLearnt ⊎ WasRefused fixed

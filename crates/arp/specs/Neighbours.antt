@@ -1,4 +1,4 @@
--- Whom an interface knows: fixed neighbours and learnt ones.
+-- The neighbours that an interface knows: fixed ones and learnt ones.
 use Rattle.std.specs.Prelude.{◌≡◌, ◌≢◌, ℕ, ◌-◌, ◌%◌, Bool, ◌==◌, ◌&&◌, not, nat_lt, nat_le, List, [], ◌∷◌, ◌++◌, length, map, drop, replicate, slice_index, Option, Some, None, is_some, if◌then◌else◌}
 use Rattle.std.specs.List.{filter, list_any}
 use Rattle.addresses.specs.declared.ethernet.Mac.{Mac}
@@ -18,7 +18,7 @@ pub record Neighbours : Type 0 where
 abbrev pub without : ℕ → List CacheEntry → List CacheEntry
 without address entries = filter (λ e. not (e.address.0 == address)) entries
 
--- the newest so many
+-- the n newest items
 abbrev pub newest : {X : Type 0} → ℕ → List X → List X
 newest n entries = drop (length entries - n) entries
 
@@ -39,7 +39,7 @@ learnt_mac address now (e ∷ entries) =
     if e.address.0 == address && nat_lt (now - e.at) VALID_FOR then Some e.mac
     else learnt_mac address now entries
 
--- the first that there is
+-- the first value where there is one, else the other
 abbrev pub or_else : {X : Type 0} → Option X → Option X → Option X
 or_else None other = other
 or_else (Some x) other = Some x
@@ -48,33 +48,34 @@ abbrev pub mac_at : ℕ → ℕ → Neighbours → Option Mac
 mac_at address now known =
     or_else (fixed_mac address known.fixed) (learnt_mac address now known.learnt)
 
--- an entry was learnt or renewed 90,000 centiseconds ago or more, and last asked for 100 ago or more
+-- a request for an entry is due: it was learnt or renewed 90,000 centiseconds ago or more, and last requested 100 ago
+-- or more
 abbrev pub wants_asking : ℕ → CacheEntry → Bool
 wants_asking now e = nat_le RENEWED_AFTER (now - e.at) && nat_le ASKED_AFTER (now - e.asked)
 
--- a learnt entry of that address is to be asked for
+-- a request is due for a learnt entry of that address
 abbrev pub learnt_asks : ℕ → ℕ → List CacheEntry → Bool
 learnt_asks address now entries =
     list_any (λ e. e.address.0 == address && wants_asking now e) entries
 
--- the entries, of which that of this address was asked for at the moment `now`
+-- an entry after the one of this address was requested at the time `now`
 abbrev pub asked_entry : ℕ → ℕ → CacheEntry → CacheEntry
 asked_entry address now e = if e.address.0 == address then record e { asked = now } else e
 
 abbrev pub learnt_asked : ℕ → ℕ → List CacheEntry → List CacheEntry
 learnt_asked address now entries = map (asked_entry address now) entries
 
--- behind a packet just sent to that address it is asked for; a fixed neighbour never is
+-- after a packet to that address a request for it is due; for a fixed neighbour none is
 abbrev pub asks_at : ℕ → ℕ → Neighbours → Bool
 asks_at address now known =
     not (is_some (fixed_mac address known.fixed)) && learnt_asks address now known.learnt
 
--- the learnt entry of that address was asked for at the moment `now`
+-- the neighbours after the learnt entry of that address was requested at the time `now`
 abbrev pub asked_at : ℕ → ℕ → Neighbours → Neighbours
 asked_at address now known =
     record known { learnt = learnt_asked address now known.learnt }
 
--- an interface, as far as it decides whom it learns
+-- what decides whom an interface learns
 pub record Learner : Type 0 where
   pub network : Ip
   pub length : ℕ
@@ -89,8 +90,8 @@ learner_of i = record {
   virtual_ip = i.virtual_ip;
 }
 
--- a sender that is learnt: of the interface's network, another than its own and the virtual
--- address, with one station's hardware address
+-- a sender that is learnt: one of the interface's network, other than its primary and its virtual address, with the
+-- hardware address of one station
 pub record IsLearnable (learner : Learner) (sender : Neighbour) : Type 0 where
   pub near : IsIn sender.address.0 learner.network.0 learner.length
   pub not_primary : sender.address ≢ learner.primary_ip

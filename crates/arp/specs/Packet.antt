@@ -15,7 +15,7 @@ use Rattle.arp.specs.declared.packets.Operation.TheVariants.{Request, Reply}
 abbrev pub ethernet_ipv4 : List ℕ
 ethernet_ipv4 = 0 ∷ 1 ∷ 8 ∷ 0 ∷ 6 ∷ 4 ∷ []
 
--- its number in a packet
+-- an operation's number in a packet
 abbrev pub operation_number : Operation → ℕ
 operation_number Request = 1
 operation_number Reply = 2
@@ -27,7 +27,7 @@ packet_bytes p =
     ++ p.sender_mac.0 ++ big_bytes 4 p.sender_ip.0
     ++ p.target_mac.0 ++ big_bytes 4 p.target_ip.0
 
--- a value has a spelling: hardware addresses of 6 bytes, addresses of 32 bits
+-- a packet can be spelled: its hardware addresses have 6 bytes, its addresses 32 bits
 pub record IsPacket (p : ArpPacket) : Type 0 where
   pub sender_mac : length p.sender_mac.0 ≡ 6
   pub sender_ip : p.sender_ip.0 < 2 ^ 32
@@ -40,7 +40,7 @@ is_ethernet_ipv4 bytes =
     (big_number 2 bytes == 1) && ((big_number 2 (drop 2 bytes) == 0x0800)
     && ((slice_index bytes 4 == 6) && (slice_index bytes 5 == 4)))
 
--- why bytes are no packet
+-- why bytes are no ARP packet, None where they are one
 abbrev pub arp_refusal : List ℕ → Option ArpFault
 arp_refusal bytes =
     if nat_lt (length bytes) PACKET then Some TooShort
@@ -67,11 +67,11 @@ packet_of bytes = record {
   target_ip = record { 0 = big_number 4 (drop 24 bytes) };
 }
 
--- a frame that carries a packet: to whom, from whom
+-- a frame that carries a packet, by its destination, its source and the packet
 abbrev pub frame_bytes : List ℕ → List ℕ → ArpPacket → List ℕ
 frame_bytes dst src p = header_bytes dst src 0x0806 ++ packet_bytes p
 
--- bytes begin with a packet's
+-- bytes begin with the bytes of a packet
 abbrev pub Spells : List ℕ → ArpPacket → Type 0
 Spells bytes p = (rest : List ℕ) × (bytes ≡ packet_bytes p ++ rest)
 

@@ -1,4 +1,4 @@
-//! The cache of neighbours.
+//! The cache of neighbours that an interface knows by their hardware addresses.
 ghost use Rattle.std.specs.Prelude.{◌≡◌, [], ◌↔◌, length, IfOk, IfSome, OnErr, IsTrue, if◌then◌else◌};
 ghost use Rattle.arp.specs.Macs.{AllSix, KnowsMacs};
 ghost use Rattle.arp.specs.Neighbours.{with_entry, fixed_mac, mac_at, learner_of, IsLearnable};
@@ -12,37 +12,38 @@ use addresses::{Ip, Mac, Prefix};
 use std::alloc::{AllocError, Global};
 use std::marker::Model;
 
-/// How many neighbours a cache learns.
+/// The most neighbours that a cache learns.
 pub(crate) const ENTRIES: usize = 1024;
 
-/// For how long an entry is valid, in centiseconds.
+/// The age in centiseconds at which an entry stops being valid.
 pub(crate) const VALID_FOR: u64 = 120_000;
 
-/// After how long an entry in use is asked for, so that the answer renews it, in centiseconds.
+/// The age in centiseconds from which an entry in use is requested again, so that the answer renews
+/// it.
 pub(crate) const RENEWED_AFTER: u64 = 90_000;
 
-/// After how long it is asked for again, where no answer came, in centiseconds.
+/// The time in centiseconds after which a request for an entry is repeated where no answer came.
 pub(crate) const ASKED_AFTER: u64 = 100;
 
-/// A neighbour that doesn't change.
+/// A neighbour from the settings, which doesn't change.
 #[derive(Clone, Copy, Debug, PartialEq, Eq)]
 pub struct Neighbour {
     pub address: Ip,
     pub mac: Mac,
 }
 
-/// A neighbour that was learnt or renewed at a moment.
+/// A neighbour that was learnt or renewed at the time `at`, in centiseconds.
 #[derive(Clone, Copy, Debug, PartialEq, Eq)]
 pub struct CacheEntry {
     pub address: Ip,
     pub mac: Mac,
     pub at: u64,
-    /// The moment at which it was last asked for; learning sets it too.
+    /// The time, in centiseconds, of the last request for the neighbour. Learning the neighbour
+    /// sets it too.
     pub asked: u64,
 }
 
-/// An interface, as far as it decides whom it learns: its network, and its primary and its
-/// virtual address.
+/// What decides whom an interface learns: its network, its primary address and its virtual address.
 #[derive(Clone, Copy, Debug, PartialEq, Eq)]
 pub struct Interface {
     pub network: Prefix,
@@ -50,7 +51,8 @@ pub struct Interface {
     pub virtual_ip: Ip,
 }
 
-/// The neighbours that an interface knows: those of the settings, and up to 1,024 that it learnt.
+/// The neighbours that an interface knows: those of the settings, and up to 1,024 that it has
+/// learnt.
 #[derive(Drop)]
 pub struct Cache {
     fixed: Vec<Neighbour>,
@@ -71,8 +73,8 @@ impl Model for Cache {
 }
 
 impl Cache {
-    /// A cache of these fixed neighbours, which has learnt none. Of two with one address the first
-    /// counts.
+    /// Returns a cache of these fixed neighbours, which has learnt none, or an `AllocError` when
+    /// out of memory. Of two fixed neighbours with the same address the first counts.
     pub fn new(alloc: Global, fixed: &[Neighbour]) -> Result<Self, AllocError>
         ensures fixed { IfOk result (λ c. c.fixed ≡ fixed.now) }
         ensures learnt { IfOk result (λ c. c.learnt ≡ []) }
@@ -83,9 +85,9 @@ impl Cache {
         Ok(Cache { fixed, learnt })
     }
 
-    /// Learns or renews a neighbour at the moment `now`, in centiseconds. An entry of the same
-    /// address gives way to it; where 1,024 other addresses are learnt, the one that was learnt or
-    /// renewed longest ago is dropped, valid or not.
+    /// Learns or renews a neighbour at the time `now`, in centiseconds. Replaces an entry of the
+    /// same address. Where 1,024 other addresses are learnt, drops the one that was learnt or
+    /// renewed longest ago, valid or not.
     pub fn learn(&mut self, address: Ip, mac: Mac, now: u64)
         ensures fixed { self.new.fixed ≡ self.old.fixed }
         ensures learnt { self.new.learnt
@@ -101,8 +103,8 @@ impl Cache {
         learn(&mut self.learnt, entry);
     }
 
-    /// The hardware address of a neighbour that is fixed, or valid at the moment `now`, in
-    /// centiseconds.
+    /// Returns the hardware address of a neighbour that is fixed, or that is valid at the time
+    /// `now` in centiseconds; None where there is no such neighbour.
     #[inline(always)]
     pub fn mac_of(&self, address: Ip, now: u64) -> Option<Mac>
         ensures mac { result ≡ mac_at address.0 now self.now }
@@ -114,9 +116,10 @@ impl Cache {
         }
     }
 
-    /// Whether a packet just sent to a neighbour, at the moment `now` in centiseconds, is to be
-    /// followed by a request for its address: it isn't fixed, was learnt or renewed 90,000 ago or
-    /// more, and last asked for 100 ago or more. If so, it counts as asked for at this moment.
+    /// Whether a request for a neighbour's address is due after a packet was sent to it at the time
+    /// `now`, in centiseconds. It is due where the neighbour isn't fixed, was learnt or renewed
+    /// 90,000 ago or more, and was last requested 100 ago or more. Where a request is due, the call
+    /// notes `now` as the time of the last request.
     #[inline(always)]
     pub fn ask(&mut self, address: Ip, now: u64) -> bool
         ensures asks { result ≡ asks_at address.0 now self.old }
@@ -129,8 +132,8 @@ impl Cache {
         }
     }
 
-    /// Reminds the prover that every known hardware address has six bytes; it does nothing when
-    /// it runs.
+    /// Reminds the prover that every known hardware address has six bytes; does nothing at run
+    /// time.
     pub fn recall(&self)
         ensures { KnowsMacs self.now }
     {
@@ -138,7 +141,7 @@ impl Cache {
     }
 }
 
-/// The same neighbours, in a list of their own.
+/// Returns a copy of these neighbours, whose hardware addresses the prover knows to have six bytes.
 fn whole_neighbours(alloc: Global, neighbours: &[Neighbour]) -> Result<Vec<Neighbour>, AllocError>
     ensures same { IfOk result (λ v. v.items ≡ neighbours.now) }
     ensures six { IfOk result (λ v. AllSix (λ n. n.mac) v.items) }
@@ -172,7 +175,7 @@ fn fixed_mac(neighbours: &[Neighbour], address: Ip) -> Option<Mac>
     None
 }
 
-/// Whether an interface learns a sender (RFC 826): one of its network, but neither itself nor the
+/// Whether an interface learns a sender (RFC 826): one of its network, other than itself and the
 /// virtual router, with the hardware address of one station.
 pub fn is_learnable(interface: &Interface, sender: &Neighbour) -> bool
     ensures { IsTrue result ↔ IsLearnable (learner_of interface.now) sender.now }

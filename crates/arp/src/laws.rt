@@ -1,4 +1,4 @@
-//! What follows of packets from the definitions of their bytes.
+//! Facts about the definitions of packets and of the cache.
 ghost use Rattle.std.specs.Prelude.{◌≡◌, ◌<◌, ◌↔◌, ℕ, List, None, slice_index};
 ghost use Rattle.arp.specs.declared.caches.TheConstants.{ENTRIES, VALID_FOR, RENEWED_AFTER, ASKED_AFTER};
 ghost use Rattle.arp.specs.declared.packets.ArpPacket.{ArpPacket};
@@ -6,12 +6,12 @@ ghost use Rattle.arp.specs.declared.packets.TheConstants.{ARP_FRAME};
 ghost use Rattle.arp.specs.declared.packets.field.TheConstants.{PACKET};
 ghost use Rattle.arp.specs.Packet.{arp_refusal, IsArp, packet_of, IsPacket, Spells, IsReadAs};
 
-/// Bytes are refused just where they are no packet.
+/// The bytes that [`parse`](crate::parse) accepts are exactly those of the grammar `IsArp`.
 pub fn arp_grammar()
     ensures { (bytes : List ℕ) → (arp_refusal bytes ≡ None) ↔ IsArp bytes }
 {}
 
-/// A packet that was written, with any padding behind it, is read as the same packet.
+/// A packet that is written, with any padding after it, is read as the same packet.
 pub fn written_is_read()
     ensures { (bytes : List ℕ) (p : ArpPacket) → IsPacket p → Spells bytes p
         → IsReadAs bytes p }
@@ -23,9 +23,9 @@ pub fn read_is_spelled()
         → Spells bytes (packet_of bytes) }
 {}
 
-/// The numbers that the definitions take from the code: a packet's bytes, a frame's, the cache's
-/// places, for how many centiseconds an entry is valid, and after how many one in use is asked for,
-/// first and again.
+/// The numbers that the definitions take from the code: the bytes of a packet and of a frame, the
+/// most entries of a cache, and in centiseconds how long an entry is valid, when one in use is
+/// requested again, and when that request is repeated.
 pub fn limits_law()
     ensures packet { PACKET ≡ 28 }
     ensures frame { ARP_FRAME ≡ 42 }

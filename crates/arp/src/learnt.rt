@@ -1,4 +1,5 @@
-//! The neighbours that were learnt: a log of them in order, and an index of the log by address.
+//! The neighbours that a cache has learnt: a log of them in order, and an index of the log by
+//! address.
 ghost use Rattle.std.specs.Prelude.{◌≡◌, ◌≤◌, ◌++◌, ◌∷◌, [], ◌<◌, ◌-◌, ℕ, Some, drop, take, length, vec_len, vec_capacity, IfOk, IfErr, OnErr, MatchOption, if◌then◌else◌};
 ghost use Rattle.std.specs.List.{insert, remove};
 ghost use Rattle.arp.specs.Neighbours.{without, with_entry, learnt_mac, wants_asking, learnt_asks, learnt_asked};
@@ -9,29 +10,31 @@ use crate::caches::{ASKED_AFTER, CacheEntry, ENTRIES, RENEWED_AFTER, VALID_FOR};
 use addresses::{Ip, Mac};
 use std::alloc::{AllocError, Global};
 
-/// The places of the log. Once they are used up, the empty ones are thrown out.
+/// The most places of the log. Once they are used up, the empty ones are removed.
 pub(crate) const PLACES: usize = 2048;
 
-/// Where the entry of an address lies in the log. The place is a hint: it is looked at first.
+/// Where the entry of an address is in the log. The place is a hint, which a search tries first.
 #[derive(Clone, Copy, Debug, PartialEq, Eq)]
 pub struct Spot {
     pub address: Ip,
     pub place: u32,
 }
 
-/// Up to 1,024 entries of different addresses.
+/// Up to 1,024 entries of different addresses, without another allocation than that of `new`.
 #[derive(Drop)]
 pub struct Learnt {
     /// The entries in the order in which they were learnt or renewed. A place is empty where its
     /// entry was renewed later, or dropped.
     pub log: Vec<Option<CacheEntry>>,
-    /// All places before this one are empty.
+    /// All places of the log before this one are empty.
     pub start: usize,
     /// A spot for each entry, by rising address.
     pub index: Vec<Spot>,
 }
 
 impl Learnt {
+    /// Returns an empty log and index with capacity for all that may be learnt, or an `AllocError`
+    /// when out of memory.
     pub fn new(alloc: Global) -> Result<Self, AllocError>
         ensures none { IfOk result (λ l. kept l.log.items ≡ []) }
         ensures holds { IfOk result (λ l. IsLearnt l) }
@@ -47,7 +50,8 @@ impl Learnt {
     }
 }
 
-/// Learns or renews: an entry of the same address gives way to it, and of 1,024 others the oldest.
+/// Learns or renews an entry. Replaces the entry of the same address, or drops the oldest of 1,024
+/// others.
 pub fn learn(learnt: &mut Learnt, entry: CacheEntry)
     requires { IsLearnt learnt.old }
     ensures entries { kept learnt.new.log.items ≡ with_entry entry (kept learnt.old.log.items) }
@@ -60,7 +64,8 @@ pub fn learn(learnt: &mut Learnt, entry: CacheEntry)
     }
 }
 
-/// The hardware address of the entry of that address, if it is valid.
+/// Returns the hardware address of the entry of that address, or None where there is none that is
+/// valid at `now`.
 pub fn mac_in(learnt: &Learnt, address: Ip, now: u64) -> Option<Mac>
     requires { IsLearnt learnt.now }
     ensures { result ≡ learnt_mac address.0 now (kept learnt.now.log.items) }
@@ -90,7 +95,8 @@ fn valid_mac(place: Option<CacheEntry>, now: u64) -> Option<Mac>
     }
 }
 
-/// Whether a packet sent by the entry of that address asks for it: if so, it is noted.
+/// Whether a request for that address is due at `now`, after a packet was sent to it. Notes the time
+/// of the request where one is due.
 pub fn ask_in(learnt: &mut Learnt, address: Ip, now: u64) -> bool
     requires { IsLearnt learnt.old }
     ensures asks { result ≡ learnt_asks address.0 now (kept learnt.old.log.items) }
@@ -121,7 +127,8 @@ fn ask_in_log(log: &mut Vec<Option<CacheEntry>>, address: Ip, hint: u32, now: u6
     }
 }
 
-/// The same of the entry at the place of its address.
+/// Whether a request is due for the entry at this place, which has that address. Notes the time of
+/// the request where one is due.
 fn ask_at(log: &mut Vec<Option<CacheEntry>>, address: Ip, place: usize, now: u64) -> bool
     requires once { tally address.0 (entry_addresses (kept log.old.items)) ≤ 1 }
     requires at { IsPlaceOf address.0 log.old.items place }
@@ -170,7 +177,7 @@ fn place_asked(place: Option<CacheEntry>, now: u64) -> Option<CacheEntry>
     }
 }
 
-/// The spot of an address, or where it would go.
+/// Returns the place of an address in the index, or as an Err the place where it would be inserted.
 fn find(index: &[Spot], address: Ip) -> Result<usize, usize>
     requires { IsRising (spot_addresses index.now) }
     ensures found { IfOk result (IsAt (spot_addresses index.now) address.0) }
@@ -179,7 +186,7 @@ fn find(index: &[Spot], address: Ip) -> Result<usize, usize>
     index.binary_search_by_key(&address.0, |spot| spot.address.0)
 }
 
-/// The spot of an address that has one.
+/// Returns the place, in the index, of an address that has one there.
 fn spot_of(index: &[Spot], address: Ip) -> usize
     requires rising { IsRising (spot_addresses index.now) }
     requires known { 1 ≤ tally address.0 (spot_addresses index.now) }
@@ -199,7 +206,8 @@ fn is_of(place: &Option<CacheEntry>, address: Ip) -> bool
     }
 }
 
-/// The place of an address: the hint, or else the first.
+/// Returns the place of an address in the log: the hint where it is right, else the first, and None
+/// where the address has no entry.
 fn place_of(log: &[Option<CacheEntry>], address: Ip, hint: u32) -> Option<usize>
     ensures { MatchOption result (tally address.0 (entry_addresses (kept log.now)) ≡ 0)
         (IsPlaceOf address.0 log.now) }
@@ -224,7 +232,7 @@ fn first_place_of(log: &[Option<CacheEntry>], address: Ip) -> Option<usize>
     None
 }
 
-/// Renews the entry of a spot.
+/// Renews the entry whose spot is at `at`.
 fn renew(learnt: &mut Learnt, at: usize, entry: CacheEntry)
     requires holds { IsLearnt learnt.old }
     requires room { length learnt.old.log.items < PLACES }
@@ -241,7 +249,8 @@ fn renew(learnt: &mut Learnt, at: usize, entry: CacheEntry)
     };
 }
 
-/// Adds an entry of another address, whose spot goes to `at`.
+/// Adds an entry of a new address, whose spot is inserted at `at`. Drops the oldest entry where
+/// there are 1,024.
 fn add(learnt: &mut Learnt, at: usize, entry: CacheEntry)
     requires holds { IsLearnt learnt.old }
     requires room { length learnt.old.log.items < PLACES }
@@ -256,7 +265,7 @@ fn add(learnt: &mut Learnt, at: usize, entry: CacheEntry)
     }
 }
 
-/// Adds an entry where there is room.
+/// Adds an entry of a new address where there are fewer than 1,024.
 fn append(learnt: &mut Learnt, at: usize, entry: CacheEntry)
     requires holds { IsLearnt learnt.old }
     requires room { length learnt.old.log.items < PLACES }
@@ -274,7 +283,7 @@ fn append(learnt: &mut Learnt, at: usize, entry: CacheEntry)
     let _ = learnt.index.insert(at, spot);
 }
 
-/// Adds an entry for the oldest one.
+/// Adds an entry of a new address in place of the oldest one.
 fn supplant(learnt: &mut Learnt, at: usize, entry: CacheEntry)
     requires holds { IsLearnt learnt.old }
     requires room { length learnt.old.log.items < PLACES }
@@ -298,8 +307,8 @@ fn supplant(learnt: &mut Learnt, at: usize, entry: CacheEntry)
     }
 }
 
-/// Puts a spot in, which would go to `at`, and takes that of `out` away: what lies between them
-/// moves by one place.
+/// Inserts a spot, whose place is `at`, and removes the spot at `out`. The spots between them move
+/// by one place.
 fn put_for(index: &mut Vec<Spot>, out: usize, at: usize, spot: Spot)
     requires out { out < length index.old.items }
     requires at { at ≤ length index.old.items }
@@ -316,7 +325,7 @@ fn put_for(index: &mut Vec<Spot>, out: usize, at: usize, spot: Spot)
     }
 }
 
-/// Empties the place of an address.
+/// Empties the place of an address in the log.
 fn clear(log: &mut Vec<Option<CacheEntry>>, address: Ip, hint: u32)
     requires { tally address.0 (entry_addresses (kept log.old.items)) ≤ 1 }
     ensures entries { kept log.new.items ≡ without address.0 (kept log.old.items) }
@@ -338,7 +347,7 @@ fn push(log: &mut Vec<Option<CacheEntry>>, entry: CacheEntry)
     log.push_reserved(Some(entry));
 }
 
-/// The first entry, which lies at `start` or behind it, and its place.
+/// Returns the first entry, at `start` or after it, and its place, or None where there is none.
 fn first_entry(log: &[Option<CacheEntry>], start: usize) -> Option<(usize, CacheEntry)>
     requires within { start ≤ length log.now }
     requires front { kept (take start log.now) ≡ [] }
@@ -354,7 +363,7 @@ fn first_entry(log: &[Option<CacheEntry>], start: usize) -> Option<(usize, Cache
     None
 }
 
-/// Throws the empty places out once all are used.
+/// Removes the empty places once all places are used.
 fn make_room(learnt: &mut Learnt)
     requires { IsLearnt learnt.old }
     ensures entries { kept learnt.new.log.items ≡ kept learnt.old.log.items }
@@ -376,7 +385,7 @@ fn throw_out(log: &mut Vec<Option<CacheEntry>>)
     log.retain(|place| place.is_some());
 }
 
-/// Notes the places of the log's entries.
+/// Notes the places of the log's entries in the index.
 fn renumber(log: &[Option<CacheEntry>], index: &mut [Spot])
     requires places { length log.now ≤ PLACES }
     requires rising { IsRising (spot_addresses index.old) }

@@ -25,7 +25,7 @@ use byteorder::{BigEndian, ByteOrder};
 use frames::{EtherType, write_header};
 use thiserror::Error;
 
-/// Where the packet's fields lie.
+/// The places of the packet's fields.
 mod field {
     use std::ops::Range;
 
@@ -53,7 +53,7 @@ mod field {
 /// The bytes of a frame: an Ethernet header of 14 and a packet of 28.
 pub const ARP_FRAME: usize = 42;
 
-/// The bytes of a header before a packet.
+/// The bytes of the Ethernet header before a packet.
 const HEADER: usize = 14;
 
 const ETHERNET: u16 = 1;
@@ -62,7 +62,7 @@ const IPV4: u16 = 0x0800;
 
 const NO_MAC: Mac = Mac([0; 6]);
 
-/// What a packet asks or tells.
+/// Whether a packet is a request or a reply.
 #[derive(Clone, Copy, Debug, PartialEq, Eq)]
 pub enum Operation {
     Request,
@@ -101,7 +101,8 @@ pub enum ArpFault {
     BadOperation,
 }
 
-/// Reads the body of an Ethernet frame. Bytes behind the 28 of the packet are padding.
+/// Reads the body of an Ethernet frame as an ARP packet, or answers the first fault in the order of
+/// [`ArpFault`]. Bytes after the 28 of the packet are padding.
 pub fn parse(bytes: &[u8]) -> Result<ArpPacket, ArpFault>
     ensures refusal { result_err result ≡ arp_refusal bytes.now }
     ensures ok { IsOk result ↔ IsArp bytes.now }
@@ -147,7 +148,8 @@ fn mac_at(bytes: &[u8]) -> Mac
     Mac(octets)
 }
 
-/// Asks everyone for the hardware address of `target`.
+/// Writes a frame that asks everyone for the hardware address of `target`, from the sender `ip` at
+/// `mac`.
 pub fn request(out: &mut [u8; ARP_FRAME], mac: Mac, ip: Ip, target: Ip)
     ensures { out.new ≡ frame_bytes Mac.BROADCAST.0 mac.0 (request_packet mac ip target) }
 {
@@ -161,8 +163,8 @@ pub fn request(out: &mut [u8; ARP_FRAME], mac: Mac, ip: Ip, target: Ip)
     write_frame(out, Mac::BROADCAST, mac, &packet);
 }
 
-/// Answers `asked`: its target address has the hardware address `answer`. The frame comes from
-/// `own`.
+/// Writes a frame that answers the request `asked`: its target address has the hardware address
+/// `answer`. The frame is sent from `own`.
 pub fn reply(out: &mut [u8; ARP_FRAME], own: Mac, answer: Mac, asked: &ArpPacket)
     ensures { out.new
         ≡ frame_bytes asked.now.sender_mac.0 own.0 (reply_packet answer asked.now) }
@@ -177,7 +179,8 @@ pub fn reply(out: &mut [u8; ARP_FRAME], own: Mac, answer: Mac, asked: &ArpPacket
     write_frame(out, asked.sender_mac, own, &packet);
 }
 
-/// Tells everyone that `ip` has the hardware address `mac`, as a request for itself.
+/// Writes a frame that says to everyone that `ip` has the hardware address `mac`, as a request for
+/// `ip` itself.
 pub fn gratuitous(out: &mut [u8; ARP_FRAME], mac: Mac, ip: Ip)
     ensures { out.new ≡ frame_bytes Mac.BROADCAST.0 mac.0 (gratuitous_packet mac ip) }
 {
@@ -198,7 +201,7 @@ fn write_frame(out: &mut [u8; ARP_FRAME], dst: Mac, src: Mac, packet: &ArpPacket
     out[HEADER..].copy_from_slice(&body_of(packet));
 }
 
-/// The six bytes, of which a proof knows that they are six.
+/// Returns the six bytes of an address, which the prover then knows to be six.
 pub(crate) fn octets_of(mac: Mac) -> [u8; 6]
     ensures same { result ≡ mac.0 }
     ensures six { length result ≡ 6 }
@@ -208,7 +211,7 @@ pub(crate) fn octets_of(mac: Mac) -> [u8; 6]
     octets
 }
 
-/// The bytes of a packet.
+/// Returns the bytes of a packet.
 fn body_of(packet: &ArpPacket) -> [u8; field::PACKET]
     ensures { result ≡ packet_bytes packet.now }
 {

@@ -1,4 +1,4 @@
-//! The two interfaces of gateway 0.
+//! The two interfaces of gateway 0, which the cases of the packet path use.
 ghost use Rattle.vrrp_states.specs.Table.{IsMoment};
 
 use cases_words::{Case, beside};
@@ -9,10 +9,10 @@ use settings::Settings;
 use std::alloc::{AllocError, Global};
 use vrrp_states::Action;
 
-/// The greatest moment of a clock, in centiseconds.
+/// The greatest time of a clock, in centiseconds.
 const LAST_MOMENT: u64 = 4_000_000_000_000;
 
-/// A moment of a clock, in centiseconds.
+/// Reads a time of a clock, in centiseconds.
 pub fn moment(case: &mut Case) -> u64
     ensures { IsMoment result }
 {
@@ -27,7 +27,7 @@ pub struct Interfaces {
 }
 
 impl Interfaces {
-    /// Both before their first event.
+    /// Returns both interfaces before their first event, or an `AllocError` when out of memory.
     pub fn new(alloc: Global, settings: &Settings) -> Result<Interfaces, AllocError> {
         let inside = begun(alloc, settings, Side::Inside)?;
         let (inside, outside) = beside(inside, begun(alloc, settings, Side::Outside))?;
@@ -72,19 +72,19 @@ impl Interfaces {
         self.tell(case, inside, outside);
     }
 
-    /// What both interfaces send, the inside one first.
+    /// Prints what both interfaces send, the inside one first.
     fn tell(&self, case: &mut Case, inside: Action, outside: Action) {
         tell_sent(case, "inside [", &self.inside, inside);
         tell_sent(case, " outside [", &self.outside, outside);
     }
 }
 
-/// An interface, of which nothing is said.
+/// Returns an interface before its first event. No clause says anything of it.
 fn begun(alloc: Global, settings: &Settings, side: Side) -> Result<Interface, AllocError> {
     Interface::new(alloc, settings, GatewayId::Zero, side)
 }
 
-/// The frames that an action sends, end to end, behind a text with an open bracket.
+/// Prints the frames that an action sends, end to end, after a text that ends with an open bracket.
 pub fn tell_sent(case: &mut Case, text: &str, station: &Interface, action: Action) {
     let frames = frames_of(case.alloc, station, action);
     case.hex_made(text, frames);

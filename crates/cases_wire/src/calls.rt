@@ -1,10 +1,10 @@
-//! Which call a case names.
+//! The calls of the packet crates, by the name that a case gives.
 use crate::{datagrams, errors, neighbours, own, packets, queries};
 use cases_words::{Actor, Case};
 use rewrite::RewriteFault;
 use std::fmt::Display;
 
-/// Which way a packet is rewritten.
+/// The direction in which a packet is rewritten.
 #[derive(Clone, Copy)]
 pub(crate) enum Way {
     Outward,
@@ -12,7 +12,7 @@ pub(crate) enum Way {
     Hairpin,
 }
 
-/// What was read; where nothing was, why is printed.
+/// Returns what was read. Where nothing was, prints why and returns None.
 pub(crate) fn or_refuse<T, E: Display + Drop>(case: &mut Case, read: Result<T, E>) -> Option<T> {
     match read {
         Ok(value) => Some(value),
@@ -23,7 +23,7 @@ pub(crate) fn or_refuse<T, E: Display + Drop>(case: &mut Case, read: Result<T, E
     }
 }
 
-/// The bytes of a packet that was rewritten, behind the refusal where there is one.
+/// Prints the bytes of a packet that was rewritten, after the refusal where there is one.
 pub(crate) fn tell_rewritten(case: &mut Case, done: Result<(), RewriteFault>, bytes: &[u8]) {
     if let Err(fault) = done {
         case.refused(fault);
@@ -32,7 +32,7 @@ pub(crate) fn tell_rewritten(case: &mut Case, done: Result<(), RewriteFault>, by
     case.hex("", bytes);
 }
 
-/// It answers a name and the call behind it.
+/// Prints a case's name, and what the call after it answers.
 #[derive(Drop)]
 pub(crate) struct Calls;
 
@@ -44,7 +44,7 @@ impl Actor for Calls {
     }
 }
 
-/// What the call that the next word names answers.
+/// Prints what the call answers that the next word names.
 fn answer(case: &mut Case) {
     match case.word() {
         "add" => add(case),

@@ -3,7 +3,7 @@ use cases_words::Case;
 use link::{Datagram, Link, Taken, parse, write};
 use std::alloc::{AllocError, Global};
 
-/// `parse HEX`: the fields, how many records there are, and whether it is written as it was read.
+/// Reads `parse HEX`. Prints the fields, how many records there are, and whether it is written as it was read.
 pub(crate) fn parsed(case: &mut Case) {
     let bytes = case.bytes();
     match parse(bytes.as_slice()) {
@@ -36,8 +36,8 @@ fn tell_counts(case: &mut Case, datagram: &Datagram) {
     case.say(", records ", datagram.records.len());
 }
 
-/// `take ID BOOT CAPACITY HEX..`: an end that has just booted takes datagrams, the first at moment 1: of each how many
-/// records were taken, and whether it began a session, or why it is refused.
+/// Reads `take ID BOOT CAPACITY HEX..`: an end that has just booted takes datagrams, the first at time 1. Prints of
+/// each how many records were taken and whether the datagram began a session, or why it is refused.
 pub(crate) fn taken(case: &mut Case) {
     let id = case.gateway();
     let boot = case.number().max(1);

@@ -59,7 +59,8 @@ fn tell_inside(case: &mut Case, error: &ErrorView<'_>) {
     case.put("]");
 }
 
-/// What the message says that isn't written, and the message afterwards.
+/// Prints the fields of an error as the writing view reads them, and the message after its checksum
+/// is written.
 pub(crate) fn write_error(case: &mut Case) {
     let mut bytes = case.bytes();
     if let Err(fault) = ErrorView::parse(bytes.as_slice()) {
@@ -82,7 +83,7 @@ fn is_error(bytes: &[u8]) -> bool
     }
 }
 
-/// The packet afterwards, behind the refusal where there is one.
+/// Prints the packet after an error is passed on, after the refusal where there is one.
 pub(crate) fn passed_on(case: &mut Case, way: Way) {
     let mut bytes = case.bytes();
     if !is_error(bytes.as_slice()) {

@@ -1,7 +1,7 @@
-//! Calls the packet crates and the link with the lines of files, and prints a line for each: what the call answers, or why it
-//! refuses. Then it reads frames at the two interfaces of gateway 0 of the sample settings, and sends packets on, as
-//! `rules.cases` says, and hands VRRP routers the events of `routers.cases`. A line of a file is empty, begins with `#`, or
-//! has a name, a call and what is given to it; those of `routers.cases` have no name.
+//! Calls the packet crates and the link with the lines of files, and prints a line for each: what the call answers, or
+//! why it refuses. Then it reads frames at the two interfaces of gateway 0 of the sample settings, sends packets on, as
+//! `rules.cases` says, and gives VRRP routers the events of `routers.cases`. A line of a file is empty, begins with
+//! `#`, or has a name, a call and the call's arguments; the lines of `routers.cases` have no name.
 #![tactic(auto)]
 
 mod both_sides;
@@ -23,7 +23,7 @@ use cases_words::{Actor, Case, play};
 use routers::Routers;
 use rules::Rules;
 
-/// The files whose calls need nothing that the lines before have set up.
+/// The files whose calls need nothing that earlier lines have set up.
 const FILES: [&str; 10] = [
     "sums.cases",
     "frames.cases",

@@ -55,8 +55,8 @@ pub(crate) fn reply(case: &mut Case) {
     }
 }
 
-/// The primary, the virtual and the sender's address, in the network of the virtual address's first
-/// 24 bits.
+/// Reads the primary, the virtual and the sender's address, in the network of the virtual address's first 24 bits, and
+/// the sender's Ethernet address. Prints whether the sender is learnt.
 pub(crate) fn is_learnt(case: &mut Case) {
     let (primary_ip, virtual_ip) = (case.hex_ip(), case.hex_ip());
     let (address, mac) = (case.hex_ip(), case.mac());
@@ -68,8 +68,9 @@ pub(crate) fn is_learnt(case: &mut Case) {
     case.put(is_learnable(&interface, &Neighbour { address, mac }));
 }
 
-/// What a cache finds in steps: `learn IP MAC NOW`, `fill COUNT MAC NOW` for so many addresses from 0.0.0.0 on,
-/// `find IP NOW`, and `ask IP NOW`: whether a packet just sent there asks. It has the fixed neighbour 192.0.2.254, twice.
+/// Prints what a cache finds in steps: `learn IP MAC NOW`, `fill COUNT MAC NOW` for so many addresses from 0.0.0.0 on,
+/// `find IP NOW`, and `ask IP NOW`: whether a request is due after a packet to that address. The cache has the fixed
+/// neighbour 192.0.2.254 twice.
 pub(crate) fn found(case: &mut Case) {
     let router = Ip::new([192, 0, 2, 254]);
     let fixed = [0xfe, 0xfd].map(|last| Neighbour {
@@ -153,7 +154,7 @@ pub(crate) fn write_advert(case: &mut Case) {
     case.hex("", &out);
 }
 
-/// How many of the other bytes at a place give a wrong checksum.
+/// Prints how many of the other bytes at a place give a wrong checksum.
 pub(crate) fn wrong_sums(case: &mut Case) {
     let (mut bytes, [place]) = (case.bytes(), case.octets::<1>());
     let place = usize::from(place);

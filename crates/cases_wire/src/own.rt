@@ -1,10 +1,11 @@
-//! Echos to the box, and what the box says itself.
+//! Echos to the box, and the packets that the box itself sends.
 use crate::calls::or_refuse;
 use cases_words::Case;
 use icmp::AskView;
 use ipv4::Ipv4View;
 
-/// The Echo to the box that a packet carries; where it carries none, why is printed.
+/// Returns the Echo to the box that a packet carries. Where it carries none, prints why and returns
+/// None.
 fn asked<'a>(case: &mut Case, bytes: &'a [u8]) -> Option<AskView<'a>> {
     let packet = or_refuse(case, Ipv4View::parse(bytes))?;
     if packet.protocol() != icmp::PROTOCOL {
@@ -14,7 +15,7 @@ fn asked<'a>(case: &mut Case, bytes: &'a [u8]) -> Option<AskView<'a>> {
     or_refuse(case, AskView::parse(packet.payload()))
 }
 
-/// What a packet says that carries an Echo to the box.
+/// Prints the fields of an Echo to the box that a packet carries.
 pub(crate) fn ask(case: &mut Case) {
     let bytes = case.bytes();
     if let Some(ask) = asked(case, bytes.as_slice()) {
@@ -26,7 +27,7 @@ pub(crate) fn ask(case: &mut Case) {
     }
 }
 
-/// The packet that answers an Echo.
+/// Prints the packet that answers an Echo.
 pub(crate) fn reply(case: &mut Case) {
     let bytes = case.bytes();
     if let Some(ask) = asked(case, bytes.as_slice()) {
@@ -43,7 +44,7 @@ fn reply_to(case: &mut Case, ask: &AskView<'_>) {
     case.hex("", &out[..length]);
 }
 
-/// The packet that tells that another is too long, or that its hops are used up.
+/// Prints the error packet about a packet that is too long (`is_long`), or whose hops are used up.
 pub(crate) fn complain(case: &mut Case, is_long: bool) {
     let bytes = case.bytes();
     let mtu = if is_long { case.short() } else { 0 };

@@ -23,7 +23,7 @@ pub(crate) fn frame(case: &mut Case) {
     }
 }
 
-/// Bytes in hexadecimal, behind a text with an open bracket.
+/// Prints bytes in hexadecimal, after a text that ends with an open bracket.
 fn tell_hex(case: &mut Case, text: &str, bytes: &[u8]) {
     case.hex(text, bytes);
     case.put("]");
@@ -41,7 +41,7 @@ pub(crate) fn write_frame(case: &mut Case) {
     case.hex("", bytes.as_slice());
 }
 
-/// The same header over a body whose bytes are all the given one, after a look at the header.
+/// Prints a frame's type, its header, and the frame with a body whose bytes are all the given one.
 pub(crate) fn write_body(case: &mut Case) {
     let mut bytes = case.bytes();
     if let Err(fault) = EthView::parse(bytes.as_slice()) {
@@ -143,7 +143,8 @@ fn tell_window(case: &mut Case, segment: &TcpView<'_>) {
     case.say(" urgent ", segment.urgent());
 }
 
-/// What the header says that isn't written, and the packet afterwards.
+/// Prints service, identification and flags of a header as the writing view reads them, and the
+/// packet after TTL, checksum and addresses are written.
 pub(crate) fn write_ipv4(case: &mut Case) {
     let mut bytes = case.bytes();
     if let Err(fault) = Ipv4View::parse(bytes.as_slice()) {
@@ -173,7 +174,8 @@ pub(crate) fn write_udp(case: &mut Case) {
     case.hex("", bytes.as_slice());
 }
 
-/// What the header says that isn't written, and the segment afterwards.
+/// Prints numbers, window and urgent pointer of a header as the writing view reads them, and the
+/// segment after ports and checksum are written.
 pub(crate) fn write_tcp(case: &mut Case) {
     let mut bytes = case.bytes();
     if let Err(fault) = TcpView::parse(bytes.as_slice()) {
@@ -204,7 +206,7 @@ fn is_translatable(bytes: &[u8]) -> bool
     }
 }
 
-/// The packet afterwards, behind the refusal where there is one.
+/// Prints the packet after it is translated, after the refusal where there is one.
 pub(crate) fn rewritten(case: &mut Case, way: Way) {
     let mut bytes = case.bytes();
     if !is_translatable(bytes.as_slice()) {

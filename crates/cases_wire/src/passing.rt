@@ -1,4 +1,4 @@
-//! Frames that come in, and what is sent on.
+//! Frames that come in, and the frames by which packets are sent on.
 use crate::both_sides::{Interfaces, moment, tell_sent};
 use crate::neighbours::{tell_operation, tell_sender};
 use addresses::Protocol;
@@ -62,7 +62,8 @@ pub fn tell_reading(case: &mut Case, reading: Result<Reading, Reason>) {
     }
 }
 
-/// What a frame is read as. What a caller has to show stays small where this says nothing of it.
+/// Returns what a frame is read as. The function has no clause, so that its callers have less to
+/// prove.
 fn read_at(interfaces: &Interfaces, side: Side, up: bool, bytes: &[u8]) -> Result<Reading, Reason> {
     interfaces.at(side).read_frame(side, up, bytes)
 }
@@ -96,7 +97,7 @@ pub fn hear_advert(interfaces: &mut Interfaces, case: &mut Case) {
     }
 }
 
-/// The answer to a packet, if there is one.
+/// Returns the frame that answers a packet, or no bytes where there is no answer.
 fn answer_to(
     alloc: Global,
     station: &Interface,
@@ -152,7 +153,7 @@ pub fn request(interfaces: &Interfaces, case: &mut Case) {
     }
 }
 
-/// A pair of this protocol.
+/// Reads a pair of this protocol.
 fn pair(case: &mut Case, protocol: Protocol) -> Pair {
     let port = case.hex_port();
     let key = Key { protocol, port };

@@ -12,7 +12,7 @@ fn kind(case: &mut Case) -> Kind {
     }
 }
 
-/// What a packet says that carries a query of this kind.
+/// Prints the fields of a query of one kind that a packet carries.
 pub(crate) fn query(case: &mut Case) {
     let kind = kind(case);
     let bytes = case.bytes();
@@ -55,7 +55,8 @@ fn tell_query(case: &mut Case, sum: u16, identifier: u16, number: u16) {
     case.say(" number ", number);
 }
 
-/// What the query says that isn't written, and the message afterwards.
+/// Prints the fields of a query as the writing view reads them, and the message after identifier
+/// and checksum are written.
 pub(crate) fn write_query(case: &mut Case) {
     let kind = kind(case);
     let mut bytes = case.bytes();

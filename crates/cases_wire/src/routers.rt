@@ -6,7 +6,7 @@ use cases_words::{Actor, Case};
 use vrrp_packet::Advert;
 use vrrp_states::{Action, Router};
 
-/// The router of the last line `router`.
+/// The router that the last `router` line made.
 #[derive(Drop)]
 pub struct Routers {
     router: Option<Router>,
@@ -17,11 +17,11 @@ impl Routers {
         Routers { router: None }
     }
 
-    /// What came of a line: the action of the router, if it is an event, and its state.
+    /// Prints the router's action, where the line is an event, and its state.
     ///
     /// - `router PRIORITY INTERVAL PREEMPT ADDRESS` makes a new one
     /// - `start NOW`, `stop`, `tick NOW`
-    /// - `heard PRIORITY INTERVAL ADDRESS NOW` hears an advertisement from an address
+    /// - `heard PRIORITY INTERVAL ADDRESS NOW` receives an advertisement from an address
     fn answer(&mut self, case: &mut Case) {
         if case.word() == "router" {
             let router = made(case);
@@ -44,7 +44,7 @@ impl Actor for Routers {
     }
 }
 
-/// An event, and what the router does then.
+/// Gives an event to the router, and prints its action and its state.
 fn happen(router: &mut Router, case: &mut Case) {
     case.back();
     let action = match case.word() {
@@ -70,7 +70,7 @@ fn hear(router: &mut Router, case: &mut Case) -> Action {
     router.heard(&advert, from, moment(case))
 }
 
-/// A router whose own values are within their limits.
+/// Reads a router whose own values are within their limits.
 fn made(case: &mut Case) -> Router {
     let priority = case.within(1, 254) as u8;
     let interval = case.within(1, 4095) as u16;

@@ -1,4 +1,4 @@
-//! Which call of the packet path a case names.
+//! The calls of the packet path, by the name that a case gives.
 use crate::both_sides::Interfaces;
 use crate::{passing, saying};
 use cases_words::{Actor, Case, beside};
@@ -6,7 +6,7 @@ use settings::Settings;
 use std::alloc::{AllocError, Global};
 use std::mem;
 
-/// It answers a name and the call behind it, at the two interfaces of a gateway of these settings.
+/// Prints a case's name, and what the call after it answers at the two interfaces of a gateway with these settings.
 #[derive(Drop)]
 pub(crate) struct Rules {
     settings: Settings,
@@ -14,7 +14,7 @@ pub(crate) struct Rules {
 }
 
 impl Rules {
-    /// The settings are the sample, and the interfaces are before their first event.
+    /// Returns the sample settings and interfaces before their first event, or an `AllocError` when out of memory.
     pub(crate) fn new(alloc: Global) -> Result<Rules, AllocError> {
         let settings = Settings::sample(alloc)?;
         let interfaces = Interfaces::new(alloc, &settings);
@@ -25,7 +25,7 @@ impl Rules {
         })
     }
 
-    /// Both interfaces anew.
+    /// Makes both interfaces anew.
     fn renew(&mut self, case: &mut Case) {
         match Interfaces::new(case.alloc, &self.settings) {
             Ok(interfaces) => drop(mem::replace(&mut self.interfaces, interfaces)),
@@ -34,9 +34,9 @@ impl Rules {
         case.put("ready");
     }
 
-    /// What the call that the next word names answers.
+    /// Prints what the call answers that the next word names.
     ///
-    /// - `fresh` gives both interfaces anew, before their first event
+    /// - `fresh` makes both interfaces anew, before their first event
     /// - `speak MTU MTU`: from here on the box answers Echos and complains, with these longest packets inside and
     ///   outside; and both interfaces anew
     /// - `start NOW`, `tick NOW`, `stop`: the frames that both send, the inside one first
@@ -70,13 +70,15 @@ impl Actor for Rules {
     }
 }
 
+/// Prints what the call answers that the last word names, with these calls of the packet path:
+///
 /// - `read SIDE up|down HEX`: what a frame is read as, or why it is dropped
-/// - `padded SIDE LENGTH HEX`: the same of a frame with zeros behind it up to a length
-/// - `advert SIDE HEX NOW`: what an interface sends when it hears this frame
+/// - `padded SIDE LENGTH HEX`: the same of a frame with zeros after it up to a length
+/// - `advert SIDE HEX NOW`: what an interface sends when it receives this frame
 /// - `arp SIDE HEX NOW`: whether the sender of this frame is learnt, and the answer
 /// - `mac SIDE ADDRESS NOW`: a neighbour's Ethernet address
-/// - `ask SIDE ADDRESS NOW`: whether a packet just sent to a neighbour asks for it
-/// - `request SIDE ADDRESS`: the frame that asks for it
+/// - `ask SIDE ADDRESS NOW`: whether a request for a neighbour is due after a packet to it
+/// - `request SIDE ADDRESS`: the frame that requests a neighbour's address
 /// - `send SIDE HEX MAC PORT ADDRESS PORT ..`: the frame by which a packet is sent on to a next hop,
 ///   by one pair, or for a hairpin two
 fn answer_packets(interfaces: &mut Interfaces, case: &mut Case) {

@@ -1,4 +1,4 @@
-//! What the box says itself.
+//! The packets that the box itself sends.
 ghost use Rattle.std.specs.Prelude.{◌≤◌};
 ghost use Rattle.packet_rules.specs.Asked.{IsWhole};
 
@@ -14,7 +14,7 @@ use packet_rules::{
 };
 use settings::Settings;
 
-/// The longest packet of a side, from 576 to 1500 bytes.
+/// Reads the longest packet of a side, from 576 to 1500 bytes.
 fn mtu(case: &mut Case) -> u16
     ensures least { 576 ≤ result }
     ensures most { result ≤ 1500 }
@@ -51,7 +51,7 @@ pub fn reply(interfaces: &Interfaces, case: &mut Case) {
     }
 }
 
-/// What is sent where a packet is dropped for this reason that would have left at `exit`.
+/// Prints what is sent where a packet that would have left at `exit` is dropped for this reason.
 fn complained(
     case: &mut Case,
     networks: &Networks,

@@ -1,23 +1,24 @@
-//! A line of a case file, and what is printed of it.
+//! A line of a case file, and the text that is printed of it.
 
 use std::alloc::Global;
 
-/// A line, read word by word, and what is printed of it. No call refuses: what goes wrong is kept in mind, a word that is
-/// missing or spells something else, and a text that finds no memory. What is read then is any value of its kind.
+/// A line of a case file, read word by word, and the text that is printed of it. No call answers an error: a word that
+/// is missing or spells something else, or a text that is out of memory, makes the line wrong, and [`Case::is_wrong`]
+/// says so. The value that is read then is any one of its type.
 #[derive(Drop)]
 pub struct Case {
-    /// What the words spell has its memory from here.
+    /// The allocator of what the words spell.
     pub alloc: Global,
     pub out: Vec<u8>,
     pub(crate) line: String,
-    /// What stands between its words.
+    /// The character between the line's words.
     pub(crate) mark: char,
     pub(crate) next: usize,
     is_wrong: bool,
 }
 
 impl Case {
-    /// Nothing is to be read, and nothing is printed.
+    /// Returns a case with no words to read and nothing printed.
     pub fn new(alloc: Global) -> Case {
         Case {
             alloc,
@@ -29,19 +30,19 @@ impl Case {
         }
     }
 
-    /// From here on this stands between the words of a line, in place of a space.
+    /// Separates the words of a line, from here on, by this character in place of a space.
     pub fn part_by(&mut self, mark: char) {
         self.mark = mark;
     }
 
-    /// The words of another line are to be read.
+    /// Begins another line, whose words are read from the first on.
     pub fn begin(&mut self, line: &str) {
         self.line.clear();
         self.next = 0;
         self.is_wrong = self.is_wrong || self.line.push_str(line).is_err();
     }
 
-    /// Something is wrong with the line.
+    /// Makes the line wrong.
     pub fn fault(&mut self) {
         self.is_wrong = true;
     }
@@ -50,7 +51,7 @@ impl Case {
         self.is_wrong
     }
 
-    /// What was read, and where nothing was the other, and then the line is wrong.
+    /// Returns the value that was read. Where none was, returns `other` and makes the line wrong.
     pub fn or<T: Copy>(&mut self, read: Option<T>, other: T) -> T {
         match read {
             Some(read) => read,
@@ -61,7 +62,7 @@ impl Case {
         }
     }
 
-    /// The bytes that were made, and where they couldn't be none, and then the line is wrong.
+    /// Returns the bytes that were made. Where they couldn't be made, returns none and makes the line wrong.
     pub fn or_none<E: Drop>(&mut self, made: Result<Vec<u8>, E>) -> Vec<u8> {
         match made {
             Ok(bytes) => bytes,
@@ -72,7 +73,7 @@ impl Case {
         }
     }
 
-    /// The text that was made, and where it couldn't be the empty one, and then the line is wrong.
+    /// Returns the text that was made. Where it couldn't be made, returns an empty one and makes the line wrong.
     pub fn or_empty<E: Drop>(&mut self, made: Result<String, E>) -> String {
         match made {
             Ok(text) => text,
@@ -83,14 +84,14 @@ impl Case {
         }
     }
 
-    /// Where something couldn't be done, the line is wrong.
+    /// Makes the line wrong where something couldn't be done.
     pub fn keep<T: Drop, E: Drop>(&mut self, done: Result<T, E>) {
         if done.is_err() {
             self.is_wrong = true;
         }
     }
 
-    /// The next word.
+    /// Reads the next word. Where there is none, returns an empty one and makes the line wrong.
     pub fn word(&mut self) -> &str {
         let next = self.next;
         self.next = self.next.saturating_add(1);
@@ -103,7 +104,7 @@ impl Case {
         }
     }
 
-    /// All words that are still to be read, with what stands between them.
+    /// Reads all words that are left, with the separators between them, as one text.
     pub fn rest(&mut self) -> String {
         let mut rest = String::new(self.alloc);
         let mut written = Ok(());
@@ -120,12 +121,12 @@ impl Case {
         rest
     }
 
-    /// The word that was read last is read once more.
+    /// Goes back by one word, so that the last one is read once more.
     pub fn back(&mut self) {
         self.next = self.next.saturating_sub(1);
     }
 
-    /// How many words are still to be read.
+    /// Returns how many words are left.
     pub fn left(&self) -> usize {
         self.line.split(self.mark).count().saturating_sub(self.next)
     }

@@ -1,4 +1,5 @@
-//! The words of a line of a case file, as what they spell, and what is printed of them.
+//! The words of a line of a case file, read as the values that they spell, and the text that is
+//! printed of them.
 #![tactic(auto)]
 
 mod case;

@@ -1,12 +1,12 @@
-//! Does what the lines of a file say.
+//! Does what the lines of a case file say.
 
 use crate::Case;
 use anyhow::{Result, bail};
 use std::fs;
 use std::rt::Files;
 
-/// What is held, with what was made beside it; it's let go where that couldn't be made. A function that knows its type
-/// would have to show of each of its parts that it is let go.
+/// Returns `held` together with what was made, or the fault where that couldn't be made. `held` is then dropped. A
+/// function that knows the type of `held` would have to prove of each of its parts that it is dropped.
 pub fn beside<A: Drop, B, E>(held: A, made: Result<B, E>) -> Result<(A, B), E> {
     match made {
         Ok(made) => Ok((held, made)),
@@ -14,7 +14,7 @@ pub fn beside<A: Drop, B, E>(held: A, made: Result<B, E>) -> Result<(A, B), E> {
     }
 }
 
-/// Who does what a line says.
+/// Something that does what a line says.
 pub trait Actor {
     fn act(&mut self, case: &mut Case);
 }
@@ -25,10 +25,10 @@ impl<A: Actor> Actor for &mut A {
     }
 }
 
-/// Does what each line of a file says that says something. Who did it is let go.
+/// Does what each line of a file says, but for empty lines and comments, and drops the actor.
 ///
 /// # Errors
-/// The file can't be read; the first line that is wrong.
+/// The file can't be read, or a line is wrong: the error has the first such line.
 pub fn play<R: Files + AllocGlobal, A: Actor + Drop>(
     rt: &R,
     name: &str,
@@ -54,7 +54,7 @@ fn play_lines<A: Actor>(text: &str, actor: &mut A, case: &mut Case) -> Result<()
     Ok(())
 }
 
-/// A line that says nothing.
+/// Whether a line is empty or a comment.
 fn is_silent(line: &str) -> bool {
     line.is_empty() || line.starts_with("#")
 }

@@ -1,37 +1,37 @@
-//! What is printed of a case.
+//! The calls that print.
 
 use crate::Case;
 use std::fmt::{Debug, Display};
 use std::io::{self, ErrorKind, Write};
 
 impl Case {
-    /// Hands on what was printed so far.
+    /// Writes what was printed so far to the program's output, and begins anew.
     pub fn flush<R: Print>(&mut self, rt: &R) {
         let written = io::writer(rt).write_all(self.out.as_slice());
         self.out.clear();
         self.keep(written);
     }
 
-    /// A thing.
+    /// Prints a thing.
     pub fn put<D: Display + Drop>(&mut self, thing: D) {
         let written = write!(self.out, "{thing}");
         self.keep(written);
     }
 
-    /// A thing behind a text.
+    /// Prints a text and then a thing.
     pub fn say<D: Display + Drop>(&mut self, text: &str, thing: D) {
         self.put(text);
         self.put(thing);
     }
 
-    /// A value, as it is written in code, behind a text.
+    /// Prints a text and then a value, as it is written in code.
     pub fn show<D: Debug + Drop>(&mut self, text: &str, thing: D) {
         self.put(text);
         let written = write!(self.out, "{thing:?}");
         self.keep(written);
     }
 
-    /// Bytes in hexadecimal behind a text.
+    /// Prints a text and then bytes in hexadecimal.
     pub fn hex(&mut self, text: &str, bytes: &[u8]) {
         self.put(text);
         for byte in bytes {
@@ -40,19 +40,20 @@ impl Case {
         }
     }
 
-    /// Bytes as they are.
+    /// Prints bytes as they are.
     pub fn text(&mut self, text: &[u8]) {
         let written = self.out.write_all(text);
         self.keep(written);
     }
 
-    /// A number in octal behind a text.
+    /// Prints a text and then a number in octal.
     pub fn octal(&mut self, text: &str, number: u32) {
         let written = write!(self.out, "{text}{number:o}");
         self.keep(written);
     }
 
-    /// Bytes that were made, in hexadecimal behind a text.
+    /// Prints a text and then the bytes that were made, in hexadecimal. Where they couldn't be
+    /// made, makes the line wrong.
     pub fn hex_made<E: Drop>(&mut self, text: &str, made: Result<Vec<u8>, E>) {
         match made {
             Ok(bytes) => self.hex(text, bytes.as_slice()),
@@ -60,31 +61,31 @@ impl Case {
         }
     }
 
-    /// A number of two bytes in hexadecimal behind a text.
+    /// Prints a text and then a number of two bytes in hexadecimal.
     pub fn hex_short(&mut self, text: &str, number: u16) {
         self.hex(text, &number.to_be_bytes());
     }
 
-    /// Why something is refused.
+    /// Prints why something is refused.
     pub fn refused<D: Display + Drop>(&mut self, fault: D) {
         self.say("refused, ", fault);
     }
 
-    /// The whole line, and why it is refused.
+    /// Prints the whole line, and why it is refused.
     pub fn refuse<D: Display + Drop>(&mut self, fault: D) {
         self.title("", ": ");
         self.refused(fault);
         self.end();
     }
 
-    /// The whole line, between two texts.
+    /// Prints the whole line between two texts.
     pub fn title(&mut self, before: &str, behind: &str) {
         let line = self.line.as_str();
         let written = write!(self.out, "{before}{line}{behind}");
         self.keep(written);
     }
 
-    /// The next word, and a text behind it.
+    /// Prints the next word and then a text.
     pub fn echo(&mut self, text: &str) {
         let written = match self.line.split(self.mark).nth(self.next) {
             Some(word) => write!(self.out, "{word}{text}"),
@@ -94,18 +95,18 @@ impl Case {
         self.keep(written);
     }
 
-    /// The end of a line.
+    /// Prints the end of a line.
     pub fn end(&mut self) {
         self.put('\n');
     }
 
-    /// A line that says one thing.
+    /// Prints a line with one thing.
     pub fn tell<D: Display + Drop>(&mut self, thing: D) {
         self.say("  ", thing);
         self.end();
     }
 
-    /// A line: a word where something was done, and else why it wasn't.
+    /// Prints a line with a word where something was done, and else with the reason why it wasn't.
     pub fn done<T: Drop, E: Display + Drop>(&mut self, done: Result<T, E>, word: &str) {
         match done {
             Ok(_) => self.tell(word),

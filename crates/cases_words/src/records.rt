@@ -1,11 +1,11 @@
-//! The records that gateways send to each other.
+//! Reading the records that gateways send to each other.
 
 use crate::Case;
 use nat_types::{Granted, Record};
 
 impl Case {
-    /// As `put udp 20000 192.168.1.10 5000`, `owner 20000 20001`, `begin`, `grant 20003 20001`: a grant has the ports of
-    /// all words that are left.
+    /// Reads a record, as `put udp 20000 192.168.1.10 5000`, `owner 20000 20001`, `begin`, `grant 20003 20001`. A grant
+    /// has the ports of all words that are left.
     pub fn record(&mut self) -> Record {
         match self.word() {
             "begin" => Record::Begin,

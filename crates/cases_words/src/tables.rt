@@ -1,4 +1,4 @@
-//! What single words stand for.
+//! The tables of the words that stand for a value each.
 
 use activity::Way;
 use addresses::Protocol;

@@ -5,7 +5,7 @@ use Rattle.frames.specs.Bytes.{Puts}
 use Rattle.frames.specs.Frame.{Frame, IsFrame, frame_of}
 use Rattle.frames.proofs.Puts.{take-before, part-here, drop-after}
 
--- frames with the same fields
+-- two frames with the same fields are equal
 same_fields : (f : Frame) (g : Frame) → f.dst ≡ g.dst → f.src ≡ g.src → f.ethertype ≡ g.ethertype → f.body ≡ g.body → f ≡ g
 same_fields f g d s t b =
     ap (λ (x : List ℕ). let h : Frame = record { dst = x; src = f.src; ethertype = f.ethertype; body = f.body } in h) d

@@ -5,7 +5,7 @@ use Rattle.std.proofs.lemmas.Slice.{drop-append-drop}
 use Rattle.std.proofs.Math.Seq.{drop-append_seam, take-append_seam}
 use Rattle.frames.specs.Bytes.{Puts}
 
--- what stands before the place
+-- the bytes before the place are as they were
 pub take-before : (at n : ℕ) (bytes old new : List ℕ) → n ≤ at → at ≤ length old → Puts at bytes old new → take n new ≡ take n old
 take-before at n bytes old new low fits puts =
     let len : length (take at old) ≡ at = length-take-le at old fits in
@@ -17,7 +17,7 @@ take-before at n bytes old new low fits puts =
     ∙ sym (take-append-le n (take at old) (drop at old) front)
     ∙ ap (take n) (take-append-drop at old)
 
--- from the place on
+-- from the place on, there are the written bytes, and after them the old ones
 pub drop-here : (at : ℕ) (bytes old new : List ℕ) → at ≤ length old → Puts at bytes old new → drop at new ≡ bytes ++ drop (at + length bytes) old
 drop-here at bytes old new fits puts =
     let len : length (take at old) ≡ at = length-take-le at old fits in
@@ -25,14 +25,14 @@ drop-here at bytes old new fits puts =
     ∙ ap (λ (k : ℕ). drop k (take at old ++ (bytes ++ drop (at + length bytes) old))) (sym len)
     ∙ drop-append_seam (take at old) (bytes ++ drop (at + length bytes) old)
 
--- the part that was written
+-- the part at the place is what was written
 pub part-here : (at n : ℕ) (bytes old new : List ℕ) → n ≡ length bytes → at ≤ length old → Puts at bytes old new → take n (drop at new) ≡ bytes
 part-here at n bytes old new size fits puts =
     ap (λ (k : ℕ). take k (drop at new)) size
     ∙ ap (take (length bytes)) (drop-here at bytes old new fits puts)
     ∙ take-append_seam bytes (drop (at + length bytes) old)
 
--- what stands after the place
+-- the bytes after the written ones are as they were
 pub drop-after : (at p : ℕ) (bytes old new : List ℕ) → at + length bytes ≤ p → at ≤ length old → Puts at bytes old new → drop p new ≡ drop p old
 drop-after at p bytes old new high fits puts =
     let len : length (take at old) ≡ at = length-take-le at old fits in

@@ -1,4 +1,4 @@
--- What the lender of two parts ends as.
+-- What bytes are after two parts of them were lent.
 use Rattle.std.specs.Prelude.{ℕ, List, ◌++◌}
 use Rattle.std.specs.Borrow.{LendsBoth, MutBor, Fml, Array, u8}
 

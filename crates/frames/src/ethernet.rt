@@ -29,7 +29,7 @@ use thiserror::Error;
 /// The bytes of the longest frame: its header and a body of 1,500 bytes.
 pub const LONGEST: usize = 1514;
 
-/// Where the header's fields lie.
+/// The places of the header's fields.
 mod field {
     use std::ops::Range;
 
@@ -42,7 +42,7 @@ mod field {
     pub const HEADER: usize = 14;
 }
 
-/// What a frame carries.
+/// The number of the protocol that a frame carries.
 #[derive(Clone, Copy, Debug, PartialEq, Eq)]
 pub struct EtherType(pub u16);
 
@@ -52,8 +52,8 @@ impl EtherType {
     pub const ARP: EtherType = EtherType(0x0806);
 }
 
-/// The numbers that IEEE 802 gives: the bytes of the longest frame, and what an IPv4 packet's
-/// EtherType is, and an ARP packet's.
+/// Returns the EtherTypes of IPv4 and of ARP. The clauses say the numbers that IEEE 802 gives: the
+/// bytes of the longest frame, and the two EtherTypes.
 pub fn numbers_law() -> (EtherType, EtherType)
     ensures longest { LONGEST ≡ 1514 }
     ensures ethertypes { result.0.0 ≡ 0x0800 × result.1.0 ≡ 0x0806 }
@@ -64,13 +64,13 @@ pub fn numbers_law() -> (EtherType, EtherType)
 /// Why bytes are no frame.
 #[derive(Clone, Copy, Debug, PartialEq, Eq, Error)]
 pub enum FrameFault {
-    /// Fewer than 14 bytes.
+    /// The bytes are fewer than the 14 of a header.
     #[error("the frame is too short")]
     TooShort,
 }
 
-/// An Ethernet frame in someone else's bytes: to whom (6 bytes), from whom (6), what it carries
-/// (2, as `08 00`), and its body.
+/// A reading view of an Ethernet frame in borrowed bytes: to whom (6 bytes), from whom (6), what it
+/// carries (2, as `08 00`), and its body.
 #[derive(Clone, Copy)]
 pub struct EthView<'a> {
     pub bytes: &'a [u8],
@@ -78,6 +78,7 @@ pub struct EthView<'a> {
 }
 
 impl<'a> EthView<'a> {
+    /// Returns a view of the frame, or TooShort where the bytes are fewer than the 14 of a header.
     pub fn parse(bytes: &'a [u8]) -> Result<EthView<'a>, FrameFault>
         ensures ok { IsOk result ↔ IsFrame bytes.now }
         ensures bytes { IfOk result (λ v. v.bytes.now ≡ bytes.now) }
@@ -106,7 +107,7 @@ impl<'a> EthView<'a> {
         EtherType(BigEndian::read_u16(&self.bytes[field::ETHERTYPE]))
     }
 
-    /// What follows the header, padding included.
+    /// Returns what follows the header, padding included.
     pub fn body(&self) -> &'a [u8]
         ensures { result.now ≡ (frame_of self.now.bytes.now).body }
     {
@@ -123,7 +124,7 @@ fn mac_at(bytes: &[u8]) -> Mac
     Mac(octets)
 }
 
-/// An Ethernet frame in bytes that are lent to be written.
+/// A writing view of an Ethernet frame in borrowed bytes.
 #[derive(Drop)]
 pub struct EthViewMut<'a> {
     pub bytes: &'a mut [u8],
@@ -131,8 +132,9 @@ pub struct EthViewMut<'a> {
 }
 
 impl<'a> EthViewMut<'a> {
-    /// Bytes that are refused are handed back as they were. A caller that is to know the bytes
-    /// afterwards tests them with [`EthView::parse`] and calls [`EthViewMut::new`].
+    /// Returns a writing view of a frame, or refuses bytes that are fewer than a header and gives
+    /// them back as they were. A caller that needs to know the bytes after the loan tests them with
+    /// [`EthView::parse`] and calls [`EthViewMut::new`].
     pub fn parse(bytes: &'a mut [u8]) -> Result<EthViewMut<'a>, Refused<'a, FrameFault>>
         ensures ok { IsOk result ↔ IsFrame bytes.old }
         ensures bytes { IfOk result (λ v. v.bytes.now ≡ bytes.old) }
@@ -146,6 +148,7 @@ impl<'a> EthViewMut<'a> {
         }
     }
 
+    /// Returns a writing view of bytes that begin with a whole header, without a test.
     pub fn new(bytes: &'a mut [u8]) -> EthViewMut<'a>
         requires { IsFrame bytes.old }
         ensures bytes { result.bytes.now ≡ bytes.old }
@@ -154,7 +157,7 @@ impl<'a> EthViewMut<'a> {
         EthViewMut { bytes }
     }
 
-    /// The same frame, to be read.
+    /// Returns a reading view of the same frame.
     pub fn view(&self) -> EthView<'_>
         ensures { result.bytes.now ≡ self.now.bytes.now }
     {
@@ -207,7 +210,7 @@ impl<'a> EthViewMut<'a> {
     }
 }
 
-/// A frame's header and its body, both to be written.
+/// Returns a frame's header and its body, both to be written.
 pub fn split_mut(bytes: &mut [u8]) -> (&mut [u8], &mut [u8])
     requires { IsFrame bytes.old }
     ensures* writes_back { sem 𝓛 (LendsParts bytes.entry result) }

@@ -1,6 +1,6 @@
-//! What is handed back where bytes that are lent to be written are refused.
+//! What a writing view answers where it refuses the bytes that are lent to it.
 
-/// Why bytes were refused, and the bytes, as they were.
+/// Why bytes were refused, and the bytes as they were.
 #[derive(Drop)]
 pub struct Refused<'a, F> {
     pub fault: F,

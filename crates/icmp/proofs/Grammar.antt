@@ -1,10 +1,10 @@
--- Tests and facts of a packet inside an error.
+-- The tests of a packet inside an error, and what they say of numbers.
 use Rattle.std.proofs.Common.{refl, ◌≡◌, ◌≤◌, ◌<◌, ℕ, ◌+◌, ◌%◌, Bool, true, false, not, ◌||◌, ◌==◌, nat_lt, arith, ap, ◌∙◌, sym, List, IsTrue, ◌↔◌}
 use Rattle.std.proofs.lemmas.Bool.Decides.{nat_tests}
 use Rattle.sums.specs.Sum.{word_sum, IsRight}
 use Rattle.ipv4.specs.Header.{has_wrong_sum}
 
--- the tests, of numbers
+-- the tests of a header, on numbers in the place of bytes
 abbrev pub no_header : (long version header sum offset protocol : ℕ) → Bool
 no_header long version header sum offset protocol =
     nat_lt long 20
@@ -32,7 +32,7 @@ pub record Passes (long version header sum offset protocol : ℕ) (other : Bool)
   pub from_some : 0 < from
   pub to_some : 0 < to
 
--- of three tests none fails where not one of them does
+-- where none of three tests is true, each of them is false
 pub three-clear : (a b d : Bool) → (a || b || d) ≡ false → (a ≡ false) × ((b ≡ false) × (d ≡ false))
 three-clear false false false e = (refl, (refl, refl))
 three-clear false false true e = cc
@@ -65,13 +65,13 @@ pub passes-none : (long version header sum offset protocol : ℕ) (other : Bool)
 passes-none long version header sum offset protocol false from to p = grind (arith, nat_tests)
 passes-none long version header sum offset protocol true from to p = let e = p.query in cc
 
--- a right sum isn't wrong
+-- a right sum isn't a wrong one
 right-number : (n : ℕ) (r : Bool) → IsTrue r ↔ ((n % 65535 ≡ 0) × (0 < n)) → r ≡ true → (not (n % 65535 == 0) || (n == 0)) ≡ false
 right-number n r decides tested = grind (arith, nat_tests)
 
 pub not_wrong : (bytes : List ℕ) (r : Bool) → IsTrue r ↔ IsRight bytes → r ≡ true → has_wrong_sum bytes ≡ false
 not_wrong bytes r decides tested = right-number (word_sum bytes) r decides tested
 
--- where two tests say no, the third one decides
+-- where the first two of three tests are false, the third decides
 pub third_decides : (a b x y : Bool) → a ≡ false → b ≡ false → x ≡ y → x ≡ (a || b || y)
 third_decides a b x y e f same = same ∙ (ap (λ (t : Bool). false || t || y) (sym f) ∙ ap (λ (t : Bool). t || b || y) (sym e))

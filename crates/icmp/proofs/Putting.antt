@@ -1,10 +1,10 @@
--- Parts that are written one after the other.
+-- Parts written one after the other.
 use Rattle.std.proofs.Common.{◌≡◌, ℕ, ◌+◌, List, ◌++◌, length, take, drop, sym, ap, ◌∙◌, arith, append_assoc, length-append}
 use Rattle.std.proofs.lemmas.List.{drop-drop, drop_at, take_at}
 use Rattle.addresses.specs.declared.Ip.{Ip}
 use Rattle.icmp.specs.Own.{own_message, own_packet}
 
--- a header, then a head, then what is carried, into bytes that begin with the header already
+-- bytes that begin with the header begin with header and head once the head is written after it
 after-header : (header head out : List ℕ) → length header ≡ 20
     → take 20 (header ++ drop 20 out) ++ (head ++ drop 8 (drop 20 (header ++ drop 20 out))) ≡ (header ++ head) ++ drop 28 out
 after-header header head out size =
@@ -27,7 +27,7 @@ three-parts header head carried out n inner size eight is_n is =
     ∙ (sym (append_assoc (header ++ head) carried (drop (28 + length carried) out))
     ∙ ap (λ (xs : List ℕ). xs ++ drop (28 + length carried) out) (append_assoc header head carried)))
 
--- a packet of the box says the same where its parts are the same
+-- two packets of the box are the same where their parts are the same
 pub same-packet : {service service2 : ℕ} {from from2 to to2 : Ip} {carried carried2 : List ℕ} (kind code first second : ℕ) (rest : List ℕ)
     → service ≡ service2 → from ≡ from2 → to ≡ to2 → carried ≡ carried2
     → own_packet service from.0 to.0 (own_message kind code first second carried) ++ rest

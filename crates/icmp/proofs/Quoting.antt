@@ -1,4 +1,4 @@
--- A packet as an error holds it, cut behind 548 bytes, is told as the whole packet is.
+-- A packet as an error holds it, cut after 548 bytes, has the flow of the whole packet.
 use Rattle.std.proofs.Common.{◌≡◌, ◌⊎◌, inl, inr, ℕ, ◌+◌, ◌-◌, ◌*◌, ◌%◌, ◌<◌, ◌≤◌, Bool, true, false, IsTrue, not, ◌&&◌, ◌==◌, nat_lt, if◌then◌else◌, List, ◌∷◌, ◌++◌, length, take, drop, min, refl, sym, ap, subst, ◌∙◌, arith, length-drop, take-append-drop}
 use Rattle.std.proofs.lemmas.Bool.{cases_lt}
 use Rattle.std.proofs.lemmas.Bool.Decides.{nat_tests}
@@ -34,7 +34,7 @@ header-take n xs far long = at (cases_lt n (length xs))
         sym (ap header_of (sym (take-append-drop n xs)) ∙ header-front (take n xs) (drop n xs) (omega (arith, size, far)))
     at (inr few) = ap header_of (take_all n xs few)
 
--- what is at least so long is still so long where it is cut there or behind
+-- a list that has at least k items still has them where it is cut there or later
 still-long : (k n : ℕ) (xs : List ℕ) → k ≤ n → k ≤ length xs → k ≤ length (take n xs)
 still-long k n xs far long = at (cases_lt n (length xs))
   where
@@ -42,7 +42,7 @@ still-long k n xs far long = at (cases_lt n (length xs))
     at (inl within) = let size : length (take n xs) ≡ n = length-take-le n xs (omega (arith, within)) in omega (arith, size, far)
     at (inr few) = let same : length (take n xs) ≡ length xs = ap length (take_all n xs few) in omega (arith, same, long)
 
--- cut at the lesser of two lengths
+-- a list cut at t and then at n is a list cut at the lesser of both
 pub cut-twice : (t n : ℕ) (xs : List ℕ) → take (min t n) xs ≡ take n (take t xs)
 cut-twice t n xs = at (cases_lt t n)
   where
@@ -55,19 +55,19 @@ cut-twice t n xs = at (cases_lt t n)
         let same : min t n ≡ n = omega (arith, above) in
         ap (λ (k : ℕ). take k xs) same ∙ sym (take-take n t xs above)
 
--- a cut behind what is dropped
+-- what is dropped before a cut shortens the cut by as much
 drop-cut : (h n : ℕ) (xs : List ℕ) → h ≤ n → drop h (take n xs) ≡ take (n - h) (drop h xs)
 drop-cut h n xs low =
     let whole : h + (n - h) ≡ n = omega (arith, low) in
     ap (λ (k : ℕ). drop h (take k xs)) (sym whole) ∙ drop-take h (n - h) xs
 
--- ---- what stands behind a header, by its first eight bytes
+-- ---- the bytes after a header, of which the first eight count
 
--- which protocol a number is
+-- the translated protocol of a number
 abbrev numbered : ℕ → Protocol
 numbered n = (if n == 1 then Icmp else if n == 6 then Tcp else Udp)
 
--- a flow by its protocol, its header and what stands behind that
+-- a flow by its protocol, its header and the bytes after the header
 abbrev flow_by : Protocol → Header → List ℕ → Flow
 flow_by protocol header bytes = record {
   protocol = protocol;
@@ -103,10 +103,11 @@ begins-cut kind m bytes long =
 
 -- ---- what is translated
 
--- the number of a protocol, and what stands behind a header, from which the flow can be told
+-- the bytes after a header are an ICMP message that is no query
 abbrev other_message : ℕ → List ℕ → Bool
 other_message n bytes = (n == 1) && not (begins_with Echo bytes) && not (begins_with Reply bytes)
 
+-- the flow can be read from a protocol's number and the bytes after a header
 record Tells (n : ℕ) (bytes : List ℕ) : Type 0 where
   long : 8 ≤ length bytes
   translated : IsTrue (is_translated n)
@@ -147,7 +148,7 @@ tells packet (inl (inr tcp)) = tells-tcp (header_of packet).protocol (payload_of
 tells packet (inr (inl q)) = tells-query Echo (header_of packet).protocol (payload_of packet) q.protocol q.query (inl (told-begins Echo (payload_of packet) q.query))
 tells packet (inr (inr q)) = tells-query Reply (header_of packet).protocol (payload_of packet) q.protocol q.query (inr (told-begins Reply (payload_of packet) q.query))
 
--- the same of what is cut
+-- where the flow can be read from the bytes after a header, it can be read from these bytes cut off
 tells-cut : (n m : ℕ) (bytes : List ℕ) → 8 ≤ length (take m bytes) → (header : Header) → Tells n bytes → Tells n (take m bytes)
 tells-cut n m bytes long header t =
     let flow = flow-cut (numbered n) header m bytes long in
@@ -164,7 +165,7 @@ tells-cut n m bytes long header t =
 
 -- ---- the packet inside
 
--- all that is asked of it, of its header and of what stands behind that
+-- a packet with such a header and such bytes after it is one that an error holds
 quoted-of : (q : List ℕ) → 20 ≤ length q → (header_of q).version ≡ 4 → 20 ≤ (header_of q).header_length → (header_of q).header_length + 8 ≤ length q
     → IsRight (take (header_of q).header_length q) → (header_of q).fragment_offset ≡ 0 → Tells (header_of q).protocol (behind q) → IsQuoted q
 quoted-of q long version holds there sum first t = record {
@@ -184,7 +185,7 @@ quoted-of q long version holds there sum first t = record {
 most : (b : ℕ) → 4 * (b % 16) ≤ 60
 most b = omega arith
 
--- what is said of a packet that is cut: its header is the same, and what stands behind it is cut
+-- a packet that is cut has the same header, and the bytes after it are cut
 pub record IsCutOff (packet q : List ℕ) (m : ℕ) : Type 0 where
   pub header : header_of q ≡ header_of packet
   pub behind_is : behind q ≡ take m (payload_of packet)
@@ -235,7 +236,7 @@ quoted-told packet ip translatable =
     (ap (λ (a : Header). a.fragment_offset) c.header ∙ ip.first)
     (subst B (sym c.behind_is) (subst N (sym number) (tells-cut (header_of packet).protocol m (payload_of packet) c.eight (header_of packet) t)))
 
--- its flow is that of the whole packet
+-- the packet inside has the flow of the whole packet
 pub quoted-flows : (packet : List ℕ) → IsIpv4 packet → IsTranslatable packet → quoted_flow (quoted packet) ≡ flow_of packet
 quoted-flows packet ip translatable =
     let t = tells packet translatable in

@@ -1,4 +1,4 @@
--- What the box's own packets and messages spell.
+-- What is read from the packets and messages that the box writes.
 use Rattle.std.proofs.Common.{◌≡◌, ℕ, ◌+◌, ◌-◌, ◌*◌, ◌/◌, ◌%◌, ◌<◌, List, length, take, drop, slice_index, refl, sym, ap, ◌∙◌, arith}
 use Rattle.std.proofs.lemmas.List.{get_or-drop}
 use Rattle.std.proofs.Math.Seq.{take-length}
@@ -9,15 +9,15 @@ use Rattle.icmp.specs.Own.{own_message, own_packet, IsOwnPacket, IsReplyTo, repl
 use Rattle.icmp.specs.Query.{IsQuery, query_of, query_data}
 use Rattle.icmp.specs.declared.kinds.Kind.TheVariants.{Reply}
 
--- a message with its checksum is right
+-- a message that is written with its checksum is right
 pub right_message : (kind code first second : ℕ) (bytes : List ℕ) → IsRight (own_message kind code first second bytes)
 right_message kind code first second bytes = (omega arith, omega arith)
 
--- a word and a number in their bytes
+-- a word and a number are read from the bytes that they are written in
 word-written : (x : ℕ) → x < 65536 → x / 256 % 256 * 256 + (x % 256 * 1 + 0) ≡ x
 word-written x h = omega arith
 
--- behind a word that is 0
+-- a word after a word that is 0 is read as a number of 32 bits
 pub second-written : (x : ℕ) → x < 65536 → 0 * 16777216 + (0 * 65536 + (x / 256 % 256 * 256 + (x % 256 * 1 + 0))) ≡ x
 second-written x h = omega arith
 
@@ -55,7 +55,7 @@ spelled service from to message small from_fits to_fits fits =
       payload = ap (λ (k : ℕ). take (k - 20) message) total ∙ (ap (λ (k : ℕ). take k message) behind ∙ take-length message);
     }
 
--- a word of bytes fits
+-- a word that is read from bytes is below 65536
 word-fits : (place : ℕ) (bytes : List ℕ) → ((i : ℕ) → slice_index bytes i < 256) → word_at place bytes < 65536
 word-fits place bytes fits =
     let high : slice_index (drop place bytes) 0 < 256 = rw (get_or-drop place bytes 0 0) (fits (place + 0)) in

@@ -1,4 +1,4 @@
--- Where no test fails, bytes are in the grammar, and the other way round.
+-- Bytes are in the grammar exactly where no test fails.
 use Rattle.std.proofs.Common.{◌≡◌, ◌≤◌, ◌<◌, ℕ, ◌-◌, ◌%◌, Bool, true, false, not, ◌&&◌, ◌||◌, ◌==◌, nat_lt, List, length, take, drop, arith, ap, ◌∙◌, sym, Some, None, if◌then◌else◌, refl}
 use Rattle.std.proofs.lemmas.Bool.Decides.{nat_tests}
 use Rattle.std.proofs.lemmas.List.{length-drop}
@@ -48,7 +48,7 @@ told-quoted packet g =
       to_some = g.to;
     })
 
--- a whole rest is what stands behind
+-- the bytes after the first n are all that is left
 pub take-rest : (n : ℕ) (bytes : List ℕ) → take (length bytes - n) (drop n bytes) ≡ drop n bytes
 take-rest n bytes = ap (λ (k : ℕ). take k (drop n bytes)) (sym (length-drop n bytes)) ∙ take-length (drop n bytes)
 
@@ -73,7 +73,7 @@ right-clear n e =
 clear-right : (n : ℕ) → n % 65535 ≡ 0 → 0 < n → (not (n % 65535 == 0) || (n == 0)) ≡ false
 clear-right n zero some = grind (arith, nat_tests)
 
--- a message of an error's type with which nothing is wrong
+-- a message of an error's type that fails no test is an error
 pub error-told : (message : List ℕ) → has_error_kind message ≡ true → has_no_error message ≡ false → IsError message
 error-told message kind e =
     let p = three-clear (nat_lt (length message) 8) (has_wrong_sum message) (has_no_packet (inside_of message)) e in
@@ -91,7 +91,7 @@ told-error message g =
     (clear-right (word_sum message) g.sum.0 g.sum.1)
     (told-quoted (inside_of message) g.inside)
 
--- two tests, and three, in an order
+-- where two tests, or three, in an order give no fault, none of them fails
 pub two-clear : (x y : IcmpFault) (k b : Bool) → (if not k then Some x else (if b then Some y else None)) ≡ None → (k ≡ true) × (b ≡ false)
 two-clear x y true false e = (refl, refl)
 two-clear x y true true e = cc
@@ -120,7 +120,7 @@ same-number m n e = grind (arith, nat_tests)
 pub number-same : (m n : ℕ) → m ≡ n → (m == n) ≡ true
 number-same m n e = grind (arith, nat_tests)
 
--- the tests of a query, of numbers
+-- the tests of a query's beginning, on numbers in the place of bytes
 begun : (long kind number code : ℕ) → (nat_lt 0 long && (kind == number) && (code == 0)) ≡ true → (kind ≡ number) × (code ≡ 0)
 begun long kind number code e =
     let same : kind ≡ number = grind (arith, nat_tests) in
@@ -139,7 +139,7 @@ identified long identifier e =
 identified-back : (long identifier : ℕ) → 8 ≤ long → 0 < identifier → (nat_lt long 8 || (identifier == 0)) ≡ false
 identified-back long identifier e f = grind (arith, nat_tests)
 
--- a message that begins as a kind's does, and with whose header nothing is wrong
+-- a message that begins as a query of a kind, and whose header fails no test, is one
 pub query-told : (kind : Kind) (message : List ℕ) → begins_with kind message ≡ true → has_no_identifier message ≡ false → IsQuery kind message
 query-told kind message begins e =
     let q = query_of message in
@@ -155,7 +155,7 @@ told-begins kind message g =
 pub told-identified : (kind : Kind) (message : List ℕ) → IsQuery kind message → has_no_identifier message ≡ false
 told-identified kind message g = identified-back (length message) (query_of message).identifier g.long g.identifier
 
--- one test alone
+-- where one test gives no fault, it doesn't fail
 pub one-clear : (x : IcmpFault) (b : Bool) → (if b then Some x else None) ≡ None → b ≡ false
 one-clear x false e = refl
 one-clear x true e = cc
@@ -172,7 +172,7 @@ not-was : (b : Bool) → b ≡ true → not b ≡ false
 not-was true e = refl
 not-was false e = cc
 
--- a whole Echo with a right checksum
+-- a message that fails no test of an Echo is an Echo to the box
 pub ask-told : (message : List ℕ) → has_no_ask message ≡ false → IsAsk message
 ask-told message e =
     let q = query_of message in

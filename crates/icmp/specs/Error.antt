@@ -26,7 +26,7 @@ message_of payload = record {
   parameter = big_number 4 (drop 4 payload);
 }
 
--- the packet inside, and what stands behind it
+-- the packet inside, and what follows it
 abbrev pub inside_of : List ℕ → List ℕ
 inside_of message = drop HEADER message
 
@@ -34,7 +34,7 @@ inside_of message = drop HEADER message
 abbrev pub is_error : ℕ → Bool
 is_error kind = (kind == UNREACHABLE) || (kind == TIME_EXCEEDED) || (kind == PARAMETER_PROBLEM)
 
--- a whole message of an error's type, its checksum right, a packet inside; whatever the code is
+-- a whole message of an error's type with a right checksum and a packet inside, whatever the code is
 pub record IsError (message : List ℕ) : Type 0 where
   pub long : HEADER ≤ length message
   pub kind : IsTrue (is_error (message_of message).kind)
@@ -45,14 +45,14 @@ pub record IsError (message : List ℕ) : Type 0 where
 abbrev pub has_error_kind : List ℕ → Bool
 has_error_kind message = is_error (message_of message).kind
 
--- something is wrong with a message of an error's type, or with the packet inside
+-- a message of an error's type is cut off, or its checksum or the packet inside is wrong
 abbrev pub has_no_error : List ℕ → Bool
 has_no_error message =
     nat_lt (length message) HEADER
     || has_wrong_sum message
     || has_no_packet (inside_of message)
 
--- why a message is no error
+-- why a message is no error, None where it is one
 abbrev pub error_refusal : List ℕ → Option IcmpFault
 error_refusal message =
     first_fault (

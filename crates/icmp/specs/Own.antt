@@ -1,5 +1,4 @@
--- What the box says itself, in packets of its own: Echo Reply, Time Exceeded and Fragmentation Needed (RFC 792,
--- RFC 1191).
+-- The packets that the box itself sends: Echo Reply, Time Exceeded and Fragmentation Needed (RFC 792, RFC 1191).
 use Rattle.std.specs.Prelude.{◌≡◌, ℕ, ◌+◌, List, [], ◌∷◌, ◌++◌, length, take}
 use Rattle.byteorder.specs.Endian.{big_bytes}
 use Rattle.sums.specs.Sum.{IsRight, checksum_of}
@@ -20,17 +19,17 @@ header_with checksum service total from to =
     (0x45 ∷ service ∷ []) ++ big_bytes 2 total ++ big_bytes 2 0 ++ big_bytes 2 DONT_FRAGMENT
     ++ (TTL ∷ PROTOCOL ∷ []) ++ big_bytes 2 checksum ++ big_bytes 4 from ++ big_bytes 4 to
 
--- its checksum is the complement of its whole sum
+-- a header without options whose checksum is the complement of its whole sum
 abbrev pub own_header : (service total from to : ℕ) → List ℕ
 own_header service total from to =
     header_with (checksum_of (header_with 0 service total from to)) service total from to
 
--- what stands before a message's data: type, code, checksum and two words
+-- the bytes before a message's data: type, code, checksum and two words
 abbrev pub head_with : (checksum kind code first second : ℕ) → List ℕ
 head_with checksum kind code first second =
     (kind ∷ code ∷ []) ++ big_bytes 2 checksum ++ big_bytes 2 first ++ big_bytes 2 second
 
--- the head before these data: its checksum is the complement of the whole sum over the message
+-- the bytes before these data, with the complement of the whole sum over the message as the checksum
 abbrev pub own_head : (kind code first second : ℕ) → List ℕ → List ℕ
 own_head kind code first second bytes =
     head_with (checksum_of (head_with 0 kind code first second ++ bytes)) kind code first second
@@ -51,15 +50,14 @@ reply_message ask =
 abbrev pub reply_packet : List ℕ → (from to : ℕ) → List ℕ
 reply_packet ask from to = own_packet 0 from to (reply_message ask)
 
--- a packet as it came, without padding, and as much of it as a packet of 576 bytes has room for (RFC 1812,
--- section 4.3.2.3)
+-- a packet as it came, without padding, cut to what a packet of 576 bytes can hold of it (RFC 1812, section 4.3.2.3)
 abbrev pub quoted : List ℕ → List ℕ
 quoted packet = take QUOTED (take (header_of packet).total_length packet)
 
 abbrev pub exceeded_message : List ℕ → List ℕ
 exceeded_message packet = own_message TIME_EXCEEDED 0 0 0 (quoted packet)
 
--- Fragmentation Needed tells how long a packet may be (RFC 1191, section 4)
+-- Fragmentation Needed says how many bytes a packet may have (RFC 1191, section 4)
 abbrev pub too_long_message : List ℕ → ℕ → List ℕ
 too_long_message packet mtu = own_message UNREACHABLE FRAGMENTATION_NEEDED 0 mtu (quoted packet)
 
@@ -70,7 +68,7 @@ exceeded_packet packet from to = own_packet CONTROL from to (exceeded_message pa
 abbrev pub too_long_packet : List ℕ → (mtu from to : ℕ) → List ℕ
 too_long_packet packet mtu from to = own_packet CONTROL from to (too_long_message packet mtu)
 
--- a packet carries this message from the box: all that its header says
+-- a packet of the box carries this message, and its header has these values
 pub record IsOwnPacket (service from to : ℕ) (message packet : List ℕ) : Type 0 where
   pub right : IsIpv4 packet
   pub header_length : (header_of packet).header_length ≡ 20
@@ -93,7 +91,7 @@ pub record IsReplyTo (ask message : List ℕ) : Type 0 where
   pub sequence_number : (query_of message).sequence_number ≡ (query_of ask).sequence_number
   pub carried : query_data message ≡ query_data ask
 
--- a message is an error of this type, code and parameter about a packet, whose flow can be told of what is inside
+-- a message is an error of this type, code and parameter about a packet, and the packet inside has that packet's flow
 pub record IsErrorAbout (packet : List ℕ) (kind code parameter : ℕ) (message : List ℕ) : Type 0 where
   pub error : IsError message
   pub kind_is : (message_of message).kind ≡ kind

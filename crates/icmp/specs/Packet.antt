@@ -16,7 +16,7 @@ pub record IsErrorPacket (packet : List ℕ) : Type 0 where
   pub protocol : (header_of packet).protocol ≡ PROTOCOL
   pub error : IsError (payload_of packet)
 
--- why an IPv4 packet carries none
+-- why an IPv4 packet carries no error, None where it carries one
 abbrev pub packet_refusal : List ℕ → Option IcmpFault
 packet_refusal packet =
     first_fault (
@@ -25,7 +25,7 @@ packet_refusal packet =
     ∷ (has_no_error (payload_of packet), BadError)
     ∷ [])
 
--- from whom to whom it goes, and the way of the packet inside
+-- from whom to whom an error goes, and the flow of the packet inside
 abbrev pub error_flow : List ℕ → ErrorFlow
 error_flow packet = record {
   source = record { 0 = (header_of packet).source };
@@ -33,13 +33,13 @@ error_flow packet = record {
   inside = quoted_flow (inside_of (payload_of packet));
 }
 
--- what the first reading finds out
+-- what the first reading of an error's packet finds out
 abbrev pub error_packet_of : List ℕ → ErrorPacket
 error_packet_of packet = record {
   flow = error_flow packet;
   length = (header_of packet).total_length;
 }
 
--- of queries it is about one of this kind alone
+-- the packet inside an error is of another protocol than ICMP, or begins as a query of this kind
 abbrev pub is_about : Kind → List ℕ → Bool
 is_about kind packet = may_be kind (inside_of (payload_of packet))

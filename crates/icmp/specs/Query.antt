@@ -37,11 +37,11 @@ query_of message = record {
   sequence_number = word_at 6 message;
 }
 
--- what stands behind them
+-- the bytes after these fields
 abbrev pub query_data : List ℕ → List ℕ
 query_data message = drop HEADER message
 
--- a whole header of this kind, with code 0 and an identifier; whatever the checksum is
+-- a message has a whole header of this kind, with code 0 and an identifier other than 0, whatever the checksum is
 pub record IsQuery (kind : Kind) (message : List ℕ) : Type 0 where
   pub long : HEADER ≤ length message
   pub type_is : (query_of message).kind ≡ kind_number kind
@@ -53,11 +53,11 @@ abbrev pub begins_with : Kind → List ℕ → Bool
 begins_with kind message =
     nat_lt 0 (length message) && (slice_index message 0 == kind_number kind) && (code_of message == 0)
 
--- its header is cut off, or its identifier is 0
+-- a message's header is cut off, or its identifier is 0
 abbrev pub has_no_identifier : List ℕ → Bool
 has_no_identifier message = nat_lt (length message) HEADER || ((query_of message).identifier == 0)
 
--- why a message is no query of a kind
+-- why a message is no query of a kind, None where it is one
 abbrev pub query_refusal : Kind → List ℕ → Option IcmpFault
 query_refusal kind message =
     first_fault (
@@ -70,7 +70,7 @@ pub record IsQueryPacket (kind : Kind) (packet : List ℕ) : Type 0 where
   pub protocol : (header_of packet).protocol ≡ PROTOCOL
   pub query : IsQuery kind (payload_of packet)
 
--- why an IPv4 packet carries none
+-- why an IPv4 packet carries no query of a kind, None where it carries one
 abbrev pub query_packet_refusal : Kind → List ℕ → Option IcmpFault
 query_packet_refusal kind packet =
     first_fault (

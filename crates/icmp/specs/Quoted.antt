@@ -9,7 +9,7 @@ use Rattle.icmp.specs.declared.kinds.Kind.{Kind}
 use Rattle.icmp.specs.declared.kinds.Kind.TheVariants.{Echo, Reply}
 use Rattle.icmp.specs.declared.quoted.field.TheConstants.{FIXED, BEHIND}
 
--- what stands behind the header
+-- the bytes after the header
 abbrev pub behind : List ℕ → List ℕ
 behind packet = drop (header_of packet).header_length packet
 
@@ -17,26 +17,26 @@ behind packet = drop (header_of packet).header_length packet
 abbrev pub is_translated : ℕ → Bool
 is_translated protocol = (protocol == 1) || (protocol == 6) || (protocol == 17)
 
--- the packet is of ICMP, but begins as no query does
+-- the packet is of ICMP, but doesn't begin as a query
 abbrev pub has_no_query : List ℕ → Bool
 has_no_query packet =
     ((header_of packet).protocol == 1)
     && not (begins_with Echo (behind packet))
     && not (begins_with Reply (behind packet))
 
--- the packet may be a query of this kind, since it is of another protocol or begins as one
+-- the packet may be a query of this kind: it is of another protocol, or begins as one
 abbrev pub may_be : Kind → List ℕ → Bool
 may_be kind packet = not ((header_of packet).protocol == 1) || begins_with kind (behind packet)
 
--- the ports that stand behind the header; of a query the identifier is both
+-- the ports after the header; of a query the identifier is both
 abbrev pub port_from : List ℕ → ℕ
 port_from packet = word_at (source_place (protocol_of packet)) (behind packet)
 
 abbrev pub port_to : List ℕ → ℕ
 port_to packet = word_at (destination_place (protocol_of packet)) (behind packet)
 
--- a whole and right header of no later fragment, 8 bytes or more behind it, UDP, TCP or a query between
--- ports that aren't 0; the total length isn't asked
+-- a whole and right header of no later fragment, 8 bytes or more after it, and UDP, TCP or a query between ports that
+-- aren't 0; the total length isn't tested
 pub record IsQuoted (packet : List ℕ) : Type 0 where
   pub long : FIXED ≤ length packet
   pub version : (header_of packet).version ≡ 4
@@ -49,7 +49,7 @@ pub record IsQuoted (packet : List ℕ) : Type 0 where
   pub from : 0 < port_from packet
   pub to : 0 < port_to packet
 
--- its header isn't there, isn't right, or isn't that of a translated packet's beginning
+-- the packet's header is cut off, is wrong, or is of a later fragment or of a protocol that isn't translated
 abbrev pub has_no_header : List ℕ → Bool
 has_no_header packet =
     nat_lt (length packet) FIXED
@@ -64,7 +64,7 @@ has_no_header packet =
 abbrev pub has_no_ports : List ℕ → Bool
 has_no_ports packet = (port_from packet == 0) || (port_to packet == 0)
 
--- there is no packet inside that can be told
+-- there is no packet inside whose flow can be read
 abbrev pub has_no_packet : List ℕ → Bool
 has_no_packet packet = has_no_header packet || has_no_query packet || has_no_ports packet
 

@@ -10,7 +10,7 @@ use crate::{IcmpFault, Kind};
 use addresses::Port;
 use sums::is_right;
 
-/// An Echo to the box: the whole payload of its packet.
+/// A reading view of an Echo to the box, which is the whole payload of its packet.
 #[derive(Clone, Copy)]
 pub struct AskView<'a> {
     pub bytes: &'a [u8],
@@ -18,7 +18,7 @@ pub struct AskView<'a> {
 }
 
 impl<'a> AskView<'a> {
-    /// Refused as NotAsked where anything is wrong with it: its type, its code, its length, its checksum.
+    /// Returns a view of an Echo, or NotAsked where its type, its code, its length or its checksum is wrong.
     pub fn parse(message: &'a [u8]) -> Result<AskView<'a>, IcmpFault>
         ensures refusal { result_err result ≡ ask_refusal message.now }
         ensures ok { IsOk result ↔ IsAsk message.now }
@@ -36,7 +36,7 @@ impl<'a> AskView<'a> {
         checksum(self.bytes)
     }
 
-    /// Any number, 0 too.
+    /// Returns the identifier, which may be 0.
     pub fn identifier(&self) -> Port
         ensures { result.0 ≡ (query_of self.now.bytes.now).identifier }
     {
@@ -62,7 +62,7 @@ fn no_ask(message: &[u8]) -> bool
     message.len() < field::HEADER || !is_begun(Kind::Echo, message) || !is_right(message)
 }
 
-/// The messages that aren't refused are those of the grammar.
+/// The messages that [`AskView::parse`] accepts are exactly those of the grammar `IsAsk`.
 pub fn ask_grammar()
     ensures { (message : List ℕ) → (ask_refusal message ≡ None) ↔ IsAsk message }
 {}

@@ -33,7 +33,7 @@ use sums::is_right;
 /// The number of ICMP in an IPv4 header.
 pub const PROTOCOL: u8 = 1;
 
-/// Where the message's fields lie.
+/// The places of the message's fields.
 mod field {
     use std::ops::Range;
 
@@ -48,14 +48,14 @@ mod field {
     pub const HEADER: usize = 8;
 }
 
-/// Destination Unreachable, of which Fragmentation Needed is one.
+/// The type Destination Unreachable; Fragmentation Needed is one of its codes.
 pub(crate) const UNREACHABLE: u8 = 3;
 
 pub(crate) const TIME_EXCEEDED: u8 = 11;
 
 const PARAMETER_PROBLEM: u8 = 12;
 
-/// An ICMP error: the whole payload of its packet.
+/// A reading view of an ICMP error, which is the whole payload of its packet.
 #[derive(Clone, Copy)]
 pub struct ErrorView<'a> {
     pub bytes: &'a [u8],
@@ -63,8 +63,9 @@ pub struct ErrorView<'a> {
 }
 
 impl<'a> ErrorView<'a> {
-    /// Refused as NotError where there is no type, or another one than an error's; else as BadError
-    /// where anything is wrong with the message or with the packet inside.
+    /// Returns a view of an error. Answers NotError where the message has no type, or another one
+    /// than an error's, and else BadError where anything is wrong with the message or with the
+    /// packet inside.
     pub fn parse(message: &'a [u8]) -> Result<ErrorView<'a>, IcmpFault>
         ensures refusal { result_err result ≡ error_refusal message.now }
         ensures ok { IsOk result ↔ IsError message.now }
@@ -79,7 +80,7 @@ impl<'a> ErrorView<'a> {
         Ok(ErrorView { bytes: message })
     }
 
-    /// The type: 3, 11 or 12.
+    /// Returns the type: 3, 11 or 12.
     pub fn kind(&self) -> u8
         ensures { result ≡ (message_of self.now.bytes.now).kind }
     {
@@ -98,14 +99,14 @@ impl<'a> ErrorView<'a> {
         checksum(self.bytes)
     }
 
-    /// The 4 bytes that are carried unchanged.
+    /// Returns the 4 bytes that are carried unchanged, as one number.
     pub fn parameter(&self) -> u32
         ensures { result ≡ (message_of self.now.bytes.now).parameter }
     {
         parameter(self.bytes)
     }
 
-    /// The packet that the error is about.
+    /// Returns the packet that the error is about.
     pub fn inside(&self) -> QuotedView<'a>
         ensures { result.bytes.now ≡ inside_of self.now.bytes.now }
     {
@@ -150,7 +151,7 @@ fn is_error_type(kind: u8) -> bool
     kind == UNREACHABLE || kind == TIME_EXCEEDED || kind == PARAMETER_PROBLEM
 }
 
-/// Whether a message begins with an error's type: an empty one doesn't.
+/// Whether a message begins with an error's type. An empty one doesn't.
 pub fn is_error_message(message: &[u8]) -> bool
     ensures { result ≡ has_error_kind message.now }
 {
@@ -169,8 +170,8 @@ fn no_error(message: &[u8]) -> bool
     !is_right(message) || no_packet(&message[field::HEADER..])
 }
 
-/// The messages that aren't refused are those of the grammar; and the numbers that the definitions
-/// take from the code are the RFC's.
+/// The messages that [`ErrorView::parse`] accepts are exactly those of the grammar `IsError`. The
+/// numbers that the definitions take from the code are the RFC's.
 pub fn error_grammar()
     ensures grammar { (message : List ℕ) → (error_refusal message ≡ None) ↔ IsError message }
     ensures protocol { ICMP ≡ 1 }
@@ -180,7 +181,7 @@ pub fn error_grammar()
     ensures header { HEADER ≡ 8 }
 {}
 
-/// The beginning of an ICMP message in bytes that are lent to be written.
+/// A writing view of the beginning of an ICMP error in borrowed bytes.
 #[derive(Drop)]
 pub struct ErrorViewMut<'a> {
     pub bytes: &'a mut [u8],
@@ -188,8 +189,9 @@ pub struct ErrorViewMut<'a> {
 }
 
 impl<'a> ErrorViewMut<'a> {
-    /// A message that is refused is handed back as it was. A caller that is to know the bytes
-    /// afterwards tests them with [`ErrorView::parse`] and calls [`ErrorViewMut::new`].
+    /// Returns a writing view of an error, or refuses the message as [`ErrorView::parse`] does and
+    /// gives it back as it was. A caller that needs to know the bytes after the loan tests them
+    /// with [`ErrorView::parse`] and calls [`ErrorViewMut::new`].
     pub fn parse(message: &'a mut [u8]) -> Result<ErrorViewMut<'a>, Refused<'a, IcmpFault>>
         ensures ok { IsOk result ↔ IsError message.old }
         ensures fault { IfErr result (λ r. Some r.fault ≡ error_refusal message.old) }
@@ -209,7 +211,8 @@ impl<'a> ErrorViewMut<'a> {
         }
     }
 
-    /// The bytes begin with type, code, checksum and parameter.
+    /// Returns a writing view of bytes that begin with type, code, checksum and parameter, without
+    /// a test.
     pub fn new(bytes: &'a mut [u8]) -> ErrorViewMut<'a>
         requires { 8 ≤ length bytes.old }
         ensures bytes { result.bytes.now ≡ bytes.old }
@@ -236,7 +239,7 @@ impl<'a> ErrorViewMut<'a> {
         checksum(self.bytes)
     }
 
-    /// The 4 bytes that are carried unchanged.
+    /// Returns the 4 bytes that are carried unchanged, as one number.
     pub fn parameter(&self) -> u32
         ensures { result ≡ (message_of self.now.bytes.now).parameter }
     {

@@ -1,22 +1,23 @@
-//! Why bytes are refused.
+//! Why bytes are refused as an ICMP message.
 use thiserror::Error;
 
-/// Why bytes are no ICMP message that is taken.
+/// Why bytes are refused as an ICMP message.
 #[derive(Clone, Copy, Debug, PartialEq, Eq, Error)]
 pub enum IcmpFault {
-    /// Of another type than an error's, or not of ICMP at all.
+    /// The message has no type or another one than an error's, or the packet isn't of ICMP.
     #[error("no ICMP error")]
     NotError,
-    /// A wrong checksum, or a packet inside that can't be told from its bytes.
+    /// The error has a wrong checksum, or the packet inside can't be read from its bytes.
     #[error("a bad ICMP error")]
     BadError,
-    /// Of another type than the one that is asked for, of a code other than 0, or not of ICMP at all.
+    /// The message has no type, another type than the query's or a code other than 0, or the packet isn't of ICMP.
     #[error("no ICMP query")]
     NotQuery,
-    /// A header that is cut off, or an identifier 0.
+    /// The query's header is cut off, or its identifier is 0.
     #[error("a bad ICMP query")]
     BadQuery,
-    /// No Echo to the box: of another type, of a code other than 0, cut off or of a wrong checksum.
+    /// The message is no Echo to the box: its type is another one, its code isn't 0, it is cut off, or its checksum is
+    /// wrong.
     #[error("no Echo to the box")]
     NotAsked,
 }

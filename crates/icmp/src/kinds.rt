@@ -2,7 +2,7 @@
 ghost use Rattle.std.specs.Prelude.{◌≡◌};
 ghost use Rattle.icmp.specs.Query.{kind_number};
 
-/// Echo asks, Reply answers it.
+/// A kind of query that is translated: an Echo, or the Reply that answers it.
 #[derive(Clone, Copy, Debug, PartialEq, Eq)]
 pub enum Kind {
     Echo,
@@ -10,7 +10,7 @@ pub enum Kind {
 }
 
 impl Kind {
-    /// The type of its messages: 8 or 0.
+    /// Returns the type of the kind's messages: 8 or 0.
     pub fn number(self) -> u8
         ensures { result ≡ kind_number self }
     {

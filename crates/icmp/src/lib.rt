@@ -1,5 +1,5 @@
-//! ICMP errors and the packets inside them, and ICMP queries (RFC 792), read and written in place; Echos to the
-//! box itself, and what it says.
+//! ICMP errors and the packets inside them, and ICMP queries (RFC 792), read and written in place; and the messages
+//! between the box itself and a host: Echos to the box, and the replies and errors that it sends.
 #![tactic(auto)]
 
 mod asks;

@@ -1,5 +1,5 @@
-//! What the box says itself (RFC 792): Echo Reply, Time Exceeded and Fragmentation Needed, each in a packet
-//! without options, of identification 0, with Don't Fragment and TTL 64.
+//! The packets that the box itself sends (RFC 792): Echo Reply, Time Exceeded and Fragmentation Needed, each without
+//! options, with identification 0, Don't Fragment and TTL 64.
 //!
 //! ```text
 //!  0                                 20     21     22         24           26            28
@@ -8,9 +8,9 @@
 //! +---------------------------------+------+------+----------+------------+-------------+------+
 //! ```
 //!
-//! The words of a Reply are identifier and sequence number, and its data are those of the Echo. The first word
-//! of an error is 0, the second how long a packet may be, or 0; its data are a packet's beginning. 192.168.1.1
-//! answers 192.168.1.10:
+//! The words of a Reply are identifier and sequence number, and its data are those of the Echo. The first word of an
+//! error is 0, the second is the most bytes that a packet may have, or 0, and the error's data are the beginning of the
+//! packet that it is about. 192.168.1.1 answers 192.168.1.10:
 //!
 //! ```text
 //! 45         00 0020     0000   4000           40     01   b781     c0a80101    c0a8010a
@@ -35,24 +35,24 @@ use byteorder::{BigEndian, ByteOrder};
 use ipv4::Ipv4View;
 use sums::{add, sum};
 
-/// Where what is written lies in the packet.
+/// The places, in the packet, of what is written.
 mod layout {
     use std::ops::Range;
 
-    /// The checksum in the header.
+    /// The checksum of the IPv4 header.
     pub const CHECKSUM: Range<usize> = 10..12;
     /// The bytes of a header without options.
     pub const HEADER: usize = 20;
 
-    /// The checksum in a message.
+    /// The checksum of a message.
     pub const MESSAGE_CHECKSUM: Range<usize> = 2..4;
     /// The bytes before a message's data.
     pub const HEAD: usize = 8;
-    /// Where the data begin.
+    /// The place of the data in the packet.
     pub const DATA: usize = 28;
 }
 
-/// The version in the high half, the header's length in 4-byte words in the low one.
+/// The first byte of a header: version 4 in the high half, the header's length of 5 words of 4 bytes in the low one.
 const VERSION_AND_LENGTH: u8 = 0x45;
 
 /// The flag Don't Fragment.
@@ -66,10 +66,10 @@ const CONTROL: u8 = 0xc0;
 /// The code of Fragmentation Needed.
 const FRAGMENTATION_NEEDED: u8 = 4;
 
-/// The most bytes of a packet that an error holds.
+/// The most bytes of a packet that an error holds: with its own 28 the error has 576.
 const QUOTED: usize = 548;
 
-/// What stands before a message's data.
+/// The fields of a message before its data, without the checksum.
 #[derive(Clone, Copy)]
 struct Said {
     kind: u8,
@@ -78,7 +78,7 @@ struct Said {
     second: u16,
 }
 
-/// Where a packet goes, and with which type of service.
+/// From where to where a packet goes, and with which type of service.
 #[derive(Clone, Copy)]
 struct Way {
     service: u8,
@@ -86,7 +86,7 @@ struct Way {
     to: Ip,
 }
 
-/// The header of a packet of this length.
+/// Returns the header of a packet of `total` bytes, with its checksum.
 fn summed_header(way: Way, total: u16) -> [u8; layout::HEADER]
     ensures { result ≡ own_header way.service total way.from.0 way.to.0 }
 {
@@ -127,7 +127,7 @@ fn unsummed_header(way: Way, total: u16) -> [u8; layout::HEADER]
     ]
 }
 
-/// What stands before these data, with the checksum of the whole message.
+/// Returns what comes before these data in a message, with the checksum of the whole message.
 fn summed_head(said: Said, carried: &[u8]) -> [u8; layout::HEAD]
     ensures { result ≡ own_head said.kind said.code said.first said.second carried.now }
 {
@@ -147,7 +147,7 @@ fn unsummed_head(said: Said) -> [u8; layout::HEAD]
     ]
 }
 
-/// Writes three parts, one after the other.
+/// Writes header, head and data one after the other, and leaves the bytes after them.
 fn put(header: &[u8; layout::HEADER], head: &[u8; layout::HEAD], carried: &[u8], out: &mut [u8])
     requires { 28 + length carried.now ≤ length out.old }
     ensures { out.new
@@ -158,7 +158,7 @@ fn put(header: &[u8; layout::HEADER], head: &[u8; layout::HEAD], carried: &[u8],
     out[layout::DATA..layout::DATA + carried.len()].copy_from_slice(carried);
 }
 
-/// Writes a packet of the box, and gives its length.
+/// Writes a packet of the box at the beginning of `out`, and returns its length in bytes.
 fn write(way: Way, said: Said, carried: &[u8], out: &mut [u8]) -> usize
     requires room { 28 + length carried.now ≤ length out.old }
     requires fits { 28 + length carried.now < 2 ^ 16 }
@@ -175,7 +175,7 @@ fn write(way: Way, said: Said, carried: &[u8], out: &mut [u8]) -> usize
     total
 }
 
-/// Writes the Reply to an Echo from the address that was asked, and gives its length.
+/// Writes the Reply to an Echo, from the address that the Echo was sent to. Returns the packet's length in bytes.
 pub fn reply(ask: &AskView<'_>, from: Ip, to: Ip, out: &mut [u8; 1500]) -> usize
     requires { 20 + length ask.now.bytes.now ≤ 1500 }
     ensures len { result ≡ 20 + length ask.now.bytes.now }
@@ -196,7 +196,7 @@ pub fn reply(ask: &AskView<'_>, from: Ip, to: Ip, out: &mut [u8; 1500]) -> usize
     write(way, said, ask.data(), out)
 }
 
-/// Writes a Time Exceeded about a packet, and gives its length.
+/// Writes a Time Exceeded about a packet. Returns the length of the packet that carries it, in bytes.
 pub fn exceeded(packet: &Ipv4View<'_>, from: Ip, to: Ip, out: &mut [u8; 576]) -> usize
     ensures len { result ≡ 28 + length (quoted packet.now.bytes.now) }
     ensures written { out.new
@@ -211,7 +211,8 @@ pub fn exceeded(packet: &Ipv4View<'_>, from: Ip, to: Ip, out: &mut [u8; 576]) ->
     write(complaining(from, to), said, quoted(packet), out)
 }
 
-/// Writes a Fragmentation Needed about a packet that is longer than `mtu`, and gives its length.
+/// Writes a Fragmentation Needed about a packet that is longer than `mtu` bytes. Returns the length of the packet that
+/// carries it, in bytes.
 pub fn too_long(packet: &Ipv4View<'_>, mtu: u16, from: Ip, to: Ip, out: &mut [u8; 576]) -> usize
     ensures len { result ≡ 28 + length (quoted packet.now.bytes.now) }
     ensures written { out.new
@@ -238,7 +239,7 @@ fn complaining(from: Ip, to: Ip) -> Way
     }
 }
 
-/// As much of a packet as an error holds.
+/// Returns as much of a packet, without padding, as an error holds.
 fn quoted<'a>(packet: &Ipv4View<'a>) -> &'a [u8]
     ensures bytes { result.now ≡ quoted packet.now.bytes.now }
     ensures cut { length result.now ≤ 548 }
@@ -246,8 +247,8 @@ fn quoted<'a>(packet: &Ipv4View<'a>) -> &'a [u8]
     &packet.bytes[..packet.total_length().min(QUOTED)]
 }
 
-/// What is written is a packet, and its header says what it is to say. The numbers that the definitions take
-/// from the code are the RFCs'.
+/// A packet that the box writes is an IPv4 packet, and its header has the values of `IsOwnPacket`. The numbers that
+/// the definitions take from the code are the RFCs'.
 pub fn own_packet_law()
     ensures packet { (service from to : ℕ) (message : List ℕ) → service < 2 ^ 8 → from < 2 ^ 32
         → to < 2 ^ 32 → 20 + length message < 2 ^ 16
@@ -259,7 +260,7 @@ pub fn own_packet_law()
     ensures quoted { QUOTED ≡ 548 }
 {}
 
-/// What answers an Echo is its Reply, and a query of the grammar where the identifier isn't 0.
+/// The message that the box sends to an Echo is a Reply to it, and a query of the grammar where the identifier isn't 0.
 pub fn reply_law()
     ensures reply { (ask : List ℕ) → ((i : ℕ) → slice_index ask i < 256) → IsAsk ask
         → IsReplyTo ask (reply_message ask) }
@@ -267,7 +268,7 @@ pub fn reply_law()
         → 0 < (query_of ask).identifier → IsQuery Reply (reply_message ask) }
 {}
 
-/// What is said about a packet that is translated is an error of the grammar about that packet.
+/// The message that the box sends about a packet that is translated is an error of the grammar about that packet.
 pub fn own_error_law()
     ensures exceeded { (packet : List ℕ) → IsIpv4 packet → IsTranslatable packet
         → IsErrorAbout packet 11 0 0 (exceeded_message packet) }

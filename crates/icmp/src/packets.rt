@@ -1,4 +1,5 @@
-//! What the first reading of an error or of a query finds out, so that nobody has to read it again.
+//! What the first reading of an error or of a query finds out, so that no later step reads the
+//! packet again.
 ghost use Rattle.std.specs.Prelude.{◌≡◌, ◌≤◌, ◌↔◌, length, IsOk, IfOk, None, List, ℕ};
 ghost use Rattle.std.specs.Result.{result_err};
 ghost use Rattle.ipv4.specs.Flow.{flow_of, packet_of};
@@ -13,7 +14,7 @@ use crate::{ErrorView, IcmpFault, Kind, PROTOCOL, QueryView};
 use addresses::{Ip, Protocol};
 use ipv4::{Flow, Ipv4View, Packet};
 
-/// From whom to whom an error goes, and the way of the packet that it is about.
+/// From whom to whom an error goes, and the flow of the packet that it is about.
 #[derive(Clone, Copy, Debug, PartialEq, Eq)]
 pub struct ErrorFlow {
     pub source: Ip,
@@ -21,7 +22,7 @@ pub struct ErrorFlow {
     pub inside: Flow,
 }
 
-/// What a packet that carries an error says of itself.
+/// What is read of a packet that carries an error.
 #[derive(Clone, Copy, Debug, PartialEq, Eq)]
 pub struct ErrorPacket {
     pub flow: ErrorFlow,
@@ -30,8 +31,8 @@ pub struct ErrorPacket {
 }
 
 impl ErrorPacket {
-    /// Reads a packet that carries an error, or refuses it: as NotError where it isn't of ICMP,
-    /// else as [`ErrorView::parse`] does.
+    /// Reads a packet that carries an error. Answers NotError where the packet isn't of ICMP, and
+    /// else refuses it as [`ErrorView::parse`] does.
     pub fn parse(view: &Ipv4View<'_>) -> Result<ErrorPacket, IcmpFault>
         ensures refusal { result_err result ≡ packet_refusal view.now.bytes.now }
         ensures ok { IsOk result ↔ IsErrorPacket view.now.bytes.now }
@@ -47,7 +48,8 @@ impl ErrorPacket {
         })
     }
 
-    /// Whether an error is about a packet of another protocol, or about a query of this kind.
+    /// Whether the packet inside an error is of another protocol than ICMP, or begins as a query of
+    /// this kind.
     pub fn is_about(kind: Kind, view: &Ipv4View<'_>) -> bool
         requires { IsErrorPacket view.now.bytes.now }
         ensures { result ≡ is_about kind view.now.bytes.now }
@@ -58,7 +60,7 @@ impl ErrorPacket {
 }
 
 impl ErrorFlow {
-    /// The flow of a packet that carries an error.
+    /// Returns the flow of a packet that carries an error, without a test.
     pub fn of(view: &Ipv4View<'_>) -> ErrorFlow
         requires { IsErrorPacket view.now.bytes.now }
         ensures { result ≡ error_flow view.now.bytes.now }
@@ -67,7 +69,7 @@ impl ErrorFlow {
         ErrorFlow::carrying(view, &ErrorView { bytes })
     }
 
-    /// The flow of a packet that carries this error.
+    /// Returns the flow of a packet that carries this error.
     fn carrying(view: &Ipv4View<'_>, error: &ErrorView<'_>) -> ErrorFlow
         requires { error.now.bytes.now ≡ payload_of view.now.bytes.now }
         ensures { result ≡ error_flow view.now.bytes.now }
@@ -80,13 +82,14 @@ impl ErrorFlow {
     }
 }
 
-/// The packets that aren't refused are those of the grammar.
+/// The packets that [`ErrorPacket::parse`] accepts are exactly those of the grammar
+/// `IsErrorPacket`.
 pub fn error_packet_grammar()
     ensures { (packet : List ℕ) → (packet_refusal packet ≡ None) ↔ IsErrorPacket packet }
 {}
 
-/// Reads a packet that carries a query of this kind, or refuses it: as NotQuery where it isn't of
-/// ICMP, else as [`QueryView::parse`] does.
+/// Reads a packet that carries a query of this kind. Answers NotQuery where the packet isn't of
+/// ICMP, and else refuses it as [`QueryView::parse`] does.
 pub fn query_packet(kind: Kind, view: &Ipv4View<'_>) -> Result<Packet, IcmpFault>
     ensures refusal { result_err result ≡ query_packet_refusal kind view.now.bytes.now }
     ensures ok { IsOk result ↔ IsQueryPacket kind view.now.bytes.now }
@@ -99,7 +102,7 @@ pub fn query_packet(kind: Kind, view: &Ipv4View<'_>) -> Result<Packet, IcmpFault
     Ok(Packet::going(view, query_flow(view)))
 }
 
-/// The flow of a packet that carries a query: its identifier is both ports.
+/// Returns the flow of a packet that carries a query, without a test: its identifier is both ports.
 pub fn query_flow(view: &Ipv4View<'_>) -> Flow
     requires protocol { (header_of view.now.bytes.now).protocol ≡ ICMP }
     requires long { 8 ≤ length (payload_of view.now.bytes.now) }
@@ -115,7 +118,7 @@ pub fn query_flow(view: &Ipv4View<'_>) -> Flow
     }
 }
 
-/// The packets that aren't refused are those of the grammar.
+/// The packets that [`query_packet`] accepts are exactly those of the grammar `IsQueryPacket`.
 pub fn query_packet_grammar()
     ensures { (kind : KindValue) (packet : List ℕ)
         → (query_packet_refusal kind packet ≡ None) ↔ IsQueryPacket kind packet }

@@ -27,7 +27,7 @@ use addresses::Port;
 use byteorder::{BigEndian, ByteOrder};
 use frames::Refused;
 
-/// Where the message's fields lie.
+/// The places of the message's fields.
 pub(crate) mod field {
     use std::ops::Range;
 
@@ -44,7 +44,7 @@ pub(crate) mod field {
     pub const HEADER: usize = 8;
 }
 
-/// A query of one kind: the whole payload of its packet.
+/// A reading view of a query of one kind, which is the whole payload of its packet.
 #[derive(Clone, Copy)]
 pub struct QueryView<'a> {
     pub kind: Kind,
@@ -53,8 +53,8 @@ pub struct QueryView<'a> {
 }
 
 impl<'a> QueryView<'a> {
-    /// Refused as NotQuery where there is no type, another one than the kind's, or a code other than
-    /// 0; else as BadQuery where the header is cut off or the identifier is 0. The checksum isn't
+    /// Returns a view of a query. Answers NotQuery where the message has no type, another one than the kind's, or a
+    /// code other than 0; and else BadQuery where the header is cut off or the identifier is 0. The checksum isn't
     /// tested.
     pub fn parse(kind: Kind, message: &'a [u8]) -> Result<QueryView<'a>, IcmpFault>
         ensures refusal { result_err result ≡ query_refusal kind message.now }
@@ -80,7 +80,7 @@ impl<'a> QueryView<'a> {
         checksum(self.bytes)
     }
 
-    /// What stands in the place of a port; never 0.
+    /// Returns the identifier, which a translation treats as a port, and which is never 0.
     pub fn identifier(&self) -> Port
         ensures { result.0 ≡ (query_of self.now.bytes.now).identifier }
     {
@@ -121,7 +121,7 @@ pub(crate) fn sequence_number(bytes: &[u8]) -> u16
     BigEndian::read_u16(&bytes[field::SEQUENCE_NUMBER])
 }
 
-/// The code, and 0 where the message ends before it.
+/// Returns the code, or 0 where the message ends before it.
 fn code(message: &[u8]) -> u8
     ensures { result ≡ code_of message.now }
 {
@@ -131,8 +131,7 @@ fn code(message: &[u8]) -> u8
     }
 }
 
-/// Whether a message begins as one of this kind does: an empty one doesn't, and the code counts only
-/// where it is there.
+/// Whether a message begins as one of this kind does. An empty one doesn't, and the code counts only where it is there.
 pub(crate) fn is_begun(kind: Kind, message: &[u8]) -> bool
     ensures { result ≡ begins_with kind message.now }
 {
@@ -151,15 +150,15 @@ fn no_identifier(message: &[u8]) -> bool
     identifier(message).0 == 0
 }
 
-/// The messages that aren't refused are those of the grammar; and the number that the definitions
-/// take from the code is the RFC's.
+/// The messages that [`QueryView::parse`] accepts are exactly those of the grammar `IsQuery`. The number that the
+/// definitions take from the code is the RFC's.
 pub fn query_grammar()
     ensures grammar { (kind : KindValue) (message : List ℕ)
         → (query_refusal kind message ≡ None) ↔ IsQuery kind message }
     ensures header { HEADER ≡ 8 }
 {}
 
-/// The beginning of a query in bytes that are lent to be written.
+/// A writing view of the beginning of a query in borrowed bytes.
 #[derive(Drop)]
 pub struct QueryViewMut<'a> {
     pub bytes: &'a mut [u8],
@@ -167,8 +166,9 @@ pub struct QueryViewMut<'a> {
 }
 
 impl<'a> QueryViewMut<'a> {
-    /// A message that is refused is handed back as it was. A caller that is to know the bytes
-    /// afterwards tests them with [`QueryView::parse`] and calls [`QueryViewMut::new`].
+    /// Returns a writing view of a query, or refuses the message as [`QueryView::parse`] does and gives it back as it
+    /// was. A caller that needs to know the bytes after the loan tests them with [`QueryView::parse`] and calls
+    /// [`QueryViewMut::new`].
     pub fn parse(
         kind: Kind,
         message: &'a mut [u8],
@@ -191,7 +191,8 @@ impl<'a> QueryViewMut<'a> {
         }
     }
 
-    /// The bytes begin with type, code, checksum, identifier and sequence number.
+    /// Returns a writing view of bytes that begin with type, code, checksum, identifier and sequence number, without a
+    /// test.
     pub fn new(bytes: &'a mut [u8]) -> QueryViewMut<'a>
         requires { 8 ≤ length bytes.old }
         ensures bytes { result.bytes.now ≡ bytes.old }
@@ -206,7 +207,7 @@ impl<'a> QueryViewMut<'a> {
         checksum(self.bytes)
     }
 
-    /// What stands in the place of a port.
+    /// Returns the identifier, which a translation treats as a port.
     pub fn identifier(&self) -> Port
         ensures { result.0 ≡ (query_of self.now.bytes.now).identifier }
     {

@@ -1,6 +1,7 @@
-//! The packet inside an error, as much of it as was sent: its header whole and right, and at least
-//! 8 bytes behind it, where both ports stand, or the identifier of a query. It may be cut anywhere
-//! behind them, so its total length isn't asked, and it may be the first fragment of its packet.
+//! The packet inside an error, as much of it as was sent: its header, whole and right, and at least
+//! 8 bytes after the header, which hold both ports, or the identifier of a query. The packet may be
+//! cut anywhere after these 8 bytes, so its total length isn't tested, and it may be the first
+//! fragment of a larger packet.
 //!
 //! ```text
 //! 45         00 001e 0001   0000     05    11  c992 c0000201  c6336407     4e20  0035 000a5cdf
@@ -19,7 +20,7 @@ use byteorder::{BigEndian, ByteOrder};
 use ipv4::Flow;
 use sums::is_right;
 
-/// Where what is read of the packet lies; the ports are counted from the header's end.
+/// The places of what is read of the packet. The ports are counted from the header's end.
 mod field {
     use std::ops::Range;
 
@@ -39,16 +40,16 @@ mod field {
     pub const SOURCE_PORT: Range<usize> = 0..2;
 
     pub const DESTINATION_PORT: Range<usize> = 2..4;
-    /// Of a query it is both ports.
+    /// The identifier of a query, which is both ports.
     pub const IDENTIFIER: Range<usize> = 4..6;
-    /// The fewest bytes behind the header (RFC 792).
+    /// The fewest bytes after the header (RFC 792).
     pub const BEHIND: usize = 8;
 }
 
 /// One more than the greatest offset of a fragment.
 const OFFSETS: u16 = 0x2000;
 
-/// A packet as an error holds it, with what stands behind.
+/// A reading view of a packet as an error holds it, with whatever follows it in the error.
 #[derive(Clone, Copy)]
 pub struct QuotedView<'a> {
     pub bytes: &'a [u8],
@@ -56,6 +57,9 @@ pub struct QuotedView<'a> {
 }
 
 impl<'a> QuotedView<'a> {
+    /// Returns a view of the packet inside an error, or BadError where it can't be read: its header
+    /// or the 8 bytes after the header are cut off, its header is wrong or that of a later
+    /// fragment, it is neither UDP nor TCP nor a query, or a port is 0.
     pub fn parse(bytes: &'a [u8]) -> Result<QuotedView<'a>, IcmpFault>
         ensures ok { IsOk result ↔ IsQuoted bytes.now }
         ensures fault { IfErr result (λ f. f ≡ IcmpFault.BadError) }
@@ -67,7 +71,7 @@ impl<'a> QuotedView<'a> {
         Ok(QuotedView { bytes })
     }
 
-    /// The bytes of the header, 20 to 60.
+    /// Returns the bytes of the header, 20 to 60.
     pub fn header_length(&self) -> usize
         ensures value { result ≡ (header_of self.now.bytes.now).header_length }
         ensures low { 20 ≤ result }
@@ -76,7 +80,7 @@ impl<'a> QuotedView<'a> {
         header_length(self.bytes)
     }
 
-    /// From where to where the packet went, and by which protocol.
+    /// Returns from where to where the packet went, and by which protocol.
     pub fn flow(&self) -> Flow
         ensures { result ≡ quoted_flow self.now.bytes.now }
     {
@@ -98,7 +102,7 @@ impl<'a> QuotedView<'a> {
         protocol(self.bytes) != PROTOCOL || is_begun(kind, self.behind())
     }
 
-    /// What stands behind the header.
+    /// Returns what follows the header.
     pub fn behind(&self) -> &'a [u8]
         ensures bytes { result.now ≡ behind self.now.bytes.now }
         ensures long { 8 ≤ length result.now }
@@ -121,7 +125,7 @@ fn header_length(bytes: &[u8]) -> usize
     4 * usize::from(bytes[field::VERSION_AND_LENGTH] % 16)
 }
 
-/// What stands behind the header.
+/// Returns what follows the header.
 fn behind(bytes: &[u8]) -> &[u8]
     requires long { 20 ≤ length bytes.now }
     requires there { (header_of bytes.now).header_length + 8 ≤ length bytes.now }
@@ -145,7 +149,7 @@ fn protocol(bytes: &[u8]) -> u8
     bytes[field::PROTOCOL]
 }
 
-/// The protocol, where it is one that is translated.
+/// Returns the protocol of a packet that is translated.
 fn translated_protocol(bytes: &[u8]) -> Protocol
     requires { 20 ≤ length bytes.now }
     ensures { result ≡ protocol_of bytes.now }
@@ -160,7 +164,7 @@ fn translated_protocol(bytes: &[u8]) -> Protocol
     }
 }
 
-/// The source port behind a header; of a query its identifier.
+/// Returns the source port after a header, or the identifier of a query.
 fn source_port(protocol: Protocol, behind: &[u8]) -> Port
     requires { 8 ≤ length behind.now }
     ensures { result.0 ≡ word_at (source_place protocol) behind.now }
@@ -171,7 +175,7 @@ fn source_port(protocol: Protocol, behind: &[u8]) -> Port
     }
 }
 
-/// The destination port behind a header; of a query its identifier.
+/// Returns the destination port after a header, or the identifier of a query.
 fn destination_port(protocol: Protocol, behind: &[u8]) -> Port
     requires { 8 ≤ length behind.now }
     ensures { result.0 ≡ word_at (destination_place protocol) behind.now }
@@ -199,7 +203,7 @@ fn no_header(bytes: &[u8]) -> bool
         || Protocol::from_number(protocol(bytes)).is_none()
 }
 
-/// Whether a packet of ICMP begins as no query does.
+/// Whether a packet of ICMP doesn't begin as a query.
 fn no_query(bytes: &[u8]) -> bool
     requires long { 20 ≤ length bytes.now }
     requires there { (header_of bytes.now).header_length + 8 ≤ length bytes.now }
@@ -222,15 +226,15 @@ fn no_ports(bytes: &[u8]) -> bool
     source_port(protocol, behind).0 == 0 || destination_port(protocol, behind).0 == 0
 }
 
-/// Whether the bytes hold no packet that can be told.
+/// Whether the bytes hold no packet whose flow can be read.
 pub(crate) fn no_packet(bytes: &[u8]) -> bool
     ensures { result ≡ has_no_packet bytes.now }
 {
     no_header(bytes) || no_query(bytes) || no_ports(bytes)
 }
 
-/// The packets inside that aren't refused are those of the grammar; and the numbers that the
-/// definitions take from the code are the RFC's.
+/// The packets inside that [`QuotedView::parse`] accepts are exactly those of the grammar
+/// `IsQuoted`. The numbers that the definitions take from the code are the RFC's.
 pub fn quoted_grammar()
     ensures grammar { (bytes : List ℕ) → (has_no_packet bytes ≡ false) ↔ IsQuoted bytes }
     ensures fixed { FIXED ≡ 20 }

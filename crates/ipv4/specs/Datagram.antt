@@ -19,7 +19,7 @@ datagram_of payload = record {
   checksum = word_at 6 payload;
 }
 
--- what stands behind the UDP header, as far as its length goes
+-- the bytes after the UDP header, as far as the datagram's length goes
 abbrev pub data_of : List ℕ → List ℕ
 data_of payload = take ((datagram_of payload).udp_length - HEADER) (drop HEADER payload)
 

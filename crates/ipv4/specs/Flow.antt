@@ -7,21 +7,21 @@ use Rattle.ipv4.specs.Segment.{segment_of}
 use Rattle.ipv4.specs.declared.flows.Flow.{Flow}
 use Rattle.ipv4.specs.declared.packets.Packet.{Packet}
 
--- which of the three protocols a packet carries that is translated
+-- which of the three translated protocols a packet carries
 abbrev pub protocol_of : List ℕ → Protocol
 protocol_of packet =
     (if (header_of packet).protocol == 1 then Icmp
     else if (header_of packet).protocol == 6 then Tcp
     else Udp)
 
--- where the source port stands in a payload: a UDP or TCP header begins with the two ports, and of an
--- ICMP query the identifier is both
+-- the place of the source port in a payload: a UDP or TCP header begins with the two ports, and the identifier of an
+-- ICMP query is both
 abbrev pub source_place : Protocol → ℕ
 source_place Icmp = 4
 source_place Tcp = 0
 source_place Udp = 0
 
--- where the destination port stands
+-- the place of the destination port in a payload
 abbrev pub destination_place : Protocol → ℕ
 destination_place Icmp = 4
 destination_place Tcp = 2
@@ -39,8 +39,7 @@ flow_of packet =
       destination_port = record { 0 = word_at (destination_place protocol) (payload_of packet) };
     }
 
--- what the first reading of such a packet finds out; the flags are byte 13 of the payload, whatever
--- the protocol is
+-- what the first reading of such a packet finds out; the flags are byte 13 of the payload, whatever the protocol is
 abbrev pub packet_of : List ℕ → Packet
 packet_of packet = record {
   flow = flow_of packet;

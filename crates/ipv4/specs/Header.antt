@@ -46,17 +46,17 @@ header_of bytes = record {
   destination = big_number 4 (drop 16 bytes);
 }
 
--- what stands in the header behind its first 20 bytes
+-- the bytes of the header after its first 20
 abbrev pub options_of : List ℕ → List ℕ
 options_of bytes = take ((header_of bytes).header_length - FIXED) (drop FIXED bytes)
 
--- what stands behind the header, without padding
+-- the bytes after the header, without padding
 abbrev pub payload_of : List ℕ → List ℕ
 payload_of bytes =
     let header = header_of bytes in
     take (header.total_length - header.header_length) (drop header.header_length bytes)
 
--- the bytes begin with a whole IPv4 packet, its header right and it no fragment
+-- the bytes begin with a whole IPv4 packet that has a right header and is no fragment
 pub record IsIpv4 (bytes : List ℕ) : Type 0 where
   pub long : FIXED ≤ length bytes
   pub version : (header_of bytes).version ≡ 4
@@ -67,15 +67,15 @@ pub record IsIpv4 (bytes : List ℕ) : Type 0 where
   pub last : (header_of bytes).more_fragments ≡ 0
   pub first : (header_of bytes).fragment_offset ≡ 0
 
--- the sum over a header isn't right
+-- the checksum of a header is wrong
 abbrev pub has_wrong_sum : List ℕ → Bool
 has_wrong_sum bytes = not (word_sum bytes % 65535 == 0) || (word_sum bytes == 0)
 
--- a part of a larger packet
+-- the packet is a part of a larger one
 abbrev pub is_fragment : Header → Bool
 is_fragment header = not (header.more_fragments == 0) || not (header.fragment_offset == 0)
 
--- why bytes are no IPv4 packet
+-- why bytes are no IPv4 packet, None where they are one
 abbrev pub ipv4_refusal : List ℕ → Option Ipv4Fault
 ipv4_refusal bytes =
     let header = header_of bytes in

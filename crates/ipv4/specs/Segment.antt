@@ -41,15 +41,16 @@ segment_of payload = record {
   urgent = word_at 18 payload;
 }
 
--- what stands in the header behind its first 20 bytes
+-- the bytes of the header after its first 20
 abbrev pub segment_options : List ℕ → List ℕ
 segment_options payload = take ((segment_of payload).header_length - FIXED) (drop FIXED payload)
 
--- what stands behind the header
+-- the bytes after the header
 abbrev pub segment_data : List ℕ → List ℕ
 segment_data payload = drop (segment_of payload).header_length payload
 
--- a payload is a segment between ports that aren't 0, its data offset 5 or more and inside
+-- a payload is a segment between ports that aren't 0, with a data offset of at least 5 words that lies inside the
+-- payload
 pub record IsSegment (payload : List ℕ) : Type 0 where
   pub long : FIXED ≤ length payload
   pub holds_fields : FIXED ≤ (segment_of payload).header_length

@@ -1,13 +1,13 @@
-//! Why bytes are refused.
+//! Why bytes are refused as an IPv4 packet, or as a UDP or TCP one.
 use thiserror::Error;
 
-/// Why bytes are no packet that is taken: the first test that fails, in this order.
+/// Why bytes are refused: the first test that fails, in the order of the variants.
 #[derive(Clone, Copy, Debug, PartialEq, Eq, Error)]
 pub enum Ipv4Fault {
-    /// Fewer than 20 bytes.
+    /// The bytes are fewer than 20.
     #[error("the packet is too short")]
     TooShort,
-    /// Not version 4, or a header of fewer than 20 bytes.
+    /// The version isn't 4, or the header has fewer than 20 bytes.
     #[error("no header of version 4")]
     BadVersion,
     /// The total length is less than the header's, or more than the bytes that are there.
@@ -19,7 +19,7 @@ pub enum Ipv4Fault {
     Fragment,
     #[error("neither UDP nor TCP")]
     NotUdpTcp,
-    /// The transport's header is cut off, has a length that can't be, or a port 0.
+    /// The UDP or TCP header is cut off, has an impossible length, or a port 0.
     #[error("a bad transport header")]
     BadTransport,
 }

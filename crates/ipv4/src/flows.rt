@@ -7,8 +7,7 @@ ghost use Rattle.ipv4.specs.Header.{payload_of};
 use crate::{Ipv4View, Transport};
 use addresses::{Ip, Port, Protocol};
 
-/// From where to where a packet goes, and by which protocol. Of an ICMP query the identifier is both
-/// ports.
+/// From where to where a packet goes, and by which protocol. An ICMP query has its identifier as both ports.
 #[derive(Clone, Copy, Debug, PartialEq, Eq)]
 pub struct Flow {
     pub protocol: Protocol,
@@ -19,7 +18,7 @@ pub struct Flow {
 }
 
 impl Flow {
-    /// The flow of a UDP or TCP packet.
+    /// Returns the flow of a UDP or TCP packet.
     pub fn of(packet: &Ipv4View<'_>) -> Flow
         requires { IsTransport packet.now.bytes.now }
         ensures { result ≡ flow_of packet.now.bytes.now }
@@ -27,7 +26,7 @@ impl Flow {
         Flow::carrying(packet, &Transport::of(packet))
     }
 
-    /// The flow of a packet that carries this.
+    /// Returns the flow of a packet that carries this datagram or segment.
     #[inline(always)]
     pub(crate) fn carrying(packet: &Ipv4View<'_>, transport: &Transport<'_>) -> Flow
         requires bytes { carried_bytes transport.now ≡ payload_of packet.now.bytes.now }

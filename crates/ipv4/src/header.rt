@@ -11,8 +11,8 @@
 //! +--------------------+-----------------+----------------+----------------+
 //! ```
 //!
-//! Flags stand at 6, the TTL at 8, the protocol at 9, the checksum at 10, the source at 12, the
-//! destination at 16, options from 20 on. A UDP packet from 192.168.1.10 to 198.51.100.7:
+//! The flags are at byte 6, the TTL at 8, the protocol at 9, the checksum at 10, the source at 12,
+//! the destination at 16, options from 20 on. A UDP packet from 192.168.1.10 to 198.51.100.7:
 //!
 //! ```text
 //! 45         00 001e     0001   0000  40     11  8ee1     c0a8010a     c6336407
@@ -33,7 +33,7 @@ use byteorder::{BigEndian, ByteOrder};
 use frames::Refused;
 use sums::is_right;
 
-/// Where the header's fields lie.
+/// The places of the header's fields.
 mod field {
     use std::ops::Range;
 
@@ -61,10 +61,11 @@ mod field {
     pub const FIXED: usize = 20;
 }
 
-/// The flag More Fragments. A fragment's offset is what lies below it.
+/// The flag More Fragments. The bits below it are a fragment's offset.
 const MORE_FRAGMENTS: u16 = 0x2000;
 
-/// An IPv4 packet in someone else's bytes, of which those behind its total length are padding.
+/// A reading view of an IPv4 packet in borrowed bytes. Bytes after the packet's total length are
+/// padding.
 #[derive(Clone, Copy)]
 pub struct Ipv4View<'a> {
     pub bytes: &'a [u8],
@@ -72,6 +73,8 @@ pub struct Ipv4View<'a> {
 }
 
 impl<'a> Ipv4View<'a> {
+    /// Returns a view of the packet at the beginning of these bytes, or the first fault in the
+    /// order of [`Ipv4Fault`]. Of a transport's header nothing is tested.
     pub fn parse(bytes: &'a [u8]) -> Result<Ipv4View<'a>, Ipv4Fault>
         ensures refusal { result_err result ≡ ipv4_refusal bytes.now }
         ensures ok { IsOk result ↔ IsIpv4 bytes.now }
@@ -97,7 +100,7 @@ impl<'a> Ipv4View<'a> {
         Ok(Ipv4View { bytes })
     }
 
-    /// The bytes of the header, 20 to 60.
+    /// Returns the bytes of the header, 20 to 60.
     pub fn header_length(&self) -> usize
         ensures value { result ≡ (header_of self.now.bytes.now).header_length }
         ensures low { 20 ≤ result }
@@ -112,7 +115,7 @@ impl<'a> Ipv4View<'a> {
         type_of_service(self.bytes)
     }
 
-    /// The bytes of header and payload.
+    /// Returns the bytes of header and payload.
     pub fn total_length(&self) -> usize
         ensures value { result ≡ (header_of self.now.bytes.now).total_length }
         ensures low { (header_of self.now.bytes.now).header_length ≤ result }
@@ -127,7 +130,7 @@ impl<'a> Ipv4View<'a> {
         identification(self.bytes)
     }
 
-    /// The flags in the high 3 bits, the fragment's offset in the low 13.
+    /// Returns the flags in the high 3 bits, the fragment's offset in the low 13.
     pub fn flags_word(&self) -> u16
         ensures { result ≡ (header_of self.now.bytes.now).flags_word }
     {
@@ -140,14 +143,14 @@ impl<'a> Ipv4View<'a> {
         ttl(self.bytes)
     }
 
-    /// The number of what is carried (RFC 790).
+    /// Returns the number of the protocol that the packet carries (RFC 790).
     pub fn protocol(&self) -> u8
         ensures { result ≡ (header_of self.now.bytes.now).protocol }
     {
         protocol(self.bytes)
     }
 
-    /// What is carried, where it is translated.
+    /// Returns the protocol that the packet carries, or None where it isn't translated.
     pub fn transport(&self) -> Option<Protocol>
         ensures { result ≡ protocol_numbered (header_of self.now.bytes.now).protocol }
     {
@@ -178,7 +181,7 @@ impl<'a> Ipv4View<'a> {
         &self.bytes[field::FIXED..self.header_length()]
     }
 
-    /// What is carried, without padding.
+    /// Returns what the packet carries, without padding.
     pub fn payload(&self) -> &'a [u8]
         ensures { result.now ≡ payload_of self.now.bytes.now }
     {
@@ -271,15 +274,15 @@ fn fragment(bytes: &[u8]) -> bool
     word / MORE_FRAGMENTS % 2 != 0 || word % MORE_FRAGMENTS != 0
 }
 
-/// The packets that aren't refused are those of the grammar; and the numbers that the definitions
-/// take from the code are the RFC's.
+/// The bytes that [`Ipv4View::parse`] accepts are exactly those of the grammar `IsIpv4`. The
+/// numbers that the definitions take from the code are the RFC's.
 pub fn ipv4_grammar()
     ensures grammar { (bytes : List ℕ) → (ipv4_refusal bytes ≡ None) ↔ IsIpv4 bytes }
     ensures fixed { FIXED ≡ 20 }
     ensures more_fragments { MORE_FRAGMENTS ≡ 8192 }
 {}
 
-/// An IPv4 header in bytes that are lent to be written.
+/// A writing view of an IPv4 header in borrowed bytes.
 #[derive(Drop)]
 pub struct Ipv4ViewMut<'a> {
     pub bytes: &'a mut [u8],
@@ -287,8 +290,9 @@ pub struct Ipv4ViewMut<'a> {
 }
 
 impl<'a> Ipv4ViewMut<'a> {
-    /// Bytes that are refused are handed back as they were. A caller that is to know the bytes
-    /// afterwards tests them with [`Ipv4View::parse`] and calls [`Ipv4ViewMut::new`].
+    /// Returns a writing view of a packet, or refuses bytes as [`Ipv4View::parse`] does and gives
+    /// them back as they were. A caller that needs to know the bytes after the loan tests them with
+    /// [`Ipv4View::parse`] and calls [`Ipv4ViewMut::new`].
     pub fn parse(bytes: &'a mut [u8]) -> Result<Ipv4ViewMut<'a>, Refused<'a, Ipv4Fault>>
         ensures ok { IsOk result ↔ IsIpv4 bytes.old }
         ensures fault { IfErr result (λ r. Some r.fault ≡ ipv4_refusal bytes.old) }
@@ -303,7 +307,7 @@ impl<'a> Ipv4ViewMut<'a> {
         }
     }
 
-    /// The bytes begin with an IPv4 header.
+    /// Returns a writing view of bytes that begin with an IPv4 header, without a test.
     pub fn new(bytes: &'a mut [u8]) -> Ipv4ViewMut<'a>
         requires { 20 ≤ length bytes.old }
         ensures bytes { result.bytes.now ≡ bytes.old }
@@ -312,7 +316,7 @@ impl<'a> Ipv4ViewMut<'a> {
         Ipv4ViewMut { bytes }
     }
 
-    /// The bytes of the header, as it says.
+    /// Returns the bytes of the header, as the header says.
     pub fn header_length(&self) -> usize
         ensures { result ≡ (header_of self.now.bytes.now).header_length }
     {
@@ -325,7 +329,7 @@ impl<'a> Ipv4ViewMut<'a> {
         type_of_service(self.bytes)
     }
 
-    /// The bytes of header and payload, as the header says.
+    /// Returns the bytes of header and payload, as the header says.
     pub fn total_length(&self) -> usize
         ensures { result ≡ (header_of self.now.bytes.now).total_length }
     {
@@ -338,7 +342,7 @@ impl<'a> Ipv4ViewMut<'a> {
         identification(self.bytes)
     }
 
-    /// The flags in the high 3 bits, the fragment's offset in the low 13.
+    /// Returns the flags in the high 3 bits, the fragment's offset in the low 13.
     pub fn flags_word(&self) -> u16
         ensures { result ≡ (header_of self.now.bytes.now).flags_word }
     {
@@ -351,7 +355,7 @@ impl<'a> Ipv4ViewMut<'a> {
         ttl(self.bytes)
     }
 
-    /// The number of what is carried (RFC 790).
+    /// Returns the number of the protocol that the packet carries (RFC 790).
     pub fn protocol(&self) -> u8
         ensures { result ≡ (header_of self.now.bytes.now).protocol }
     {

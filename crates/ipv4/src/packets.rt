@@ -1,4 +1,4 @@
-//! What the first reading of a packet finds out, so that nobody has to read it again.
+//! What the first reading of a packet finds out, so that no later step reads the packet again.
 ghost use Rattle.std.specs.Prelude.{◌≡◌, ◌↔◌, IsOk, IfOk};
 ghost use Rattle.std.specs.Result.{result_err};
 ghost use Rattle.ipv4.specs.Carried.{IsTransport, transport_refusal};
@@ -8,12 +8,12 @@ use crate::tcp::flags;
 use crate::{Flow, Ipv4Fault, Ipv4View, Transport};
 use addresses::TcpFlags;
 
-/// What a packet that is translated says of itself.
+/// What is read of a packet that is translated.
 #[derive(Clone, Copy, Debug, PartialEq, Eq)]
 pub struct Packet {
     pub flow: Flow,
-    /// The flags of a TCP segment. Of the other protocols nobody reads them: they are whatever stands
-    /// at their place.
+    /// The flags of a TCP segment. For other protocols the field has no meaning: it is read from the same byte of the
+    /// payload.
     pub flags: TcpFlags,
     /// The IPv4 total length: the bytes of header and payload, without padding.
     pub length: usize,
@@ -31,7 +31,7 @@ impl Packet {
         Ok(Packet::going(view, Flow::carrying(view, &transport)))
     }
 
-    /// What a packet of this flow says of itself.
+    /// Reads a packet whose flow is known, of whatever protocol.
     #[inline(always)]
     pub fn going(view: &Ipv4View<'_>, flow: Flow) -> Packet
         requires { flow ≡ flow_of view.now.bytes.now }

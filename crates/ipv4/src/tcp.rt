@@ -29,7 +29,7 @@ use addresses::{Port, TcpFlags};
 use byteorder::{BigEndian, ByteOrder};
 use frames::Refused;
 
-/// Where the header's fields lie.
+/// The places of the header's fields.
 mod field {
     use std::ops::Range;
 
@@ -54,19 +54,19 @@ mod field {
     pub const FIXED: usize = 20;
 }
 
-/// No more data from the sender.
+/// The flag FIN: the sender has no more data.
 const FIN: u8 = 0x01;
 
-/// Synchronize sequence numbers.
+/// The flag SYN: synchronize sequence numbers.
 const SYN: u8 = 0x02;
 
-/// Reset the connection.
+/// The flag RST: reset the connection.
 const RST: u8 = 0x04;
 
-/// The acknowledgement counts.
+/// The flag ACK: the acknowledgement number counts.
 const ACK: u8 = 0x10;
 
-/// A TCP segment: a packet's whole payload.
+/// A reading view of a TCP segment, which is a packet's whole payload.
 #[derive(Clone, Copy)]
 pub struct TcpView<'a> {
     pub bytes: &'a [u8],
@@ -74,7 +74,8 @@ pub struct TcpView<'a> {
 }
 
 impl<'a> TcpView<'a> {
-    /// The segment that is the payload of a TCP packet. The checksum isn't tested.
+    /// Returns a view of the segment that is the payload of a TCP packet, or BadTransport where its
+    /// header is cut off, its data offset is impossible or a port is 0. The checksum isn't tested.
     pub fn parse(payload: &'a [u8]) -> Result<TcpView<'a>, Ipv4Fault>
         ensures ok { IsOk result ↔ IsSegment payload.now }
         ensures fault { IfErr result (λ f. f ≡ Ipv4Fault.BadTransport) }
@@ -110,7 +111,7 @@ impl<'a> TcpView<'a> {
         acknowledgement(self.bytes)
     }
 
-    /// The bytes of the header, 20 to 60.
+    /// Returns the bytes of the header, 20 to 60.
     pub fn header_length(&self) -> usize
         ensures value { result ≡ (segment_of self.now.bytes.now).header_length }
         ensures low { 20 ≤ result }
@@ -150,7 +151,7 @@ impl<'a> TcpView<'a> {
         &self.bytes[field::FIXED..self.header_length()]
     }
 
-    /// The data behind the header and its options.
+    /// Returns the data after the header and its options.
     pub fn payload(&self) -> &'a [u8]
         ensures { result.now ≡ segment_data self.now.bytes.now }
     {
@@ -214,7 +215,7 @@ fn flags_by(bits: u8) -> TcpFlags
     }
 }
 
-/// The flags that a payload's control bits set: none where the payload ends before them.
+/// Returns the flags that a payload's control bits set: none where the payload ends before them.
 #[inline(always)]
 pub(crate) fn flags(payload: &[u8]) -> TcpFlags
     ensures { result ≡ (segment_of payload.now).flags }
@@ -259,8 +260,8 @@ fn no_segment(bytes: &[u8]) -> bool
         || destination_port(bytes).0 == 0
 }
 
-/// The payloads that aren't refused are those of the grammar; and the numbers that the definitions
-/// take from the code are the RFC's.
+/// The payloads that [`TcpView::parse`] accepts are exactly those of the grammar `IsSegment`. The
+/// numbers that the definitions take from the code are the RFC's.
 pub fn tcp_grammar()
     ensures grammar { (payload : List ℕ)
         → (has_no_segment payload ≡ false) ↔ IsSegment payload }
@@ -271,7 +272,7 @@ pub fn tcp_grammar()
     ensures ack { ACK ≡ 16 }
 {}
 
-/// A TCP header in bytes that are lent to be written.
+/// A writing view of a TCP header in borrowed bytes.
 #[derive(Drop)]
 pub struct TcpViewMut<'a> {
     pub bytes: &'a mut [u8],
@@ -279,9 +280,9 @@ pub struct TcpViewMut<'a> {
 }
 
 impl<'a> TcpViewMut<'a> {
-    /// The segment that is the payload of a TCP packet; one that is refused is handed back as it
-    /// was. A caller that is to know the bytes afterwards tests them with [`TcpView::parse`] and
-    /// calls [`TcpViewMut::new`].
+    /// Returns a writing view of the segment that is the payload of a TCP packet, or refuses the
+    /// payload as [`TcpView::parse`] does and gives it back as it was. A caller that needs to know
+    /// the bytes after the loan tests them with [`TcpView::parse`] and calls [`TcpViewMut::new`].
     pub fn parse(payload: &'a mut [u8]) -> Result<TcpViewMut<'a>, Refused<'a, Ipv4Fault>>
         ensures ok { IsOk result ↔ IsSegment payload.old }
         ensures fault { IfErr result (λ r. r.fault ≡ Ipv4Fault.BadTransport) }
@@ -301,7 +302,7 @@ impl<'a> TcpViewMut<'a> {
         Ok(TcpViewMut { bytes: payload })
     }
 
-    /// The bytes begin with the TCP header.
+    /// Returns a writing view of bytes that begin with a TCP header, without a test.
     pub fn new(bytes: &'a mut [u8]) -> TcpViewMut<'a>
         requires { 20 ≤ length bytes.old }
         ensures bytes { result.bytes.now ≡ bytes.old }
@@ -334,7 +335,7 @@ impl<'a> TcpViewMut<'a> {
         acknowledgement(self.bytes)
     }
 
-    /// The bytes of the header, as its data offset says.
+    /// Returns the bytes of the header, as its data offset says.
     pub fn header_length(&self) -> usize
         ensures { result ≡ (segment_of self.now.bytes.now).header_length }
     {

@@ -1,4 +1,4 @@
-//! UDP or TCP: the one way in to what a packet carries.
+//! UDP or TCP: the one view of what a packet carries.
 ghost use Rattle.std.specs.Prelude.{◌≡◌, ◌↔◌, IsOk, IfOk, None, List, ℕ};
 ghost use Rattle.std.specs.Result.{result_err};
 ghost use Rattle.ipv4.specs.Header.{payload_of, word_at};
@@ -8,7 +8,7 @@ ghost use Rattle.ipv4.specs.Carried.{IsTransport, transport_refusal, carried_byt
 use crate::{Ipv4Fault, Ipv4View, TcpView, UdpView};
 use addresses::{Port, Protocol};
 
-/// A UDP datagram or a TCP segment, as a packet carries it.
+/// A view of the UDP datagram or the TCP segment that a packet carries.
 #[derive(Clone, Copy)]
 pub enum Transport<'a> {
     Udp(UdpView<'a>),
@@ -16,8 +16,8 @@ pub enum Transport<'a> {
 }
 
 impl<'a> Transport<'a> {
-    /// What a packet carries: refused as NotUdpTcp where its protocol is neither, and as
-    /// BadTransport where its payload isn't what its protocol asks for. Checksums aren't tested.
+    /// Returns a view of what a packet carries, or NotUdpTcp where its protocol is neither, and
+    /// BadTransport where its payload isn't what its protocol requires. Checksums aren't tested.
     #[inline(always)]
     pub fn parse(packet: &Ipv4View<'a>) -> Result<Transport<'a>, Ipv4Fault>
         ensures refusal { result_err result ≡ transport_refusal packet.now.bytes.now }
@@ -39,7 +39,8 @@ impl<'a> Transport<'a> {
         }
     }
 
-    /// What a packet carries that was found to carry one of the two.
+    /// Returns a view of what a packet carries, without a test, where the packet is known to carry
+    /// one of the two.
     pub fn of(packet: &Ipv4View<'a>) -> Transport<'a>
         requires { IsTransport packet.now.bytes.now }
         ensures bytes { carried_bytes result ≡ payload_of packet.now.bytes.now }
@@ -83,7 +84,8 @@ impl<'a> Transport<'a> {
     }
 }
 
-/// The packets whose payload isn't refused are those of the grammar.
+/// The packets whose payload [`Transport::parse`] accepts are exactly those of the grammar
+/// `IsTransport`.
 pub fn transport_grammar()
     ensures { (packet : List ℕ) → (transport_refusal packet ≡ None) ↔ IsTransport packet }
 {}

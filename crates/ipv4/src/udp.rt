@@ -24,7 +24,7 @@ use addresses::Port;
 use byteorder::{BigEndian, ByteOrder};
 use frames::Refused;
 
-/// Where the header's fields lie.
+/// The places of the header's fields.
 mod field {
     use std::ops::Range;
 
@@ -39,7 +39,7 @@ mod field {
     pub const HEADER: usize = 8;
 }
 
-/// A UDP datagram in a packet's payload, of which it may fill less than the whole.
+/// A reading view of a UDP datagram in a packet's payload, which may be longer than the datagram.
 #[derive(Clone, Copy)]
 pub struct UdpView<'a> {
     pub bytes: &'a [u8],
@@ -47,7 +47,8 @@ pub struct UdpView<'a> {
 }
 
 impl<'a> UdpView<'a> {
-    /// The datagram in the payload of a UDP packet. The checksum isn't tested.
+    /// Returns a view of the datagram in the payload of a UDP packet, or BadTransport where its
+    /// header is cut off, its length is impossible or a port is 0. The checksum isn't tested.
     pub fn parse(payload: &'a [u8]) -> Result<UdpView<'a>, Ipv4Fault>
         ensures ok { IsOk result ↔ IsDatagram payload.now }
         ensures fault { IfErr result (λ f. f ≡ Ipv4Fault.BadTransport) }
@@ -71,7 +72,7 @@ impl<'a> UdpView<'a> {
         destination_port(self.bytes)
     }
 
-    /// The bytes of header and data.
+    /// Returns the bytes of header and data.
     pub fn length(&self) -> usize
         ensures value { result ≡ (datagram_of self.now.bytes.now).udp_length }
         ensures low { 8 ≤ result }
@@ -80,14 +81,14 @@ impl<'a> UdpView<'a> {
         udp_length(self.bytes)
     }
 
-    /// 0 where the sender made none.
+    /// Returns the checksum, 0 where the sender made none.
     pub fn checksum(&self) -> u16
         ensures { result ≡ (datagram_of self.now.bytes.now).checksum }
     {
         checksum(self.bytes)
     }
 
-    /// The data, as far as the datagram's length goes.
+    /// Returns the data, as far as the datagram's length goes.
     pub fn payload(&self) -> &'a [u8]
         ensures { result.now ≡ data_of self.now.bytes.now }
     {
@@ -136,15 +137,15 @@ fn no_datagram(bytes: &[u8]) -> bool
         || destination_port(bytes).0 == 0
 }
 
-/// The payloads that aren't refused are those of the grammar; and the number that the definitions
-/// take from the code is the RFC's.
+/// The payloads that [`UdpView::parse`] accepts are exactly those of the grammar `IsDatagram`. The
+/// number that the definitions take from the code is the RFC's.
 pub fn udp_grammar()
     ensures grammar { (payload : List ℕ)
         → (has_no_datagram payload ≡ false) ↔ IsDatagram payload }
     ensures header { HEADER ≡ 8 }
 {}
 
-/// A UDP header in bytes that are lent to be written.
+/// A writing view of a UDP header in borrowed bytes.
 #[derive(Drop)]
 pub struct UdpViewMut<'a> {
     pub bytes: &'a mut [u8],
@@ -152,9 +153,9 @@ pub struct UdpViewMut<'a> {
 }
 
 impl<'a> UdpViewMut<'a> {
-    /// The datagram in the payload of a UDP packet; one that is refused is handed back as it was.
-    /// A caller that is to know the bytes afterwards tests them with [`UdpView::parse`] and calls
-    /// [`UdpViewMut::new`].
+    /// Returns a writing view of the datagram in the payload of a UDP packet, or refuses the
+    /// payload as [`UdpView::parse`] does and gives it back as it was. A caller that needs to know
+    /// the bytes after the loan tests them with [`UdpView::parse`] and calls [`UdpViewMut::new`].
     pub fn parse(payload: &'a mut [u8]) -> Result<UdpViewMut<'a>, Refused<'a, Ipv4Fault>>
         ensures ok { IsOk result ↔ IsDatagram payload.old }
         ensures fault { IfErr result (λ r. r.fault ≡ Ipv4Fault.BadTransport) }
@@ -174,7 +175,7 @@ impl<'a> UdpViewMut<'a> {
         Ok(UdpViewMut { bytes: payload })
     }
 
-    /// The bytes begin with the UDP header.
+    /// Returns a writing view of bytes that begin with a UDP header, without a test.
     pub fn new(bytes: &'a mut [u8]) -> UdpViewMut<'a>
         requires { 8 ≤ length bytes.old }
         ensures bytes { result.bytes.now ≡ bytes.old }
@@ -195,14 +196,14 @@ impl<'a> UdpViewMut<'a> {
         destination_port(self.bytes)
     }
 
-    /// The bytes of header and data, as the header says.
+    /// Returns the bytes of header and data, as the header says.
     pub fn length(&self) -> usize
         ensures { result ≡ (datagram_of self.now.bytes.now).udp_length }
     {
         udp_length(self.bytes)
     }
 
-    /// 0 where the sender made none.
+    /// Returns the checksum, 0 where the sender made none.
     pub fn checksum(&self) -> u16
         ensures { result ≡ (datagram_of self.now.bytes.now).checksum }
     {

@@ -1,4 +1,5 @@
-//! Lists that grow by calls that can be refused, and a name for what was refused.
+//! Calls that grow a `Vec` and answer an `AllocError` when out of memory, each with a clause that
+//! says for how many items memory was refused.
 #![tactic(auto)]
 
 ghost use Rattle.std.specs.Prelude.{◌≡◌, ◌+◌, ◌++◌, ◌≤◌, ◌<◌, [], ◌∷◌, length, replicate, max, vec_len, vec_capacity, is_ok, if◌then◌else◌, IfOk, OnOk, OnErr, IsOk};
@@ -6,7 +7,8 @@ ghost use Rattle.memory.specs.Memory.{IsSmall, WasRefused};
 
 use std::alloc::{AllocError, Global};
 
-/// An empty list with room for so many items, and for no more.
+/// Returns an empty list with capacity for exactly `count` items, or an `AllocError` when out of
+/// memory.
 #[tactic(auto, unfolding(crate::specs::Memory::WasRefused))]
 pub fn with_room<T: Drop>(alloc: Global, count: usize) -> Result<Vec<T>, AllocError>
     requires small { IsSmall T.row }
@@ -19,7 +21,7 @@ pub fn with_room<T: Drop>(alloc: Global, count: usize) -> Result<Vec<T>, AllocEr
     Vec::with_capacity(alloc, count)
 }
 
-/// A list of so many copies.
+/// Returns a list of `count` copies of `item`, or an `AllocError` when out of memory.
 #[tactic(auto, unfolding(crate::specs::Memory::WasRefused))]
 pub fn copies_of<T: Copy + Drop>(alloc: Global, item: T, count: usize) -> Result<Vec<T>, AllocError>
     requires small { IsSmall T.row }
@@ -33,7 +35,8 @@ pub fn copies_of<T: Copy + Drop>(alloc: Global, item: T, count: usize) -> Result
     Ok(list)
 }
 
-/// Makes room for so many more items, and for no more, where it isn't there yet.
+/// Grows the capacity to exactly `more` items beyond the list's length, where fewer fit. Answers an
+/// `AllocError` when out of memory, and leaves the list as it was.
 #[tactic(auto, unfolding(crate::specs::Memory::WasRefused))]
 pub fn reserve_exact<T: Drop>(list: &mut Vec<T>, more: usize) -> Result<(), AllocError>
     requires small { IsSmall T.row }
@@ -51,8 +54,9 @@ pub fn reserve_exact<T: Drop>(list: &mut Vec<T>, more: usize) -> Result<(), Allo
     list.reserve_exact(more)
 }
 
-/// Makes room for so many more items, where it isn't there yet, and for some beside them, so that a
-/// list that grows again and again is seldom copied.
+/// Grows the capacity to at least `more` items beyond the list's length, where fewer fit, and by
+/// some beside them, so that a list that grows again and again is seldom copied. Answers an
+/// `AllocError` when out of memory, and leaves the list as it was.
 #[tactic(auto, unfolding(crate::specs::Memory::WasRefused))]
 pub fn reserve<T: Drop>(list: &mut Vec<T>, more: usize) -> Result<(), AllocError>
     requires small { IsSmall T.row }
@@ -68,7 +72,8 @@ pub fn reserve<T: Drop>(list: &mut Vec<T>, more: usize) -> Result<(), AllocError
     list.reserve(more)
 }
 
-/// Appends an item.
+/// Appends an item, or answers an `AllocError` when out of memory and leaves the items as they
+/// were.
 #[tactic(auto, unfolding(crate::specs::Memory::WasRefused))]
 pub fn push<T: Drop>(list: &mut Vec<T>, item: T) -> Result<(), AllocError>
     requires small { IsSmall T.row }
@@ -84,7 +89,8 @@ pub fn push<T: Drop>(list: &mut Vec<T>, item: T) -> Result<(), AllocError>
     Ok(())
 }
 
-/// Appends copies of these items.
+/// Appends copies of these items, or answers an `AllocError` when out of memory and leaves the
+/// items as they were.
 #[tactic(auto, unfolding(crate::specs::Memory::WasRefused))]
 pub fn append<T: Copy + Drop>(list: &mut Vec<T>, items: &[T]) -> Result<(), AllocError>
     requires small { IsSmall T.row }

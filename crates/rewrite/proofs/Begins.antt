@@ -1,4 +1,5 @@
--- How a packet begins whose header was rewritten: its lengths, and of a query or an error the type of its message, stay.
+-- The beginning of a packet whose header was rewritten: its lengths stay, and so does the first byte after the header,
+-- which is the type of a query or an error.
 use Rattle.std.proofs.Common.{◌≡◌, ℕ, ◌+◌, ◌-◌, ◌*◌, ◌%◌, ◌<◌, ◌≤◌, List, [], ◌∷◌, ◌++◌, length, take, drop, slice_index, arith, refl, ap, sym, ◌∙◌, append_assoc, length-drop}
 use Rattle.std.proofs.lemmas.List.{get_or-drop, get_or-take, length-take-le}
 use Rattle.std.proofs.Math.Seq.{drop-append_seam}
@@ -15,7 +16,7 @@ use Rattle.rewrite.specs.PassedOn.{inside_with, message_with, own_flow, passed_o
 use Rattle.rewrite.proofs.Parts.{by-number, word_at-take}
 use Rattle.rewrite.proofs.Shows.{message-first, message-size, own-length, own-size, own-total}
 
--- the lengths and the first byte behind the header are those of a packet
+-- the lengths and the first byte after the header are those of a packet
 pub record Begins (bytes packet : List ℕ) : Type 0 where
   pub header_length : (header_of bytes).header_length ≡ (header_of packet).header_length
   pub total_length : (header_of bytes).total_length ≡ (header_of packet).total_length
@@ -25,7 +26,7 @@ first-byte : (bytes more : List ℕ) → 1 ≤ length bytes → slice_index (byt
 first-byte [] more some = absurd (omega (arith, some))
 first-byte (x ∷ bytes) more some = refl
 
--- the byte where the middle begins
+-- the byte after the first of three parts is the first byte of the middle
 seam : (first middle last : List ℕ) (h : ℕ) → length first ≡ h → 1 ≤ length middle → slice_index ((first ++ middle) ++ last) h ≡ slice_index middle 0
 seam first middle last h is_h some =
     let whole = (first ++ middle) ++ last in
@@ -36,7 +37,7 @@ seam first middle last h is_h some =
     ∙ (ap (λ (xs : List ℕ). slice_index xs 0) (drop-append_seam first (middle ++ last))
     ∙ first-byte middle last some)))
 
--- the first byte behind the header, as the payload has it
+-- the first byte after the header is the first of the payload
 pub payload-first : (packet : List ℕ) → (header_of packet).header_length < (header_of packet).total_length → slice_index (payload_of packet) 0 ≡ slice_index packet (header_of packet).header_length
 payload-first packet some =
     let h = (header_of packet).header_length in
@@ -44,7 +45,7 @@ payload-first packet some =
     get_or-take ((header_of packet).total_length - h) (drop h packet) 0 0 (omega (arith, some))
     ∙ (get_or-drop h packet 0 0 ∙ ap (λ (k : ℕ). slice_index packet k) place)
 
--- a packet whose header was rewritten begins so, where what stands behind begins as it did
+-- a packet whose header was rewritten begins as before, where the first byte after the header is the same
 pub rewritten-begins : (f : Flow) (middle last packet : List ℕ) → IsIpv4 packet → 1 ≤ length middle → slice_index middle 0 ≡ slice_index packet (header_of packet).header_length
     → Begins ((header_with f (take (header_of packet).header_length packet) ++ middle) ++ last) packet
 rewritten-begins f middle last packet ip some same =
@@ -59,7 +60,7 @@ rewritten-begins f middle last packet ip some same =
       first = seam (header_with f front) middle last h (own-size f front long ∙ size) some ∙ same;
     }
 
--- an error that was passed on
+-- an error that was passed on begins as before
 pub passed-begins : (new : ErrorFlow) (packet : List ℕ) → IsIpv4 packet → IsErrorPacket packet → Begins (passed_on new packet) packet
 passed-begins new packet ip e =
     let h = (header_of packet).header_length in
@@ -71,7 +72,7 @@ passed-begins new packet ip e =
     let size : length (message_with (error_flow packet).inside new.inside message) ≡ 8 + length inside = message-size message inside e.error.long in
     rewritten-begins (own_flow new) (message_with (error_flow packet).inside new.inside message) (drop n (rest_of packet)) packet ip (omega (arith, size)) (message-first message inside e.error.long ∙ payload-first packet some)
 
--- a query that was translated
+-- a query that was translated begins with the same type
 query-first : (old new : Flow) (message : List ℕ) → 8 ≤ length message → (slice_index (query_with old new message) 0 ≡ slice_index message 0) × (1 ≤ length (query_with old new message))
 query-first old new (a ∷ b ∷ c ∷ d ∷ e ∷ f ∷ g ∷ h ∷ rest) long = (refl, omega arith)
 query-first old new _ long = absurd (omega arith)

@@ -1,2 +1,2 @@
--- What the proofs of other crates use.
+-- The lemmas that proofs of other crates may cite.
 pub use Rattle.rewrite.proofs.Begins.{Begins, passed-begins, payload-first, query-begins}

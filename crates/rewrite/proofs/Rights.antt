@@ -1,4 +1,4 @@
--- The checksums by whole sums of an error that was passed on are right: that of the header inside, and that of the message.
+-- An error that was passed on has right checksums: of the header inside, and of the message.
 use Rattle.std.proofs.Common.{◌≡◌, ℕ, zero, suc, true, false, ◌≤◌, ◌<◌, IsTrue, List, ◌∷◌, ◌++◌, length, take, drop, slice_index, arith, refl, sym, subst}
 use Rattle.sums.specs.Sum.{checksum_of, IsRight}
 use Rattle.ipv4.specs.Header.{IsIpv4, payload_of}
@@ -22,7 +22,7 @@ type-some : (kind : ℕ) → IsTrue (is_error kind) → 0 < kind
 type-some zero is = let bad : false ≡ true = is in absurd (cc)
 type-some (suc kind) is = omega arith
 
--- a message with the complement of the whole sum
+-- a message whose checksum is the complement of the whole sum is right
 summed-right : (message packet : List ℕ) → 8 ≤ length message → 0 < slice_index message 0 → IsRight (checksummed 2 (take 8 message ++ packet))
 summed-right (m0 ∷ m1 ∷ m2 ∷ m3 ∷ m4 ∷ m5 ∷ m6 ∷ m7 ∷ rest) packet long some =
     let u = m0 ∷ m1 ∷ 0 ∷ 0 ∷ m4 ∷ m5 ∷ m6 ∷ m7 ∷ packet in

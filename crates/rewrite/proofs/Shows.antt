@@ -1,4 +1,5 @@
--- What an error that was passed on shows: the addresses of its new flow, in its own header and in that of the packet inside.
+-- The addresses that an error shows after it was passed on are those of its new flow, in its own header and in that of
+-- the packet inside.
 use Rattle.std.proofs.Common.{◌≡◌, ℕ, ◌+◌, ◌-◌, ◌*◌, ◌/◌, ◌%◌, ◌<◌, ◌≤◌, Bool, true, false, List, [], ◌∷◌, ◌++◌, length, take, drop, slice_index, nat_le, if◌then◌else◌, arith, refl, ap, sym, ◌∙◌, append_assoc, length-append, length-drop}
 use Rattle.std.proofs.lemmas.Bool.Decides.{nat_tests}
 use Rattle.std.proofs.lemmas.List.{get_or-take, length-take-le}
@@ -15,7 +16,7 @@ use Rattle.rewrite.specs.Translated.{with_word, header_with, query_moved, rest_o
 use Rattle.rewrite.specs.PassedOn.{checksummed, inside_header, ports_inside, udp_inside, behind_with, inside_with, message_with, own_flow, passed_on}
 use Rattle.rewrite.proofs.Parts.{word_at-take}
 
--- a 32-bit number in its four bytes
+-- a 32-bit number is what its four bytes spell
 number-written : (x : ℕ) → x < 4294967296 → x / 16777216 % 256 * 16777216 + (x / 65536 % 256 * 65536 + (x / 256 % 256 * 256 + (x % 256 * 1 + 0))) ≡ x
 number-written x h = omega arith
 
@@ -45,7 +46,7 @@ inside-size : (f : Flow) (header : List ℕ) → 20 ≤ length header → length
 inside-size f (b0 ∷ b1 ∷ b2 ∷ b3 ∷ b4 ∷ b5 ∷ b6 ∷ b7 ∷ b8 ∷ b9 ∷ b10 ∷ b11 ∷ b12 ∷ b13 ∷ b14 ∷ b15 ∷ b16 ∷ b17 ∷ b18 ∷ b19 ∷ options) long = refl
 inside-size f _ long = absurd (omega arith)
 
--- what stands behind it keeps its length
+-- the bytes after the header inside keep their length
 udp-size : (old new : Flow) (bytes : List ℕ) → 8 ≤ length bytes → length (udp_inside old new bytes) ≡ length bytes
 udp-size old new (b0 ∷ b1 ∷ b2 ∷ b3 ∷ b4 ∷ b5 ∷ b6 ∷ b7 ∷ rest) long = refl
 udp-size old new _ long = absurd (omega arith)
@@ -90,7 +91,7 @@ packet-size old new packet q =
     let b : length (behind_with old.protocol old new (behind packet)) ≡ length (behind packet) = behind-size old.protocol old new (behind packet) (omega (arith, tail, q.there)) in
     omega (arith, length-append (inside_header new (take h packet)) (behind_with old.protocol old new (behind packet)), a, b, front, tail, q.there)
 
--- a message whose packet inside was rewritten
+-- after the first 8 bytes of a message whose packet inside was rewritten comes that packet
 message-inside : (message packet : List ℕ) → 8 ≤ length message → drop 8 (checksummed 2 (take 8 message ++ packet)) ≡ packet
 message-inside (m0 ∷ m1 ∷ m2 ∷ m3 ∷ m4 ∷ m5 ∷ m6 ∷ m7 ∷ rest) packet long = refl
 message-inside _ packet long = absurd (omega arith)
@@ -99,7 +100,7 @@ pub message-size : (message packet : List ℕ) → 8 ≤ length message → leng
 message-size (m0 ∷ m1 ∷ m2 ∷ m3 ∷ m4 ∷ m5 ∷ m6 ∷ m7 ∷ rest) packet long = omega arith
 message-size _ packet long = absurd (omega arith)
 
--- what lies between a beginning and an end
+-- the middle of three parts is found by the lengths of the first and of the middle
 between : (first middle last : List ℕ) (h n : ℕ) → length first ≡ h → length middle ≡ n → take n (drop h ((first ++ middle) ++ last)) ≡ middle
 between first middle last h n is_h is_n =
     ap (λ (k : ℕ). take n (drop k ((first ++ middle) ++ last))) (sym is_h)
@@ -107,7 +108,7 @@ between first middle last h n is_h is_n =
     ∙ (ap (take n) (drop-append_seam first (middle ++ last))
     ∙ (ap (λ (k : ℕ). take k (middle ++ last)) (sym is_n) ∙ take-append_seam middle last)))
 
--- the message of an error that was passed on
+-- the payload of an error that was passed on is the rewritten message
 pub passed-message : (new : ErrorFlow) (packet : List ℕ) → IsIpv4 packet → IsErrorPacket packet → payload_of (passed_on new packet) ≡ message_with (error_flow packet).inside new.inside (payload_of packet)
 passed-message new packet ip e =
     let h = (header_of packet).header_length in
@@ -130,14 +131,14 @@ passed-message new packet ip e =
     ∙ (ap (λ (t : ℕ). take (t - h) (drop h ((first ++ middle) ++ last))) is_t
     ∙ between first middle last h n first_size middle_size)
 
--- the source of an error that was passed on
+-- the source of an error that was passed on is that of its new flow
 pub passed-source : (new : ErrorFlow) (packet : List ℕ) → IsIpv4 packet → new.source.0 < 4294967296 → (header_of (passed_on new packet)).source ≡ new.source.0
 passed-source new packet ip fits =
     let h = (header_of packet).header_length in
     let size : length (take h packet) ≡ h = length-take-le h packet (omega (arith, ip.there, ip.holds_header)) in
     own-source (own_flow new) (take h packet) _ _ (omega (arith, size, ip.holds_fields)) fits
 
--- and the destination of the packet inside
+-- the destination of the packet inside an error that was passed on is that of its new flow
 pub passed-destination : (new : ErrorFlow) (packet : List ℕ) → IsIpv4 packet → IsErrorPacket packet → new.inside.destination.0 < 4294967296 → (header_of (inside_of (payload_of (passed_on new packet)))).destination ≡ new.inside.destination.0
 passed-destination new packet ip e fits =
     let message = payload_of packet in

@@ -1,4 +1,4 @@
--- What an ICMP error becomes that is passed on, with checksums by whole sums (RFC 792, RFC 5508).
+-- What an ICMP error is after it is passed on, with checksums by whole sums (RFC 792, RFC 5508).
 use Rattle.std.specs.Prelude.{ℕ, ◌+◌, ◌-◌, nat_le, if◌then◌else◌, List, ◌++◌, length, take, drop}
 use Rattle.byteorder.specs.Endian.{big_bytes}
 use Rattle.sums.specs.Sum.{checksum_of}
@@ -27,42 +27,42 @@ abbrev pub inside_header : Flow → List ℕ → List ℕ
 inside_header new header =
     checksummed 10 (with_long 16 new.destination.0 (with_long 12 new.source.0 header))
 
--- what stands behind that header, with the ports of the new flow
+-- the bytes after that header, with the ports of the new flow
 abbrev pub ports_inside : Flow → List ℕ → List ℕ
 ports_inside new bytes =
     with_word 2 new.destination_port.0 (with_word 0 new.source_port.0 bytes)
 
--- a transport checksum moved from the addresses and ports of `old` to those of `new`: the segment may
--- be cut, so that nothing else of it is asked
+-- a transport checksum moved from the addresses and ports of `old` to those of `new`: the segment may be cut, so
+-- nothing else of it is read
 abbrev pub moved_field : Flow → Flow → ℕ → ℕ
 moved_field old new t = moved_sum t (flow_sum old) (flow_sum new)
 
--- a UDP header inside, as right as it was
+-- the bytes after a header inside, of UDP, with the ports of `new` and a checksum as right as it was
 abbrev pub udp_inside : Flow → Flow → List ℕ → List ℕ
 udp_inside old new bytes =
     let t = word_at 6 bytes in
     with_word 6 (udp_field t (moved_field old new t)) (ports_inside new bytes)
 
--- a TCP header inside: where it is cut before the end of the checksum, what is there of it stays
+-- the bytes after a header inside, of TCP; where they end before the checksum does, only the ports change
 abbrev pub tcp_inside : Flow → Flow → List ℕ → List ℕ
 tcp_inside old new bytes =
     (if nat_le 18 (length bytes)
     then with_word 16 (moved_field old new (word_at 16 bytes)) (ports_inside new bytes)
     else ports_inside new bytes)
 
--- what stands behind the header of the packet inside
+-- the bytes after the header of the packet inside, by protocol
 abbrev pub behind_with : Protocol → Flow → Flow → List ℕ → List ℕ
 behind_with Icmp = query_moved
 behind_with Udp = udp_inside
 behind_with Tcp = tcp_inside
 
--- the packet inside, sent another way
+-- the packet inside, with the flow `new`
 abbrev pub inside_with : Flow → Flow → List ℕ → List ℕ
 inside_with old new packet =
     inside_header new (take (header_of packet).header_length packet)
     ++ behind_with old.protocol old new (behind packet)
 
--- an error about that packet
+-- an error about that packet, with its checksum
 abbrev pub message_with : Flow → Flow → List ℕ → List ℕ
 message_with old new message =
     checksummed 2 (take 8 message ++ inside_with old new (drop 8 message))
@@ -71,7 +71,7 @@ message_with old new message =
 abbrev pub own_flow : ErrorFlow → Flow
 own_flow flow = record flow.inside { source = flow.source; destination = flow.destination }
 
--- a packet with an error sent another way: its header, its message, and the padding unchanged
+-- a packet that carries an error, with a new flow: its header, its message, and the padding unchanged
 abbrev pub passed_on : ErrorFlow → List ℕ → List ℕ
 passed_on new packet =
     let n = (header_of packet).total_length - (header_of packet).header_length in

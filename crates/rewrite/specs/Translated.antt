@@ -33,7 +33,7 @@ header_unsummed flow header =
     ++ address_bytes flow
     ++ drop 20 header
 
--- the same with its checksum, the complement of the whole sum
+-- that header with its checksum, the complement of the whole sum
 abbrev pub header_with : Flow → List ℕ → List ℕ
 header_with flow header =
     with_word 10 (checksum_of (header_unsummed flow header)) (header_unsummed flow header)
@@ -47,7 +47,7 @@ abbrev pub pseudo_header : Flow → ℕ → List ℕ → List ℕ
 pseudo_header flow protocol segment =
     address_bytes flow ++ (0 ∷ protocol ∷ []) ++ big_bytes 2 (length segment)
 
--- what a transport checksum counts
+-- what a transport checksum covers
 abbrev pub summed : Flow → ℕ → List ℕ → List ℕ
 summed flow protocol segment = pseudo_header flow protocol segment ++ segment
 
@@ -55,7 +55,7 @@ summed flow protocol segment = pseudo_header flow protocol segment ++ segment
 abbrev pub udp_sum : Flow → List ℕ → ℕ
 udp_sum flow segment = word_sum (pseudo_header flow 17 segment ++ with_word 6 0 segment)
 
--- the same of a TCP segment, whose field stands at byte 16
+-- the whole sum of pseudo-header and TCP segment with the checksum field, at byte 16, as 0
 abbrev pub tcp_sum : Flow → List ℕ → ℕ
 tcp_sum flow segment = word_sum (pseudo_header flow 6 segment ++ with_word 16 0 segment)
 
@@ -63,18 +63,17 @@ tcp_sum flow segment = word_sum (pseudo_header flow 6 segment ++ with_word 16 0 
 abbrev pub moved_sum : ℕ → ℕ → ℕ → ℕ
 moved_sum t s s2 = (t + s + 65534 * s2) % 65535
 
--- a UDP checksum field: 0 says that there is none and stays, and a sum of 0 is written as all ones
+-- a UDP checksum field: 0 means that there is no checksum and stays, and a sum of 0 is written as all ones
 abbrev pub udp_field : ℕ → ℕ → ℕ
 udp_field t t2 = (if t == 0 then 0 else (if t2 == 0 then 65535 else t2))
 
--- the checksum field of a UDP segment that went the way of `old`, with the ports of `new`: as
--- right as it was
+-- the checksum field of a UDP segment of the flow `old` that gets the ports of `new`: as right as it was
 abbrev pub udp_checksum : Flow → Flow → List ℕ → ℕ
 udp_checksum old new segment =
     let t = word_at 6 segment in
     udp_field t (moved_sum t (udp_sum old segment) (udp_sum new (segment_with_ports new segment)))
 
--- that of a TCP segment, where 0 is a sum as any other
+-- the checksum field of such a TCP segment, where 0 is a sum as any other
 abbrev pub tcp_checksum : Flow → Flow → List ℕ → ℕ
 tcp_checksum old new segment =
     let t = word_at 16 segment in
@@ -90,7 +89,7 @@ abbrev pub tcp_with : Flow → Flow → List ℕ → List ℕ
 tcp_with old new segment =
     with_word 16 (tcp_checksum old new segment) (segment_with_ports new segment)
 
--- the whole sum of a query with the checksum field as 0: nothing is put in front of it
+-- the whole sum of a query with the checksum field as 0; there is no pseudo-header
 abbrev pub query_sum : List ℕ → ℕ
 query_sum message = word_sum (with_word 2 0 message)
 
@@ -98,13 +97,13 @@ query_sum message = word_sum (with_word 2 0 message)
 abbrev pub query_identified : Flow → Flow → List ℕ → List ℕ
 query_identified old new message = with_word 4 (new_identifier old new) message
 
--- its checksum, where 0 is a sum as any other
+-- the checksum of that query, where 0 is a sum as any other
 abbrev pub query_checksum : Flow → Flow → List ℕ → ℕ
 query_checksum old new message =
     moved_sum (word_at 2 message) (query_sum message) (query_sum (query_identified old new message))
 
--- the beginning of a query, its checksum moved from the identifier of `old` to that of `new`: the query
--- may be cut, so that nothing else of it is asked
+-- the beginning of a query, its checksum moved from the identifier of `old` to that of `new`: the query may be cut, so
+-- nothing else of it is read
 abbrev pub query_moved : Flow → Flow → List ℕ → List ℕ
 query_moved old new message =
     with_word 2 (moved_sum (word_at 2 message) old.source_port.0 (new_identifier old new))
@@ -115,13 +114,13 @@ abbrev pub query_with : Flow → Flow → List ℕ → List ℕ
 query_with old new message =
     with_word 2 (query_checksum old new message) (query_identified old new message)
 
--- a segment or query
+-- a segment or query with the ports or the identifier of the new flow, and its checksum
 abbrev pub segment_with : Protocol → Flow → Flow → List ℕ → List ℕ
 segment_with Icmp = query_with
 segment_with Udp = udp_with
 segment_with Tcp = tcp_with
 
--- the bytes of a segment in a payload: a UDP segment is as long as its length field says
+-- the bytes of a segment or query in a payload: a UDP segment is as long as its length field says
 abbrev pub length_in : Protocol → List ℕ → ℕ
 length_in Icmp payload = length payload
 length_in Udp payload = (datagram_of payload).udp_length
@@ -131,11 +130,11 @@ length_in Tcp payload = length payload
 abbrev pub header_bytes : List ℕ → List ℕ
 header_bytes packet = take (header_of packet).header_length packet
 
--- the bytes behind the header, padding included
+-- the bytes after the header, padding included
 abbrev pub rest_of : List ℕ → List ℕ
 rest_of packet = drop (header_of packet).header_length packet
 
--- a packet sent another way: its header, its segment, and what lies behind unchanged
+-- a packet with the flow `new`: its header, its segment, and the bytes after the segment unchanged
 abbrev pub translated : Flow → List ℕ → List ℕ
 translated new packet =
     let n = length_in (protocol_of packet) (payload_of packet) in

@@ -18,7 +18,8 @@ use sums::sum;
 /// The bytes of a message before the packet inside.
 const BEFORE: usize = 8;
 
-/// Passes an error on as if from another address, about a packet to it and to a port. Bytes behind
+/// Passes an error on outward: as if `from` had sent it, about a packet to that address and to
+/// `port`. Answers TtlOver where the TTL is 0 or 1, and leaves the packet as it was. Bytes after
 /// the message stay.
 pub fn error_outward(packet: &mut [u8], from: Ip, port: Port) -> Result<(), RewriteFault>
     requires ipv4 { IsIpv4 packet.old }
@@ -31,8 +32,9 @@ pub fn error_outward(packet: &mut [u8], from: Ip, port: Port) -> Result<(), Rewr
     rewrite_error(packet, old, sent_from(old, from, port))
 }
 
-/// Passes an error on to another address, about a packet from it and from a port. Bytes behind the
-/// message stay.
+/// Passes an error on inward: to the address `to`, about a packet from that address and from
+/// `port`. Answers TtlOver where the TTL is 0 or 1, and leaves the packet as it was. Bytes after
+/// the message stay.
 pub fn error_inward(packet: &mut [u8], to: Ip, port: Port) -> Result<(), RewriteFault>
     requires ipv4 { IsIpv4 packet.old }
     requires error { IsErrorPacket packet.old }
@@ -45,7 +47,8 @@ pub fn error_inward(packet: &mut [u8], to: Ip, port: Port) -> Result<(), Rewrite
 }
 
 /// Passes an error back in: to an address and port inside, about a packet that went from there to
-/// an address and port outside. Bytes behind the message stay.
+/// an address and port outside. Answers TtlOver where the TTL is 0 or 1, and leaves the packet as
+/// it was. Bytes after the message stay.
 pub fn error_hairpin(
     packet: &mut [u8],
     to: Ip,
@@ -65,7 +68,7 @@ pub fn error_hairpin(
     rewrite_error(packet, old, new)
 }
 
-/// The flow of an error, as if from another address, about a packet to it.
+/// Returns the flow of an error as if from another address, about a packet to that address.
 fn sent_from(flow: ErrorFlow, from: Ip, port: Port) -> ErrorFlow
     ensures { result ≡ error_from from port flow }
 {
@@ -80,7 +83,7 @@ fn sent_from(flow: ErrorFlow, from: Ip, port: Port) -> ErrorFlow
     }
 }
 
-/// The flow of an error to another address, about a packet from it.
+/// Returns the flow of an error to another address, about a packet from that address.
 fn sent_to(flow: ErrorFlow, to: Ip, port: Port) -> ErrorFlow
     ensures { result ≡ error_to to port flow }
 {
@@ -95,8 +98,8 @@ fn sent_to(flow: ErrorFlow, to: Ip, port: Port) -> ErrorFlow
     }
 }
 
-/// Gives an error of the flow `old`, which its reader has found, the flow `new`. Bytes behind the
-/// message stay.
+/// Gives an error of the flow `old`, which the caller has read from it, the flow `new`. Answers
+/// TtlOver where the TTL is 0 or 1, and leaves the packet as it was. Bytes after the message stay.
 pub fn rewrite_error(packet: &mut [u8], old: ErrorFlow, new: ErrorFlow) -> Result<(), RewriteFault>
     requires ipv4 { IsIpv4 packet.old }
     requires error { IsErrorPacket packet.old }
@@ -115,7 +118,7 @@ pub fn rewrite_error(packet: &mut [u8], old: ErrorFlow, new: ErrorFlow) -> Resul
     Ok(())
 }
 
-/// The addresses of the error itself.
+/// Returns the addresses of the error's own header, with the ports of the packet inside.
 fn own_flow(flow: ErrorFlow) -> Flow
     ensures { result ≡ flow_of_header flow }
 {
@@ -126,7 +129,7 @@ fn own_flow(flow: ErrorFlow) -> Flow
     }
 }
 
-/// The bytes of the message.
+/// Returns the bytes of the message.
 fn message_length(packet: &[u8]) -> usize
     requires { IsIpv4 packet.now }
     ensures value { result
@@ -136,7 +139,7 @@ fn message_length(packet: &[u8]) -> usize
     Ipv4View { bytes: packet }.payload().len()
 }
 
-/// Rewrites the packet inside, and sums the message anew.
+/// Rewrites the packet inside a message, and writes the message's checksum.
 fn rewrite_message(message: &mut [u8], old: Flow, new: Flow)
     requires { IsError message.old }
     ensures { message.new ≡ message_with old new message.old }
@@ -145,7 +148,7 @@ fn rewrite_message(message: &mut [u8], old: Flow, new: Flow)
     sum_message(message);
 }
 
-/// Rewrites the packet inside a message.
+/// Rewrites the packet inside a message, and leaves the message's checksum.
 fn rewrite_within(message: &mut [u8], old: Flow, new: Flow)
     requires { IsError message.old }
     ensures message { message.new ≡ take 8 message.old ++ inside_with old new (drop 8 message.old) }
@@ -155,7 +158,7 @@ fn rewrite_within(message: &mut [u8], old: Flow, new: Flow)
     rewrite_inside(inside, old, new);
 }
 
-/// Writes the checksum of a message: the complement of its sum.
+/// Writes the checksum of a message, the complement of its sum.
 fn sum_message(message: &mut [u8])
     requires { 8 ≤ length message.old }
     ensures { message.new ≡ checksummed 2 message.old }

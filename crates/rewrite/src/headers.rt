@@ -1,4 +1,4 @@
-//! IPv4 headers: other addresses, a lower TTL, and a checksum that follows.
+//! Rewriting an IPv4 header: other addresses, a TTL lower by one, and the checksum.
 ghost use Rattle.std.specs.Prelude.{◌≡◌, ℕ, ◌<◌, ◌≤◌, length, slice_index};
 ghost use Rattle.sums.specs.Sum.{checksum_of, IsRight};
 ghost use Rattle.rewrite.specs.Translated.{header_unsummed, header_with};
@@ -7,10 +7,11 @@ use crate::flows::address_words;
 use ipv4::{Flow, Ipv4ViewMut};
 use sums::update_words;
 
-/// What a TTL lowered by one takes from the word of TTL and protocol.
+/// How much the word of TTL and protocol is less after the TTL is lowered by one.
 const ONE_HOP: u32 = 0x0100;
 
-/// The checksum that a header has after its TTL and addresses have changed.
+/// Returns the checksum that a header has after its TTL is lowered by one and its addresses are
+/// those of `new`.
 fn header_checksum(header: &Ipv4ViewMut<'_>, new: Flow) -> u16
     requires octets { (i : ℕ) → slice_index header.now.bytes.now i < 256 }
     requires right { IsRight header.now.bytes.now }
@@ -23,7 +24,7 @@ fn header_checksum(header: &Ipv4ViewMut<'_>, new: Flow) -> u16
     update_words(header.checksum(), old + ONE_HOP, now)
 }
 
-/// Gives a header other addresses, a lower TTL and its checksum.
+/// Gives a header the addresses of `new`, a TTL lower by one, and its checksum.
 pub fn rewrite_header(header: &mut [u8], new: Flow)
     requires long { 20 ≤ length header.old }
     requires right { IsRight header.old }

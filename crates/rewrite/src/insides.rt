@@ -1,5 +1,5 @@
-//! The packet inside an error: other addresses and ports, and checksums that follow. Of the packet
-//! 8 bytes stand behind its header at least, so a TCP checksum may be cut off.
+//! Rewriting the packet inside an error: other addresses and ports, and the checksums. Such a
+//! packet has at least 8 bytes after its header, so a TCP checksum may be cut off.
 ghost use Rattle.std.specs.Prelude.{◌≡◌, ◌≤◌, ◌+◌, length};
 ghost use Rattle.ipv4.specs.Header.{header_of};
 ghost use Rattle.icmp.specs.Quoted.{IsQuoted};
@@ -15,10 +15,10 @@ use ipv4::{Flow, Ipv4ViewMut, UdpViewMut};
 use std::ops::Range;
 use sums::sum;
 
-/// Where TCP's checksum lies.
+/// The place of TCP's checksum in the bytes after the header.
 const TCP_CHECKSUM: Range<usize> = 16..18;
 
-/// Gives the packet inside an error, of the flow `old`, the flow `new`.
+/// Gives the packet inside an error, of the flow `old`, the flow `new`. Its TTL stays.
 pub fn rewrite_inside(inside: &mut [u8], old: Flow, new: Flow)
     requires { IsQuoted inside.old }
     ensures { inside.new ≡ inside_with old new inside.old }
@@ -56,7 +56,7 @@ fn write_addresses(header: &mut [u8], new: Flow)
     view.set_destination(new.destination);
 }
 
-/// Writes the checksum of a header: the complement of its sum.
+/// Writes the checksum of a header, the complement of its sum.
 fn sum_header(header: &mut [u8])
     requires { 20 ≤ length header.old }
     ensures { header.new ≡ checksummed 10 header.old }
@@ -75,7 +75,7 @@ fn write_header_checksum(header: &mut [u8], checksum: u16)
     view.set_checksum(checksum);
 }
 
-/// Writes the ports, and lets the checksum follow where it is there.
+/// Writes the ports or the identifier, and updates the transport checksum where it isn't cut off.
 fn rewrite_behind(behind: &mut [u8], old: Flow, new: Flow)
     requires { 8 ≤ length behind.old }
     ensures { behind.new ≡ behind_with old.protocol old new behind.old }
@@ -113,7 +113,7 @@ fn rewrite_tcp_inside(behind: &mut [u8], old: Flow, new: Flow)
     BigEndian::write_u16(&mut behind[TCP_CHECKSUM], sum);
 }
 
-/// Writes the ports of UDP or TCP: a TCP header begins with them as UDP's does.
+/// Writes the ports of UDP or TCP. A TCP header begins with its ports as a UDP header does.
 fn write_ports(behind: &mut [u8], new: Flow)
     requires { 8 ≤ length behind.old }
     ensures ports { behind.new ≡ ports_inside new behind.old }
@@ -124,7 +124,7 @@ fn write_ports(behind: &mut [u8], new: Flow)
     view.set_destination_port(new.destination_port);
 }
 
-/// A transport checksum after addresses and ports have changed.
+/// Returns a transport checksum after addresses and ports have changed.
 fn moved(checksum: u16, old: Flow, new: Flow) -> u16
     ensures { result ≡ moved_field old new checksum }
 {

@@ -1,4 +1,5 @@
-//! What follows of checksums from the definition of a translation, and of an error's addresses.
+//! Facts about the definitions of a translation: that checksums stay as right as they were, and which addresses an
+//! error shows.
 ghost use Rattle.std.specs.Prelude.{◌≡◌, ℕ, ◌+◌, ◌%◌, ◌^◌, ◌<◌, ◌≤◌, List, length, slice_index};
 ghost use Rattle.sums.specs.Sum.{word_sum, IsRight};
 ghost use Rattle.ipv4.specs.declared.flows.Flow.{Flow as FlowValue};
@@ -12,21 +13,20 @@ ghost use Rattle.icmp.specs.declared.packets.ErrorFlow.{ErrorFlow as ErrorFlowVa
 ghost use Rattle.rewrite.specs.PassedOn.{error_outward_of, inside_header, message_with, passed_on};
 ghost use Rattle.rewrite.specs.Translated.{header_with, moved_sum, query_with, summed, udp_with, tcp_with};
 
-/// A checksum moved from a whole sum `s` to `s2` is a number below 65535 that is as right as it
-/// was.
+/// A checksum that is moved from a whole sum `s` to `s2` is a number below 65535, and is as right as it was.
 pub fn moved_sum_law()
     ensures small { (t s s2 : ℕ) → moved_sum t s s2 < 65535 }
     ensures same { (t s s2 : ℕ) → (moved_sum t s s2 + s2) % 65535 ≡ (t + s) % 65535 }
 {}
 
-/// The complement of the whole sum is a right checksum.
+/// A translated header, whose checksum is the complement of the whole sum, has a right checksum.
 pub fn header_law()
     ensures { (flow : FlowValue) (header : List ℕ) → 20 ≤ length header
         → 0 < slice_index header 0 → IsRight (header_with flow header) }
 {}
 
-/// A UDP checksum that is absent stays absent, and another stays there: a right one right, and a
-/// wrong one wrong by as much.
+/// A UDP checksum that is absent stays absent, and one that is present stays present. A right one stays right, and a
+/// wrong one stays wrong by as much.
 pub fn udp_law()
     ensures absent { (old new : FlowValue) (segment : List ℕ) → 8 ≤ length segment
         → word_at 6 segment ≡ 0 → word_at 6 (udp_with old new segment) ≡ 0 }
@@ -41,7 +41,7 @@ pub fn udp_law()
         → IsRight (summed new 17 (udp_with old new segment)) }
 {}
 
-/// A right TCP checksum stays right, and a wrong one wrong by as much.
+/// A right TCP checksum stays right, and a wrong one stays wrong by as much.
 pub fn tcp_law()
     ensures same { (old new : FlowValue) (segment : List ℕ) → 20 ≤ length segment
         → word_sum (summed new 6 (tcp_with old new segment)) % 65535
@@ -51,8 +51,8 @@ pub fn tcp_law()
         → IsRight (summed new 6 (tcp_with old new segment)) }
 {}
 
-/// A right checksum of a query stays right, and a wrong one wrong by as much: it counts nothing but the
-/// message.
+/// A right checksum of a query stays right, and a wrong one stays wrong by as much. Such a checksum covers nothing but
+/// the message.
 pub fn query_law()
     ensures same { (old new : FlowValue) (message : List ℕ) → 8 ≤ length message
         → word_sum (query_with old new message) % 65535 ≡ word_sum message % 65535 }
@@ -61,8 +61,8 @@ pub fn query_law()
         → IsRight (query_with old new message) }
 {}
 
-/// Of an error that is passed on the message, with its checksum, and the header inside are right; its
-/// own header is by [`header_law`].
+/// An error that is passed on has a right checksum over its message, and the packet inside has a right header checksum.
+/// The error's own header has one by [`header_law`].
 pub fn error_law()
     ensures payload { (new : ErrorFlowValue) (packet : List ℕ) → IsIpv4 packet
         → IsErrorPacket packet → payload_of (passed_on new packet)
@@ -73,8 +73,8 @@ pub fn error_law()
         → 0 < slice_index header 0 → IsRight (inside_header new header) }
 {}
 
-/// An error passed on outward comes from the outside address, and the packet inside went to it.
-/// Options and what stands behind the packet inside stay.
+/// An error that is passed on outward comes from the outside address, and the packet inside went to that address. The
+/// options of the headers and the bytes after the packet inside stay.
 pub fn hides_inside()
     ensures source { (packet : List ℕ) (from : IpValue) (port : PortValue) → IsIpv4 packet
         → from.0 < 2 ^ 32

@@ -1,8 +1,8 @@
-//! Translates IPv4 packets in place: other addresses and ports, a lower TTL, and checksums that
-//! follow word by word (RFC 1624).
+//! Translates IPv4 packets in place: other addresses and ports, a TTL lower by one, and checksums
+//! that are updated by the words that change (RFC 1624).
 //!
-//! `hi` from 192.168.1.10:5000 to 198.51.100.7:53, before and after [`outward`] to
-//! 192.0.2.1:20000, where what is replaced stands between bars:
+//! `hi` from 192.168.1.10:5000 to 198.51.100.7:53, before and after [`outward`] to 192.0.2.1:20000.
+//! Bars enclose what is replaced:
 //!
 //! ```text
 //! 4500001e00010000|40|11|8ee1 c0a8010a|c6336407|1388|0035000a|97c6|6869

@@ -1,4 +1,4 @@
-//! Whole packets, outward, inward and back in.
+//! Translating whole packets: outward, inward and back in.
 ghost use Rattle.std.specs.Prelude.{◌≡◌, ◌≤◌, ◌↔◌, IsOk, OnOk, OnErr, length};
 ghost use Rattle.ipv4.specs.Flow.{protocol_of, flow_of};
 ghost use Rattle.ipv4.specs.Header.{header_of, payload_of, IsIpv4};
@@ -15,12 +15,13 @@ use thiserror::Error;
 /// Why a packet isn't translated.
 #[derive(Clone, Copy, Debug, PartialEq, Eq, Error)]
 pub enum RewriteFault {
-    /// A TTL of 0 or 1.
+    /// The TTL is 0 or 1.
     #[error("the packet has no hop left")]
     TtlOver,
 }
 
-/// Sends a packet on as if from another address and port. Bytes behind the segment stay.
+/// Sends a packet on as if from another address and port. Answers TtlOver where the TTL is 0 or 1,
+/// and leaves the packet as it was. Bytes after the segment stay.
 pub fn outward(packet: &mut [u8], from: Ip, port: Port) -> Result<(), RewriteFault>
     requires ipv4 { IsIpv4 packet.old }
     requires translatable { IsTranslatable packet.old }
@@ -32,7 +33,8 @@ pub fn outward(packet: &mut [u8], from: Ip, port: Port) -> Result<(), RewriteFau
     rewrite_packet(packet, old, sent_from(old, from, port))
 }
 
-/// Sends a packet on to another address and port. Bytes behind the segment stay.
+/// Sends a packet on to another address and port. Answers TtlOver where the TTL is 0 or 1, and
+/// leaves the packet as it was. Bytes after the segment stay.
 pub fn inward(packet: &mut [u8], to: Ip, port: Port) -> Result<(), RewriteFault>
     requires ipv4 { IsIpv4 packet.old }
     requires translatable { IsTranslatable packet.old }
@@ -45,7 +47,8 @@ pub fn inward(packet: &mut [u8], to: Ip, port: Port) -> Result<(), RewriteFault>
 }
 
 /// Sends a packet back in: as if from an address and port outside, to an address and port inside
-/// (RFC 4787, section 6). Bytes behind the segment stay.
+/// (RFC 4787, section 6). Answers TtlOver where the TTL is 0 or 1, and leaves the packet as it was.
+/// Bytes after the segment stay.
 pub fn hairpin(
     packet: &mut [u8],
     from: Ip,
@@ -64,7 +67,7 @@ pub fn hairpin(
     rewrite_packet(packet, old, new)
 }
 
-/// The flow of a packet.
+/// Returns the flow of a packet.
 fn flow_of(packet: &[u8]) -> Flow
     requires ipv4 { IsIpv4 packet.now }
     requires translatable { IsTranslatable packet.now }
@@ -78,7 +81,7 @@ fn flow_of(packet: &[u8]) -> Flow
     }
 }
 
-/// The flow, as if from another address and port.
+/// Returns the flow as if from another address and port.
 fn sent_from(flow: Flow, from: Ip, port: Port) -> Flow
     ensures { result ≡ record flow { source = from; source_port = port } }
 {
@@ -89,7 +92,7 @@ fn sent_from(flow: Flow, from: Ip, port: Port) -> Flow
     }
 }
 
-/// The flow, to another address and port.
+/// Returns the flow to another address and port.
 fn sent_to(flow: Flow, to: Ip, port: Port) -> Flow
     ensures { result ≡ record flow { destination = to; destination_port = port } }
 {
@@ -100,8 +103,8 @@ fn sent_to(flow: Flow, to: Ip, port: Port) -> Flow
     }
 }
 
-/// Gives a packet of the flow `old`, which its reader has found, the flow `new`. Bytes behind the
-/// segment stay.
+/// Gives a packet of the flow `old`, which the caller has read from it, the flow `new`. Answers
+/// TtlOver where the TTL is 0 or 1, and leaves the packet as it was. Bytes after the segment stay.
 pub fn rewrite_packet(packet: &mut [u8], old: Flow, new: Flow) -> Result<(), RewriteFault>
     requires ipv4 { IsIpv4 packet.old }
     requires translatable { IsTranslatable packet.old }
@@ -134,7 +137,7 @@ pub(crate) fn header_length(packet: &[u8]) -> usize
     Ipv4View { bytes: packet }.header_length()
 }
 
-/// The bytes of the UDP datagram, TCP segment or query.
+/// Returns the bytes of the UDP datagram, TCP segment or query.
 fn segment_length(protocol: Protocol, packet: &[u8]) -> usize
     requires ipv4 { IsIpv4 packet.now }
     requires translatable { IsTranslatable packet.now }

@@ -1,5 +1,4 @@
-//! UDP datagrams, TCP segments and ICMP queries: other ports, or another identifier, and a checksum
-//! that follows.
+//! Rewriting UDP datagrams, TCP segments and ICMP queries: other ports or another identifier, and the checksum.
 ghost use Rattle.std.specs.Prelude.{◌≡◌, ◌≤◌, length, drop};
 ghost use Rattle.byteorder.specs.Endian.{big_number};
 ghost use Rattle.sums.specs.Sum.{IsUpdate};
@@ -13,7 +12,8 @@ use icmp::QueryViewMut;
 use ipv4::{Flow, TcpViewMut, UdpViewMut};
 use sums::update;
 
-/// The checksum of a UDP header, where the field was `old` and the sum is now `sum`.
+/// Returns the checksum field of a UDP header, where the field was `old` and the updated sum is `sum`: 0, which means
+/// no checksum, stays, and a sum of 0 becomes 65535.
 pub(crate) fn udp_field(old: u16, sum: u16) -> u16
     ensures { result ≡ udp_field old sum }
 {
@@ -24,14 +24,14 @@ pub(crate) fn udp_field(old: u16, sum: u16) -> u16
     }
 }
 
-/// The checksum of a TCP header, where the field was `field`: 0 is a sum as any other.
+/// Returns the checksum field of a TCP header, where the field was `field`. In TCP 0 is a sum as any other.
 fn tcp_field(field: u16, old: Flow, new: Flow) -> u16
     ensures { IsUpdate field (flow_sum old) (flow_sum new) result }
 {
     update_flow(field, old, new)
 }
 
-/// Writes the ports, and lets the checksum follow.
+/// Writes the ports of a UDP datagram and updates its checksum.
 fn rewrite_udp(segment: &mut [u8], old: Flow, new: Flow)
     requires long { 8 ≤ length segment.old }
     requires source_port { old.source_port.0 ≡ big_number 2 segment.old }
@@ -46,7 +46,7 @@ fn rewrite_udp(segment: &mut [u8], old: Flow, new: Flow)
     view.set_checksum(udp_field(checksum, sum));
 }
 
-/// Writes the ports, and lets the checksum follow.
+/// Writes the ports of a TCP segment and updates its checksum.
 fn rewrite_tcp(segment: &mut [u8], old: Flow, new: Flow)
     requires long { 20 ≤ length segment.old }
     requires source_port { old.source_port.0 ≡ big_number 2 segment.old }
@@ -60,8 +60,8 @@ fn rewrite_tcp(segment: &mut [u8], old: Flow, new: Flow)
     view.set_checksum(checksum);
 }
 
-/// The identifier of a query whose flow was `old` and becomes `new`: it stands for both ports, so it
-/// is the one that changed.
+/// Returns the identifier of a query whose flow was `old` and becomes `new`. The identifier is both ports, so the port
+/// that changed is the new identifier.
 pub(crate) fn identifier_after(old: Flow, new: Flow) -> Port
     ensures { result.0 ≡ new_identifier old new }
 {
@@ -72,15 +72,15 @@ pub(crate) fn identifier_after(old: Flow, new: Flow) -> Port
     }
 }
 
-/// A query's checksum after its identifier has changed from `old` to `new`.
+/// Returns a query's checksum after its identifier has changed from `old` to `new`.
 fn moved_by(checksum: u16, old: Port, new: Port) -> u16
     ensures { result ≡ moved_sum checksum old.0 new.0 }
 {
     update(checksum, old.0, new.0)
 }
 
-/// Writes the identifier of a query, of which 8 bytes are there at least, and lets the checksum follow:
-/// it counts nothing but the message, and 0 is a sum as any other.
+/// Writes the identifier of a query of at least 8 bytes, which may be cut off, and updates its checksum. The checksum
+/// covers nothing but the message, and 0 is a sum as any other.
 pub(crate) fn rewrite_identifier(message: &mut [u8], old: Flow, new: Flow)
     requires { 8 ≤ length message.old }
     ensures { message.new ≡ query_moved old new message.old }
@@ -92,7 +92,7 @@ pub(crate) fn rewrite_identifier(message: &mut [u8], old: Flow, new: Flow)
     view.set_checksum(checksum);
 }
 
-/// Writes the identifier of a whole query.
+/// Writes the identifier of a whole query and updates its checksum.
 fn rewrite_query(message: &mut [u8], old: Flow, new: Flow)
     requires long { 8 ≤ length message.old }
     requires identifier { old.source_port.0 ≡ big_number 2 (drop 4 message.old) }
@@ -101,7 +101,8 @@ fn rewrite_query(message: &mut [u8], old: Flow, new: Flow)
     rewrite_identifier(message, old, new);
 }
 
-/// The same for the protocol of the flow.
+/// Writes the ports or the identifier of a segment of the flow `old`, and updates its checksum, as the flow's protocol
+/// requires.
 pub fn rewrite_segment(segment: &mut [u8], old: Flow, new: Flow)
     requires long { shortest old.protocol ≤ length segment.old }
     requires source_port { old.source_port.0

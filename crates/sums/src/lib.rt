@@ -8,7 +8,7 @@ ghost use Rattle.sums.specs.Sum.{word_sum, ones_sum, IsRight, IsUpdate};
 
 use byteorder::{BigEndian, ByteOrder};
 
-/// The one's complement sum of two sums, for words that lie in two places.
+/// Returns the one's complement sum of two sums, of words that lie in two places.
 pub fn add(a: u16, b: u16) -> u16
     ensures value { result ≡ ones_sum (a + b) }
     ensures parts { (m n : ℕ) → a ≡ ones_sum m → b ≡ ones_sum n
@@ -22,13 +22,13 @@ pub fn add(a: u16, b: u16) -> u16
     }
 }
 
-/// The bytes of a header of IPv4 without options, of which a packet has one.
+/// The bytes of an IPv4 header without options.
 const HEADER: usize = 20;
 
-/// The bytes that are added up in one number before it is folded.
+/// The most bytes that are added up in one number before the number is folded.
 const LONGEST: usize = 65536;
 
-/// The one's complement sum of words that add up to this.
+/// Returns the one's complement sum of words that add up to `total`.
 fn folded(total: u64) -> u16
     ensures { result ≡ ones_sum total }
 {
@@ -39,7 +39,7 @@ fn folded(total: u64) -> u16
     }
 }
 
-/// The last three bytes or fewer, as words added up.
+/// Adds up the words of three bytes or fewer, an odd last byte followed by a zero.
 fn last_words(rest: &[u8]) -> u64
     requires { length rest.now < 4 }
     ensures value { result ≡ word_sum rest.now }
@@ -53,7 +53,8 @@ fn last_words(rest: &[u8]) -> u64
     }
 }
 
-/// Adds two words as one number of 32 bits: 65536 is 1 modulo 65535. Gives what is behind them.
+/// Adds two words to `total` as one number of 32 bits, since 65536 is 1 modulo 65535. Returns the
+/// new total and the bytes after the two words.
 fn add_four(total: u64, bytes: &[u8]) -> (u64, &[u8])
     requires long { 4 ≤ length bytes.now }
     requires small { total ≤ 70368744177664 }
@@ -68,7 +69,8 @@ fn add_four(total: u64, bytes: &[u8]) -> (u64, &[u8])
     }
 }
 
-/// A number with the one's complement sum of the words of a header of IPv4 without options.
+/// Returns a number whose one's complement sum is that of the words of 20 bytes, an IPv4 header
+/// without options.
 fn header_total(bytes: &[u8]) -> u64
     requires { length bytes.now ≡ 20 }
     ensures { ones_sum result ≡ ones_sum (word_sum bytes.now) }
@@ -81,7 +83,7 @@ fn header_total(bytes: &[u8]) -> u64
     total + last_words(rest)
 }
 
-/// The same of so many bytes.
+/// Returns a number whose one's complement sum is that of the words of at most 65,536 bytes.
 fn short_total(bytes: &[u8]) -> u64
     requires { length bytes.now ≤ 65536 }
     ensures { ones_sum result ≡ ones_sum (word_sum bytes.now) }
@@ -95,7 +97,8 @@ fn short_total(bytes: &[u8]) -> u64
     total + last_words(rest)
 }
 
-/// The same of more bytes, a part after another.
+/// Returns a number whose one's complement sum is that of the words of any number of bytes, added
+/// up 65,536 bytes at a time.
 fn long_total(bytes: &[u8]) -> u64
     ensures { ones_sum result ≡ ones_sum (word_sum bytes.now) }
 {
@@ -109,7 +112,7 @@ fn long_total(bytes: &[u8]) -> u64
     u64::from(add(total, folded(short_total(rest))))
 }
 
-/// A number with the one's complement sum of the big-endian 16-bit words.
+/// Returns a number whose one's complement sum is that of the big-endian 16-bit words.
 fn total_of(bytes: &[u8]) -> u64
     ensures { ones_sum result ≡ ones_sum (word_sum bytes.now) }
 {
@@ -122,15 +125,15 @@ fn total_of(bytes: &[u8]) -> u64
     }
 }
 
-/// The one's complement sum of the big-endian 16-bit words, an odd last byte followed by a zero: 0
-/// only where all bytes are 0. A checksum is its complement.
+/// Returns the one's complement sum of the big-endian 16-bit words, an odd last byte followed by a
+/// zero: 0 only where all bytes are 0. A checksum is the complement of this sum.
 pub fn sum(bytes: &[u8]) -> u16
     ensures { result ≡ ones_sum (word_sum bytes.now) }
 {
     folded(total_of(bytes))
 }
 
-/// Whether the checksum among these bytes is right.
+/// Whether the checksum among these bytes is right. Bytes that are all 0 aren't right.
 pub fn is_right(bytes: &[u8]) -> bool
     ensures { IsTrue result ↔ IsRight bytes.now }
 {
@@ -138,25 +141,27 @@ pub fn is_right(bytes: &[u8]) -> bool
     total != 0 && total % 65535 == 0
 }
 
-/// The checksum after one of its words has changed from `old` to `new`, where it was `c`
-/// (RFC 1624). It is never 65535; a checksum that was wrong stays wrong by as much.
+/// Returns the checksum after one of its words has changed from `old` to `new`, where it was `c`
+/// before (RFC 1624). The answer is never 65535; a checksum that was wrong stays wrong by as much.
 pub fn update(c: u16, old: u16, new: u16) -> u16
     ensures { IsUpdate c old new result }
 {
     ((u32::from(c) + u32::from(old) + 65535 - u32::from(new)) % 65535) as u16
 }
 
-/// The same where several words have changed, which added up to `old` and now add up to `new`.
+/// Returns the checksum after several of its words have changed, which added up to `old` and now
+/// add up to `new`, where it was `c` before (RFC 1624).
 pub fn update_words(c: u16, old: u32, new: u32) -> u16
     ensures { IsUpdate c old new result }
 {
-    // The multiple of 65535 that no `new` exceeds.
+    // The greatest `u32`, which is a multiple of 65535: no `new` exceeds it.
     let turn = 65535 * 65537;
     ((u64::from(c) + u64::from(old) + turn - u64::from(new)) % 65535) as u16
 }
 
-/// A whole sum follows an update of one of its words: where the other words added up to `s` and
-/// now, one of them changed, to `s2`, field and words keep their sum.
+/// An update keeps the whole sum: where the words other than the checksum added up to `s` and,
+/// after one of them has changed, add up to `s2`, checksum and words have the same sum modulo 65535
+/// as before.
 pub fn update_law()
     ensures { (c old new s s2 u : ℕ) → s2 + old ≡ s + new → IsUpdate c old new u
         → (u + s2) % 65535 ≡ (c + s) % 65535 }

@@ -1,4 +1,4 @@
--- Tests and facts of an advertisement.
+-- The tests of an advertisement, and what they say of numbers.
 use Rattle.std.proofs.Common.{◌≡◌, ◌≤◌, ◌<◌, ℕ, ◌+◌, ◌*◌, ◌%◌, Bool, true, false, not, ◌&&◌, ◌||◌, ◌==◌, nat_lt, ◌⊎◌, List, [], ◌∷◌, ◌++◌, length, ap, ◌∙◌, sym, arith, Option, None, IsTrue, ◌↔◌}
 use Rattle.std.proofs.lemmas.Bool.Decides.{nat_tests}
 use Rattle.sums.specs.Sum.{word_sum, ones_sum, IsRight}
@@ -8,7 +8,7 @@ use Rattle.ipv4.specs.Header.{has_wrong_sum}
 use Rattle.vrrp_packet.specs.declared.AdvertFault.{AdvertFault}
 use Rattle.vrrp_packet.specs.declared.AdvertFault.TheVariants.{BadTtl, BadVersion, BadType, TooShort, NoAddress, BadSum, ZeroInterval}
 
--- of two sums one is right where not both are wrong
+-- where not both of two sums are wrong, one of them is right
 wrong_sum-false : (n m : ℕ) → ((not (n % 65535 == 0) || (n == 0)) && (not (m % 65535 == 0) || (m == 0))) ≡ false
     → ((n % 65535 ≡ 0) × (0 < n)) ⊎ ((m % 65535 ≡ 0) × (0 < m))
 wrong_sum-false n m e = grind (arith, nat_tests)
@@ -23,7 +23,7 @@ one_right a b e = wrong_sum-false (word_sum a) (word_sum b) e
 pub not_both_wrong : (a b : List ℕ) → IsRight a ⊎ IsRight b → (has_wrong_sum a && has_wrong_sum b) ≡ false
 not_both_wrong a b right = wrong_sum-none (word_sum a) (word_sum b) right
 
--- the tests, of numbers
+-- the tests of an advertisement, on numbers in the place of bytes
 abbrev pub refusal : (ttl long version kind count size interval : ℕ) → Bool → Option AdvertFault
 refusal ttl long version kind count size interval wrong =
     first_fault (
@@ -64,18 +64,18 @@ pub none-passes : (ttl long version kind count size interval : ℕ) (wrong : Boo
     → refusal ttl long version kind count size interval wrong ≡ None
 none-passes ttl long version kind count size interval wrong p = grind (arith, nat_tests)
 
--- a one's complement sum with all bits set is the sum of right words
+-- a one's complement sum has all bits set exactly where the words have a right sum
 all_ones : (m n : ℕ) → not (ones_sum (m + n) == 65535) ≡ (not ((m + n) % 65535 == 0) || ((m + n) == 0))
 all_ones m n = grind (arith, nat_tests)
 
--- where the test says no, the sum is wrong
+-- where the test doesn't find a right sum, the sum is wrong
 wrong_number : (n : ℕ) (r : Bool) → IsTrue r ↔ ((n % 65535 ≡ 0) × (0 < n)) → r ≡ false → (not (n % 65535 == 0) || (n == 0)) ≡ true
 wrong_number n r decides tested = grind (arith, nat_tests)
 
 pub wrong_where_not : (message : List ℕ) (r : Bool) → IsTrue r ↔ IsRight message → r ≡ false → has_wrong_sum message ≡ true
 wrong_where_not message r decides tested = wrong_number (word_sum message) r decides tested
 
--- the sum of two parts, added
+-- the added sums of two parts have all bits set exactly where the whole has a right sum
 pub wrong_in_parts : (first second : List ℕ) (half r : ℕ) → length first ≡ 2 * half → r ≡ ones_sum (word_sum first + word_sum second)
     → not (r == 65535) ≡ has_wrong_sum (first ++ second)
 wrong_in_parts first second half r even sum =
@@ -83,6 +83,6 @@ wrong_in_parts first second half r even sum =
     ∙ all_ones (word_sum first) (word_sum second)
     ∙ ap (λ (x : ℕ). not (x % 65535 == 0) || (x == 0)) (sym (word_sum-append first second half even))
 
--- the message alone is wrong, and so the other form decides
+-- where the message alone has a wrong sum, the form with the pseudo-header decides
 pub other_decides : (a b : List ℕ) (x : Bool) → has_wrong_sum a ≡ true → x ≡ has_wrong_sum b → x ≡ (has_wrong_sum a && has_wrong_sum b)
 other_decides a b x wrong same = same ∙ ap (λ (t : Bool). t && has_wrong_sum b) (sym wrong)

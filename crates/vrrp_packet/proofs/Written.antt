@@ -1,4 +1,4 @@
--- What is written is read again.
+-- A message that was written is read as the same advertisement.
 use Rattle.std.proofs.Common.{◌≡◌, ℕ, ◌%◌, List, length, take, drop, ap, ◌∙◌, sym, subst, arith, inl}
 use Rattle.byteorder.specs.Endian.{big_number}
 use Rattle.sums.specs.Sum.{checksum_of, IsRight}
@@ -6,7 +6,7 @@ use Rattle.ipv4.specs.Header.{word_at, header_of, payload_of}
 use Rattle.vrrp_packet.specs.declared.Advert.{Advert}
 use Rattle.vrrp_packet.specs.Message.{message_of, size_of, IsAdvert, advert_of, message_bytes, advert_bytes, IsWritable}
 
--- the fields of a message that was written
+-- the fields of a message that was written are those of the advertisement
 pub advert_of-message_bytes : (advert : Advert) (checksum : ℕ) → IsWritable advert → advert_of (message_bytes advert checksum) ≡ advert
 advert_of-message_bytes advert checksum fits =
     let interval : word_at 4 (message_bytes advert checksum) % 0x1000 ≡ advert.interval = omega arith in
@@ -14,7 +14,7 @@ advert_of-message_bytes advert checksum fits =
     ap (λ (x : ℕ). let a : Advert = record { router = advert.router; priority = advert.priority; interval = x; address = record { 0 = big_number 4 (drop 8 (message_bytes advert checksum)) } } in a) interval
     ∙ ap (λ (x : ℕ). let a : Advert = record { router = advert.router; priority = advert.priority; interval = advert.interval; address = record { 0 = x } } in a) address
 
--- its checksum is right
+-- the checksum of a message that was written is right
 pub right_sum : (advert : Advert) → IsRight (advert_bytes advert)
 right_sum advert = (omega arith, omega arith)
 

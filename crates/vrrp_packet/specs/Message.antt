@@ -34,16 +34,16 @@ message_of payload = record {
 abbrev pub size_of : Message → ℕ
 size_of message = HEADER + 4 * message.count
 
--- what the checksum may count before the message (RFC 9568, section 5.2.8)
+-- the bytes that the checksum may cover before the message (RFC 9568, section 5.2.8)
 abbrev pub pseudo_header : (source destination size : ℕ) → List ℕ
 pseudo_header source destination size =
     big_bytes 4 source ++ big_bytes 4 destination ++ (0 ∷ PROTOCOL ∷ []) ++ big_bytes 2 size
 
--- what a checksum counts: the message with its addresses
+-- what a checksum covers in the first form: the message with its addresses
 abbrev pub summed : List ℕ → List ℕ
 summed packet = take (size_of (message_of (payload_of packet))) (payload_of packet)
 
--- and the same behind the pseudo-header
+-- what a checksum covers in the second form: the pseudo-header, and the message with its addresses
 abbrev pub summed_with_pseudo : List ℕ → List ℕ
 summed_with_pseudo packet =
     let size = size_of (message_of (payload_of packet)) in
@@ -60,7 +60,7 @@ pub record IsAdvert (packet : List ℕ) : Type 0 where
   pub sum : IsRight (summed packet) ⊎ IsRight (summed_with_pseudo packet)
   pub interval : 0 < (message_of (payload_of packet)).interval
 
--- why an IPv4 packet carries no advertisement
+-- why an IPv4 packet carries no advertisement, None where it carries one
 abbrev pub advert_refusal : List ℕ → Option AdvertFault
 advert_refusal packet =
     let payload = payload_of packet in
@@ -76,7 +76,7 @@ advert_refusal packet =
     ∷ (message.interval == 0, ZeroInterval)
     ∷ [])
 
--- what a payload advertises, of its addresses the first
+-- what a payload advertises, with the first of its addresses
 abbrev pub advert_of : List ℕ → Advert
 advert_of payload = record {
   router = (message_of payload).router;
@@ -91,11 +91,11 @@ message_bytes advert checksum =
     (0x31 ∷ advert.router ∷ advert.priority ∷ 1 ∷ [])
     ++ big_bytes 2 advert.interval ++ big_bytes 2 checksum ++ big_bytes 4 advert.address.0
 
--- the message of one address, its checksum over itself alone
+-- the message of one address, whose checksum covers the message alone
 abbrev pub advert_bytes : Advert → List ℕ
 advert_bytes advert = message_bytes advert (checksum_of (message_bytes advert 0))
 
--- numbers that fit their fields, the interval not 0
+-- an advertisement whose numbers fit their fields, with an interval other than 0
 pub record IsWritable (advert : Advert) : Type 0 where
   pub router : advert.router < 2 ^ 8
   pub priority : advert.priority < 2 ^ 8

@@ -36,14 +36,14 @@ use thiserror::Error;
 /// The number of VRRP in an IPv4 header.
 pub const PROTOCOL: u8 = 112;
 
-/// 224.0.0.18, the group to which advertisements go.
+/// The address 224.0.0.18, the group to which advertisements go.
 pub const GROUP: Ip = Ip(0xe000_0012);
 
 /// The bytes of an advertisement's frame: an Ethernet header of 14, an IPv4 header of 20, and a
 /// message of 12.
 pub const ADVERT_FRAME: usize = 46;
 
-/// Where the message's fields lie.
+/// The places of the message's fields.
 mod field {
     use std::ops::Range;
 
@@ -55,11 +55,11 @@ mod field {
     pub const PRIORITY: usize = 2;
 
     pub const COUNT: usize = 3;
-    /// The interval in the low 12 bits, the others reserved.
+    /// The reserved bits in the high 4, the interval in the low 12.
     pub const INTERVAL: Range<usize> = 4..6;
 
     pub const CHECKSUM: Range<usize> = 6..8;
-    /// The first address.
+    /// The place of the first address.
     pub const ADDRESS: Range<usize> = 8..12;
     /// The bytes before the addresses.
     pub const HEADER: usize = 8;
@@ -70,22 +70,22 @@ const VERSION: u8 = 3;
 /// The only type of message.
 const ADVERTISEMENT: u8 = 1;
 
-/// One more than the greatest interval.
+/// One more than the greatest interval in centiseconds.
 const INTERVALS: u16 = 0x1000;
 
-/// What a router advertises.
+/// The contents of a router's advertisement.
 #[derive(Clone, Copy, Debug, PartialEq, Eq)]
 pub struct Advert {
     /// The virtual router's number.
     pub router: u8,
     pub priority: u8,
-    /// Centiseconds, 1 to 4095.
+    /// The interval in centiseconds, from 1 to 4095.
     pub interval: u16,
     /// The first of the virtual router's addresses.
     pub address: Ip,
 }
 
-/// Why a packet is no advertisement that is taken.
+/// Why a packet carries no valid advertisement.
 #[derive(Clone, Copy, Debug, PartialEq, Eq, Error)]
 pub enum AdvertFault {
     #[error("a TTL other than 255")]
@@ -104,9 +104,9 @@ pub enum AdvertFault {
     ZeroInterval,
 }
 
-/// The advertisement that a packet carries. Reserved bits and bytes behind the addresses are
-/// ignored; the checksum may count the message alone, or with the pseudo-header (RFC 9568, section
-/// 5.2.8).
+/// Reads the advertisement that a packet carries, or answers the first fault. Reserved bits and
+/// bytes after the addresses are ignored. The checksum may cover the message alone, or the
+/// pseudo-header and the message (RFC 9568, section 5.2.8).
 pub fn parse(packet: &Ipv4View<'_>) -> Result<Advert, AdvertFault>
     ensures refusal { result_err result ≡ advert_refusal packet.now.bytes.now }
     ensures ok { IsOk result ↔ IsAdvert packet.now.bytes.now }
@@ -148,7 +148,7 @@ pub fn parse(packet: &Ipv4View<'_>) -> Result<Advert, AdvertFault>
     })
 }
 
-/// Whether the checksum is wrong in both forms.
+/// Whether the checksum is wrong both for the message alone and with the pseudo-header.
 fn wrong_sum(packet: &Ipv4View<'_>, message: &[u8]) -> bool
     requires { length message.now < 2 ^ 16 }
     ensures { let header = header_of packet.now.bytes.now in
@@ -168,7 +168,7 @@ fn pseudo_header(source: Ip, destination: Ip, size: u16) -> [u8; 12]
     [a, b, c, d, e, f, g, h, 0, PROTOCOL, high, low]
 }
 
-/// Writes a message of one address, its checksum over itself alone.
+/// Writes a message of one address, whose checksum covers the message alone.
 pub fn write(advert: &Advert, out: &mut [u8; 12])
     requires positive { 0 < advert.now.interval }
     requires twelve_bits { advert.now.interval < 4096 }
@@ -190,7 +190,7 @@ pub fn write(advert: &Advert, out: &mut [u8; 12])
     BigEndian::write_u16(&mut out[field::CHECKSUM], checksum);
 }
 
-/// The packets that aren't refused are those of the grammar.
+/// The packets that [`parse`] accepts are exactly those of the grammar `IsAdvert`.
 pub fn advert_grammar()
     ensures { (packet : List ℕ) → (advert_refusal packet ≡ None) ↔ IsAdvert packet }
 {}
@@ -205,14 +205,15 @@ pub fn limits_law()
     ensures frame { ADVERT_FRAME ≡ 46 }
 {}
 
-/// The group of advertisements is 224.0.0.18 (RFC 9568, section 5.1.1.2).
+/// Returns the group of advertisements, 224.0.0.18 (RFC 9568, section 5.1.1.2).
 pub fn group_law() -> Ip
     ensures group { result.0 ≡ 0xe0000012 }
 {
     GROUP
 }
 
-/// What is written is read again, from any packet with TTL 255 that carries it.
+/// A message that is written is read as the same advertisement from any packet with TTL 255 that
+/// carries it.
 pub fn written_is_read()
     ensures { (packet : List ℕ) (advert : Sent) → IsWritable advert
         → (header_of packet).ttl ≡ 255 → payload_of packet ≡ advert_bytes advert

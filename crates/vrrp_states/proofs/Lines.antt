@@ -1,4 +1,4 @@
--- Each line of the table, for a router as it is kept.
+-- Each line of the table, for a router as it is stored.
 use Rattle.std.proofs.Common.{◌≡◌, ℕ, zero, suc, ◌+◌, ◌<◌, ◌≤◌, ◌⊎◌, inl, inr, false, refl, sym, subst, arith}
 use Rattle.vrrp_states.specs.declared.State.{State}
 use Rattle.vrrp_states.specs.declared.State.TheVariants.{Initialize, Backup, Active}
@@ -8,15 +8,15 @@ use Rattle.vrrp_states.specs.declared.routers.Status.{Status}
 use Rattle.vrrp_states.specs.Table.{Event, Start, Stop, Heard, Tick, InitializeStart, InitializeOther, BackupStop, BackupTimer, BackupPriorityZero, BackupFollows, BackupOther, ActiveStop, ActiveTimer, ActivePriorityZero, ActiveYields, ActiveOther, NothingDue, IsStep, skew_time, active_down_interval}
 use Rattle.vrrp_states.specs.Fields.{router_of}
 
--- the router in Backup behind one that advertises at this interval
+-- the router in Backup that follows one with this interval
 abbrev pub behind : Own → ℕ → ℕ → Status
 behind own interval now = record { state = Backup; active_interval = interval; due = now + active_down_interval own.priority interval }
 
--- the router in Active that just advertised
+-- the router in Active that has just advertised
 abbrev pub ahead : Own → Status → ℕ → Status
 ahead own status now = record { state = Active; active_interval = status.active_interval; due = now + own.interval }
 
--- a fact about the router of a status whose state is known
+-- a fact about a router whose state is known holds for the router's status
 at : (P : Status → Type 0) (status : Status) (state : State) → status.state ≡ state → P (record status { state = state }) → P status
 at P status state is here = subst (λ (x : State). P (record status { state = x })) (sym is) here
 
@@ -50,16 +50,16 @@ active_timer own status now is due = at (λ s. IsStep (router_of own s) Tick now
 pub active_yields : (own : Own) (status : Status) (priority interval source now : ℕ) → status.state ≡ Active → 0 < priority → ((own.priority < priority) ⊎ ((priority ≡ own.priority) × (own.address.0 < source))) → IsStep (router_of own status) (Heard priority interval source) now Nothing (router_of own (behind own interval now))
 active_yields own status priority interval source now is some outranks = at (λ s. IsStep (router_of own s) (Heard priority interval source) now Nothing (router_of own (behind own interval now))) status Active is (ActiveYields, (priority, interval, source, refl, refl, some, outranks, refl, refl))
 
--- an advertisement of priority 0, or one that is only discarded
+-- an Active router stays Active and advertises where an advertisement has priority 0 or doesn't outrank it
 pub active_stays : (own : Own) (status : Status) (priority interval source now : ℕ) → status.state ≡ Active → (0 < priority → ((own.priority < priority) ⊎ ((priority ≡ own.priority) × (own.address.0 < source))) → ⊥) → IsStep (router_of own status) (Heard priority interval source) now (Advertise own.priority) (router_of own (ahead own status now))
 active_stays own status zero interval source now is stays = at (λ s. IsStep (router_of own s) (Heard zero interval source) now (Advertise own.priority) (router_of own (ahead own s now))) status Active is (ActivePriorityZero, (interval, source, refl, refl, refl, refl))
 active_stays own status (suc p) interval source now is stays = let some : 0 < suc p = omega arith in at (λ s. IsStep (router_of own s) (Heard (suc p) interval source) now (Advertise own.priority) (router_of own (ahead own s now))) status Active is (ActiveOther, (suc p, interval, source, refl, refl, some, stays some, refl, refl))
 
--- start where the router runs already
+-- a start changes nothing where the router runs already
 pub start_again : (own : Own) (status : Status) (now : ℕ) → (status.state ≡ Initialize → ⊥) → IsStep (router_of own status) Start now Nothing (router_of own status)
 start_again own status now runs = (NothingDue, (runs, inl refl, refl, refl))
 
--- a tick before the timer is due
+-- a tick before the timer is due changes nothing
 early_in : (own : Own) (state : State) (active_interval due now : ℕ) → now < due → IsStep (router_of own (record { state = state; active_interval = active_interval; due = due })) Tick now Nothing (router_of own (record { state = state; active_interval = active_interval; due = due }))
 early_in own Initialize active_interval due now early = (InitializeOther, (refl, λ e. absurd (cc), refl, refl))
 early_in own Backup active_interval due now early = (NothingDue, (λ e. absurd (cc), inr (refl, λ h. let le : due ≤ now = h in absurd (omega arith)), refl, refl))

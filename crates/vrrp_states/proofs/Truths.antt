@@ -1,4 +1,4 @@
--- What follows from the table's having one line for each event.
+-- What follows from the table's one line for each event.
 use Rattle.std.proofs.Common.{◌≡◌, ℕ, zero, suc, ◌<◌, inl, inr, List, [], ◌∷◌, refl, sym, ap, ◌∙◌, subst, arith}
 use Rattle.std.specs.List.{All}
 use Rattle.std.proofs.lemmas.List.Elements.{All-nil, All-cons, All-head, All-tail}
@@ -10,7 +10,7 @@ use Rattle.vrrp_states.specs.Table.{Router, Event, Start, Stop, Heard, Outranks,
 use Rattle.vrrp_states.specs.Run.{RouterInput, Runs, hears}
 use Rattle.vrrp_states.proofs.Unique.{one_step}
 
--- an advertisement that doesn't outrank an Active router
+-- an Active router stays Active where an advertisement doesn't outrank it
 stays_at : (r s : Router) (priority interval source now : ℕ) (a : Action) → r.state ≡ Active → (Outranks priority source r → ⊥) → IsStep r (Heard priority interval source) now a s → (s.state ≡ Active) × (a ≡ Advertise r.priority)
 stays_at r s zero interval source now a is less step =
     let same = one_step r (Heard zero interval source) now a (Advertise r.priority) s _ step (ActivePriorityZero, (interval, source, is, refl, refl, refl)) in
@@ -20,7 +20,7 @@ stays_at r s (suc p) interval source now a is less step =
     let same = one_step r (Heard (suc p) interval source) now a (Advertise r.priority) s _ step (ActiveOther, (suc p, interval, source, is, refl, some, less, refl, refl)) in
     (ap (λ (x : Router). x.state) same.1 ∙ is, same.0)
 
--- and one that does
+-- an Active router yields where an advertisement outranks it
 yields_at : (r s : Router) (priority interval source now : ℕ) (a : Action) → r.state ≡ Active → 0 < priority → Outranks priority source r → IsStep r (Heard priority interval source) now a s → (s.state ≡ Backup) × (a ≡ Nothing)
 yields_at r s priority interval source now a is some more step =
     let same = one_step r (Heard priority interval source) now a Nothing s _ step (ActiveYields, (priority, interval, source, is, refl, some, more, refl, refl)) in
@@ -67,7 +67,7 @@ silent r s (x ∷ more) is none run =
     let idle = idles r run.0 x.event x.now x.action is (All-head (λ (y : RouterInput). y.event ≡ Start → ⊥) x more none) run.1 in
     All-cons (λ (y : RouterInput). y.action ≡ Nothing) x more idle.0 (silent r s more is (All-tail (λ (y : RouterInput). y.event ≡ Start → ⊥) x more none) (subst (λ (y : Router). Runs y more s) idle.1 run.2))
 
--- a router's own values
+-- two routers have the same own values
 pub record Own (s r : Router) : Type 0 where
   pub priority : s.priority ≡ r.priority
   pub interval : s.interval ≡ r.interval

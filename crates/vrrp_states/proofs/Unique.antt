@@ -1,4 +1,5 @@
--- Of each router, event and moment exactly one line of the table can be said, and it says what is sent and what comes of the router.
+-- For each router, event and time exactly one line of the table holds, and that line determines what is sent and what
+-- the router is afterwards.
 use Rattle.std.proofs.Common.{◌≡◌, ℕ, ◌+◌, ◌<◌, ◌≤◌, ◌⊎◌, inl, inr, false, Option, Some, None, refl, sym, ap, ap₂, subst, ◌∙◌, arith}
 use Rattle.std.proofs.lemmas.Bool.{cases_Bool, cases_order, both_ways}
 use Rattle.std.proofs.lemmas.Bool.Decides.{leb_tells}
@@ -73,7 +74,7 @@ unfolding pick
 pick_no P (inl holds) a b h = absurd (h holds)
 pick_no P (inr fails) a b h = refl
 
--- the one line that can be said
+-- the one line that can hold
 abbrev choose : State → Event → Router → ℕ → Line
 choose Initialize Start r now = InitializeStart
 choose Initialize Stop r now = InitializeOther
@@ -88,7 +89,7 @@ choose Active Stop r now = ActiveStop
 choose Active (Heard p i s) r now = pick (p ≡ 0) (zero_or p) ActivePriorityZero (pick (Outranks p s r) (outranks_or r p s) ActiveYields ActiveOther)
 choose Active Tick r now = pick (IsDue r.adver_timer now) (due_or r.adver_timer now) ActiveTimer NothingDue
 
--- a line whose state and event are known
+-- a line for a known state and event is the line for a router and an event equal to them
 known : (line : Line) (state : State) (event : Event) (r : Router) (e : Event) (now : ℕ) → r.state ≡ state → e ≡ event → line ≡ choose state event r now → line ≡ choose r.state e r now
 known line state event r e now is told here = here ∙ ap₂ (λ (x : State) (y : Event). choose x y r now) (sym is) (sym told)
 
@@ -105,7 +106,7 @@ rest_line Backup e r now runs (inr h) = pick_no (IsDue r.active_down_timer now) 
 rest_line Active e r now runs (inl told) = ap (λ (y : Event). choose Active y r now) (sym told)
 rest_line Active e r now runs (inr h) = pick_no (IsDue r.adver_timer now) (due_or r.adver_timer now) ActiveTimer NothingDue h.1 ∙ ap (λ (y : Event). choose Active y r now) (sym h.0)
 
--- an advertisement of a priority above 0
+-- an advertisement of a priority above 0 isn't of the line for priority 0
 heard_line : (line : Line) (p : ℕ) (first rest : Line) → 0 < p → line ≡ rest → line ≡ pick (p ≡ 0) (zero_or p) first rest
 heard_line line p first rest some e = e ∙ pick_no (p ≡ 0) (zero_or p) first rest (λ (h : p ≡ 0). absurd (omega arith))
 
@@ -124,7 +125,7 @@ chosen ActiveYields r e now a s h = known ActiveYields Active (Heard h.0 h.1 h.2
 chosen ActiveOther r e now a s h = known ActiveOther Active (Heard h.0 h.1 h.2) r e now h.3 h.4 (heard_line ActiveOther h.0 ActivePriorityZero (pick (Outranks h.0 h.2 r) (outranks_or r h.0 h.2) ActiveYields ActiveOther) h.5 (pick_no (Outranks h.0 h.2 r) (outranks_or r h.0 h.2) ActiveYields ActiveOther h.6))
 chosen NothingDue r e now a s h = rest_line r.state e r now h.0 h.1
 
--- no two lines
+-- no two lines hold at once
 pub one_line : (r : Router) (e : Event) (now : ℕ) (a b : Action) (s t : Router) (l m : Line) → Says l r e now a s → Says m r e now b t → l ≡ m
 one_line r e now a b s t l m h k = chosen l r e now a s h ∙ sym (chosen m r e now b t k)
 
@@ -137,7 +138,7 @@ follow_on r now i j e = ap (λ (x : ℕ). let s : Router = record r { active_int
 yield_to : (r : Router) (now i j : ℕ) → i ≡ j → (record r { state = Backup; adver_timer = None; active_interval = i; active_down_timer = Some (now + active_down_interval r.priority i) }) ≡ record r { state = Backup; adver_timer = None; active_interval = j; active_down_timer = Some (now + active_down_interval r.priority j) }
 yield_to r now i j e = ap (λ (x : ℕ). let s : Router = record r { state = Backup; adver_timer = None; active_interval = x; active_down_timer = Some (now + active_down_interval r.priority x) } in s) e
 
--- one line says one thing
+-- one line determines one outcome
 same_line : (l : Line) (r : Router) (e : Event) (now : ℕ) (a b : Action) (s t : Router) → Says l r e now a s → Says l r e now b t → (a ≡ b) × (s ≡ t)
 same_line InitializeStart r e now a b s t h k = (h.2 ∙ sym k.2, h.3 ∙ sym k.3)
 same_line InitializeOther r e now a b s t h k = (h.2 ∙ sym k.2, h.3 ∙ sym k.3)
@@ -153,11 +154,11 @@ same_line ActiveYields r e now a b s t h k = (h.7 ∙ sym k.7, h.8 ∙ yield_to 
 same_line ActiveOther r e now a b s t h k = (h.7 ∙ sym k.7, h.8 ∙ sym k.8)
 same_line NothingDue r e now a b s t h k = (h.2 ∙ sym k.2, h.3 ∙ sym k.3)
 
--- no two outcomes
+-- no two outcomes are possible
 pub one_step : (r : Router) (e : Event) (now : ℕ) (a b : Action) (s t : Router) → IsStep r e now a s → IsStep r e now b t → (a ≡ b) × (s ≡ t)
 one_step r e now a b s t h k = same_line h.0 r e now a b s t h.1 (subst (λ (l : Line). Says l r e now b t) (sym (one_line r e now a b s t h.0 k.0 h.1 k.1)) k.1)
 
--- and always one
+-- an outcome is always possible
 abbrev Some_step : Router → Event → ℕ → Type 0
 Some_step r e now = (a : Action) × (s : Router) × IsStep r e now a s
 

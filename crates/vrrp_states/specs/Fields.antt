@@ -1,4 +1,4 @@
--- How a router is kept: one moment for the timer that runs in its state.
+-- How a router is stored: with one time, at which the timer that runs in its state is due.
 use Rattle.std.specs.Prelude.{ℕ, Option, Some, None}
 use Rattle.vrrp_states.specs.declared.State.{State}
 use Rattle.vrrp_states.specs.declared.State.TheVariants.{Initialize, Backup, Active}
@@ -18,7 +18,7 @@ active_down_timer_of Initialize due = None
 active_down_timer_of Backup due = Some due
 active_down_timer_of Active due = None
 
--- the router that the fields stand for
+-- the router that the fields of a value describe
 abbrev pub router_of : Own → Status → Router
 router_of own status = record {
   priority = own.priority;

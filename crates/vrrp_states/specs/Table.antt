@@ -5,7 +5,7 @@ use Rattle.vrrp_states.specs.declared.State.TheVariants.{Initialize, Backup, Act
 use Rattle.vrrp_states.specs.declared.Action.{Action}
 use Rattle.vrrp_states.specs.declared.Action.TheVariants.{Nothing, Advertise, AdvertiseAndArp}
 
--- a router: its own values (section 6.1), its state, and its timers (section 6.2) by the moments at which they are due
+-- a router: its own values (section 6.1), its state, and the times at which its timers (section 6.2) are due
 pub record Router : Type 0 where
   pub priority : ℕ
   pub interval : ℕ
@@ -16,7 +16,7 @@ pub record Router : Type 0 where
   pub adver_timer : Option ℕ
   pub active_down_timer : Option ℕ
 
--- the limits of the own values; 255 is the owner's priority
+-- the limits of a router's own values; 255 is the priority of the address owner
 abbrev pub IsPriority : ℕ → Type 0
 IsPriority priority = (1 ≤ priority) × (priority ≤ 254)
 
@@ -36,11 +36,11 @@ new_router priority interval preempt address = record {
   active_down_timer = None;
 }
 
--- a moment of the router's clock
+-- a time of the router's clock, in centiseconds
 abbrev pub IsMoment : ℕ → Type 0
 IsMoment now = now ≤ 4000000000000
 
--- what a router is told; an advertisement with its priority, its interval and the address that it comes from
+-- what a router receives; an advertisement with its priority, its interval and the address that it comes from
 pub data Event : Type 0 where
   Start : Event
   Stop : Event
@@ -55,7 +55,7 @@ skew_time priority interval = ((256 - priority) * interval) / 256
 abbrev pub active_down_interval : ℕ → ℕ → ℕ
 active_down_interval priority interval = 3 * interval + skew_time priority interval
 
--- a timer runs and is due at this moment
+-- a timer runs and is due at this time
 abbrev pub IsDue : Option ℕ → ℕ → Type 0
 IsDue None now = ⊥
 IsDue (Some due) now = due ≤ now
@@ -71,7 +71,7 @@ abbrev pub Outranks : ℕ → ℕ → Router → Type 0
 Outranks priority source router =
     (router.priority < priority) ⊎ ((priority ≡ router.priority) × (router.address < source))
 
--- a router in Backup stays behind one of this priority (section 6.4.2)
+-- a router in Backup follows one of this priority, and stays in Backup (section 6.4.2)
 abbrev pub Follows : Router → ℕ → Type 0
 Follows router priority = (router.preempt ≡ false) ⊎ (router.priority ≤ priority)
 
@@ -91,7 +91,7 @@ pub data Line : Type 0 where
   ActiveOther : Line
   NothingDue : Line
 
--- What a line says: the router before, the event, the moment, what is sent, the router afterwards.
+-- What a line says: the router before, the event, the time, what is sent, the router afterwards.
 abbrev pub Says : Line → Router → Event → ℕ → Action → Router → Type 0
 -- Initialize, start: Active_Adver_Interval := own interval; Active_Down_Timer := Active_Down_Interval; Backup
 -- (section 6.4.1).

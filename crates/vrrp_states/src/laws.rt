@@ -1,4 +1,4 @@
-//! What holds of the state table. Each law is the contract of a function that does nothing.
+//! Facts about the state table. Each law is the contract of a function that does nothing.
 
 ghost use Rattle.std.specs.Prelude.{◌≡◌, ℕ, ◌<◌, List, All};
 ghost use Rattle.vrrp_states.specs.declared.State.TheVariants as states;
@@ -7,7 +7,8 @@ ghost use Rattle.vrrp_states.specs.declared.Action.TheVariants as actions;
 ghost use Rattle.vrrp_states.specs.Table.{Router, Event, Start, Stop, Line, Says, IsStep};
 ghost use Rattle.vrrp_states.specs.Run.{RouterInput, Runs, hears};
 
-/// Of each router, event and moment exactly one line of the table can be said, and it tells what is sent and what becomes of the router.
+/// For each router, event and time exactly one line of the table holds, and that line determines what is sent and what
+/// the router is afterwards.
 pub fn exactly_one_line()
     ensures some { (r : Router) (e : Event) (now : ℕ)
         → (a : Action) × (s : Router) × IsStep r e now a s }
@@ -27,7 +28,7 @@ pub fn higher_priority_stays()
         → (s.state ≡ states.Backup) × (a ≡ actions.Nothing) }
 {}
 
-/// Of two Active routers of one priority the one of the greater address stays Active, and the other yields.
+/// Of two Active routers with the same priority, the one of the greater address stays Active, and the other yields.
 pub fn greater_address_stays()
     ensures stays { (r other s : Router) (now : ℕ) (a : Action) → r.state ≡ states.Active
         → other.priority ≡ r.priority → other.address < r.address → IsStep r (hears other) now a s
@@ -37,7 +38,7 @@ pub fn greater_address_stays()
         → IsStep r (hears other) now a s → (s.state ≡ states.Backup) × (a ≡ actions.Nothing) }
 {}
 
-/// A router that is stopped is in Initialize, and stays there and sends nothing until it is started.
+/// A router that is stopped is in Initialize, stays there and sends nothing until it is started.
 pub fn stopped_stays()
     ensures stopped { (r s : Router) (now : ℕ) (a : Action) → IsStep r Stop now a s
         → s.state ≡ states.Initialize }
@@ -48,7 +49,7 @@ pub fn stopped_stays()
         → All (λ x. x.action ≡ actions.Nothing) told }
 {}
 
-/// A router keeps its own values in every step.
+/// A router keeps its own values (priority, interval, preempt, address) in every step.
 pub fn own_values_stay()
     ensures priority { (r s : Router) (e : Event) (now : ℕ) (a : Action) → IsStep r e now a s
         → s.priority ≡ r.priority }

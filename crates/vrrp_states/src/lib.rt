@@ -6,7 +6,7 @@ mod routers;
 
 pub use routers::Router;
 
-/// RFC 9568, section 6.3.
+/// The states of a virtual router (RFC 9568, section 6.3).
 #[derive(Clone, Copy, Debug, PartialEq, Eq)]
 pub enum State {
     Initialize,
@@ -14,7 +14,7 @@ pub enum State {
     Active,
 }
 
-/// What the router's interface sends at once.
+/// What the router's interface has to send at once.
 #[derive(Clone, Copy, Debug, PartialEq, Eq)]
 pub enum Action {
     Nothing,

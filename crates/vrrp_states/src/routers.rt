@@ -1,4 +1,4 @@
-//! A router, whose calls are lines of the state table.
+//! A virtual router, whose calls are lines of the state table.
 ghost use Rattle.std.specs.Prelude.{◌≡◌, ℕ, ◌+◌, ◌<◌, ◌≤◌, ◌↔◌, ◌⊎◌, IsTrue, false};
 ghost use Rattle.vrrp_states.specs.declared.State.TheVariants as states;
 ghost use Rattle.vrrp_states.specs.declared.Action.TheVariants as actions;
@@ -22,27 +22,28 @@ struct Own {
 #[derive(Clone, Copy)]
 struct Status {
     state: State,
-    /// The interval at which the Active router advertises.
+    /// The interval at which the Active router advertises, in centiseconds.
     active_interval: u16,
-    /// When the timer of the state is due: Active_Down_Timer of Backup, Adver_Timer of Active.
+    /// The time, in centiseconds, at which the timer of the state is due: Active_Down_Timer in Backup, Adver_Timer in
+    /// Active.
     due: u64,
 }
 
-/// RFC 9568, section 6.1, rounded down.
+/// Returns Skew_Time in centiseconds, rounded down (RFC 9568, section 6.1).
 fn skew_time(own: Own, interval: u16) -> u32
     ensures { result ≡ skew_time own.priority interval }
 {
     (256 - u32::from(own.priority)) * u32::from(interval) / 256
 }
 
-/// RFC 9568, section 6.1.
+/// Returns Active_Down_Interval in centiseconds (RFC 9568, section 6.1).
 fn active_down_interval(own: Own, interval: u16) -> u32
     ensures { result ≡ active_down_interval own.priority interval }
 {
     3 * u32::from(interval) + skew_time(own, interval)
 }
 
-/// Backup behind a router that advertises at this interval.
+/// Returns the status of a router in Backup that follows a router with this interval.
 fn behind(own: Own, interval: u16, now: u64) -> Status
     requires { IsMoment now }
     ensures { result ≡ record {
@@ -58,7 +59,7 @@ fn behind(own: Own, interval: u16, now: u64) -> Status
     }
 }
 
-/// Active, with its advertisement just sent.
+/// Returns the status of an Active router that has advertised at `now`.
 fn ahead(own: Own, status: Status, now: u64) -> Status
     requires { IsMoment now }
     ensures { result ≡ record {
@@ -74,7 +75,8 @@ fn ahead(own: Own, status: Status, now: u64) -> Status
     }
 }
 
-/// Whether a router in Backup stays behind the one that sent the advertisement (RFC 9568, section 6.4.2).
+/// Whether a router in Backup follows the router that sent the advertisement, and so stays in Backup (RFC 9568, section
+/// 6.4.2).
 fn is_followed(advert: Advert, own: Own) -> bool
     ensures { IsTrue result ↔ (own.preempt ≡ false) ⊎ (own.priority ≤ advert.priority) }
 {
@@ -176,7 +178,8 @@ fn heard(own: Own, status: Status, advert: Advert, from: Ip, now: u64) -> (Statu
     }
 }
 
-/// A router that doesn't own the virtual address, on one interface (RFC 9568). Each moment is of one clock, in centiseconds.
+/// A router that doesn't own the virtual address, on one interface (RFC 9568). All times are of one clock, in
+/// centiseconds.
 #[derive(Drop)]
 pub struct Router {
     own: Own,
@@ -193,7 +196,7 @@ impl Model for Router {
 }
 
 impl Router {
-    /// A router in Initialize. The interval is in centiseconds, the address the interface's primary one.
+    /// Returns a router in Initialize. The interval is in centiseconds; the address is the interface's primary one.
     pub fn new(priority: u8, interval: u16, preempt: bool, address: Ip) -> Router
         requires priority { IsPriority priority }
         requires interval { IsInterval interval }
@@ -214,7 +217,8 @@ impl Router {
         }
     }
 
-    /// RFC 9568, section 6.4.1.
+    /// Starts the router at the time `now`, in centiseconds (RFC 9568, section 6.4.1). Returns what the interface has
+    /// to send.
     pub fn start(&mut self, now: u64) -> Action
         requires { IsMoment now }
         ensures { IsStep self.old Start now result self.new }
@@ -224,7 +228,8 @@ impl Router {
         action
     }
 
-    /// The shutdown event of RFC 9568, sections 6.4.2 and 6.4.3.
+    /// Stops the router, by the shutdown event of RFC 9568, sections 6.4.2 and 6.4.3. Returns what the interface has to
+    /// send.
     pub fn stop(&mut self) -> Action
         ensures { (now : ℕ) → IsStep self.old Stop now result self.new }
     {
@@ -233,7 +238,8 @@ impl Router {
         action
     }
 
-    /// An advertisement for this virtual router, from another router's primary address.
+    /// Receives an advertisement for this virtual router, from another router's primary address, at the time `now`.
+    /// Returns what the interface has to send.
     pub fn heard(&mut self, advert: &Advert, from: Ip, now: u64) -> Action
         requires { IsMoment now }
         ensures { IsStep self.old (Heard advert.now.priority advert.now.interval from.0) now
@@ -244,7 +250,8 @@ impl Router {
         action
     }
 
-    /// At most one move, where the timer of the state is due.
+    /// Moves the router by one line of the table where the timer of its state is due at the time `now`. Returns what
+    /// the interface has to send.
     pub fn tick(&mut self, now: u64) -> Action
         requires { IsMoment now }
         ensures { IsStep self.old Tick now result self.new }

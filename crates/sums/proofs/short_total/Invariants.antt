@@ -2,7 +2,7 @@ use Rattle.std.proofs.Common.{◌≡◌, ◌+◌, ◌*◌, ◌≤◌, length}
 use Rattle.sums.specs.Sum.{word_sum, ones_sum}
 use Rattle.sums.proofs.short_total.Given as goal
 
--- four bytes add a number of 32 bits at most
+-- four bytes add at most a number of 32 bits
 abbrev pub invariant-loop-rest : goal.invariant-loop-rest
 invariant-loop-rest l = record {
   short : length l.rest ≤ 65536;

@@ -2,7 +2,7 @@ use Rattle.std.proofs.Common.{◌≡◌, ◌≤◌, ◌-◌, [], take, length}
 use Rattle.arp.specs.Log.{kept}
 use Rattle.arp.proofs.learnt.first_entry.Given as goal
 
--- all so far are empty
+-- all places so far are empty
 abbrev pub invariant-loop-place : goal.invariant-loop-place
 invariant-loop-place l = record {
   within : l.place ≤ length l.log;
