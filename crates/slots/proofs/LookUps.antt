@@ -26,7 +26,7 @@ protocols Udp Udp = refl
 last-first : (a b c : Bool) → (a && (b && c)) ≡ (c && (a && b))
 last-first a b c = sym (and_assoc a b c) ∙ and_comm (a && b) c
 
--- equality of endpoints is that of their parts
+-- equal endpoints have equal parts
 pub equal : (x y : Endpoint) → endpoint_eq.it x y ≡ same_endpoint x y
 unfolding same_endpoint
 equal x y =
