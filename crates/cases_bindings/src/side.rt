@@ -239,8 +239,8 @@ impl Side {
         }
     }
 
-    /// Gives the link a datagram of a greater boot of the peer, and maybe the core a record that comes while the batch is
-    /// promised. Then the core passes its batch to the link.
+    /// Gives the link a datagram of a greater boot of the peer, and maybe the core a record that comes while the batch
+    /// is promised. Then the core passes its batch to the link.
     pub(crate) fn restart(&mut self, boot: u64, item: Option<&Record>, case: &mut Case) {
         if boot <= self.link.known_peer() {
             return refuse("it isn't greater", case);
