@@ -23,7 +23,7 @@ use Rattle.bindings.proofs.Kept.{slot-is, life-is, below-none}
 use Rattle.bindings.proofs.Timed.{row-key}
 use Rattle.bindings.proofs.Listed.{times-first, times-other, filter-times, Climbs, Rising, climbs-filter, rising-lower, one-order}
 
--- an item under a key is idle and may be let go
+-- an item under a key is idle and may be released
 abbrev rests_here : Bool → ℕ → Key → Option Item → Bool
 rests_here lone now key None = false
 rests_here lone now key (Some i) = may_go lone i.entry.state && looks_idle key.protocol i.life now

@@ -87,7 +87,7 @@ pub keys-map : (f : Entry → Entry) (es : List Entry) → ((x : Entry) → (f x
 keys-map f [] same d = tt
 keys-map f (x ∷ xs) same d = (ap (slot_of (map f xs)) (same x) ∙ none-map f xs x.pair.key same d.0, keys-map f xs same d.1)
 
--- of two pairs, if the one doesn't serve the other's endpoint, the other doesn't serve the one's
+-- where a pair doesn't serve another one's endpoint, the other one doesn't serve its endpoint
 serves_not : (x e : Entry) → is_pair x.state ≡ true → (is_pair e.state ≡ true → serves e.pair.endpoint x ≡ false) → serves x.pair.endpoint e ≡ false
 serves_not x e live fails =
     false_from_ne_true (serves x.pair.endpoint e) (λ holds.

@@ -110,7 +110,7 @@ header-source : (f : Flow) (header rest more : List ℕ) → 20 ≤ length heade
 header-source f (b0 ∷ b1 ∷ b2 ∷ b3 ∷ b4 ∷ b5 ∷ b6 ∷ b7 ∷ b8 ∷ b9 ∷ b10 ∷ b11 ∷ b12 ∷ b13 ∷ b14 ∷ b15 ∷ b16 ∷ b17 ∷ b18 ∷ b19 ∷ options) rest more long fits = number-written f.source.0 fits
 header-source f _ rest more long fits = absurd (omega arith)
 
--- the tests of an own frame that fail
+-- a conjunction of tests fails where one of its tests fails
 and-none : (a b c : Bool) → c ≡ false → (a && (b && c)) ≡ false
 and-none true true c none = none
 and-none true false c none = refl

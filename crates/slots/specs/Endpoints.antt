@@ -21,7 +21,7 @@ look_up (e ∷ es) x = (if same_endpoint x e.0 then Some e.1 else look_up es x)
 abbrev pub slot_of : {S : Type 0} → EndpointIndex S → Endpoint → Option SlotNumber
 slot_of index x = look_up index.entries x
 
--- the same slots but for this endpoint
+-- the slots with that of this endpoint replaced
 abbrev pub set_at : (Endpoint → Option SlotNumber) → Endpoint → Option SlotNumber → Endpoint → Option SlotNumber
 set_at slots x slot q = (if same_endpoint x q then slot else slots q)
 

@@ -82,7 +82,7 @@ impl Timers {
             out.old.items) out.new.items)) }
         ensures cleared { OnOk result (self.new ≡ map (cleared now) self.old) }
 
-        // An error changes nothing, and comes only of memory that is refused for as many numbers as slots are set.
+        // An error changes nothing, and comes only where there is no memory for as many numbers as slots are set.
         ensures err_slots { OnErr result (self.new ≡ self.old) }
         ensures err_list { OnErr result (out.new.items ≡ out.old.items) }
         ensures room { vec_len out.old + set_count self.old ≤ vec_capacity out.old

@@ -110,7 +110,7 @@ impl Wheel {
             ≡ map (cleared now) (moments (S.all slots.old))) }
         ensures rest { S.rest slots.new ≡ S.rest slots.old }
 
-        // An error changes nothing, and comes only of memory that is refused for as many numbers as slots are set.
+        // An error changes nothing, and comes only where there is no memory for as many numbers as slots are set.
         ensures err_wheel { OnErr result (self.new ≡ self.old) }
         ensures err_slots { OnErr result (S.all slots.new ≡ S.all slots.old) }
         ensures err_list { OnErr result (out.new.items ≡ out.old.items) }
