@@ -171,11 +171,11 @@ life_carried protocol p life = record life { last = p.at; is_unused = false }
 abbrev pub life_renewed : ℕ → Activity → Activity
 life_renewed now life = record life { last = now; is_crowded = false; sessions = [] }
 
--- which ways a kind of segment went
+-- the ways in which a kind of segment went
 abbrev pub marks_of : (TcpFlags → Bool) → List Packet → Marks
 marks_of test segments = record { outward = went test Outward segments; inward = went test Inward segments }
 
--- what a session's segments come to
+-- what is kept of a session by its state and its last moment
 abbrev pub summed_up : Remote → Standing → ℕ → Session
 summed_up remote x last = record {
   remote = remote;

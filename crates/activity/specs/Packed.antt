@@ -12,7 +12,7 @@ use Rattle.activity.specs.Packets.{same_remote}
 use Rattle.activity.specs.Sessions.{rest_of, has_passed_by}
 use Rattle.activity.specs.Places.{place_by}
 
--- a moment, of its halves
+-- a moment by its two halves
 abbrev pub moment_in : Moment → ℕ
 moment_in moment = 4294967296 * moment.high + moment.low
 

@@ -138,6 +138,7 @@ impl Interface {
         self.cache.recall();
     }
 
+    /// Returns the interface's network.
     pub fn network(&self) -> Network
         ensures { result ≡ self.now.network }
     {

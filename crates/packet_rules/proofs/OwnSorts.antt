@@ -347,7 +347,7 @@ passed-is_not_own networks side (Hairpin own other) next bytes wired placed six 
     let from = passed-source networks (Hairpin own other) next bytes wired six f placed.outside_virtual in
     other-source-none networks Inside _ virtual from (not-inside networks virtual placed (virtual-apart networks placed)).0 (inl (frame-kind _ is))
 
--- What the box says itself.
+-- The packets that the box sends of its own.
 abbrev pub OwnPackets : Type 0
 OwnPackets = (service from to : ℕ) (message : List ℕ) → service < 2 ^ 8 → from < 2 ^ 32 → to < 2 ^ 32 → 20 + length message < 2 ^ 16
     → IsOwnPacket service from to message (own_packet service from to message)

@@ -43,7 +43,7 @@ impl From<AllocError> for RangeFault {
     }
 }
 
-/// The ports from one to another. Each is free or taken, and owned or not. A free port that is owned may be given out.
+/// The ports from a lowest to a highest one. Each is free or taken, and owned or not. A free port that is owned may be given out.
 #[derive(Drop)]
 pub struct Range {
     lowest: Port,
@@ -249,7 +249,7 @@ impl Range {
         self.marks.put_owned(port, true);
     }
 
-    /// Makes the ports from one to another, which lie in the range, owned.
+    /// Makes the ports from `lowest` to `highest`, which lie in the range, owned.
     pub fn own_between(&mut self, lowest: Port, highest: Port)
         requires low { self.old.lowest ≤ lowest.0 }
         requires high { highest.0 ≤ self.old.highest }

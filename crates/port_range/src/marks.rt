@@ -158,8 +158,8 @@ impl Marks {
         })
     }
 
-    /// Makes the ports from one to another free, and all of them owned or none. No other port is
-    /// free or owned after the call.
+    /// Makes the ports from `lowest` to `highest` free, and all of them owned or none. No other
+    /// port is free or owned after the call.
     pub(crate) fn fill(&mut self, lowest: Port, highest: Port, owned: bool)
         ensures free { (port : ℕ) → has_bit self.new.free port
             ≡ is_within lowest.0 highest.0 port }
@@ -209,7 +209,7 @@ impl Marks {
         sum_up(&mut self.odd, &self.free, &self.owned, Parity::Odd, index);
     }
 
-    /// Makes the ports from one to another owned, and leaves all other ports as they are.
+    /// Makes the ports from `lowest` to `highest` owned, and leaves all other ports as they are.
     pub(crate) fn own_between(&mut self, lowest: Port, highest: Port)
         ensures owned { (port : ℕ) → has_bit self.new.owned port
             ≡ (has_bit self.old.owned port || is_within lowest.0 highest.0 port) }

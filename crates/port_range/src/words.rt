@@ -100,7 +100,8 @@ fn filled_word(start: usize, lowest: usize, highest: usize, flag: bool) -> u64
     }
 }
 
-/// Sets or clears, by `flag`, the bits of the numbers from one to another, and clears all others.
+/// Sets or clears, by `flag`, the bits of the numbers from `lowest` to `highest`, and clears all
+/// others.
 pub(crate) fn fill_between(words: &mut [u64], lowest: usize, highest: usize, flag: bool)
     requires words { length words.old ≤ 1024 }
     requires high { highest < 64 * length words.old }
@@ -112,7 +113,7 @@ pub(crate) fn fill_between(words: &mut [u64], lowest: usize, highest: usize, fla
     }
 }
 
-/// Sets the bits of the numbers from one to another, and leaves all others.
+/// Sets the bits of the numbers from `lowest` to `highest`, and leaves all others.
 pub(crate) fn set_between(words: &mut [u64], lowest: usize, highest: usize)
     requires words { length words.old ≤ 1024 }
     requires high { highest < 64 * length words.old }

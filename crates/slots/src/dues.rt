@@ -78,8 +78,8 @@ impl Dues {
         self.timers.set(number.0, due);
     }
 
-    /// Finds the slots that are due at `now` or before, and unsets them. They take the place of the
-    /// slots that an earlier call found.
+    /// Finds the slots that are due at `now` or before, and unsets them. The found slots replace
+    /// those that an earlier call found.
     pub fn find(&mut self, now: u64)
         ensures found { AreDue now self.old.moments self.new.found }
         ensures few { length self.new.found ≤ length self.old.moments }

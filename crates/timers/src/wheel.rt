@@ -233,8 +233,8 @@ impl Wheel {
         }
     }
 
-    /// Unsets all due slots, and appends their numbers. They are in the chains from the wheel's present one to that of
-    /// `now`.
+    /// Unsets all due slots, and appends their numbers. The due slots are in the chains from the wheel's present one to
+    /// that of `now`.
     fn pass_chains<S: Slots>(&mut self, slots: &mut S, now: u64, out: &mut Vec<usize>)
         requires linked { IsLinked self.old (S.all slots.old) }
         requires room { vec_len out.old + self.old.count ≤ vec_capacity out.old }
