@@ -323,7 +323,8 @@ fn sort_keys(keys: &mut Vec<Key>)
 }
 
 impl Store {
-    /// Makes a store without entries, with capacity for `room` entries. An Err says that there is no memory.
+    /// Makes a store without entries, with capacity for `room` entries. An Err says that there is no memory, or that
+    /// there are too many slots.
     pub(crate) fn new(alloc: Global, room: usize, hashers: Hashers) -> Result<Store, AllocError>
         ensures entries { IfOk result (λ s. s.entries ≡ []) }
         ensures lives { IfOk result (λ s. s.lives ≡ []) }

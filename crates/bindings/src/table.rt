@@ -81,7 +81,8 @@ fn port_count(bounds: PortBounds) -> usize
 
 impl Table {
     /// Makes an empty table for the ranges of both gateways, with capacity for all their ports for each protocol. The
-    /// table owns no port, and hashes endpoints by the caller's hashers. An Err says that there is no memory.
+    /// table owns no port, and hashes endpoints by the caller's hashers. An Err says that there is no memory, or that
+    /// there are too many slots (`LacksTable`).
     pub fn new(
         alloc: Global,
         zero: PortBounds,
@@ -165,7 +166,7 @@ impl Table {
     /// Makes the table ready for as many calls of `add` as there are endpoints, until the next call of `ready`. Each
     /// later `add` that succeeds uses one of them up, whatever its endpoint. So a caller passes one endpoint for each
     /// `add` that may come: a record gives at most one, its own or that of the one packet whose wait it ends. An Err
-    /// says that there is no memory, and changes nothing.
+    /// says that there is no memory, or that there would be more than 4,294,967,295 entries, and changes nothing.
     pub fn ready(&mut self, endpoints: &[Endpoint]) -> Result<(), AllocError>
         ensures ok { OnOk result (self.new ≡ record self.old { ready = length endpoints.now }) }
         ensures err { OnErr result (self.new ≡ self.old) }

@@ -25,7 +25,7 @@ use Rattle.interfaces.specs.declared.tallies.Tally.{Tally}
 use Rattle.interfaces.specs.Tallies.{complained, none_in, replied}
 
 -- an interface: its network, its cable, the interval (cs) at which it advertises, its virtual router, the neighbours
--- that it knows, and the tally of the packets that the gateway sent there of its own
+-- that it knows, and the tally of the answers to Echos and of the ICMP errors that the gateway sent there
 pub record Interface : Type 0 where
   pub network : Network
   pub cable : Cable

@@ -1,4 +1,4 @@
--- How many packets of its own a gateway sends at a side in one second of its clock.
+-- How many answers to Echos and ICMP errors of its own a gateway sends at a side in one second of its clock.
 use Rattle.std.specs.Prelude.{◌≤◌, ℕ, ◌+◌, ◌/◌, Bool, nat_lt, ◌==◌, if◌then◌else◌}
 use Rattle.interfaces.specs.declared.tallies.Tally.{Tally}
 use Rattle.interfaces.specs.declared.tallies.TheConstants.{MOST_REPLIES, MOST_ERRORS}

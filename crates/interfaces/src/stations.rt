@@ -30,7 +30,8 @@ use vrrp_states::laws::exactly_one_line;
 use vrrp_states::{Action, Router, State};
 
 /// One interface of a gateway: its network, its cable, its virtual router, the neighbours that it knows, and the tally
-/// of the packets that the gateway sent there of its own. Each `now` is a time of one clock, in centiseconds.
+/// of the answers to Echos and of the ICMP errors that the gateway sent there. Each `now` is a time of one clock, in
+/// centiseconds.
 #[derive(Drop)]
 pub struct Interface {
     network: Network,
@@ -39,7 +40,7 @@ pub struct Interface {
     interval: u16,
     router: Router,
     cache: Cache,
-    /// The tally of the packets that the gateway sent there of its own.
+    /// The tally of the answers to Echos and of the ICMP errors that the gateway sent there.
     said: Tally,
 }
 

@@ -1,4 +1,4 @@
-//! How many packets of its own a gateway sends at a side in one second.
+//! How many answers to Echos and ICMP errors of its own a gateway sends at a side in one second.
 
 /// The most Echos that are answered at a side in one second.
 pub const MOST_REPLIES: u8 = 100;
