@@ -12,7 +12,7 @@ use Rattle.activity.specs.Kept.{all_passed}
 use Rattle.activity.specs.Lives.{Activity, is_empty, looks_idle}
 use Rattle.activity.specs.Dues.{last_end, due_moment}
 
--- a rest has passed from its end on
+-- a rest has passed exactly from its end on
 rested-from : (rest since now : ℕ) → 0 < rest → has_rested rest since now ≡ nat_le (since + rest) now
 rested-from rest since now some =
     elim (cases_lt now (since + rest)) [
@@ -42,7 +42,7 @@ all-from now (x ∷ xs) =
     ∙ ap (λ b. nat_le (x.last + rest_of x.class) now && b) (all-from now xs)
     ∙ both-by (x.last + rest_of x.class) (last_end xs) now
 
--- a pair is idle just from its due moment on
+-- a pair is idle exactly from its due moment on
 pub idle-from : (protocol : Protocol) (life : Activity) (now : ℕ) → looks_idle protocol life now ≡ nat_le (due_moment protocol life) now
 idle-from Icmp life now = rested-from QUERY_REST life.last now (omega arith)
 idle-from Udp life now = rested-from UDP_REST life.last now (omega arith)

@@ -8,7 +8,7 @@ use Rattle.activity.specs.declared.places.Place.{Place}
 use Rattle.activity.specs.declared.places.Place.TheVariants.{Known, Free, Passed, Nowhere}
 use Rattle.activity.specs.Places.{placed, place_by, changed_at, put_at}
 
--- a write changes the item there
+-- a write of an item changes the item there
 pub set-changed : {A : Type 0} (f : A → A) (xs : List A) (i : ℕ) (d : A) → i < length xs → set xs i (f (get_or xs i d)) ≡ changed_at i f xs
 set-changed f [] i d h = absurd (omega (arith, h))
 set-changed f (x ∷ xs) zero d h = refl
@@ -26,7 +26,7 @@ changed-map f g g2 [] i same = refl
 changed-map f g g2 (x ∷ xs) zero same = ap (λ y. y ∷ map f xs) (same x)
 changed-map f g g2 (x ∷ xs) (suc i) same = ap (λ ys. f x ∷ ys) (changed-map f g g2 xs i same)
 
--- what becomes of an image is the image of what becomes of the list
+-- an image after a place was filled is the image of the list after it was filled
 pub put-map : {A B : Type 0} (f : A → B) (place : Place) (g : A → A) (g2 : B → B) (new : A) (xs : List A) → ((x : A) → g2 (f x) ≡ f (g x)) → put_at place g2 (f new) (map f xs) ≡ map f (put_at place g new xs)
 put-map f (Known i) g g2 new xs same = changed-map f g g2 xs i same
 put-map f Free g g2 new xs same = sym (map_push f xs new)

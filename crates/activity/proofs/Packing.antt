@@ -88,6 +88,6 @@ pub nowhere_followed : (p : Packet) (count : ℕ) (places : List PackedSession) 
 nowhere_followed p count places place =
     ap (λ place. put_at place (λ x. stepped x p) (begun_session p) (sessions_in count places)) (place ∙ sym (place_seen p (take count places)))
 
--- whether a packet found no place
+-- a packet that finds no place in the kept sessions finds none in the packed ones
 pub nowhere_seen : (p : Packet) (count : ℕ) (places : List PackedSession) (place : Place) → place ≡ place_among p (take count places) → is_nowhere place ≡ is_nowhere (session_place p (sessions_in count places))
 nowhere_seen p count places place is = ap is_nowhere (is ∙ sym (place_seen p (take count places)))

@@ -14,11 +14,11 @@ use Rattle.activity.specs.Lives.{Course, History, Activity, Agrees, with_packet,
 use Rattle.activity.proofs.Items.{put-map, place-map}
 use Rattle.activity.proofs.Segments.{stepped-is, begun-is}
 
--- a packet's place among what is kept
+-- a packet has the same place among the kept sessions as among those of the past
 pub place-is : (p : Packet) (cs : List Course) → session_place p (map session_of cs) ≡ course_place p cs
 place-is p cs = place-map session_of (λ x. same_remote x.remote p.remote) (has_passed_by p.at) cs
 
--- what is kept once a packet is followed
+-- the kept sessions after a packet are those of the past after the packet
 pub followed-is : (p : Packet) (cs : List Course) → with_session p (map session_of cs) ≡ map session_of (put_at (course_place p cs) (longer p) (first_course p) cs)
 followed-is p cs =
     ap (λ place. put_at place (λ x. stepped x p) (begun_session p) (map session_of cs)) (place-is p cs)
@@ -29,7 +29,7 @@ no_use : (b : Bool) → false ≡ (b && false)
 no_use true = refl
 no_use false = refl
 
--- a packet of a pair without sessions
+-- a life agrees with its past after a packet of a pair without sessions
 pub agrees-plain : (protocol : Protocol) (past : History) (life2 : Activity) (p : Packet) → (protocol ≡ Tcp → ⊥) → life2.last ≡ p.at → life2.is_unused ≡ false → Agrees protocol (with_packet p past) life2
 agrees-plain protocol past life2 p plain last unused = record {
   last = last;
@@ -38,7 +38,7 @@ agrees-plain protocol past life2 p plain last unused = record {
   crowded = λ tcp. absurd (plain tcp);
 }
 
--- a packet of a TCP pair
+-- a life agrees with its past after a packet of a TCP pair
 pub agrees-tcp : (past : History) (life life2 : Activity) (p : Packet) (nowhere : Bool) → Agrees Tcp past life → life2.last ≡ p.at → life2.is_unused ≡ false → life2.sessions ≡ with_session p life.sessions → nowhere ≡ is_nowhere (session_place p life.sessions) → life2.is_crowded ≡ (life.is_crowded || nowhere) → Agrees Tcp (with_packet p past) life2
 agrees-tcp past life life2 p nowhere a last unused sessions place crowded =
     let kept = a.sessions refl in
@@ -53,7 +53,7 @@ none-kept : (cs : List Course) → is_empty (map session_of cs) ≡ is_empty cs
 none-kept [] = refl
 none-kept (c ∷ cs) = refl
 
--- whether a TCP pair is idle
+-- a TCP life that agrees with a past is idle where the past is
 pub idle-tcp : (past : History) (life : Activity) (now : ℕ) → Agrees Tcp past life → cond (life.is_crowded || is_empty life.sessions) (has_rested ESTABLISHED_REST life.last now) (all_passed now life.sessions) ≡ is_idle Tcp past now
 idle-tcp past life now a =
     ap (λ b. cond (b || is_empty life.sessions) (has_rested ESTABLISHED_REST life.last now) (all_passed now life.sessions)) (a.crowded refl)
@@ -62,7 +62,7 @@ idle-tcp past life now a =
     ∙ ap (λ n. cond (is_crowded past.packets || is_empty (courses past.packets)) (has_rested ESTABLISHED_REST n now) (all_passed now (map session_of (courses past.packets)))) a.last
     ∙ ap (cond (is_crowded past.packets || is_empty (courses past.packets)) (has_rested ESTABLISHED_REST (last_of past) now)) (list_all-map (has_passed_by now) session_of (courses past.packets))
 
--- whether a pair is idle
+-- a life that agrees with a past is idle where the past is
 pub looks-is : (protocol : Protocol) (past : History) (life : Activity) (now : ℕ) → Agrees protocol past life → looks_idle protocol life now ≡ is_idle protocol past now
 looks-is Tcp past life now a = idle-tcp past life now a
 looks-is protocol past life now a = ap (λ n. has_rested (least_rest protocol) n now) a.last

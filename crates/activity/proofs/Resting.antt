@@ -18,7 +18,7 @@ use Rattle.activity.specs.Rests.{CameBy, AllRested, AllBefore, IsAmong, WasCarri
 use Rattle.activity.specs.Lives.{least_rest}
 use Rattle.activity.proofs.Items.{known-within, passed-within}
 
--- where the newest of the packets rested, all did
+-- where the newest of the packets has rested, all have
 all-since : (rest now last : ℕ) (packets : List Packet) → CameBy last packets → last + rest ≤ now → AllRested rest now packets
 all-since rest now last [] by h = tt
 all-since rest now last (p ∷ older) by h = (let low = by.0 in omega arith, all-since rest now p.at older by.1 (let low = by.0 in omega arith))
@@ -26,7 +26,7 @@ all-since rest now last (p ∷ older) by h = (let low = by.0 in omega arith, all
 rested-by : (rest least since now : ℕ) → 0 < least → least ≤ rest → has_rested rest since now ≡ true → since + least ≤ now
 rested-by rest least since now some fits h = let low : rest ≤ now - since = leb-true rest (now - since) h in omega arith
 
--- since the newest packet, or none
+-- a pair has rested since its newest packet, or since the beginning where there is none
 newest : (since rest least now : ℕ) (packets : List Packet) (b : Bool) → 0 < least → least ≤ rest → CameBy now packets → has_rested rest (last_of (record { by_install = b; since = since; packets = packets })) now ≡ true → AllRested least now packets
 newest since rest least now [] b some fits by h = tt
 newest since rest least now (p ∷ older) b some fits by h = (rested-by rest least p.at now some fits h, all-since least now p.at older by.1 (rested-by rest least p.at now some fits h))
@@ -154,7 +154,7 @@ used-by : (at : ℕ) (packets : List Packet) → WasCarried at packets → is_em
 used-by at [] was none = absurd was
 used-by at (p ∷ older) was none = cc
 
--- the list of packets begins anew while the pair is in use
+-- a past still accounts for the uses where the list of packets begins anew while the pair is in use
 pub accounts-anew : (protocol : Protocol) (past : History) (now : ℕ) (uses : List ℕ) → AccountsFor protocol now past uses → AccountsFor protocol now (renewed now past) uses
 accounts-anew protocol past now uses a = record {
   since = omega arith;

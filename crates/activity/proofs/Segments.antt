@@ -16,11 +16,11 @@ mark : (way : Way) (holds : Bool) (out back : Bool) → (let m : Marks = record 
 mark Outward holds out back = refl
 mark Inward holds out back = refl
 
--- the marks with one more segment
+-- the marks of the segments and one more are the marks with that one's way added
 marks-more : (test : TcpFlags → Bool) (s : Packet) (segments : List Packet) → marks_of test (s ∷ segments) ≡ marked_if (test s.flags) s.way (marks_of test segments)
 marks-more test s segments = mark s.way (test s.flags) (went test Outward segments) (went test Inward segments)
 
--- a segment noted, in the same class
+-- a noted segment is one more marked segment, in the same class
 noted-is : (remote : Remote) (x : Standing) (last : ℕ) (s : Packet) → noted (summed_up remote x last) s ≡ summed_up remote (record { class = x.class; marked = s ∷ x.marked }) s.at
 noted-is remote x last s =
     ap (λ (m : Marks). let y : Session = record { remote = remote; class = x.class; fin = m; plain = marked_if (is_plain s.flags) s.way (marks_of is_plain x.marked); last = s.at } in y) (sym (marks-more is_fin s x.marked))
@@ -43,11 +43,11 @@ stepped-standing remote x last s =
     ∙ through (λ y. summed_up remote y s.at) s.flags.rst (is_closed x.class && s.flags.syn) (went_both_ways is_fin (s ∷ x.marked)) (is_opening x.class && went_both_ways is_plain (s ∷ x.marked))
     (record { class = Closed; marked = s ∷ x.marked }) (record { class = Opening; marked = [] }) (record { class = Closed; marked = s ∷ x.marked }) (record { class = Established; marked = s ∷ x.marked }) (record { class = x.class; marked = s ∷ x.marked })
 
--- what a session comes to with one more segment
+-- what is kept of a session after one more segment is what is kept of the longer session
 pub stepped-is : (s : Packet) (c : Course) → stepped (session_of c) s ≡ session_of (longer s c)
 stepped-is s c = stepped-standing c.remote (standing c.latest c.earlier) c.latest.at s
 
--- and with its first one
+-- what is kept of a session after its first segment is what is kept of that session
 pub begun-is : (s : Packet) → begun_session s ≡ session_of (first_course s)
 begun-is s =
     ap (λ (m : Marks). let y : Session = record { remote = s.remote; class = (begun s).class; fin = m; plain = marked_if (is_plain s.flags) s.way no_marks; last = s.at } in y) (sym (marks-more is_fin s []))

@@ -21,7 +21,7 @@ use Rattle.activity.specs.Kept.{all_passed, session_place, with_session}
 
 -- ---- one session: its segments, the newest first
 
--- how a session stands: its class, and the segments since its marks were cleared
+-- the state of a session: its class, and the segments since its marks were cleared
 pub record Standing : Type 0 where
   pub class : Class
   pub marked : List Packet
@@ -33,12 +33,13 @@ went test way segments = list_any (λ s. same_way s.way way && test s.flags) seg
 abbrev pub went_both_ways : (TcpFlags → Bool) → List Packet → Bool
 went_both_ways test segments = went test Outward segments && went test Inward segments
 
--- A first segment: RST makes it Closed, else SYN without ACK Opening, else it is Established. Its own marks are set.
+-- The session after its first segment: RST makes it Closed, else SYN without ACK Opening, else it is Established. Its
+-- own marks are set.
 abbrev pub begun : Packet → Standing
 begun s = record { class = first_class s.flags; marked = s ∷ [] }
 
--- A further segment: RST counts first, then SYN in Closed, which clears the marks and sets none, then FIN carried both
--- ways, then a plain segment (no RST, and no SYN without ACK) carried each way in Opening.
+-- The session after a further segment: RST counts first, then SYN in Closed, which clears the marks and sets none, then
+-- FIN carried both ways, then a plain segment (no RST, and no SYN without ACK) carried each way in Opening.
 abbrev pub went_on : Standing → Packet → Standing
 went_on x s =
     (if s.flags.rst then record { class = Closed; marked = s ∷ x.marked }
@@ -60,7 +61,7 @@ pub record Course : Type 0 where
 abbrev pub class_of : Course → Class
 class_of c = (standing c.latest c.earlier).class
 
--- its limit has passed, counted from its last segment
+-- a session's limit has passed, counted from its last segment
 abbrev pub has_passed : ℕ → Course → Bool
 has_passed now c = has_rested (rest_of (class_of c)) c.latest.at now
 
@@ -106,11 +107,11 @@ abbrev pub is_empty : {A : Type 0} → List A → Bool
 is_empty [] = true
 is_empty (x ∷ xs) = false
 
--- it came by Install, and carried nothing since
+-- a pair came by Install, and carried nothing since
 abbrev pub is_unused : History → Bool
 is_unused past = past.by_install && is_empty past.packets
 
--- the peer says No, or the operator that the peer is off: the list begins anew
+-- a past after the peer says No, or the operator that the peer is off: the list of packets begins anew
 abbrev pub renewed : ℕ → History → History
 renewed now past = record { by_install = is_unused past; since = now; packets = [] }
 
@@ -118,7 +119,7 @@ abbrev pub newest_or : ℕ → List Packet → ℕ
 newest_or since [] = since
 newest_or since (p ∷ older) = p.at
 
--- the last use, or the moment at which the life began
+-- the moment of the last use, or that at which the life began
 abbrev pub last_of : History → ℕ
 last_of past = newest_or past.since past.packets
 
@@ -146,7 +147,7 @@ pub record Activity : Type 0 where
   pub is_crowded : Bool
   pub sessions : List Session
 
--- the rule on what is kept
+-- the rule of idle pairs on what is kept
 abbrev pub looks_idle : Protocol → Activity → ℕ → Bool
 looks_idle Tcp life now =
     (if life.is_crowded || is_empty life.sessions
@@ -170,11 +171,11 @@ life_carried protocol p life = record life { last = p.at; is_unused = false }
 abbrev pub life_renewed : ℕ → Activity → Activity
 life_renewed now life = record life { last = now; is_crowded = false; sessions = [] }
 
--- which ways a kind of segment went
+-- the ways in which a kind of segment went
 abbrev pub marks_of : (TcpFlags → Bool) → List Packet → Marks
 marks_of test segments = record { outward = went test Outward segments; inward = went test Inward segments }
 
--- what a session's segments come to
+-- what is kept of a session by its state and its last moment
 abbrev pub summed_up : Remote → Standing → ℕ → Session
 summed_up remote x last = record {
   remote = remote;

@@ -12,7 +12,7 @@ use Rattle.activity.specs.Packets.{same_remote}
 use Rattle.activity.specs.Sessions.{rest_of, has_passed_by}
 use Rattle.activity.specs.Places.{place_by}
 
--- a moment, of its halves
+-- a moment by its two halves
 abbrev pub moment_in : Moment → ℕ
 moment_in moment = 4294967296 * moment.high + moment.low
 
@@ -37,22 +37,22 @@ all_sessions kept = map session_in kept
 abbrev pub sessions_in : ℕ → List PackedSession → List Session
 sessions_in count places = all_sessions (take count places)
 
--- where a packet's session stands among these
+-- the place of a packet's session among these
 abbrev pub place_among : Packet → List PackedSession → Place
 place_among p kept = place_by (λ k. same_remote (session_in k).remote p.remote) (λ k. has_passed_by p.at (session_in k)) kept
 
--- it stands among so many, or there is room for one more
+-- the place is one of the first `count`, or there is a free place for one more
 abbrev pub FitsAmong : ℕ → Place → Type 0
 FitsAmong count (Known i) = i < count
 FitsAmong count Free = count < 4
 FitsAmong count (Passed i) = i < count
 FitsAmong count Nowhere = Unit {0}
 
--- the limit of each has passed
+-- the limit of each session has passed
 abbrev pub have_passed : ℕ → List PackedSession → Bool
 have_passed now kept = list_all (λ k. has_passed_by now (session_in k)) kept
 
--- the moment at which the last of them passes its limit
+-- the moment at which the last of the sessions passes its limit
 abbrev pub end_of : List PackedSession → ℕ
 end_of [] = 0
 end_of (k ∷ ks) = max (moment_in k.last + rest_of k.class) (end_of ks)

@@ -4,7 +4,8 @@ use Rattle.activity.specs.declared.places.Place.{Place}
 use Rattle.activity.specs.declared.places.Place.TheVariants.{Known, Free, Passed, Nowhere}
 use Rattle.activity.specs.declared.TheConstants.{MAX_SESSIONS}
 
--- it is kept already, or there is room, or one whose limit has passed makes way, the first of these in the list
+-- a packet's session is kept already, or a place is free, or a session whose limit has passed gives its place, the
+-- first of these in the list
 abbrev pub placed : Option ℕ → Bool → Option ℕ → Place
 placed (Some i) room passed = Known i
 placed None true passed = Free
@@ -26,7 +27,7 @@ changed_at i f [] = []
 changed_at zero f (x ∷ xs) = f x ∷ xs
 changed_at (suc i) f (x ∷ xs) = x ∷ changed_at i f xs
 
--- what becomes of the list: the item there is changed, or a new one takes the place
+-- the list after a place was filled: the item there is changed, or a new one takes the place
 abbrev pub put_at : {A : Type 0} → Place → (A → A) → A → List A → List A
 put_at (Known i) change new xs = changed_at i change xs
 put_at Free change new xs = xs ++ new ∷ []

@@ -1,4 +1,4 @@
--- What the code keeps of one session. What it should keep is said in Lives.
+-- What the code keeps of one session. Lives says what it should keep.
 use Rattle.std.specs.Prelude.{ℕ, ◌-◌, Bool, true, false, ◌&&◌, ◌||◌, not, nat_le, if◌then◌else◌}
 use Rattle.addresses.specs.declared.transport.TcpFlags.{TcpFlags}
 use Rattle.activity.specs.declared.packets.Packet.{Packet}
@@ -31,7 +31,7 @@ rest_of Opening = TRANSITORY_REST
 rest_of Established = ESTABLISHED_REST
 rest_of Closed = TRANSITORY_REST
 
--- so long a rest has passed since then
+-- a rest has passed, counted from `since`
 abbrev pub has_rested : ℕ → ℕ → ℕ → Bool
 has_rested rest since now = nat_le rest (now - since)
 

@@ -1,4 +1,4 @@
-//! Laws of the rule, for those who see uses and releases alone.
+//! Laws of the rule of idle pairs, for callers that see uses and releases alone.
 ghost use Rattle.std.specs.Prelude.{◌≡◌, ℕ, ◌≤◌, nat_le, true, Bool, List, ◌∷◌, ◌++◌, map};
 ghost use Rattle.addresses.specs.declared.transport.Protocol.{Protocol};
 ghost use Rattle.activity.specs.declared.packets.Packet.{Packet as Carried};
@@ -8,10 +8,10 @@ ghost use Rattle.activity.specs.Lives.{History, Activity as Seen, came, with_pac
 ghost use Rattle.activity.specs.Rests.{CameBy, AllRested, AllBefore, HaveRested, AccountsFor};
 ghost use Rattle.activity.specs.Lives.{least_rest};
 
-/// An idle pair has rested since each use. The uses of a gateway's life are those of this list of packets, and those
-/// before it, which had rested when the list began: so each of them lies at least the protocol's rest before a release
-/// where the pair is idle, or unused; and the next list begins with all of them rested.
-/// The last five say in figures what the limits are, in centiseconds.
+/// States that an idle pair has rested since each use. The uses of a pair in a gateway's life are those of this list of
+/// packets, and earlier ones, which had rested when the list began. So each use is at least the protocol's rest before
+/// a release of a pair that is idle, or unused, and the next list begins with all uses rested. The last five clauses
+/// give the limits in centiseconds.
 pub fn idle_rests_law()
     ensures idle { (protocol : Protocol) → (past : History) → (now : ℕ)
         → CameBy now past.packets
@@ -30,16 +30,17 @@ pub fn idle_rests_law()
     ensures max_sessions { MAX_SESSIONS ≡ 4 }
 {}
 
-/// The same by a list of uses, for those who see a trace: the moments at which a gateway used a pair in its present life.
-/// A past that accounts for them begins where all have rested (`comes`, `renewed`), or anew while its pair is in use
-/// (`anew`), and goes on with each packet (`carried`) and with time (`later`); where it is idle, or unused, all have rested (`idle`, `unused`), and that stays so
-/// (`rested`). So a caller keeps of each entry a past with which it agrees and which accounts for the uses so far, and of
-/// each pair without an entry, or let go, that its uses have rested.
+/// States the law of idle pairs by a list of uses, for callers that see a trace: the times at which a gateway used a
+/// pair in its present life. A past that accounts for the uses begins where all have rested (`comes`, `renewed`), or
+/// anew while its pair is in use (`anew`), and goes on with each packet (`carried`) and with time (`later`). Where the
+/// past is idle, or unused, all uses have rested (`idle`, `unused`), and that remains so (`rested`). So a caller keeps
+/// of each entry a past with which the entry agrees and which accounts for the uses so far, and of each pair without an
+/// entry, or released, that its uses have rested.
 ///
-/// `HaveRested (least_rest protocol) now uses` is what a release needs to be idle by the trace alone: each use of the pair
-/// by that gateway in the same life lies at least 30,000 (UDP), 24,000 (TCP) or 6,000 (ICMP) centiseconds before it. Such a word on notes
-/// follows where each use that the notes show in the present life is among `uses`: a use is put in front, a boot of the
-/// gateway empties the list, and no other note changes it.
+/// `HaveRested (least_rest protocol) now uses` is what a release needs to be idle by the trace alone: each use of the
+/// pair by that gateway in the same life is at least 30,000 (UDP), 24,000 (TCP) or 6,000 (ICMP) centiseconds before the
+/// release. The trace says so where `uses` has each use that its notes show in the present life: a use is put in front,
+/// a boot of the gateway empties the list, and no other note changes it.
 pub fn uses_rest_law()
     ensures comes { (protocol : Protocol) → (by_install : Bool) → (now : ℕ)
         → (uses : List ℕ)
@@ -67,7 +68,7 @@ pub fn uses_rest_law()
         → HaveRested rest since uses → HaveRested rest now uses }
 {}
 
-/// A pair that carries nothing more is idle just from one moment on, which its life tells.
+/// States that a pair that carries nothing more is idle exactly from one time on, which is known from its life.
 pub fn due_law()
     ensures { (protocol : Protocol) → (life : Seen) → (now : ℕ)
         → looks_idle protocol life now

@@ -1,4 +1,4 @@
-//! The life of a pair in a table: what it needs to know whether the pair is idle.
+//! The life of a pair in a table: what must be known of the pair to tell whether it is idle.
 ghost use Rattle.std.specs.Prelude.{◌≡◌, ◌+◌, ◌||◌, if◌then◌else◌};
 ghost use Rattle.addresses.specs.declared.transport.Protocol.{Protocol as Transport};
 ghost use Rattle.activity.specs.Lives.{History, Agrees, came, with_packet, renewed, is_idle, looks_idle, is_unused, is_empty, life_begun, life_carried, life_renewed};
@@ -14,18 +14,19 @@ use crate::{ESTABLISHED_REST, MAX_SESSIONS, Packet, QUERY_REST, TRANSITORY_REST,
 use addresses::Protocol;
 use std::marker::Model;
 
-/// What a pair's entry keeps of the packets that the pair carried: four sessions at most, and three facts beside.
+/// What a pair's entry keeps of the packets that the pair carried: four sessions at most, the time of the last use, and
+/// two flags.
 #[derive(Drop)]
 pub struct Activity {
     last: Moment,
-    // The first so many have sessions.
+    // The first `count` places have sessions.
     places: [PackedSession; MAX_SESSIONS],
     count: u8,
     is_unused: bool,
     is_crowded: bool,
 }
 
-// Each entry of a table has one.
+// Each entry of a table has an `Activity`.
 const _: () = prove!(size_of::<Activity>() == 76);
 
 impl Model for Activity {
@@ -45,7 +46,8 @@ impl Model for Activity {
     ghost invariant = { λ l. l.count ≤ 4 };
 }
 
-/// How long a pair of a protocol rests at least before it is idle; one without sessions just so long.
+/// Returns the least time for which a pair of a protocol rests before it is idle, in centiseconds. A pair without
+/// sessions rests for exactly that time.
 fn least_rest(protocol: Protocol) -> u64
     ensures { result ≡ least_rest protocol }
 {
@@ -68,7 +70,8 @@ fn is_tcp_idle(kept: &[PackedSession], is_crowded: bool, last: u64, now: u64) ->
     }
 }
 
-/// The moment from which a TCP pair with these sessions is idle, or the last moment of all.
+/// Returns the time from which a TCP pair with these sessions is idle, in centiseconds, or `u64::MAX` where that is
+/// later.
 fn tcp_due(kept: &[PackedSession], is_crowded: bool, last: u64) -> u64
     ensures { result ≡ clipped
         (if is_crowded || is_empty kept.now then last + ESTABLISHED_REST else end_of kept.now) }
@@ -81,7 +84,7 @@ fn tcp_due(kept: &[PackedSession], is_crowded: bool, last: u64) -> u64
 }
 
 impl Activity {
-    /// A pair comes into a table, by Install or otherwise.
+    /// Returns the life of a pair that comes into a table at `now`, by Install or otherwise.
     pub fn begin(by_install: bool, now: u64) -> Activity
         ensures agrees { (protocol : Transport) → Agrees protocol (came by_install now) result }
         ensures exact { result ≡ life_begun by_install now }
@@ -95,7 +98,7 @@ impl Activity {
         }
     }
 
-    /// The pair carried a packet.
+    /// Adds a packet that the pair carried.
     pub fn carried(&mut self, protocol: Protocol, packet: Packet)
         ensures agrees { (past : History) → Agrees protocol past self.old
             → Agrees protocol (with_packet packet past) self.new }
@@ -112,7 +115,7 @@ impl Activity {
         }
     }
 
-    /// The list of packets begins empty.
+    /// Begins the life anew at `now`, with an empty list of packets.
     pub fn renew(&mut self, now: u64)
         ensures agrees { (protocol : Transport) → (past : History) → Agrees protocol past self.old
             → Agrees protocol (renewed now past) self.new }
@@ -123,7 +126,7 @@ impl Activity {
         self.is_crowded = false;
     }
 
-    /// Whether the pair is idle at a moment.
+    /// Whether the pair is idle at `now`.
     pub fn is_idle(&self, protocol: Protocol, now: u64) -> bool
         ensures idle { (past : History) → Agrees protocol past self.now → result
             ≡ is_idle protocol past now }
@@ -137,7 +140,8 @@ impl Activity {
         }
     }
 
-    /// The moment from which the pair is idle, if it carries nothing more, or the last moment of all.
+    /// Returns the time from which the pair is idle if it carries nothing more, in centiseconds, or `u64::MAX` where
+    /// that is later.
     pub fn due(&self, protocol: Protocol) -> u64
         ensures { result ≡ clipped (due_moment protocol self.now) }
     {

@@ -1,4 +1,4 @@
-//! A session in 16 bytes: its moment in two halves, and its four marks in one number.
+//! A session in 16 bytes: its time in two halves, and its four marks in one number.
 ghost use Rattle.std.specs.Prelude.{◌≡◌, ◌<◌, ◌+◌, ◌/◌, ◌%◌};
 ghost use Rattle.activity.specs.Dues.{clipped};
 ghost use Rattle.activity.specs.Packed.{moment_in, marks_in, session_in};
@@ -8,11 +8,11 @@ use crate::sessions::has_rested_since;
 use crate::{Class, Marks, Remote, Session};
 use addresses::{Ip, Port};
 
-/// Half of a moment has so many values.
+/// The number of values that half of a time has.
 const HALF: u64 = 4_294_967_296;
 
-/// A moment in centiseconds, in two halves. An entry of a table has five, and nothing else in it is wider than
-/// 32 bits, so that no bytes are left between its parts.
+/// A time in centiseconds, in two halves. An entry of a table has five such times, and nothing else in it is wider than
+/// 32 bits, so that no bytes of padding are between its parts.
 #[derive(Clone, Copy)]
 pub(crate) struct Moment {
     low: u32,
@@ -36,20 +36,21 @@ impl Moment {
     }
 }
 
-/// A session, kept small: a table has a place for four with each of its entries.
+/// A session in 16 bytes. A table has places for four with each of its entries.
 #[derive(Clone, Copy)]
 pub(crate) struct PackedSession {
     last: Moment,
     address: Ip,
     port: Port,
     class: Class,
-    // A FIN outward, one inward, a plain segment outward, and one inward: the lowest bit first.
+    // The bits for a FIN outward, a FIN inward, a plain segment outward, and a plain segment inward, the lowest bit
+    // first.
     marks: u8,
 }
 
 const _: () = prove!(size_of::<PackedSession>() == 16);
 
-/// The number that stands for these marks.
+/// Returns the number of these marks, below 4.
 fn number_of(marks: Marks) -> u8
     ensures value { marks_in result ≡ marks }
     ensures small { result < 4 }
@@ -66,7 +67,7 @@ fn marks_of(number: u8) -> Marks
     }
 }
 
-/// Two such numbers in one.
+/// Joins two numbers of marks into one.
 fn joined(first: u8, second: u8) -> u8
     requires first { first < 4 }
     requires second { second < 4 }
@@ -77,7 +78,7 @@ fn joined(first: u8, second: u8) -> u8
 }
 
 impl PackedSession {
-    /// What lies in a place that has no session.
+    /// The value of a place that has no session.
     pub(crate) const NONE: PackedSession = PackedSession {
         last: Moment { low: 0, high: 0 },
         address: Ip(0),
@@ -126,7 +127,7 @@ impl PackedSession {
         has_rested_since(self.class.rest(), self.last.centiseconds(), now)
     }
 
-    /// The moment at which the session's limit passes, or the last moment of all.
+    /// Returns the time at which the session's limit passes, in centiseconds, or `u64::MAX` where that is later.
     pub(crate) fn end(self) -> u64
         ensures { result ≡ clipped (moment_in self.last + rest_of self.class) }
     {

@@ -18,7 +18,7 @@ pub enum Way {
     Inward,
 }
 
-/// A packet that was carried, at a moment in centiseconds. The flags of a UDP packet aren't read.
+/// A packet that was carried at a time, in centiseconds. The flags of a UDP packet aren't read.
 #[derive(Clone, Copy, Debug, PartialEq, Eq)]
 pub struct Packet {
     pub remote: Remote,

@@ -1,4 +1,4 @@
-//! The sessions that a pair keeps, and where a packet's session stands among them.
+//! The sessions that a pair keeps, and the place of a packet's session among them.
 ghost use Rattle.std.specs.Prelude.{◌≡◌, ◌+◌, ◌<◌, ◌≤◌, ◌++◌, ◌∷◌, [], ℕ, length, position, slice_set, IfSome};
 ghost use Rattle.activity.specs.Packets.{same_remote};
 ghost use Rattle.activity.specs.Places.{is_nowhere};
@@ -11,16 +11,16 @@ use crate::packed::PackedSession;
 use crate::packets::is_that_remote;
 use crate::{MAX_SESSIONS, Packet, Session};
 
-/// Where a packet's session stands.
+/// The place of a packet's session.
 #[derive(Clone, Copy, Debug, PartialEq, Eq)]
 pub(crate) enum Place {
-    /// It is kept there.
+    /// The session is kept in this place.
     Known(usize),
-    /// It is new, and there is room.
+    /// The session is new, and there is a free place.
     Free,
-    /// It is new, and takes the place of this one, whose limit has passed.
+    /// The session is new, and takes this place, whose session's limit has passed.
     Passed(usize),
-    /// It is new, and there is no place for it.
+    /// The session is new, and there is no place for it.
     Nowhere,
 }
 
@@ -56,7 +56,7 @@ fn place_among(kept: &[PackedSession], packet: Packet) -> Place
     }
 }
 
-/// Keeps a session in a place.
+/// Puts a session in a place.
 fn put(places: &mut [PackedSession; MAX_SESSIONS], place: usize, session: Session)
     requires { place < length places.old }
     ensures kept { (count : ℕ) → place < count → sessions_in count places.new
@@ -67,7 +67,7 @@ fn put(places: &mut [PackedSession; MAX_SESSIONS], place: usize, session: Sessio
     places[place] = PackedSession::of(session);
 }
 
-/// Takes a packet into its session, and tells whether there was no place for it.
+/// Adds a packet to its session, and returns whether there was no place for the session.
 pub(crate) fn follow(
     places: &mut [PackedSession; MAX_SESSIONS],
     count: &mut u8,
@@ -107,7 +107,8 @@ pub(crate) fn have_all_passed(kept: &[PackedSession], now: u64) -> bool
     kept.iter().all(|session| session.has_passed(now))
 }
 
-/// The moment at which the last of the sessions passes its limit, or the last moment of all.
+/// Returns the time at which the last of the sessions passes its limit, in centiseconds, or
+/// `u64::MAX` where that is later.
 pub(crate) fn end_of_all(kept: &[PackedSession]) -> u64
     ensures { result ≡ clipped (end_of kept.now) }
 {

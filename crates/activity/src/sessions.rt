@@ -1,4 +1,4 @@
-//! One session of a TCP pair: what its segments so far come to.
+//! One session of a TCP pair: what is known from its segments so far.
 ghost use Rattle.std.specs.Prelude.{◌≡◌, ◌&&◌, ◌||◌, nat_le, ◌+◌, ◌-◌};
 ghost use Rattle.activity.specs.Sessions.{is_closed, is_opening, first_class, rest_of, marked_if, are_both, noted, begun_session, stepped, has_rested};
 
@@ -9,22 +9,23 @@ use addresses::TcpFlags;
 /// The class of a session (RFC 5382, section 2).
 #[derive(Clone, Copy, Debug, PartialEq, Eq)]
 pub enum Class {
-    /// Partially open.
+    /// The session is partially open.
     Opening,
     /// Data may have passed both ways.
     Established,
-    /// Reset, or closed by both ends.
+    /// The session was reset, or closed by both ends.
     Closed,
 }
 
-/// Which ways a kind of segment was carried.
+/// The ways in which a kind of segment was carried.
 #[derive(Clone, Copy, Debug, PartialEq, Eq)]
 pub struct Marks {
     pub outward: bool,
     pub inward: bool,
 }
 
-/// What the segments of a session come to. `last` is the moment of the newest one, in centiseconds.
+/// What is known of a session from its segments. `last` is the time of the newest one, in
+/// centiseconds.
 #[derive(Clone, Copy, Debug, PartialEq, Eq)]
 pub struct Session {
     pub remote: Remote,
@@ -35,7 +36,7 @@ pub struct Session {
 }
 
 impl Marks {
-    /// Carried neither way.
+    /// The marks of a kind of segment that was carried neither way.
     pub const NONE: Marks = Marks {
         outward: false,
         inward: false,
@@ -82,7 +83,7 @@ impl Class {
         }
     }
 
-    /// The class of a session whose first segment has these flags.
+    /// Returns the class of a session whose first segment has these flags.
     fn of_first(flags: TcpFlags) -> Class
         ensures { result ≡ first_class flags }
     {
@@ -95,7 +96,8 @@ impl Class {
         }
     }
 
-    /// How long a session of the class rests before its limit has passed, in centiseconds.
+    /// Returns the time for which a session of the class rests before its limit has passed, in
+    /// centiseconds.
     pub(crate) fn rest(self) -> u64
         ensures { result ≡ rest_of self }
     {
@@ -106,7 +108,7 @@ impl Class {
     }
 }
 
-/// Whether so long a rest has passed since a moment.
+/// Whether the rest `rest` has passed at `now`, counted from `since`, all in centiseconds.
 pub(crate) fn has_rested_since(rest: u64, since: u64, now: u64) -> bool
     ensures { result ≡ has_rested rest since now }
 {
@@ -114,7 +116,7 @@ pub(crate) fn has_rested_since(rest: u64, since: u64, now: u64) -> bool
 }
 
 impl Session {
-    /// A session with its first segment.
+    /// Returns a session with its first segment.
     pub(crate) fn begun(segment: Packet) -> Session
         ensures { result ≡ begun_session segment }
     {
@@ -128,7 +130,7 @@ impl Session {
         }
     }
 
-    /// The same with a segment's marks.
+    /// Returns the session with a segment's marks and time added.
     fn noted(self, segment: Packet) -> Session
         ensures { result ≡ noted self segment }
     {
@@ -142,7 +144,8 @@ impl Session {
         }
     }
 
-    /// The session with one more segment: RST counts first, then SYN in Closed, then FIN both ways.
+    /// Returns the session with one more segment: RST counts first, then SYN in Closed, then FIN
+    /// both ways.
     pub(crate) fn stepped(self, segment: Packet) -> Session
         ensures { result ≡ stepped self segment }
     {

@@ -1,4 +1,4 @@
-//! Both gateways of a pair, and the datagrams between them. Each has a clock of its own.
+//! Both gateways of a pair, and the datagrams between them. Each gateway has a clock of its own.
 
 use crate::gates::Gate;
 use crate::stations::{ACTIVE, Station};
@@ -6,19 +6,19 @@ use addresses::Protocol;
 use cases_words::Case;
 use settings::Settings;
 
-/// Ticks are given, and datagrams carried, so often at most until nothing is left to do.
+/// The most rounds of ticks or datagrams before a loop gives up.
 pub(crate) const PATIENCE: u32 = 20_000;
 
-/// A gateway with pairs, and one that starts with an empty table. They go by `end`.
+/// A gateway with pairs, and one that starts with an empty table. A caller ends both by `end`.
 pub(crate) struct Both<G> {
     pub(crate) zero: Station<G>,
     pub(crate) one: Station<G>,
-    /// The second one's clock, in centiseconds; the first one's is `ACTIVE` more.
+    /// The second gateway's clock, in centiseconds. The first one's is `ACTIVE` more.
     pub(crate) moment: u64,
 }
 
 impl<G: Gate> Both<G> {
-    /// A founded gateway with so many pairs, and one that starts.
+    /// Makes a founded gateway with `pairs` pairs, and one that starts.
     pub(crate) fn ready(
         settings: &Settings,
         protocol: Protocol,
@@ -39,7 +39,7 @@ impl<G: Gate> Both<G> {
         }
     }
 
-    /// Both with so many pairs, which the second one has loaded.
+    /// Makes two gateways with `pairs` pairs, which the second one has loaded.
     pub(crate) fn synced(
         settings: &Settings,
         protocol: Protocol,
@@ -51,7 +51,7 @@ impl<G: Gate> Both<G> {
         Some(both)
     }
 
-    /// Ends both.
+    /// Ends both gateways.
     pub(crate) fn end(self) {
         let Both {
             zero,
@@ -62,8 +62,8 @@ impl<G: Gate> Both<G> {
         one.end();
     }
 
-    /// Both clocks go on by so many centiseconds. What either tells at its tick, the other takes, and it what that
-    /// answers, until neither tells anything.
+    /// Moves both clocks on by `by` centiseconds. Each gateway takes the datagrams of the other's tick, and the other
+    /// takes the answers, until neither sends any.
     pub(crate) fn tick(&mut self, by: u64, case: &mut Case) {
         self.moment = self.moment.saturating_add(by);
         self.zero.tick(self.moment.saturating_add(ACTIVE), case);
@@ -72,7 +72,7 @@ impl<G: Gate> Both<G> {
         converse(&mut self.one, &mut self.zero, case);
     }
 
-    /// Ticks of both until the second one is synced; how many.
+    /// Ticks both gateways until the second one is synced, and returns how many ticks that took.
     pub(crate) fn load(&mut self, case: &mut Case) -> u32 {
         for ticks in 1..PATIENCE {
             self.tick(1, case);
@@ -85,7 +85,8 @@ impl<G: Gate> Both<G> {
     }
 }
 
-/// What the first one told last, the other takes; it takes what that answers, and so on.
+/// Gives the second station the datagrams that the first one sent last, and the first one the answers, and so on until
+/// there are none.
 pub(crate) fn converse<G: Gate>(first: &mut Station<G>, other: &mut Station<G>, case: &mut Case) {
     for _ in 0..PATIENCE {
         if !first.tells() {

@@ -1,5 +1,5 @@
-//! Flows that come and go: endpoints open and close, the clock goes on by their rest, and both gateways agree on the
-//! deletions, again and again; and the longest step of all that, by the processor's time.
+//! Flows that come and go: endpoints open and close flows, the clock moves on by their rest, and both gateways agree on
+//! the deletions, again and again. Also the longest step of all these, by the processor's time.
 
 use crate::boxes::{Both, PATIENCE};
 use crate::clocks::computed;
@@ -11,35 +11,36 @@ use cases_words::Case;
 use nat_types::Side;
 use settings::Settings;
 
-/// A connection that both ends have closed rests for so many centiseconds.
+/// The time for which a connection that both ends have closed rests, in centiseconds.
 const REST: u64 = 24_000;
 
-/// The ticks of a gate that has nothing to do lie so many centiseconds apart.
+/// The time between two ticks of a gate that has nothing to do, in centiseconds.
 const APART: u64 = 10;
 
-/// A tick may take so many nanoseconds,
+/// The time that a tick may take, in nanoseconds, without that for the pairs that it releases.
 const TICK: u128 = 10_000;
 
-/// and so many more for each pair that it lets go.
+/// The time that a tick may take for each pair that it releases, in nanoseconds.
 const EACH: u128 = 1000;
 
-/// A step that isn't a tick may take so many nanoseconds.
+/// The time that a step that isn't a tick may take, in nanoseconds.
 const STEP: u128 = 100_000;
 
-/// What steps took. Where it is off, no clock is asked.
+/// The times that steps took. Where the watch is off, no clock is read.
 #[derive(Drop)]
 struct Watch {
     is_on: bool,
     steps: u64,
     longest: u128,
-    /// Which step took longest: by the same number each time where it isn't the machine's doing.
+    /// The number of the step that took longest. A step that is slow by its own work has the same number in each run.
     longest_at: u64,
-    /// The steps that took more than `STEP`.
+    /// The number of steps that took more than `STEP`.
     slow: u64,
     ticks: u64,
-    /// The ticks that took more than they may.
+    /// The number of ticks that took more than they may.
     late: u64,
-    /// By how much the worst tick took more than it may, or what it took where none did.
+    /// The most time by which a tick took more than it may, in nanoseconds, or the time of the worst tick where none
+    /// did.
     beyond: u128,
     worst: u128,
     worst_let_go: u32,
@@ -61,12 +62,12 @@ impl Watch {
         }
     }
 
-    /// The processor's time of this thread, in nanoseconds.
+    /// Returns the processor's time of this thread, in nanoseconds, or 0 where the watch is off.
     fn now(&self, rt: &HostRuntime, case: &mut Case) -> u128 {
         if self.is_on { computed(rt, case) } else { 0 }
     }
 
-    /// A step that isn't a tick is over.
+    /// Records that a step that isn't a tick has ended.
     fn stepped(&mut self, rt: &HostRuntime, start: u128, case: &mut Case) {
         let spent = self.now(rt, case).saturating_sub(start);
         self.steps = self.steps.saturating_add(1);
@@ -79,7 +80,7 @@ impl Watch {
         }
     }
 
-    /// A tick took so long, and let so many pairs go.
+    /// Records that a tick took `spent` nanoseconds and released `let_go` pairs.
     fn ticked(&mut self, spent: u128, let_go: u32) {
         let may = TICK.saturating_add(EACH.saturating_mul(u128::from(let_go)));
         self.ticks = self.ticks.saturating_add(1);
@@ -95,13 +96,14 @@ impl Watch {
     }
 }
 
-/// Both gateways, and what their steps took.
+/// Both gateways, and the times that their steps took.
 struct Churn<G> {
     both: Both<G>,
     watch: Watch,
 }
 
-/// The frames of a connection's packets that come to a gateway: the one that opens it, and those that close it.
+/// The frames of a connection's packets that come to a gateway: that of the packet that opens it, and those of the
+/// packets that close it.
 #[derive(Drop)]
 struct Frames {
     syn: [u8; LONGEST],
@@ -109,7 +111,7 @@ struct Frames {
     other_fin: [u8; LONGEST],
 }
 
-/// The frame of a segment with these flags, of no pair yet.
+/// Returns the frame of a segment with these flags, which belongs to no pair yet.
 fn segment(side: Side, flags: u8) -> [u8; LONGEST] {
     let (protocol, size) = (Protocol::Tcp, OPENING);
     let mut frame = frame_of(Kind {
@@ -130,7 +132,7 @@ impl Frames {
         }
     }
 
-    /// Makes them packets of the pair with this number.
+    /// Makes the frames those of the pair with this number.
     fn set(&mut self, number: u32) {
         set_pair(&mut self.syn, Side::Inside, number);
         set_pair(&mut self.fin, Side::Inside, number);
@@ -139,28 +141,29 @@ impl Frames {
 }
 
 impl<G: Gate> Churn<G> {
-    /// A packet comes to the first gateway.
+    /// Gives the first gateway a packet.
     fn hand(&mut self, rt: &HostRuntime, side: Side, frame: &[u8; LONGEST], case: &mut Case) {
         let start = self.watch.now(rt, case);
         self.both.zero.hand(side, frame, OPENING, case);
         self.watch.stepped(rt, start, case);
     }
 
-    /// The second gateway takes what the first one told last.
+    /// Gives the second gateway the datagrams that the first one sent last.
     fn to_one(&mut self, rt: &HostRuntime, case: &mut Case) {
         let start = self.watch.now(rt, case);
         self.both.one.take(&self.both.zero, case);
         self.watch.stepped(rt, start, case);
     }
 
-    /// The other way round.
+    /// Gives the first gateway the datagrams that the second one sent last.
     fn to_zero(&mut self, rt: &HostRuntime, case: &mut Case) {
         let start = self.watch.now(rt, case);
         self.both.zero.take(&self.both.one, case);
         self.watch.stepped(rt, start, case);
     }
 
-    /// What the first gateway told last is taken, and what that answers, and so on.
+    /// Carries the datagrams that the first gateway sent last to the second, and the answers back, until there are
+    /// none.
     fn converse(&mut self, rt: &HostRuntime, case: &mut Case) {
         for _ in 0..PATIENCE {
             if !self.both.zero.tells() {
@@ -174,7 +177,7 @@ impl<G: Gate> Churn<G> {
         }
     }
 
-    /// A tick of the first gateway.
+    /// Ticks the first gateway.
     fn tick_zero(&mut self, rt: &HostRuntime, case: &mut Case) {
         let start = self.watch.now(rt, case);
         let moment = self.both.moment.saturating_add(ACTIVE);
@@ -183,7 +186,7 @@ impl<G: Gate> Churn<G> {
         self.watch.ticked(spent, self.both.zero.let_go());
     }
 
-    /// A tick of the second gateway.
+    /// Ticks the second gateway.
     fn tick_one(&mut self, rt: &HostRuntime, case: &mut Case) {
         let start = self.watch.now(rt, case);
         self.both.one.tick(self.both.moment, case);
@@ -191,7 +194,7 @@ impl<G: Gate> Churn<G> {
         self.watch.ticked(spent, self.both.one.let_go());
     }
 
-    /// Both clocks go on by so many centiseconds, and what is told is taken.
+    /// Moves both clocks on by `by` centiseconds, and carries the datagrams.
     fn tick(&mut self, rt: &HostRuntime, by: u64, case: &mut Case) {
         self.both.moment = self.both.moment.saturating_add(by);
         self.tick_zero(rt, case);
@@ -203,7 +206,7 @@ impl<G: Gate> Churn<G> {
         }
     }
 
-    /// A connection is opened: its pair is proposed and accepted, and its packet goes.
+    /// Opens a connection: its pair is proposed and accepted, and its packet is sent on.
     fn open(&mut self, rt: &HostRuntime, frames: &Frames, case: &mut Case) {
         self.hand(rt, Side::Inside, &frames.syn, case);
         self.to_one(rt, case);
@@ -214,7 +217,7 @@ impl<G: Gate> Churn<G> {
         self.to_one(rt, case);
     }
 
-    /// Both ends of a connection close it.
+    /// Closes a connection at both ends.
     fn close(&mut self, rt: &HostRuntime, frames: &Frames, case: &mut Case) {
         self.hand(rt, Side::Inside, &frames.fin, case);
         self.hand(rt, Side::Outside, &frames.other_fin, case);
@@ -223,7 +226,7 @@ impl<G: Gate> Churn<G> {
         }
     }
 
-    /// The closed pairs rest, and both gateways let them go.
+    /// Lets the closed pairs rest until both gateways have released them.
     fn rest(&mut self, rt: &HostRuntime, case: &mut Case) {
         self.tick(rt, REST, case);
         for _ in 0..PATIENCE {
@@ -249,7 +252,8 @@ impl<G: Gate> Churn<G> {
         }
     }
 
-    /// So many rounds, in each of which so many connections are opened and closed, and let go; the processor's nanoseconds.
+    /// Runs `rounds` rounds, each of which opens, closes and releases `endpoints` connections, and returns the
+    /// processor's time in nanoseconds.
     fn rounds(&mut self, rt: &HostRuntime, rounds: u32, endpoints: u32, case: &mut Case) -> u128 {
         let mut frames = Frames::new();
         let start = computed(rt, case);
@@ -262,7 +266,7 @@ impl<G: Gate> Churn<G> {
     }
 }
 
-/// What the steps took.
+/// Prints the times that the steps took.
 fn tell_watch(watch: &Watch, case: &mut Case) {
     case.say("longest step: ", watch.longest);
     case.say(" ns, number ", watch.longest_at);
@@ -277,7 +281,7 @@ fn tell_watch(watch: &Watch, case: &mut Case) {
     case.put(" late\n");
 }
 
-/// What so many flows took.
+/// Prints the time that `flows` flows took.
 fn tell_flows(spent: u128, flows: u128, case: &mut Case) {
     let each = spent / flows.max(1);
     case.put(flows);
@@ -286,7 +290,7 @@ fn tell_flows(spent: u128, flows: u128, case: &mut Case) {
     case.put(" a second\n");
 }
 
-/// Prints what flows cost that come and go, in so many rounds; or, where the watch is on, the longest of their steps.
+/// Prints the cost of flows that come and go, in so many rounds, or the longest of their steps where the watch is on.
 pub(crate) fn report_churn<G: Gate>(
     rt: &HostRuntime,
     settings: &Settings,

@@ -1,9 +1,9 @@
-//! What is told by a clock. Where there is none the line is wrong.
+//! Times by the clocks of the machine. Without a clock the line is wrong.
 
 use cases_words::Case;
 use std::time::{CpuClock, Instant};
 
-/// A moment.
+/// Returns the present time, or None where there is no clock.
 pub(crate) fn now(rt: &HostRuntime, case: &mut Case) -> Option<Instant> {
     let now = Instant::now(rt).ok();
     if now.is_none() {
@@ -12,7 +12,7 @@ pub(crate) fn now(rt: &HostRuntime, case: &mut Case) -> Option<Instant> {
     now
 }
 
-/// The nanoseconds since a moment.
+/// Returns the nanoseconds since a time.
 pub(crate) fn since(rt: &HostRuntime, start: Option<Instant>, case: &mut Case) -> u128 {
     match start {
         Some(start) => match start.elapsed(rt) {
@@ -26,12 +26,12 @@ pub(crate) fn since(rt: &HostRuntime, start: Option<Instant>, case: &mut Case) -
     }
 }
 
-/// The nanoseconds for each of so many since a moment, rounded down.
+/// Returns the nanoseconds since a time for each of `count` calls, rounded down.
 pub(crate) fn each(rt: &HostRuntime, start: Option<Instant>, count: u32, case: &mut Case) -> u128 {
     since(rt, start, case) / u128::from(count.max(1))
 }
 
-/// The processor's time of this thread, in nanoseconds.
+/// Returns the processor's time of this thread, in nanoseconds.
 pub(crate) fn computed(rt: &HostRuntime, case: &mut Case) -> u128 {
     match rt.thread_cpu_time() {
         Ok(spent) => spent.as_nanos(),
@@ -42,13 +42,13 @@ pub(crate) fn computed(rt: &HostRuntime, case: &mut Case) -> u128 {
     }
 }
 
-/// Prints the nanoseconds for each of so many, rounded down.
+/// Prints the nanoseconds for each of `count` calls, rounded down.
 pub(crate) fn tell_each(spent: u128, count: u32, case: &mut Case) {
     case.put(spent / u128::from(count.max(1)));
     case.put(" ns, ");
 }
 
-/// The same, and how many of them were sent on.
+/// Prints the nanoseconds for each of `count` packets, and how many of them were sent on.
 pub(crate) fn tell_sent(spent: u128, count: u32, sent: u32, case: &mut Case) {
     tell_each(spent, count, case);
     case.put(sent);
@@ -56,7 +56,7 @@ pub(crate) fn tell_sent(spent: u128, count: u32, sent: u32, case: &mut Case) {
     case.put(" sent\n");
 }
 
-/// The same, and how many pairs there are then.
+/// Prints the nanoseconds for each of `count` calls, and how many pairs there are then.
 pub(crate) fn tell_held(spent: u128, count: u32, held: usize, case: &mut Case) {
     tell_each(spent, count, case);
     case.put(held);

@@ -1,4 +1,4 @@
-//! What datagrams of the link cost to make, to read and to take, and what it costs to push and to drain a whole batch.
+//! The cost of making, reading and taking datagrams of the link, and of pushing and draining a whole batch.
 
 use crate::clocks::{each, now, since};
 use addresses::{Port, Protocol};
@@ -7,10 +7,10 @@ use link::{Link, parse, write};
 use nat_types::{GatewayId, Key, Record};
 use std::alloc::{AllocError, Global};
 
-/// The places of a gateway's link where both ranges have 20,000 ports.
+/// The number of places of a gateway's link where both ranges have 20,000 ports.
 const CAPACITY: usize = 160_066;
 
-/// The records of a whole batch.
+/// The number of records of a whole batch.
 const BATCH: u32 = 160_000;
 
 const ENTRY: Record = Record::Accept(Key {
@@ -18,7 +18,7 @@ const ENTRY: Record = Record::Accept(Key {
     port: Port(20000),
 });
 
-/// Writes the datagram that is due on this tick, and nothing where none is.
+/// Writes the datagram that is due on this tick, or nothing where none is.
 fn send(link: &mut Link, moment: u64, out: &mut Vec<u8>, case: &mut Case) {
     out.clear();
     if link.wanted() != 0 {
@@ -30,7 +30,7 @@ fn send(link: &mut Link, moment: u64, out: &mut Vec<u8>, case: &mut Case) {
     }
 }
 
-/// Sends one datagram over: how many records were taken.
+/// Sends one datagram from one end to the other, and returns how many records were taken.
 fn pass(
     from: &mut Link,
     to: &mut Link,
@@ -92,7 +92,7 @@ fn pushing(rt: &HostRuntime, link: &mut Link, count: u32, case: &mut Case) -> u1
     each(rt, start, pushed, case)
 }
 
-/// What was pushed is sent until all of it is taken and known to be; how many records that were.
+/// Sends all that was pushed until it is taken and acknowledged, and returns how many records that were.
 fn drain(from: &mut Link, to: &mut Link, bytes: &mut Vec<u8>, case: &mut Case) -> usize {
     let mut drained = 0usize;
     for number in 0..BATCH {
@@ -107,13 +107,13 @@ fn drain(from: &mut Link, to: &mut Link, bytes: &mut Vec<u8>, case: &mut Case) -
     drained
 }
 
-/// Both ends, as they begin.
+/// Makes both ends of a link, as they begin.
 fn ends(alloc: Global) -> Result<(Link, Link), AllocError> {
     let zero = Link::new(alloc, GatewayId::Zero, 1, CAPACITY)?;
     beside(zero, Link::new(alloc, GatewayId::One, 1, CAPACITY))
 }
 
-/// Prints what each of them costs, over so many as the next word says.
+/// Prints the cost of each of these calls, over as many as the next word says.
 pub(crate) fn measure(rt: &HostRuntime, case: &mut Case) {
     match ends(case.alloc) {
         Ok((mut zero, mut one)) => {
@@ -143,7 +143,7 @@ fn measure_between(rt: &HostRuntime, zero: &mut Link, one: &mut Link, case: &mut
     case.end();
 }
 
-/// What a datagram costs to make and to read.
+/// Prints the cost of making and of reading a datagram.
 fn tell_made(
     rt: &HostRuntime,
     text: &str,
@@ -158,7 +158,7 @@ fn tell_made(
     case.say(" ns made, ", read);
 }
 
-/// What it costs to take.
+/// Prints the cost of taking a datagram.
 fn tell_taken(
     rt: &HostRuntime,
     text: &str,
@@ -172,7 +172,7 @@ fn tell_taken(
     case.put(" ns");
 }
 
-/// How long it takes until all that was pushed is taken.
+/// Prints the time until all that was pushed is taken.
 fn tell_drained(
     rt: &HostRuntime,
     zero: &mut Link,

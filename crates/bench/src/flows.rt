@@ -1,4 +1,4 @@
-//! Packets of pairs that stand, new flows, and the ticks and datagrams of gateways that stand.
+//! Packets of pairs that are there, new flows, and the ticks and datagrams of gateways with nothing else to do.
 
 use crate::boxes::Both;
 use crate::clocks::{now, since, tell_held, tell_sent};
@@ -11,13 +11,13 @@ use gateway::Outcome;
 use nat_types::Side;
 use settings::Settings;
 
-/// The next packet's pair lies so many above this one's, so that they aren't found in order.
+/// The distance from one packet's pair to the next one's, so that the pairs aren't found in order.
 const STRIDE: u32 = 7919;
 
-/// After so many centiseconds without a datagram one is due.
+/// The time without a datagram after which one is due, in centiseconds.
 const INTERVAL: u64 = 10;
 
-/// The kind of packets that three words name: its side, its protocol and its size.
+/// Reads a kind of packets from three words: its side, its protocol and its size.
 fn kind_in(case: &mut Case) -> Kind {
     Kind {
         side: case.side(),
@@ -26,7 +26,7 @@ fn kind_in(case: &mut Case) -> Kind {
     }
 }
 
-/// Prints what each of so many packets costs, and how many were sent on. They are of as many pairs in turn.
+/// Prints the cost of each of `count` packets, which belong to `pairs` pairs in turn, and how many were sent on.
 fn measure<G: Gate>(
     rt: &HostRuntime,
     station: &mut Station<G>,
@@ -49,7 +49,7 @@ fn measure<G: Gate>(
     tell_sent(spent, count, sent, case);
 }
 
-/// Prints what packets of one kind cost.
+/// Prints the cost of packets of one kind.
 pub(crate) fn report_kind<G: Gate>(rt: &HostRuntime, settings: &Settings, case: &mut Case) {
     let kind = kind_in(case);
     let (count, pairs) = (case.times(), case.times());
@@ -59,7 +59,7 @@ pub(crate) fn report_kind<G: Gate>(rt: &HostRuntime, settings: &Settings, case: 
     }
 }
 
-/// Prints what packets of one kind cost a gateway whose pairs another one has loaded.
+/// Prints the cost of packets of one kind at a gateway whose pairs another one has loaded.
 pub(crate) fn report_synced<G: Gate>(rt: &HostRuntime, settings: &Settings, case: &mut Case) {
     let kind = kind_in(case);
     let (count, pairs) = (case.times(), case.times());
@@ -69,7 +69,7 @@ pub(crate) fn report_synced<G: Gate>(rt: &HostRuntime, settings: &Settings, case
     }
 }
 
-/// A flow of its own protocol while there are ports of it.
+/// Returns the kind of a new flow's packet: UDP as long as there are ports of it, then TCP.
 fn kind_of(number: u32) -> Kind {
     let protocol = if number < PORTS {
         Protocol::Udp
@@ -84,7 +84,8 @@ fn kind_of(number: u32) -> Kind {
 }
 
 impl<G: Gate> Both<G> {
-    /// A packet of a new flow: its pair is proposed and accepted, and the packet goes. Whether it did.
+    /// Gives the first gateway a packet of a new flow, whose pair is proposed and accepted, and returns whether the
+    /// packet was sent on.
     fn opens(&mut self, frame: &[u8; LONGEST], case: &mut Case) -> bool {
         let Both { zero, one, .. } = self;
         zero.hand(Side::Inside, frame, OPENING, case);
@@ -95,7 +96,7 @@ impl<G: Gate> Both<G> {
         sent
     }
 
-    /// So many new flows; how many packets went.
+    /// Opens `count` new flows, and returns how many packets were sent on.
     fn open_all(&mut self, count: u32, case: &mut Case) -> u32 {
         let mut sent = 0u32;
         for number in 0..count {
@@ -108,7 +109,7 @@ impl<G: Gate> Both<G> {
         sent
     }
 
-    /// So many rounds: a tick of each, at which a datagram is due that the other takes.
+    /// Runs `count` rounds: a tick of each gateway, at which a datagram is due that the other takes.
     fn tick_often(&mut self, count: u32, case: &mut Case) {
         for _ in 0..count {
             self.tick(INTERVAL, case);
@@ -116,7 +117,7 @@ impl<G: Gate> Both<G> {
     }
 }
 
-/// Prints what a new flow costs a pair of gateways, of so many flows.
+/// Prints the cost of a new flow at a pair of gateways, over as many flows as the next word says.
 pub(crate) fn report_new<G: Gate>(rt: &HostRuntime, settings: &Settings, case: &mut Case) {
     let count = case.times();
     if let Some(mut both) = Both::<G>::synced(settings, Protocol::Udp, 0, case) {
@@ -128,7 +129,7 @@ pub(crate) fn report_new<G: Gate>(rt: &HostRuntime, settings: &Settings, case: &
     }
 }
 
-/// The same of a gateway that is alone.
+/// Prints the cost of a new flow at a gateway that is alone, over as many flows as the next word says.
 pub(crate) fn report_lone<G: Gate>(rt: &HostRuntime, settings: &Settings, case: &mut Case) {
     let count = case.times();
     let start = now(rt, case);
@@ -139,7 +140,7 @@ pub(crate) fn report_lone<G: Gate>(rt: &HostRuntime, settings: &Settings, case: 
     tell_sent(spent, count, count, case);
 }
 
-/// Prints what a round of ticks costs a pair of gateways with so many pairs of TCP, with its datagrams.
+/// Prints the cost of a round of ticks at two gateways with so many pairs of TCP, with the datagrams of the ticks.
 pub(crate) fn report_pair<G: Gate>(rt: &HostRuntime, settings: &Settings, case: &mut Case) {
     let (count, pairs) = (case.times(), case.times());
     if let Some(mut both) = Both::<G>::synced(settings, Protocol::Tcp, pairs, case) {
@@ -152,7 +153,7 @@ pub(crate) fn report_pair<G: Gate>(rt: &HostRuntime, settings: &Settings, case: 
     }
 }
 
-/// So many ticks, at each of which the clock goes on by so many centiseconds.
+/// Ticks a gateway `count` times, where the clock moves on by `by` centiseconds each time.
 fn tick_alone<G: Gate>(station: &mut Station<G>, count: u32, by: u64, case: &mut Case) {
     let mut moment = ACTIVE;
     for _ in 0..count {
@@ -161,8 +162,8 @@ fn tick_alone<G: Gate>(station: &mut Station<G>, count: u32, by: u64, case: &mut
     }
 }
 
-/// Prints what a tick costs a gateway with so many pairs of TCP, none of which is idle: at each the clock goes on
-/// by so many centiseconds, or stands.
+/// Prints the cost of a tick at a gateway with so many pairs of TCP, none of which is idle. At each tick the clock
+/// moves on by so many centiseconds, or by none.
 pub(crate) fn report_ticks<G: Gate>(
     rt: &HostRuntime,
     settings: &Settings,

@@ -1,4 +1,4 @@
-//! A gateway, as far as it is measured.
+//! The calls of a gateway that are measured.
 
 use cases_words::Case;
 use gateway::{Event, Gateway, Hashers, Out, Outcome};
@@ -6,22 +6,22 @@ use nat_types::GatewayId;
 use settings::Settings;
 use std::alloc::Global;
 
-/// What is done with a gateway, and asked of it. Nothing is known of it: a function that knew the gateway's type would have
-/// to show of each of its parts where it lies.
+/// The calls of a gateway that are measured, without contracts. A function that knew the gateway's type would have to
+/// show for each of its parts where that is in memory.
 pub(crate) trait Gate: Sized {
-    /// A gateway in its first boot; gateway 0 is founded.
+    /// Begins a gateway in its first boot. Gateway 0 is founded.
     fn begun(alloc: Global, settings: &Settings, id: GatewayId) -> Option<Self>;
 
-    /// One step, by a cleared `Out`. Where memory is refused the line is wrong.
+    /// Takes one step, with an `Out` that is cleared first. Without memory the line is wrong.
     fn step(&mut self, event: Event<'_>, out: &mut Out, case: &mut Case) -> Outcome;
 
-    /// Whether its table is loaded.
+    /// Whether the gateway's table is loaded.
     fn is_synced(&self) -> bool;
 
-    /// How many entries its table has: nothing is listed.
+    /// Returns how many entries the gateway's table has, without a list of them.
     fn entry_count(&self) -> usize;
 
-    /// Gives its memory back.
+    /// Frees the gateway's memory.
     fn end(self);
 }
 

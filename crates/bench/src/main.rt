@@ -1,22 +1,23 @@
-//! What a gateway's steps cost, and the calls of three crates below it. Each command prints nanoseconds, and does just as
-//! much as its numbers say, so that instructions and requests for memory can be counted by two runs:
+//! Measures the steps of a gateway, and the calls of three crates below it. Each command prints nanoseconds, and does
+//! exactly as much as its numbers say, so that instructions and requests for memory can be counted by the difference of
+//! two runs:
 //!
 //! - `kind SIDE PROTOCOL SIZE COUNT PAIRS`: packets of one kind, from the frame that came in to the frame that is sent;
-//!   `synced ..`: the same at a gateway whose pairs another one has loaded
-//! - `new COUNT`: new flows at two gateways; `lone COUNT`: the same at one that is alone
+//!   `synced ..`: such packets at a gateway whose pairs another one has loaded
+//! - `new COUNT`: new flows at two gateways; `lone COUNT`: new flows at one that is alone
 //! - `pair COUNT PAIRS`: ticks of two gateways, each with the datagram that is due, which the other takes
-//! - `idle COUNT PAIRS`: ticks of a gateway nothing of which is due; `still COUNT PAIRS`: the same while
-//!   its clock stands
-//! - `ports want COUNT`, `ports begin COUNT`, `ports batch COUNT`: ports that are asked for, the
-//!   beginning of a batch, and a batch; COUNT is 0 or 1
-//! - `churn ROUNDS ENDPOINTS`: flows that are opened, closed and let go, by the processor's time;
-//!   `longest ROUNDS ENDPOINTS`: the longest step, and the longest tick, of the same
-//! - `many PAIRS..`: what so many pairs cost at once
-//! - `start`: a gateway starts, and that is all
+//! - `idle COUNT PAIRS`: ticks of a gateway for which nothing is due; `still COUNT PAIRS`: such ticks while its clock
+//!   doesn't move
+//! - `ports want COUNT`, `ports begin COUNT`, `ports batch COUNT`: a request for ports, the beginning of a batch, and a
+//!   batch; COUNT is 0 or 1
+//! - `churn ROUNDS ENDPOINTS`: flows that are opened, closed and released, by the processor's time;
+//!   `longest ROUNDS ENDPOINTS`: their longest step, and their longest tick
+//! - `many PAIRS..`: the cost of so many pairs at once
+//! - `start`: the start of a gateway, and nothing else
 //! - `arp COUNT`: a renewal, a stranger and a look-up in a full cache; `link COUNT`: datagrams of the link, a push, and
 //!   draining a whole batch; `wire COUNT`: parsing a packet and sending it on outward
 //!
-//! Without words it does nothing.
+//! Without words the program does nothing.
 #![tactic(auto)]
 
 mod boxes;
@@ -43,14 +44,14 @@ use settings::Settings;
 use stations::Station;
 use std::env;
 
-/// A gateway starts, and ends.
+/// Starts a gateway, and ends it.
 fn start(settings: &Settings, case: &mut Case) {
     if let Some(station) = Station::<Gateway>::founded(settings, case) {
         station.end();
     }
 }
 
-/// What a command prints.
+/// Prints what a command measures.
 fn report(rt: &HostRuntime, settings: &Settings, case: &mut Case) {
     match case.word() {
         "kind" => report_kind::<Gateway>(rt, settings, case),
@@ -72,7 +73,7 @@ fn report(rt: &HostRuntime, settings: &Settings, case: &mut Case) {
     }
 }
 
-/// The words of the program, with a space between each two.
+/// Returns the words of the program, joined by spaces.
 fn read_words(rt: &HostRuntime) -> Result<String> {
     let mut line = String::new(rt.alloc());
     for word in env::args(rt)?.skip(1) {

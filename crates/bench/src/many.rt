@@ -1,5 +1,5 @@
-//! What many pairs cost at once: to open them, to let all of them idle at one tick, and to hand them to a gateway that
-//! starts with an empty table.
+//! The cost of many pairs at once: to open them, to find all of them idle at one tick, and to load them into a gateway
+//! that starts with an empty table.
 
 use crate::boxes::Both;
 use crate::clocks::{now, since};
@@ -9,13 +9,13 @@ use addresses::Protocol;
 use cases_words::Case;
 use settings::Settings;
 
-/// The pairs of a gateway are idle after so many centiseconds: more than the longest limit of a pair.
+/// A time after which all pairs of a gateway are idle, in centiseconds: more than the longest limit of a pair.
 const REST: u64 = 800_000;
 
-/// So many ticks are measured at once.
+/// The number of ticks that are measured at once.
 const TICKS: u64 = 100;
 
-/// Prints how many pairs a line is about, and what they do.
+/// Prints how many pairs a line is about, and what happens to them.
 fn tell(pairs: u32, what: &str, case: &mut Case) {
     case.put(pairs);
     case.say(" ", what);
@@ -26,7 +26,7 @@ fn tell_micros(nanoseconds: u128, case: &mut Case) {
     case.put(" us");
 }
 
-/// The tick at which all pairs of a gateway are idle.
+/// Returns the nanoseconds of the tick at which all pairs of a gateway are idle.
 fn idle<G: Gate>(rt: &HostRuntime, station: &mut Station<G>, case: &mut Case) -> u128 {
     let start = now(rt, case);
     station.tick(ACTIVE + REST, case);
@@ -37,7 +37,8 @@ fn idle<G: Gate>(rt: &HostRuntime, station: &mut Station<G>, case: &mut Case) ->
     spent
 }
 
-/// Ticks of a gateway all of whose pairs are idle, and none of which it may let go. The first such tick isn't counted.
+/// Returns the nanoseconds of `TICKS` ticks of a gateway all of whose pairs are idle, and none of which it may release.
+/// The first such tick isn't counted.
 fn rest<G: Gate>(rt: &HostRuntime, station: &mut Station<G>, case: &mut Case) -> u128 {
     let pairs = station.entry_count();
     station.tick(ACTIVE + REST, case);
@@ -52,7 +53,7 @@ fn rest<G: Gate>(rt: &HostRuntime, station: &mut Station<G>, case: &mut Case) ->
     spent
 }
 
-/// Opens so many pairs, and lets them idle.
+/// Opens `pairs` pairs, lets them become idle, and prints what each costs.
 fn open_and_idle<G: Gate>(rt: &HostRuntime, settings: &Settings, pairs: u32, case: &mut Case) {
     let start = now(rt, case);
     if let Some(mut station) = Station::<G>::ready(settings, Protocol::Udp, pairs, case) {
@@ -68,7 +69,7 @@ fn open_and_idle<G: Gate>(rt: &HostRuntime, settings: &Settings, pairs: u32, cas
     }
 }
 
-/// Loads so many pairs into a gateway that starts, and lets both rest.
+/// Loads `pairs` pairs into a gateway that starts, lets both gateways rest, and prints what each costs.
 fn load_and_rest<G: Gate>(rt: &HostRuntime, settings: &Settings, pairs: u32, case: &mut Case) {
     if let Some(mut both) = Both::<G>::ready(settings, Protocol::Udp, pairs, case) {
         tell_load(rt, &mut both, pairs, case);
@@ -80,7 +81,7 @@ fn load_and_rest<G: Gate>(rt: &HostRuntime, settings: &Settings, pairs: u32, cas
     }
 }
 
-/// What the steps of both cost until the second one has loaded all pairs, and how many ticks each had.
+/// Prints the cost of both gateways' steps until the second one has loaded all pairs, and how many ticks each had.
 fn tell_load<G: Gate>(rt: &HostRuntime, both: &mut Both<G>, pairs: u32, case: &mut Case) {
     let start = now(rt, case);
     let ticks = both.load(case);
@@ -101,7 +102,7 @@ fn tell_rest<G: Gate>(rt: &HostRuntime, station: &mut Station<G>, case: &mut Cas
     case.put(" ticks\n");
 }
 
-/// Prints what many pairs cost, for each of the numbers of pairs.
+/// Prints the cost of many pairs, for each of the numbers of pairs.
 pub(crate) fn report_many<G: Gate>(rt: &HostRuntime, settings: &Settings, case: &mut Case) {
     for _ in 0..case.left() {
         let pairs = case.times();

@@ -1,19 +1,20 @@
-//! What a renewal, a stranger and a look-up cost in a full cache.
+//! The cost of a renewal, a stranger and a look-up in a full cache.
 
 use crate::clocks::{each, now};
 use addresses::{Ip, Mac};
 use arp::Cache;
 use cases_words::Case;
 
-/// The entries that a cache has room for.
+/// The number of entries for which a cache has capacity.
 const FULL: u32 = 1024;
 
-/// The hosts that fill the cache, one after the other, and begin anew.
+/// Returns the address of one of the hosts that fill the cache, in turn.
 fn host(number: u32) -> Ip {
     Ip(0xc0a8_0000 + number % FULL)
 }
 
-/// Strangers, scattered over a network: each drops the oldest entry.
+/// Returns the address of a stranger, scattered over a network. Each stranger drops the oldest
+/// entry.
 fn stranger(number: u32) -> Ip {
     Ip(0x0a00_0000 + number.wrapping_mul(0x9e37_79b1) % 0x0100_0000)
 }
@@ -38,7 +39,7 @@ fn learn_hosts(rt: &HostRuntime, cache: &mut Cache, count: u32, case: &mut Case)
     each(rt, start, count, case)
 }
 
-/// Looks the hosts up, and prints what that costs and how many were known.
+/// Looks the hosts up, and prints the cost and how many were known.
 fn tell_known(rt: &HostRuntime, cache: &Cache, count: u32, case: &mut Case) {
     let mut known = 0u32;
     let start = now(rt, case);
@@ -65,7 +66,7 @@ fn measure_in(rt: &HostRuntime, cache: &mut Cache, case: &mut Case) {
     tell_known(rt, cache, count, case);
 }
 
-/// Prints what each of them costs, over so many as the next word says.
+/// Prints the cost of each of these calls, over as many as the next word says.
 pub(crate) fn measure(rt: &HostRuntime, case: &mut Case) {
     match Cache::new(case.alloc, &[]) {
         Ok(mut cache) => {

@@ -1,31 +1,31 @@
-//! The packets that are handed in, in their frames.
+//! The packets that the gateways get, in their frames.
 
 use addresses::Protocol;
 use nat_types::Side;
 use sums::sum;
 
-/// The longest frame: a header of 14 bytes, and a packet of 1,500.
+/// The bytes of the longest frame: a header of 14 bytes, and a packet of 1,500.
 pub(crate) const LONGEST: usize = 1514;
 
-/// Where a frame's packet begins.
+/// The place of a frame's packet.
 pub(crate) const HEADER: usize = 14;
 
-/// The bytes of a frame as far as the ports of its packet.
+/// The bytes of a frame up to the end of its packet's ports.
 const STARTS: usize = 38;
 
-/// The ports of a protocol that the gateway has for new pairs.
+/// The number of ports of a protocol that the gateway has for new pairs.
 pub(crate) const PORTS: u32 = 20_000;
 
-/// The bytes of a packet that opens a pair.
+/// The length of a packet that opens a pair, in bytes.
 pub(crate) const OPENING: u16 = 44;
 
-/// The port of an inside host that has the first pair; those of the others are above it.
+/// The port of an inside host that has the first pair. Those of the other pairs are above it.
 const FIRST_INSIDE: u32 = 5000;
 
-/// The port that the first pair has outside.
+/// The outside port of the first pair.
 const FIRST_OUTSIDE: u32 = 20_000;
 
-/// A kind of packet: the side on which it comes in, its protocol, and its bytes, 40 to 1,500.
+/// A kind of packet: the side on which it comes in, its protocol, and its length in bytes, 40 to 1,500.
 #[derive(Clone, Copy)]
 pub(crate) struct Kind {
     pub(crate) side: Side,
@@ -33,21 +33,21 @@ pub(crate) struct Kind {
     pub(crate) size: u16,
 }
 
-/// A packet of 192.168.1.10 to 198.51.100.7:53 in its frame, as far as the ports; its length,
-/// protocol, header checksum and source port are 0.
+/// A packet of 192.168.1.10 to 198.51.100.7:53 in its frame, up to the ports. The length, the protocol, the header
+/// checksum and the source port are 0.
 const FROM_INSIDE: [u8; STARTS] = *b"\
     \x00\x00\x5e\x00\x01\x0b\x02\x00\x00\x00\x00\x0a\x08\x00\
     \x45\x00\x00\x00\x00\x01\x00\x00\x40\x00\x00\x00\
     \xc0\xa8\x01\x0a\xc6\x33\x64\x07\x00\x00\x00\x35";
 
-/// The same of 198.51.100.7:53 to 192.0.2.1, the address that all hosts have outside; the port to which
-/// it goes is 0.
+/// A packet of 198.51.100.7:53 to 192.0.2.1, the address that all hosts have outside, in its frame, up to the ports.
+/// The length, the protocol, the header checksum and the destination port are 0.
 const FROM_OUTSIDE: [u8; STARTS] = *b"\
     \x00\x00\x5e\x00\x01\x0a\x02\x00\x00\x00\x00\xfe\x08\x00\
     \x45\x00\x00\x00\x00\x01\x00\x00\x40\x00\x00\x00\
     \xc6\x33\x64\x07\xc0\x00\x02\x01\x00\x35\x00\x00";
 
-/// The start of such a packet's frame, without the header checksum.
+/// Returns the start of such a packet's frame, without the header checksum.
 fn start_of(kind: Kind) -> [u8; STARTS] {
     let mut start = match kind.side {
         Side::Inside => FROM_INSIDE,
@@ -60,7 +60,7 @@ fn start_of(kind: Kind) -> [u8; STARTS] {
     start
 }
 
-/// A start with its header checksum.
+/// Returns a start with its header checksum.
 fn summed(mut start: [u8; STARTS]) -> [u8; STARTS] {
     let [high, low] = (65535 - sum(&start[14..34])).to_be_bytes();
     start[24] = high;
@@ -68,8 +68,7 @@ fn summed(mut start: [u8; STARTS]) -> [u8; STARTS] {
     start
 }
 
-/// Writes what follows the ports. No gateway tests the checksum of a datagram or of a segment; it
-/// stands for any.
+/// Writes what follows the ports. No gateway tests the checksum of a datagram or of a segment, so any value will do.
 fn set_transport(frame: &mut [u8; LONGEST], kind: Kind) {
     match kind.protocol {
         // No query is measured.
@@ -91,7 +90,7 @@ fn set_transport(frame: &mut [u8; LONGEST], kind: Kind) {
     }
 }
 
-/// The frame of such a packet, which is of no pair yet. Its payload is zeros.
+/// Returns the frame of a packet of a kind, which belongs to no pair yet. The payload is zeros.
 pub(crate) fn frame_of(kind: Kind) -> [u8; LONGEST] {
     let mut frame = [0; LONGEST];
     frame[..STARTS].copy_from_slice(&summed(start_of(kind)));
@@ -99,17 +98,18 @@ pub(crate) fn frame_of(kind: Kind) -> [u8; LONGEST] {
     frame
 }
 
-/// The flags of a segment that opens a connection, and of one that ends its half of it.
+/// The flags of a segment that opens a connection.
 pub(crate) const SYN: u8 = 0x02;
 
+/// The flags of a segment that ends its sender's half of a connection.
 pub(crate) const FIN: u8 = 0x11;
 
-/// Gives a segment these flags.
+/// Sets the flags of a segment.
 pub(crate) fn set_flags(frame: &mut [u8; LONGEST], flags: u8) {
     frame[47] = flags;
 }
 
-/// Makes it a packet of the pair with this number, counted from 0.
+/// Makes a frame's packet one of the pair with this number, counted from 0.
 pub(crate) fn set_pair(frame: &mut [u8; LONGEST], side: Side, number: u32) {
     match side {
         Side::Inside => {

@@ -1,5 +1,5 @@
-//! What ports cost: a Want, the Begin of a batch, and a batch. Each word prepares the same whether it then does it
-//! once or not at all, so that its instructions are what the first run takes more.
+//! The cost of ports: a Want, the Begin of a batch, and a batch. Each command prepares the same whether it then does
+//! its work once or not at all, so that the difference of two runs is the work's instructions.
 
 use crate::boxes::{Both, converse};
 use crate::gates::Gate;
@@ -10,13 +10,13 @@ use cases_words::Case;
 use nat_types::Side;
 use settings::{PortRange, PortRanges, Settings};
 
-/// So many pairs stand where a Want comes, and in a batch.
+/// The number of pairs in the table when a Want comes, and in a batch.
 const PAIRS: u32 = 20_000;
 
-/// By then a gateway that heard nobody is Active, in centiseconds.
+/// The time after which a gateway that heard nobody is Active, in centiseconds.
 const BOTH_ACTIVE: u64 = 500;
 
-/// All ports but one are the first gateway's.
+/// Ranges by which all ports but one are the first gateway's.
 const UNEVEN: PortRanges = PortRanges {
     zero: PortRange {
         lowest: Port(20_000),
@@ -30,14 +30,14 @@ const UNEVEN: PortRanges = PortRanges {
 };
 
 impl<G: Gate> Both<G> {
-    /// Both clocks go on until both gateways are Active.
+    /// Moves both clocks on until both gateways are Active.
     fn wake(&mut self, case: &mut Case) {
         for _ in 0..BOTH_ACTIVE / 10 {
             self.tick(10, case);
         }
     }
 
-    /// A packet of a new flow comes to the second gateway.
+    /// Gives the second gateway a packet of a new flow.
     fn come_to_one(&mut self, number: u32, case: &mut Case) {
         let (side, protocol, size) = (Side::Inside, Protocol::Tcp, OPENING);
         let mut frame = frame_of(Kind {
@@ -49,7 +49,8 @@ impl<G: Gate> Both<G> {
         self.one.hand(side, &frame, size, case);
     }
 
-    /// The second gateway takes the only port that it has, and then asks for more: it tells so last.
+    /// Has the second gateway take the only port that it has, and then ask for more, in the datagrams that it sends
+    /// last.
     fn want(&mut self, case: &mut Case) {
         self.load(case);
         self.wake(case);
@@ -61,7 +62,7 @@ impl<G: Gate> Both<G> {
         }
     }
 
-    /// The second gateway is heard: the first one tells the beginning of its batch last.
+    /// Has the first gateway hear the second one, and send the beginning of its batch last.
     fn begin(&mut self, case: &mut Case) {
         self.zero.tick(ACTIVE + 1, case);
         self.one.take(&self.zero, case);
@@ -72,7 +73,7 @@ impl<G: Gate> Both<G> {
         }
     }
 
-    /// The second gateway takes the batch that begins, where the count isn't 0.
+    /// Has the second gateway take the batch that begins, where the count isn't 0.
     fn take_batch(&mut self, count: u32, case: &mut Case) {
         for _ in 0..count {
             converse(&mut self.zero, &mut self.one, case);
@@ -80,7 +81,7 @@ impl<G: Gate> Both<G> {
     }
 }
 
-/// The ports are asked for, and granted so many times: once, or not at all.
+/// Asks for ports, and grants them `count` times: once, or not at all.
 fn grant<G: Gate>(count: u32, case: &mut Case) {
     match Settings::sample(case.alloc) {
         Ok(mut settings) => {
@@ -101,7 +102,7 @@ fn grant_by<G: Gate>(settings: &Settings, count: u32, case: &mut Case) {
     }
 }
 
-/// A batch of no pairs begins, and its first datagram is taken so many times: once, or not at all.
+/// Begins a batch of no pairs, whose first datagram is taken `count` times: once, or not at all.
 fn begin<G: Gate>(settings: &Settings, count: u32, case: &mut Case) {
     if let Some(mut both) = Both::<G>::ready(settings, Protocol::Udp, 0, case) {
         both.begin(case);
@@ -111,7 +112,7 @@ fn begin<G: Gate>(settings: &Settings, count: u32, case: &mut Case) {
     }
 }
 
-/// A batch begins, and is taken whole, where the count isn't 0.
+/// Begins a batch, and takes it whole, where the count isn't 0.
 fn load<G: Gate>(settings: &Settings, count: u32, case: &mut Case) {
     if let Some(mut both) = Both::<G>::ready(settings, Protocol::Udp, PAIRS, case) {
         both.begin(case);
@@ -121,7 +122,7 @@ fn load<G: Gate>(settings: &Settings, count: u32, case: &mut Case) {
     }
 }
 
-/// A gateway takes what the other told last, so many times.
+/// Gives a gateway the datagrams that the other sent last, `count` times.
 fn take_often<G: Gate>(station: &mut Station<G>, other: &Station<G>, count: u32, case: &mut Case) {
     for _ in 0..count {
         station.take(other, case);

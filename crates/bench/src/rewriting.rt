@@ -1,4 +1,4 @@
-//! What it costs to parse a packet and send it on outward.
+//! The cost of parsing a packet and sending it on outward.
 
 ghost use Rattle.std.specs.Prelude.{IsTrue};
 ghost use Rattle.icmp.specs.Query.{IsTranslatable};
@@ -11,10 +11,10 @@ use icmp::Kind;
 use ipv4::{Ipv4View, Transport};
 use sums::sum;
 
-/// The longest packet of an Ethernet frame.
+/// The length of the longest packet of an Ethernet frame, in bytes.
 const LONGEST: usize = 1500;
 
-/// The bytes that a translation changes lie in front of these.
+/// The number of first bytes of a packet among which are all that a translation changes.
 const CHANGED: usize = 40;
 
 const OUTSIDE: Ip = Ip(0xc000_0201);
@@ -24,7 +24,7 @@ const START: [u8; 24] = [
     0x45, 0, 0, 0, 0, 1, 0, 0, 64, 0, 0, 0, 192, 168, 1, 10, 198, 51, 100, 7, 0x13, 0x88, 0, 53,
 ];
 
-/// What is measured: each protocol, with short packets and long ones.
+/// The packets that are measured: each protocol, with short packets and long ones.
 const KINDS: [(Protocol, u16); 6] = [
     (Protocol::Udp, 44),
     (Protocol::Udp, 1500),
@@ -34,7 +34,7 @@ const KINDS: [(Protocol, u16); 6] = [
     (Protocol::Icmp, 1500),
 ];
 
-/// A packet of that many bytes from 192.168.1.10:5000 to 198.51.100.7:53, its payload zeros.
+/// Returns a packet of `size` bytes from 192.168.1.10:5000 to 198.51.100.7:53, with a payload of zeros.
 fn packet_of(protocol: Protocol, size: u16) -> [u8; LONGEST] {
     let mut packet = [0; LONGEST];
     packet[..24].copy_from_slice(&START);
@@ -70,7 +70,7 @@ fn is_translatable(packet: &[u8]) -> bool
     }
 }
 
-/// Whether the packet was parsed and sent on.
+/// Parses a packet and sends it on, and returns whether both succeeded.
 fn is_sent(packet: &mut [u8]) -> bool {
     if !is_translatable(packet) {
         return false;
@@ -78,15 +78,15 @@ fn is_sent(packet: &mut [u8]) -> bool {
     rewrite::outward(packet, OUTSIDE, Port(20000)).is_ok()
 }
 
-/// Whether so many bytes of the fresh packet were parsed and sent on: what the round before
-/// changed is written again first.
+/// Restores the bytes that the round before changed, parses the first `size` bytes of the packet and sends them on, and
+/// returns whether both succeeded.
 fn is_sent_anew(packet: &mut [u8; LONGEST], fresh: &[u8; LONGEST], size: usize) -> bool {
     packet[..CHANGED].copy_from_slice(&fresh[..CHANGED]);
     is_sent(&mut packet[..size.min(LONGEST)])
 }
 
-/// Prints the nanoseconds for each of so many packets, rounded down, among them the copy of the bytes that a translation
-/// changes; and how many were sent on.
+/// Prints the nanoseconds for each of `count` packets, rounded down, which include the copy of the bytes that a
+/// translation changes, and how many packets were sent on.
 fn tell_cost(rt: &HostRuntime, protocol: Protocol, size: u16, count: u32, case: &mut Case) {
     let fresh = packet_of(protocol, size);
     let mut packet = fresh;
@@ -104,7 +104,7 @@ fn tell_cost(rt: &HostRuntime, protocol: Protocol, size: u16, count: u32, case: 
     case.put(" sent\n");
 }
 
-/// Prints what each kind of packet costs, over so many as the next word says.
+/// Prints the cost of each kind of packet, over as many as the next word says.
 pub(crate) fn measure(rt: &HostRuntime, case: &mut Case) {
     let count = case.times();
     for (protocol, size) in &KINDS {

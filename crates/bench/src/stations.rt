@@ -1,5 +1,5 @@
-//! The gateway that is measured. Nothing here says what a step does, so that what a caller has to
-//! show stays small. Where memory is refused the line is wrong.
+//! The gateway that is measured. No function here has a contract on what a step does, so that its caller has little to
+//! prove. Without memory the line is wrong.
 
 use crate::gates::Gate;
 use crate::packets::{HEADER, Kind, LONGEST, OPENING, PORTS, frame_of, set_pair};
@@ -9,22 +9,22 @@ use gateway::{Event, Out, Outcome};
 use nat_types::{GatewayId, NoteKind, Side};
 use settings::Settings;
 
-/// When its routers are Active, in centiseconds.
+/// The time at which a gateway's routers are Active, in centiseconds.
 pub(crate) const ACTIVE: u64 = 360;
 
-/// A gateway, and what it told last. It goes by `end`.
+/// A gateway, and its last output. A caller ends it by `end`.
 pub(crate) struct Station<G> {
     gateway: G,
     out: Out,
 }
 
 impl<G: Gate> Station<G> {
-    /// Gateway 0 as it is founded.
+    /// Founds gateway 0.
     pub(crate) fn founded(settings: &Settings, case: &mut Case) -> Option<Station<G>> {
         Station::of(G::begun(case.alloc, settings, GatewayId::Zero), case)
     }
 
-    /// Gateway 1 as it begins.
+    /// Begins gateway 1.
     pub(crate) fn second(settings: &Settings, case: &mut Case) -> Option<Station<G>> {
         Station::of(G::begun(case.alloc, settings, GatewayId::One), case)
     }
@@ -42,15 +42,15 @@ impl<G: Gate> Station<G> {
         }
     }
 
-    /// Ends its gateway, and gives its memory back.
+    /// Ends the gateway, and frees its memory.
     pub(crate) fn end(self) {
         let Station { gateway, out } = self;
         gateway.end();
         drop(out);
     }
 
-    /// A founded gateway, Active on both sides, with so many pairs: of this protocol while it has ports, the others of
-    /// the other one.
+    /// Makes a founded gateway, Active on both sides, with `pairs` pairs: of this protocol as long as there are ports
+    /// of it, then of the other one.
     pub(crate) fn ready(
         settings: &Settings,
         protocol: Protocol,
@@ -64,12 +64,13 @@ impl<G: Gate> Station<G> {
         Some(station)
     }
 
-    /// The clock goes on.
+    /// Moves the gateway's clock on to `moment`.
     pub(crate) fn tick(&mut self, moment: u64, case: &mut Case) {
         self.gateway.step(Event::Tick(moment), &mut self.out, case);
     }
 
-    /// Takes the datagrams that the other gateway told last. What it tells of its own with the last of them is there then.
+    /// Gives the gateway the datagrams that the other gateway sent last. The gateway's own last output is then that for
+    /// the last of them.
     pub(crate) fn take(&mut self, other: &Station<G>, case: &mut Case) {
         for datagram in other.out.datagrams() {
             let event = Event::Datagram(datagram);
@@ -77,27 +78,27 @@ impl<G: Gate> Station<G> {
         }
     }
 
-    /// Whether its table is loaded.
+    /// Whether the gateway's table is loaded.
     pub(crate) fn is_synced(&self) -> bool {
         self.gateway.is_synced()
     }
 
-    /// How many entries its table has: nothing is listed.
+    /// Returns how many entries the gateway's table has, without a list of them.
     pub(crate) fn entry_count(&self) -> usize {
         self.gateway.entry_count()
     }
 
-    /// Whether it told a datagram last.
+    /// Whether the gateway's last output has a datagram.
     pub(crate) fn tells(&self) -> bool {
         self.out.datagram_count() > 0
     }
 
-    /// Whether it sent a frame last.
+    /// Whether the gateway's last output has a frame.
     pub(crate) fn sends(&self) -> bool {
         self.out.frames().next().is_some()
     }
 
-    /// How many pairs it let go last.
+    /// Returns how many pairs the gateway released in its last output.
     pub(crate) fn let_go(&self) -> u32 {
         let mut count = 0u32;
         for note in self.out.notes() {
@@ -108,7 +109,7 @@ impl<G: Gate> Station<G> {
         count
     }
 
-    /// Opens so many pairs, each by a packet of its own.
+    /// Opens `pairs` pairs, each by a packet of its own.
     fn open(&mut self, protocol: Protocol, pairs: u32, case: &mut Case) {
         let (side, size) = (Side::Inside, OPENING);
         let mut frame = frame_of(Kind {
@@ -124,7 +125,7 @@ impl<G: Gate> Station<G> {
         }
     }
 
-    /// What becomes of a packet of so many bytes that comes in on a side.
+    /// Gives the gateway a packet of `size` bytes that comes in on a side, and returns the outcome.
     pub(crate) fn hand(
         &mut self,
         side: Side,
@@ -138,7 +139,7 @@ impl<G: Gate> Station<G> {
     }
 }
 
-/// The protocol whose ports serve where this one has none left.
+/// Returns the protocol whose ports are used where this one has none left.
 fn other(protocol: Protocol) -> Protocol {
     match protocol {
         Protocol::Icmp | Protocol::Tcp => Protocol::Udp,

@@ -1,4 +1,4 @@
--- What becomes of a store's entries, lives and look-up once a row goes, or has another item.
+-- A store's entries, lives and look-ups after a row is removed, or has another item.
 use Rattle.std.proofs.Common.{◌≡◌, ℕ, suc, Bool, true, false, not, cond, ◌&&◌, Option, Some, None, List, [], ◌∷◌, refl, sym, ap, subst, ◌∙◌, arith}
 use Rattle.std.specs.List.{find}
 use Rattle.std.specs.Option.{option_map}
@@ -22,7 +22,7 @@ use Rattle.bindings.proofs.Slots.{swap_choices}
 use Rattle.bindings.proofs.Places.{turn-none}
 use Rattle.bindings.proofs.Kept.{slot-is, entry-is, below-none, rows-without_none}
 
--- what is found passes no test that nothing passes
+-- where nothing passes a test, what is found doesn't pass it
 pub found-none : {X : Type 0} (p q : X → Bool) (xs : List X) (x : X) → find p xs ≡ Some x → q x ≡ true → find q xs ≡ None → ⊥
 found-none p q [] x h t n = cc
 found-none p q (y ∷ ys) x h t n = by (p y) h (found-none p q ys x)
@@ -46,7 +46,7 @@ number-none rows x h = by (find (λ (r : Row Item). serves x r.item.entry) rows)
     by None h = refl
     by (Some r) h = cc
 
--- the item of a key, at the first row or later
+-- the item of a key is that of the first row where that row has the key
 item-here : (key : Key) (x : Row Item) (rows : List (Row Item)) (i : Item) → same_key x.key key ≡ true → slots.item_of (x ∷ rows) key ≡ Some i → x.item ≡ i
 item-here key x rows i e h =
     let one : Some x.item ≡ Some i = sym (ap (λ b. option_map (λ (r : Row Item). r.item) (cond b (Some x) (slots.row_of rows key))) e) ∙ h in
@@ -55,13 +55,13 @@ item-here key x rows i e h =
 item-later : (key : Key) (x : Row Item) (rows : List (Row Item)) (i : Item) → same_key x.key key ≡ false → slots.item_of (x ∷ rows) key ≡ Some i → slots.item_of rows key ≡ Some i
 item-later key x rows i e h = sym (ap (λ b. option_map (λ (r : Row Item). r.item) (cond b (Some x) (slots.row_of rows key))) e) ∙ h
 
--- behind the row of a key there is no other
+-- no row after that of a key has the key
 none-later : (low : ℕ) (key : Key) (x : Row Item) (rows : List (Row Item)) → slots.Rises low (x ∷ rows) → same_key x.key key ≡ true → slots.row_of rows key ≡ None
 none-later low key x rows r e =
     let here = ap key_place (key-eq x.key key e) in
     below-none (suc (key_place x.key)) rows key r.1 (omega (arith, here))
 
--- a pair in front of another serves none of its endpoints
+-- a pair before another in the list doesn't serve its endpoint
 apart : (key : Key) (x : Endpoint) (y : Row Item) (rows : List (Row Item)) (i : Item) → slots.item_of rows key ≡ Some i → HasDistinctEndpoints (entries_of (y ∷ rows)) → serves x y.item.entry ≡ true → serves x i.entry ≡ true → ⊥
 apart key x y rows i h d a b = by (slots.row_of rows key) refl h
   where
@@ -80,7 +80,7 @@ apart key x y rows i h d a b = by (slots.row_of rows key) refl h
             at None h = refl
             at (Some z) h = cc
 
--- the slots that serve once the row of a key is gone
+-- the slot that serves an endpoint after the row of a key was removed
 pub number-without : (low : ℕ) (key : Key) (rows : List (Row Item)) (i : Item) (x : Endpoint) → slots.Rises low rows → slots.item_of rows key ≡ Some i → (is_pair i.entry.state ≡ true → HasDistinctEndpoints (entries_of rows))
     → number_for (slots.without key rows) x ≡ cond (serves x i.entry) None (number_for rows x)
 number-without low key [] i x r h d = absurd (cc)
@@ -118,7 +118,7 @@ with-none key t (x ∷ rows) h = by (same_key x.key key) h (with-none key t rows
     by true h ih = absurd (cc)
     by false h ih = ap (λ xs. x ∷ xs) (ih h)
 
--- the first row of those, and the others
+-- the item of the first row is replaced where that row has the key, and the others stay
 with-here : (key : Key) (t : Item) (x : Row Item) (rows : List (Row Item)) → same_key x.key key ≡ true → slots.row_of rows key ≡ None → slots.with_item key t (x ∷ rows) ≡ record x { item = t } ∷ rows
 with-here key t x rows e none = ap (λ b. cond b (record x { item = t }) x ∷ slots.with_item key t rows) e ∙ ap (λ xs. record x { item = t } ∷ xs) (with-none key t rows none)
 
@@ -183,7 +183,7 @@ lives-changed low key g t i (x ∷ rows) k r h e = by (same_key x.key key) refl 
         ap lives_of (with-later key t x rows f) ∙ ap (λ ls. x.item.life ∷ ls) (ih (item-later key x rows i f h) e)
         ∙ sym (ap (λ b. cond b (g x.item.life ∷ lives_of rows) (x.item.life ∷ lives_with g key (entries_of rows) (lives_of rows))) (test ∙ f))
 
--- a key without a row has no life to change
+-- the lives stay where a key has no row
 pub lives-nowhere : (key : Key) (g : Activity → Activity) (rows : List (Row Item)) → AreKeyed rows → slots.item_of rows key ≡ None → lives_of rows ≡ lives_with g key (entries_of rows) (lives_of rows)
 lives-nowhere key g [] k h = refl
 lives-nowhere key g (x ∷ rows) k h = by (same_key x.item.entry.pair.key key) (ap (λ (q : Key). same_key q key) k.0) (lives-nowhere key g rows k.1)
@@ -194,7 +194,7 @@ lives-nowhere key g (x ∷ rows) k h = by (same_key x.item.entry.pair.key key) (
         absurd (cc)
     by false f ih = ap (λ ls. x.item.life ∷ ls) (ih (sym (ap (λ b. option_map (λ (r : Row Item). r.item) (cond b (Some x) (slots.row_of rows key))) f) ∙ h))
 
--- the slots that serve once the row of a key has another item, of the same pair
+-- the slot that serves an endpoint after the row of a key got another item, of the same pair
 pub number-with : (low : ℕ) (key : Key) (t i : Item) (rows : List (Row Item)) (x : Endpoint) → slots.Rises low rows → slots.item_of rows key ≡ Some i → t.entry.pair.endpoint ≡ i.entry.pair.endpoint
     → (is_pair t.entry.state ≡ true → is_pair i.entry.state ≡ true) → (is_pair i.entry.state ≡ true → is_pair t.entry.state ≡ false → HasDistinctEndpoints (entries_of rows))
     → number_for (slots.with_item key t rows) x ≡ cond (serves x i.entry && not (is_pair t.entry.state)) None (number_for rows x)

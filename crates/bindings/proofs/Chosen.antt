@@ -15,19 +15,19 @@ use Rattle.bindings.proofs.Holding.{in-both}
 abbrev pub AreInside : List ℕ → PortBounds → PortBounds → Type 0
 AreInside owned zero one = (port : ℕ) → is_listed port owned ≡ true → in_either zero one port ≡ true
 
--- what may be given out lies between the lowest and the highest of both ranges
+-- each port that may be given out lies between the lowest and the highest of both ranges
 open-between : (es : List Entry) (owned : List ℕ) (zero one : PortBounds) (x : Protocol) → AreInside owned zero one → Between (is_open_in es owned x) (lowest_of zero one) (highest_of zero one)
 open-between es owned zero one x inside q holds =
     let within = in-both zero one q (inside q (and_parts (is_listed q owned) (is_free_in es x q) holds).0) in
     let parts = and_parts (nat_le (lowest_of zero one) q) (nat_le q (highest_of zero one)) within in
     (leb-true (lowest_of zero one) q parts.0, leb-true q (highest_of zero one) parts.1)
 
--- what the answer says where it is a port
+-- where the answer is a port, the port is one that `IsChosen` allows
 pub answer-like : (es : List Entry) (owned : List ℕ) (zero one : PortBounds) (x : Protocol) (parity : Parity) (answer : Option Port) → AreInside owned zero one → answer ≡ chosen_port es owned zero one x parity → IfSome answer (IsChosen (is_open_in es owned x) parity)
 answer-like es owned zero one x parity None inside e = tt
 answer-like es owned zero one x parity (Some port) inside e = chosen-is (is_open_in es owned x) (lowest_of zero one) (highest_of zero one) parity port (open-between es owned zero one x inside) (sym e)
 
--- what the answer says where it is none
+-- where the answer is None, no port may be given out
 pub answer-none : (es : List Entry) (owned : List ℕ) (zero one : PortBounds) (x : Protocol) (parity : Parity) (answer : Option Port) → AreInside owned zero one → answer ≡ chosen_port es owned zero one x parity → IfNone answer ((port : ℕ) → is_open_in es owned x port ≡ false)
 answer-none es owned zero one x parity None inside e = chosen-none (is_open_in es owned x) (lowest_of zero one) (highest_of zero one) parity (open-between es owned zero one x inside) (sym e)
 answer-none es owned zero one x parity (Some port) inside e = tt

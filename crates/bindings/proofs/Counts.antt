@@ -20,7 +20,7 @@ use Rattle.bindings.proofs.Places.{rest-none, without-none, turn-none}
 use Rattle.bindings.proofs.Kept.{entry-is}
 use Rattle.bindings.proofs.Changes.{found-none}
 
--- one entry after the other
+-- the count of a list is that of its first entry and that of the rest
 pub count-first : (a : Ip) (e : Entry) (es : List Entry) → pairs_of a (e ∷ es) ≡ one_of a e + pairs_of a es
 count-first a e es =
     sym (length-filter (is_pair_of a) (e ∷ es)) ∙ by (is_pair_of a e)
@@ -46,7 +46,7 @@ count-put a e (x ∷ xs) = by (nat_lt (place_of e.pair) (place_of x.pair)) (coun
         swapped _ (one_of a x) (one_of a e) (pairs_of a (put_in e xs)) (pairs_of a xs) (count-first a x (put_in e xs)) ih
         ∙ ap (λ n. n + one_of a e) (sym (count-first a x xs))
 
--- the entry of a key goes
+-- the count goes down by one where a pair's entry is removed
 pub count-without : (a : Ip) (key : Key) (es : List Entry) (e : Entry) → HasDistinctKeys es → slot_of es key ≡ Some e → pairs_of a es ≡ pairs_of a (without key es) + one_of a e
 count-without a key [] e keys h = absurd (cc)
 count-without a key (x ∷ xs) e keys h = by (has_key key x) refl h (count-without a key xs e keys.1)
@@ -62,7 +62,7 @@ count-without a key (x ∷ xs) e keys h = by (has_key key x) refl h (count-witho
         swapped _ (one_of a x) (one_of a e) (pairs_of a xs) (pairs_of a (without key xs)) (count-first a x xs) (ih h)
         ∙ ap (λ n. n + one_of a e) (sym (count-first a x (without key xs)))
 
--- the entry of a key has another state
+-- by how much the count goes down where the state of an entry is changed
 abbrev pub lost_by : Ip → Entry → EntryState → ℕ
 lost_by a e s = cond (is_pair_of a e && not (is_pair s)) 1 0
 

@@ -1,4 +1,4 @@
--- A walk that takes the Doomed entries out: what one step leaves.
+-- A walk that removes the Doomed entries: the lists after one step.
 use Rattle.std.proofs.Common.{◌≡◌, ◌<◌, Bool, true, false, not, cond, Option, Some, List, length, refl, ap, ◌∙◌, arith}
 use Rattle.std.specs.List.{find}
 use Rattle.std.proofs.lemmas.Bool.{cond-true}

@@ -1,4 +1,4 @@
--- The slots after an entry is taken out, or its state is changed.
+-- The slots after an entry is removed, or its state is changed.
 use Rattle.std.proofs.Common.{◌≡◌, Bool, true, false, cond, Option, Some, None, inl, inr, not, List, [], ◌∷◌, refl, ap, ◌∙◌, sym}
 use Rattle.std.specs.List.{find}
 use Rattle.std.specs.Option.{option_map}

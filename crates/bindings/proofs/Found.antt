@@ -1,9 +1,9 @@
--- What `find` finds.
+-- What the function `find` finds.
 use Rattle.std.proofs.Common.{◌≡◌, Bool, true, false, cond, Option, Some, None, ◌⊎◌, inl, inr, List, [], ◌∷◌, refl, ap, ◌∙◌, sym}
 use Rattle.std.specs.List.{find}
 use Rattle.std.specs.Option.{is_some, is_none}
 
--- a choice of something is nothing only where the other is chosen
+-- a conditional that begins with an item is None only where its test fails and the rest is None
 pub cond_none : {X : Type 0} (b : Bool) (x : X) (o : Option X) → cond b (Some x) o ≡ None → (b ≡ false) × (o ≡ None)
 cond_none true x o h = cc
 cond_none false x o h = (refl, h)
@@ -16,7 +16,7 @@ pub none_from_is_none : {X : Type 0} (o : Option X) → is_none o ≡ true → o
 none_from_is_none None h = refl
 none_from_is_none (Some x) h = cc
 
--- nothing is found in a list where its first doesn't pass, and nothing in the rest
+-- where nothing is found in a list, its first item fails the test and nothing is found in the rest
 pub find-none : {X : Type 0} (p : X → Bool) (x : X) (xs : List X) → find p (x ∷ xs) ≡ None → (p x ≡ false) × (find p xs ≡ None)
 find-none p x xs h = cond_none (p x) x (find p xs) h
 

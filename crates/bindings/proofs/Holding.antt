@@ -1,4 +1,4 @@
--- What a table keeps, after each change.
+-- Each change leaves a table what each table keeps.
 use Rattle.std.proofs.Common.{◌≡◌, ℕ, zero, suc, ◌<◌, ◌≤◌, Bool, true, false, cond, ◌&&◌, ◌||◌, not, is_none, nat_le, nat_lt, Option, Some, None, List, [], ◌∷◌, length, get_or, refl, sym, ap, ◌∙◌, arith}
 use Rattle.std.specs.List.{insert}
 use Rattle.std.specs.Option.{option_map}
@@ -40,7 +40,7 @@ and-true : (b : Bool) → (b && true) ≡ b
 and-true true = refl
 and-true false = refl
 
--- nothing is stored, and nothing is owned
+-- an empty table without owned ports keeps the rules
 pub stored-none : (es : List Entry) (ls : List Activity) (ports : Ports) (low high : PortBounds) (first last cap places : ℕ) → es ≡ [] → ls ≡ [] → first ≡ lowest_of low high → last ≡ highest_of low high → cap ≡ key_count low high → places ≡ cap
     → AreAlike first last ports → ((q : Key) → is_free_at ports q ≡ is_within first last q.port.0) → ((port : ℕ) → is_listed port ports.tcp.owned ≡ false) → IsStored es ls ports low high cap places
 stored-none es ls ports low high first last cap places none nobody f l room fits alike free owned =
@@ -57,7 +57,7 @@ stored-none es ls ports low high first last cap places none nobody f l room fits
       owned = λ port there. absurd (let none : is_listed port ports.tcp.owned ≡ false = owned port in cc);
     })
 
--- one more entry
+-- a table keeps the rules after an entry was added
 pub stored-put : (es : List Entry) (ls : List Activity) (ports ports2 : Ports) (low high : PortBounds) (cap places : ℕ) (e : Entry) (l : Activity) → IsStored es ls ports low high cap places → IsWelcome cap es e → ((q : Key) → is_free_at ports2 q ≡ cond (same_key e.pair.key q) false (is_free_at ports q)) → SameBounds ports ports2 → SameOwned ports ports2 → IsStored (put_in e es) (insert ls (place_in e.pair es) l) ports2 low high cap places
 stored-put es ls ports ports2 low high cap places e l s w taken bounds owns = record {
   order = order-put e es s.order;
@@ -77,7 +77,7 @@ none-mapped true f None = refl
 none-mapped true f (Some x) = refl
 none-mapped false f o = refl
 
--- an entry in another state
+-- a table keeps the rules after the state of an entry was changed
 pub stored-turn : (es : List Entry) (ls : List Activity) (ports : Ports) (low high : PortBounds) (cap places : ℕ) (key : Key) (state : EntryState) → IsStored es ls ports low high cap places → IsPairAt key es → IsStored (with_state key state es) ls ports low high cap places
 stored-turn es ls ports low high cap places key state s pair = record {
   order = order-turn key state es s.order;
@@ -92,7 +92,7 @@ stored-turn es ls ports low high cap places key state s pair = record {
   owned = s.owned;
 }
 
--- an entry less
+-- a table keeps the rules after an entry was removed
 pub stored-drop : (es : List Entry) (ls : List Activity) (ports ports2 : Ports) (low high : PortBounds) (cap places : ℕ) (key : Key) → IsStored es ls ports low high cap places → ((q : Key) → is_free_at ports2 q ≡ cond (same_key key q) (is_within ports.tcp.lowest ports.tcp.highest key.port.0) (is_free_at ports q)) → SameBounds ports ports2 → SameOwned ports ports2 → IsStored (without key es) (lives_without key es ls) ports2 low high cap places
 stored-drop es ls ports ports2 low high cap places key s freed bounds owns = record {
   order = order-drop key es s.order;
@@ -110,7 +110,7 @@ stored-drop es ls ports ports2 low high cap places key s freed bounds owns = rec
     here : (q : Key) → is_free_at ports2 q ≡ cond (same_key key q) (is_within (lowest_of low high) (highest_of low high) key.port.0) (is_free_at ports q)
     here q = freed q ∙ ap (λ n. cond (same_key key q) (is_within n ports.tcp.highest key.port.0) (is_free_at ports q)) s.same.tcp.low ∙ ap (λ n. cond (same_key key q) (is_within (lowest_of low high) n key.port.0) (is_free_at ports q)) s.same.tcp.high
 
--- other lives, as many
+-- a table keeps the rules with other lives, as many
 pub stored-lives : (es : List Entry) (ls ls2 : List Activity) (ports : Ports) (low high : PortBounds) (cap places : ℕ) → IsStored es ls ports low high cap places → length ls2 ≡ length ls → IsStored es ls2 ports low high cap places
 stored-lives es ls ls2 ports low high cap places s same = record {
   order = s.order;
@@ -133,7 +133,7 @@ free-kept old new f q = at q.protocol
     at Tcp = ap (is_listed q.port.0) f.tcp
     at Udp = ap (is_listed q.port.0) f.udp
 
--- any owned ports of the ranges
+-- a table keeps the rules with other owned ports of the ranges
 pub stored-all : (es : List Entry) (ls : List Activity) (ports ports2 : Ports) (low high : PortBounds) (cap places : ℕ) → IsStored es ls ports low high cap places → AreAlike (lowest_of low high) (highest_of low high) ports2 → SameFree ports ports2 → ((port : ℕ) → is_listed port ports2.tcp.owned ≡ true → in_either low high port ≡ true) → IsStored es ls ports2 low high cap places
 stored-all es ls ports ports2 low high cap places s alike free inside = record {
   order = s.order;
@@ -148,7 +148,7 @@ stored-all es ls ports ports2 low high cap places s alike free inside = record {
   owned = inside;
 }
 
--- the pairs and their lives once the peer begins anew
+-- a table keeps the rules after the peer began anew
 pub stored-revived : (es : List Entry) (ls : List Activity) (ports ports2 : Ports) (low high : PortBounds) (cap places : ℕ) → IsStored es ls ports low high cap places → AreFree (lowest_of low high) (highest_of low high) (pairs_of es) ports2 → SameBounds ports ports2 → SameOwned ports ports2 → IsStored (revived_entries es) (lives_of_pairs es ls) ports2 low high cap places
 stored-revived es ls ports ports2 low high cap places s freed bounds owns = record {
   order = rises-map 0 woken_entry (pairs_of es) (λ x. refl) (rises-filter 0 (λ x. is_pair x.state) es s.order);
@@ -197,7 +197,7 @@ in-both low high port h =
     (λ a. between low.lowest.0 low.highest.0 port (lowest_of low high) (highest_of low high) l.0 g.0 a)
     (λ a. between high.lowest.0 high.highest.0 port (lowest_of low high) (highest_of low high) l.1 g.1 a) h
 
--- what callers see keeps it
+-- what callers see of a table keeps the rules
 pub table-is : (es : List Entry) (ls : List Activity) (ports : Ports) (low high : PortBounds) (cap places ready : ℕ) (hashers : Hashers) → IsStored es ls ports low high cap places → AreRising ports.tcp.owned → IsTable (record { entries = es; lives = ls; owned = ports.tcp.owned; zero = low; one = high; capacity = cap; ready = ready; hashers = hashers })
 table-is es ls ports low high cap places ready hashers s rises = record {
   order = s.order;
@@ -211,7 +211,7 @@ table-is es ls ports low high cap places ready hashers s rises = record {
   rising = rises;
 }
 
--- within a list the default isn't read
+-- a read within a list doesn't depend on the default
 pub get-any : {A : Type 0} (xs : List A) (i : ℕ) (d e : A) → i < length xs → get_or xs i d ≡ get_or xs i e
 get-any [] i d e h = absurd (omega (arith, h))
 get-any (x ∷ xs) zero d e h = refl

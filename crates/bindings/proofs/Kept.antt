@@ -1,4 +1,4 @@
--- The entries and lives of a store's rows, and what a change of the rows makes of them.
+-- The entries and lives of a store's rows after a change of the rows.
 use Rattle.std.proofs.Common.{◌≡◌, ℕ, suc, ◌<◌, ◌≤◌, Bool, true, false, not, cond, nat_lt, Option, Some, None, List, [], ◌∷◌, refl, sym, ap, ◌∙◌, arith}
 use Rattle.std.specs.List.{find, insert}
 use Rattle.std.specs.Option.{option_map}
@@ -118,7 +118,7 @@ lives-put r (x ∷ rows) k e =
     by true f ih = rw f refl
     by false f ih = rw f (ap (λ ls. x.item.life ∷ ls) ih)
 
--- whichever slot serves an endpoint, once one more row is there
+-- the slot that serves an endpoint after one row was put in
 pub number-put : (r : Row Item) (rows : List (Row Item)) (x : Endpoint) → (is_pair r.item.entry.state ≡ true → entry_of (entries_of rows) r.item.entry.pair.endpoint ≡ None)
     → number_for (slots.put_in r rows) x ≡ cond (serves x r.item.entry) (Some r.number) (number_for rows x)
 number-put r [] x free = by (serves x r.item.entry)

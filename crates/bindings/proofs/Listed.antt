@@ -59,7 +59,7 @@ filter-times p key (x ∷ xs) = by (p x) (same_key x key) refl refl (filter-time
         ih ∙ cond-false (p key) (key_times key xs) 0 fails ∙ sym (cond-false (p key) (key_times key (x ∷ xs)) 0 fails)
     by false false e f ih = ih ∙ ap (λ n. cond (p key) n 0) (sym (times-other key x xs f))
 
--- the key of one more slot
+-- the keys are listed as often as their slots after one more slot's key was listed
 pub more-listed : (rows : List (Row Item)) (start found left : List ℕ) (m : SlotNumber) (x : Key) (keys : List Key) → found ≡ left ++ m.0 ∷ [] → ((key : Key) → number_of rows key ≡ Some m → Some x ≡ Some key) → number_of rows x ≡ Some m
     → ((key : Key) (n : SlotNumber) → number_of rows key ≡ Some n → key_times key keys + times n.0 found ≡ times n.0 start)
     → (key : Key) (n : SlotNumber) → number_of rows key ≡ Some n → key_times key (keys ++ x ∷ []) + times n.0 left ≡ times n.0 start
@@ -86,18 +86,18 @@ more-listed rows start found left m x keys popped own held listed key n h = by (
         let total = listed key n h in
         omega (arith, pushed, gone, one, two, total)
 
--- the same keys in another order
+-- the keys are listed as often as their slots in another order too
 pub listed-as : (rows : List (Row Item)) (found : List ℕ) (keys sorted : List Key) → IsPermutation keys sorted → AreListed rows found keys → AreListed rows found sorted
 listed-as rows found keys sorted p listed key n h = sum_by-IsPermutation (λ k. cond (same_key k key) 1 0) keys sorted p ∙ listed key n h
 
 -- ---- in order
 
--- no key stands before this place, or before the one in front of it
+-- no key is before this place, or before the key in front of it
 abbrev pub Climbs : ℕ → List Key → Type 0
 Climbs low [] = Unit {0}
 Climbs low (k ∷ ks) = (low ≤ key_place k) × Climbs (key_place k) ks
 
--- each key stands from this place on, and behind the one in front of it
+-- each key is at this place or later, and after the key in front of it
 abbrev pub Rising : ℕ → List Key → Type 0
 Rising low [] = Unit {0}
 Rising low (k ∷ ks) = (low ≤ key_place k) × Rising (suc (key_place k)) ks

@@ -1,4 +1,4 @@
--- The lives of a table, once that of one key was changed.
+-- The lives of a table after that of one key was changed.
 use Rattle.std.proofs.Common.{◌≡◌, suc, Bool, true, false, cond, Some, None, List, [], ◌∷◌, length, refl, sym, ap, ◌∙◌}
 use Rattle.std.specs.Option.{option_map}
 use Rattle.std.proofs.lemmas.Bool.{both_ways}
@@ -45,7 +45,7 @@ length-changed g key (e ∷ es) (l ∷ ls) = by (has_key key e) (length-changed 
     by true ih = refl
     by false ih = ap suc ih
 
--- the key's past goes on with its life
+-- a key agrees with its next past after its life was changed
 pub goes-on : (g : Activity → Activity) (key : Key) (es : List Entry) (ls : List Activity) (past past2 : History) → ((life : Activity) → life_in es ls key ≡ Some life → Agrees key.protocol past life → Agrees key.protocol past2 (g life))
     → HasPast es ls key past → HasPast es (lives_with g key es ls) key past2
 goes-on g key es ls past past2 agrees has = (
@@ -54,6 +54,6 @@ goes-on g key es ls past past2 agrees has = (
   agrees has.0 has.1 has.2,
 )
 
--- the others keep theirs
+-- the other keys keep their pasts
 pub others-stay : (g : Activity → Activity) (key : Key) (es : List Entry) (ls : List Activity) → KeepsOthers key es ls es (lives_with g key es ls)
 others-stay g key es ls = others-keep key es ls es (lives_with g key es ls) (λ q differs. life-changed g key es ls q ∙ ap (λ b. cond b (option_map g (life_in es ls q)) (life_in es ls q)) differs)

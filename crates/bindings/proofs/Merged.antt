@@ -23,7 +23,7 @@ use Rattle.bindings.proofs.Kept.{slot-is, life-is, below-none}
 use Rattle.bindings.proofs.Timed.{row-key}
 use Rattle.bindings.proofs.Listed.{times-first, times-other, filter-times, Climbs, Rising, climbs-filter, rising-lower, one-order}
 
--- an item under a key is idle and may be let go
+-- an item under a key is idle and may be released
 abbrev rests_here : Bool → ℕ → Key → Option Item → Bool
 rests_here lone now key None = false
 rests_here lone now key (Some i) = may_go lone i.entry.state && looks_idle key.protocol i.life now
@@ -52,7 +52,7 @@ item-next key x rows e = ap (λ b. option_map (λ (r : Row Item). r.item) (cond 
 abbrev one_if : Bool → ℕ
 one_if b = cond b 1 0
 
--- each is listed once
+-- each key of an idle entry is listed once
 idle-times : (lone : Bool) (now low : ℕ) (key : Key) (rows : List (Row Item)) → slots.Rises low rows → AreKeyed rows
     → key_times key (idle_keys_in lone now (entries_of rows) (lives_of rows)) ≡ one_if (row_test lone now rows key)
 idle-times lone now low key [] rises keyed = refl
@@ -83,7 +83,7 @@ idle-times lone now low key (r ∷ rows) rises keyed =
     at true false e f ih = times-other key r.item.entry.pair.key K (own ∙ f) ∙ ih ∙ sym (ap (λ o. one_if (rests_here lone now key o)) (item-next key r rows f))
     at false false e f ih = ih ∙ sym (ap (λ o. one_if (rests_here lone now key o)) (item-next key r rows f))
 
--- they stand in order
+-- the keys of the idle entries are in order
 idle-rising : (lone : Bool) (now low : ℕ) (rows : List (Row Item)) → slots.Rises low rows → AreKeyed rows → Rising low (idle_keys_in lone now (entries_of rows) (lives_of rows))
 idle-rising lone now low [] rises keyed = tt
 idle-rising lone now low (r ∷ rows) rises keyed = at (is_idle_row lone now r.item.entry r.item.life) (idle-rising lone now (suc (key_place r.key)) rows rises.1 keyed.1)
@@ -117,7 +117,7 @@ once lone now moments found keys rows key timed due listed e = by (slots.row_of 
         let has-come : is_due now (Some w.0) ≡ true = le-leb w.0 now (omega (arith, late, early, own)) in
         listed key r.number (ap (option_map (λ (x : Row Item). x.number)) h) ∙ due r.number.0 ∙ ap (λ (o : Option ℕ). cond {A = ℕ} (is_due now o) 1 0) w.1 ∙ ap one_if has-come
 
--- all idle entries are among the keys that came due, and those of these keys are all
+-- the keys of all idle entries are those of the keys that came due whose entries are idle
 pub idle-among : (lone : Bool) (now : ℕ) (moments : List (Option ℕ)) (found : List ℕ) (keys : List Key) (rows : List (Row Item)) → slots.Rises 0 rows → AreKeyed rows → AreTimed lone moments rows
     → AreDue now moments found → AreListed rows found keys → Climbs 0 keys → idle_keys_in lone now (entries_of rows) (lives_of rows) ≡ idle_among lone now (entries_of rows) (lives_of rows) keys
 idle-among lone now moments found keys rows rises keyed timed due listed climbs =

@@ -21,7 +21,7 @@ use Rattle.bindings.specs.declared.entries.PortBounds.{PortBounds}
 use Rattle.bindings.specs.Entries.{slot_of, set_at}
 use Rattle.bindings.specs.Ports.{range_of, is_free_at, is_free_in, is_open_in, is_spare, is_spare_in, lowest_of, highest_of, chosen_port, IsLike, AreAlike, SameEnds, SameBounds, SameOwned, AreFree, key_of}
 
--- a test of ports that is written at one of them
+-- a test of ports is replaced at one port
 abbrev pub IsSetAt : (ℕ → Bool) → (ℕ → Bool) → ℕ → Bool → Type 0
 IsSetAt new old port b = (p : ℕ) → new p ≡ cond (p == port) b (old p)
 
@@ -34,7 +34,7 @@ set-there new old port p b is other = is p ∙ cond-false (p == port) b (old p) 
 by-protocol : (a b : Key) → a.protocol ≡ b.protocol → a.port.0 ≡ b.port.0 → a ≡ b
 by-protocol a b one two = ap (λ (x : Protocol). let k : Key = record { protocol = x; port = a.port } in k) one ∙ ap (λ (y : ℕ). let k : Key = record { protocol = b.protocol; port = record { 0 = y } } in k) two
 
--- the range of a key's protocol is written at the key's port
+-- the free keys change at one key where the range of its protocol changes at its port
 pub range-set : (x : Protocol) (old new : Ports) (key : Key) (b : Bool) → key.protocol ≡ x → IsSetAt (is_free (range_of new x)) (is_free (range_of old x)) key.port.0 b → ((y : Protocol) → (y ≡ x → ⊥) → range_of new y ≡ range_of old y) → (q : Key) → is_free_at new q ≡ cond (same_key key q) b (is_free_at old q)
 range-set x old new key b of is rest q =
     elim (cases_Bool (same_key key q)) [
@@ -73,7 +73,7 @@ already : (c b : Bool) (o : Bool) → (c ≡ true → o ≡ b) → o ≡ cond c 
 already true b o h = h refl
 already false b o h = refl
 
--- a port that is so already
+-- a port that is taken already stays taken
 pub port-already : (range : Range) (port : ℕ) → is_free range port ≡ false → (p : ℕ) → is_free range p ≡ cond (p == port) false (is_free range p)
 port-already range port is p = already (p == port) false (is_free range p) (λ same. ap (is_free range) (eqb-true p port same) ∙ is)
 
@@ -91,7 +91,7 @@ taken true false o e = refl
 taken false true o e = refl
 taken false false o e = refl
 
--- once a key is taken, and has an entry
+-- the free ports are those of the entries after a key was taken and has an entry
 pub free-taken : (low high : ℕ) (es es2 : List Entry) (ports ports2 : Ports) (key : Key) (e : Entry) → AreFree low high es ports → ((q : Key) → is_free_at ports2 q ≡ cond (same_key key q) false (is_free_at ports q)) → ((q : Key) → slot_of es2 q ≡ set_at (slot_of es) key (Some e) q) → AreFree low high es2 ports2
 free-taken low high es es2 ports ports2 key e free ports-are slots q =
     ports-are q ∙ ap (cond (same_key key q) false) (free q)
@@ -104,7 +104,7 @@ freed true false o = refl
 freed false true o = refl
 freed false false o = refl
 
--- once a key is free, and has none
+-- the free ports are those of the entries after a key was freed and has no entry
 pub free-put_back : (low high : ℕ) (es es2 : List Entry) (ports ports2 : Ports) (key : Key) → AreFree low high es ports → ((q : Key) → is_free_at ports2 q ≡ cond (same_key key q) (is_within low high key.port.0) (is_free_at ports q)) → ((q : Key) → slot_of es2 q ≡ set_at (slot_of es) key None q) → AreFree low high es2 ports2
 free-put_back low high es es2 ports ports2 key free ports-are slots q =
     ports-are q ∙ ap (cond (same_key key q) (is_within low high key.port.0)) (free q)
@@ -119,7 +119,7 @@ free-put_back low high es es2 ports ports2 key free ports-are slots q =
     here : cond (same_key key q) (is_within low high key.port.0) (is_within low high q.port.0 && is_none (slot_of es q)) ≡ cond (same_key key q) (is_within low high q.port.0) (is_within low high q.port.0 && is_none (slot_of es q))
     here = one (same_key key q) refl
 
--- where no slot changes its being free
+-- the free ports are those of the entries where the same keys have entries
 pub free-same : (low high : ℕ) (es es2 : List Entry) (ports : Ports) → AreFree low high es ports → ((q : Key) → is_none (slot_of es2 q) ≡ is_none (slot_of es q)) → AreFree low high es2 ports
 free-same low high es es2 ports free same q = free q ∙ ap (λ b. is_within low high q.port.0 && b) (sym (same q))
 
@@ -170,7 +170,7 @@ alike-same low high old new a b o = record {
       owned = λ port. ap (is_listed port) same ∙ l.owned port ∙ sym (ap (is_listed port) o.tcp);
     }
 
--- nothing changes
+-- bounds are the same as themselves
 pub bounds-refl : (ports : Ports) → SameBounds ports ports
 bounds-refl ports = record {
   icmp = record { low = refl; high = refl };
@@ -181,7 +181,7 @@ bounds-refl ports = record {
 pub owned-refl : (ports : Ports) → SameOwned ports ports
 owned-refl ports = record { icmp = refl; tcp = refl; udp = refl }
 
--- one change after another
+-- bounds that stay in two changes stay in both together
 pub bounds-trans : (first second third : Ports) → SameBounds first second → SameBounds second third → SameBounds first third
 bounds-trans first second third a b = record {
   icmp = record { low = b.icmp.low ∙ a.icmp.low; high = b.icmp.high ∙ a.icmp.high };
@@ -212,7 +212,7 @@ alike-more low high old new more a b icmp tcp udp = record {
 
 -- ---- spare ports
 
--- the bits of four words' conjunction
+-- a bit of four words' conjunction is the conjunction of their bits
 pub four-bits : (a b c d i : ℕ) (w x y z : Bool) → is_set a i ≡ w → is_set b i ≡ x → is_set c i ≡ y → is_set d i ≡ z → is_set (bit_and (bit_and (bit_and a b) c) d) i ≡ (((w && x) && y) && z)
 four-bits a b c d i w x y z p q r s =
     is_set-and (bit_and (bit_and a b) c) d i
@@ -243,7 +243,7 @@ spare-is low high es ports free within port =
     ∙ ap (λ b. ((owned && is_free ports.icmp port) && b) && (w && u)) (sym (free (key_of Tcp port)))
     ∙ ap (λ b. ((owned && is_free ports.icmp port) && is_free ports.tcp port) && b) (sym (free (key_of Udp port)))
 
--- the last port by the one test is the last by another that agrees
+-- the last port that passes a test is the last that passes another test that agrees
 pub some-last : (answer : Option Port) (a b : ℕ → Bool) (end : ℕ) → ((q : ℕ) → b q ≡ a q) → IfSome answer (λ port. IsLastBelow a end port.0) → IfSome answer (λ port. IsLastBelow b end port.0)
 some-last None a b end same h = tt
 some-last (Some port) a b end same h = record {
@@ -278,7 +278,7 @@ last-here test end rest index word bit from to within is found past = record {
   ];
 }
 
--- where it has none, none passes from the word's first number on
+-- where a word has no bit, no port from the word's first one on passes
 pub last-earlier : (test : ℕ → Bool) (end rest index word : ℕ) → index * 64 ≤ rest → rest ≤ index * 64 + 64 → HasTests test index word
     → ((i : ℕ) → i < rest - index * 64 → is_set word i ≡ false) → NonePast test rest end → NonePast test (index * 64) end
 last-earlier test end rest index word from to is none past q above below =

@@ -102,6 +102,6 @@ put-begins e l es ls past same h agrees = (l, life-put e l es ls e.pair.key same
 pub without-keeps : (key : Key) (es : List Entry) (ls : List Activity) → HasDistinctKeys es → length ls ≡ length es → KeepsOthers key es ls (without key es) (lives_without key es ls)
 without-keeps key es ls keys same = others-keep key es ls (without key es) (lives_without key es ls) (λ q other. life-without key es ls q keys same other)
 
--- the past of a key with no entry
+-- a key with no entry agrees with no past
 pub no-past : (key : Key) (es : List Entry) (ls : List Activity) (past : History) → slot_of es key ≡ None → HasPast es ls key past → ⊥
 no-past key es ls past h has = let none : None ≡ Some has.0 = sym (no-life key es ls h) ∙ has.1 in cc

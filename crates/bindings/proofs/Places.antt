@@ -33,13 +33,13 @@ length-keep p (x ∷ xs) = at (p x) (length-keep p xs)
 
 -- ---- the place of a key's entry
 
--- an entry to be read past the end of a list
+-- any entry, as the default of a read past the end of a list
 pub any_entry : Entry
 any_entry =
     let pair : Pair = record { key = record { protocol = Tcp; port = record { 0 = 0 } }; endpoint = record { protocol = Tcp; address = record { 0 = 0 }; port = record { 0 = 0 } } } in
     entry_in Doomed pair
 
--- the key's entry stands there, and is the first one that has the key
+-- the key's entry is at this place, and is the first one that has the key
 pub record IsAt (key : Key) (es : List Entry) (i : ℕ) (d : Entry) : Type 0 where
   pub low : i < length es
   pub here : has_key key (get_or es i d) ≡ true
@@ -48,14 +48,14 @@ pub record IsAt (key : Key) (es : List Entry) (i : ℕ) (d : Entry) : Type 0 whe
 pub at-position : (key : Key) (es : List Entry) (i : ℕ) (d : Entry) → position (has_key key) es ≡ Some i → IsAt key es i d
 at-position key es i d h = let parts = position-Some (has_key key) es i d h in record { low = parts.0; here = parts.1; first = parts.2 }
 
--- the place in the rest
+-- a place after the first is one less in the rest
 pub at-rest : (key : Key) (x : Entry) (xs : List Entry) (i : ℕ) (d : Entry) → IsAt key (x ∷ xs) (suc i) d → IsAt key xs i d
 at-rest key x xs i d at = record { low = (let h = at.low in omega arith); here = at.here; first = λ k low. at.first (suc k) (omega arith) }
 
 pub at-not_first : (key : Key) (x : Entry) (xs : List Entry) (i : ℕ) (d : Entry) → IsAt key (x ∷ xs) (suc i) d → has_key key x ≡ false
 at-not_first key x xs i d at = at.first 0 (omega arith)
 
--- a list without the key's entry
+-- a list where the key has no entry is the same without it
 pub without-none : (key : Key) (es : List Entry) → slot_of es key ≡ None → without key es ≡ es
 without-none key [] h = refl
 without-none key (x ∷ xs) h =
@@ -65,7 +65,7 @@ without-none key (x ∷ xs) h =
 pub rest-none : (key : Key) (x : Entry) (xs : List Entry) → has_key key x ≡ true → slot_of xs x.pair.key ≡ None → slot_of xs key ≡ None
 rest-none key x xs here none = ap (slot_of xs) (sym (key-eq x.pair.key key here)) ∙ none
 
--- the list with the key's entry in another state
+-- a list where the key has no entry is the same after its state is set
 pub turn-none : (key : Key) (s : EntryState) (es : List Entry) → slot_of es key ≡ None → with_state key s es ≡ es
 turn-none key s [] h = refl
 turn-none key s (x ∷ xs) h =

@@ -16,12 +16,12 @@ use Rattle.bindings.specs.declared.store.Item.{Item}
 use Rattle.bindings.specs.Entries.{is_pair, is_pair_of}
 use Rattle.bindings.specs.Stores.{entries_of, IsIndexed}
 
--- how often a number stands in a list
+-- how often a number is in a list
 abbrev tally : ℕ → List ℕ → ℕ
 tally a [] = 0
 tally a (n ∷ ns) = cond (n == a) 1 0 + tally a ns
 
--- the list but for the first that is the number
+-- a list without the first item that is the number
 abbrev out : ℕ → List ℕ → List ℕ
 out a [] = []
 out a (n ∷ ns) = cond (n == a) ns (n ∷ out a ns)
@@ -37,7 +37,7 @@ out-length a (n ∷ ns) h = by (n == a) h (out-length a ns)
 same-tally : (n a b : ℕ) → n ≡ a → cond (n == b) 1 0 ≤ cond (a == b) 1 0
 same-tally n a b same = rw same (omega arith)
 
--- no number stands there less often, but for the one
+-- each number is in a list without one as often as before, but for the number itself
 out-tally : (a b : ℕ) (ns : List ℕ) → tally b ns ≤ tally b (out a ns) + cond (a == b) 1 0
 out-tally a b [] = omega arith
 out-tally a b (n ∷ ns) = by (n == a) refl (out-tally a b ns)
@@ -50,7 +50,7 @@ first-counts : (b : Bool) (m n : ℕ) → b ≡ true → cond b 1 0 + m ≤ n �
 first-counts true m n is h = omega (arith, h)
 first-counts false m n is h = absurd (let no : false ≡ true = is in cc)
 
--- a list in which no number stands more often is no longer
+-- a list that has no number more often than another is no longer
 no-longer : (ms ns : List ℕ) → ((a : ℕ) → tally a ms ≤ tally a ns) → length ms ≤ length ns
 no-longer [] ns most = omega arith
 no-longer (m ∷ ms) ns most =
@@ -64,7 +64,7 @@ no-longer (m ∷ ms) ns most =
 abbrev address_in : Endpoint × SlotNumber → ℕ
 address_in e = e.0.address.0
 
--- those of the pairs among the entries
+-- the addresses of the pairs among the entries
 abbrev addresses : List Entry → List ℕ
 addresses [] = []
 addresses (e ∷ es) = cond (is_pair e.state) (e.pair.endpoint.address.0 ∷ addresses es) (addresses es)
@@ -106,9 +106,9 @@ few-indexed rows index is =
     let most = few-pairs (entries_of rows) in
     omega (arith, few, long, most)
 
--- ---- what wasn't there
+-- ---- missing memory
 
--- room for endpoints beside those of the index, and so beside the entries
+-- what is missing beside the endpoints of the index is missing beside the entries
 lacks-beside : (more held all : ℕ) → held ≤ all → LacksEndpoints more held → LacksEndpoints more all
 lacks-beside more held all few (inl many) = inl (omega (arith, few, many))
 lacks-beside more held all few (inr refused) = inr refused
@@ -116,7 +116,7 @@ lacks-beside more held all few (inr refused) = inr refused
 pub lacks-more : (more : ℕ) (rows : List (Row Item)) (index : EndpointIndex Hashers) → IsIndexed rows index → LacksEndpoints more (length index.entries) → LacksEndpoints more (length (entries_of rows))
 lacks-more more rows index is = lacks-beside more (length index.entries) (length (entries_of rows)) (few-indexed rows index is)
 
--- an Err has what its reason lacks
+-- where a statement holds, it holds on Err
 pub lacking : {T E P : Type 0} (r : Result T E) → P → OnErr r P
 lacking (Ok x) lacks = tt
 lacking (Err e) lacks = lacks

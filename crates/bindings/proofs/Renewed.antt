@@ -1,4 +1,4 @@
--- The lives of a table once each of them begins anew.
+-- The lives of a table after each of them begins anew.
 use Rattle.std.proofs.Common.{◌≡◌, ℕ, suc, ◌<◌, Bool, true, false, cond, ◌&&◌, Option, Some, None, List, [], ◌∷◌, length, map, refl, sym, ap, ◌∙◌, arith}
 use Rattle.std.specs.Option.{option_map}
 use Rattle.std.proofs.lemmas.Bool.{cond-true, cond-false, le-ltb}
@@ -16,7 +16,7 @@ use Rattle.bindings.proofs.Walks.{is-behind, below-last, found-above}
 
 -- ---- one after the other
 
--- the lives, those changed whose entries stand behind a key
+-- the lives, of which those of entries after a key are changed
 abbrev pub lives_behind : (Activity → Activity) → Option Key → List Entry → List Activity → List Activity
 lives_behind g last [] ls = ls
 lives_behind g last (e ∷ es) [] = []
@@ -35,7 +35,7 @@ lives-end g last (e ∷ es) (l ∷ ls) h =
     let n = cond_none (stands_behind last e) e (after_key last es) h in
     ap (λ b. cond b (g l) l ∷ lives_behind g last es ls) n.0 ∙ ap (λ ms. l ∷ ms) (lives-end g last es ls n.1)
 
--- all entries stand behind a key of a lower place
+-- all entries are after a key of a lower place
 lives-rest : (g : Activity → Activity) (low : ℕ) (last : Option Key) (es : List Entry) (ls : List Activity) → RisesUp low es → ((key : Key) → last ≡ Some key → key_place key < low) → lives_behind g last es ls ≡ lives_behind g None es ls
 lives-rest g low last [] ls r h = refl
 lives-rest g low last (e ∷ es) [] r h = refl
@@ -73,7 +73,7 @@ lives-next g low last (x ∷ xs) (l ∷ ls) e r h = by (stands_behind last x) re
 
 -- ---- all of them
 
--- the life of a key once all were changed
+-- the life of a key after all were changed
 pub life-all : (g : Activity → Activity) (es : List Entry) (ls : List Activity) (q : Key) → life_in es (map g ls) q ≡ option_map g (life_in es ls q)
 life-all g [] ls q = refl
 life-all g (e ∷ es) [] q = refl
@@ -90,7 +90,7 @@ agrees-renewed protocol past life now a = record { last = refl; unused = a.unuse
     same true = refl
     same false = refl
 
--- each past begins anew with its life
+-- a key agrees with the renewed past after its life begins anew
 pub past-renewed : (es : List Entry) (ls : List Activity) (q : Key) (past : History) (now : ℕ) → HasPast es ls q past → HasPast es (map (life_renewed now) ls) q (renewed now past)
 past-renewed es ls q past now has = (
   life_renewed now has.0,

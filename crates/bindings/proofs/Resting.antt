@@ -53,7 +53,7 @@ listed-row lone now (x ∷ xs) (m ∷ ms) key e l keys he hl = at (has_key key x
     at false true here is he hl ih = ap (λ h. h || is_among key (idle_keys_in lone now xs ms)) here ∙ ih he hl
     at false false here is he hl ih = ih he hl
 
--- a key with an entry is listed just where that is idle and may be let go
+-- a key with an entry is listed exactly where that entry is idle and may be released
 pub listed-is : (lone : Bool) (now : ℕ) (es : List Entry) (ls : List Activity) (key : Key) (e : Entry) (past : History) → HasDistinctKeys es → slot_of es key ≡ Some e → e.pair.key ≡ key → HasPast es ls key past → is_among key (idle_keys_in lone now es ls) ≡ (may_go lone e.state && is_idle key.protocol past now)
 listed-is lone now es ls key e past keys held at has =
     listed-row lone now es ls key e has.0 keys held has.1

@@ -1,4 +1,4 @@
--- What is left of a table's lists once the peer begins anew.
+-- The lists of a table after the peer began anew.
 use Rattle.std.proofs.Common.{◌≡◌, suc, Bool, true, false, cond, ◌&&◌, not, is_none, Some, None, List, [], ◌∷◌, map, length, refl, sym, ap, ◌∙◌, arith}
 use Rattle.std.specs.List.{find, filter}
 use Rattle.std.proofs.lemmas.Bool.{both_ways, cond-true, cond-false}
@@ -21,7 +21,7 @@ pairs_of es = filter (λ e. is_pair e.state) es
 
 -- ---- a Doomed entry less
 
--- the pairs stay
+-- the pairs stay where a Doomed entry is removed
 pub pairs-without : (key : Key) (es : List Entry) (x : Entry) → HasDistinctKeys es → slot_of es key ≡ Some x → is_pair x.state ≡ false → pairs_of (without key es) ≡ pairs_of es
 pairs-without key [] x keys held doomed = refl
 pairs-without key (e ∷ es) x keys held doomed = at (has_key key e) refl held (λ rest. pairs-without key es x keys.1 rest doomed)
@@ -33,7 +33,7 @@ pairs-without key (e ∷ es) x keys held doomed = at (has_key key e) refl held (
         ∙ sym (cond-false (is_pair e.state) (e ∷ pairs_of es) (pairs_of es) (ap (λ (y : Entry). is_pair y.state) one ∙ doomed))
     at false other held ih = ap (λ zs. cond (is_pair e.state) (e ∷ zs) zs) (ih held)
 
--- and so do their lives
+-- the lives of the pairs stay where a Doomed entry is removed
 pub kept-without : (key : Key) (es : List Entry) (ls : List Activity) (x : Entry) → HasDistinctKeys es → length ls ≡ length es → slot_of es key ≡ Some x → is_pair x.state ≡ false → lives_of_pairs (without key es) (lives_without key es ls) ≡ lives_of_pairs es ls
 kept-without key [] ls x keys same held doomed = refl
 kept-without key (e ∷ es) [] x keys same held doomed = absurd (omega (arith, same))
@@ -95,7 +95,7 @@ pub endpoints-woken : (es : List Entry) → HasDistinctEndpoints es → HasDisti
 endpoints-woken [] d = tt
 endpoints-woken (e ∷ es) d = (λ live. none-woken e.pair.endpoint es (d.0 (sym (woken-pair e.state) ∙ live)), endpoints-woken es d.1)
 
--- a slot that is empty stays so, and no other becomes it
+-- the same keys have no entry after all entries were woken
 pub none-kept : (es : List Entry) (q : Key) → is_none (slot_of (map woken_entry es) q) ≡ is_none (slot_of es q)
 none-kept [] q = refl
 none-kept (e ∷ es) q = at (has_key q e) (none-kept es q)
@@ -104,7 +104,7 @@ none-kept (e ∷ es) q = at (has_key q e) (none-kept es q)
     at true ih = refl
     at false ih = ih
 
--- what becomes of a slot
+-- the slot of a key after the peer began anew
 pub slot-revived : (es : List Entry) (q : Key) → HasDistinctKeys es → slot_of (revived_entries es) q ≡ revived_slot (slot_of es q)
 slot-revived [] q keys = refl
 slot-revived (e ∷ es) q keys = at (is_pair e.state) (has_key q e) refl refl (slot-revived es q keys.1)
@@ -117,7 +117,7 @@ slot-revived (e ∷ es) q keys = at (is_pair e.state) (has_key q e) refl refl (s
         ih ∙ ap revived_slot (rest-none q e es here keys.0) ∙ sym (cond-false (is_pair e.state) (Some (woken_entry e)) None doomed)
     at false false doomed other ih = ih
 
--- the life of a pair stays
+-- the life of a pair stays where the peer begins anew
 pub life-revived : (es : List Entry) (ls : List Activity) (q : Key) (x : Entry) → HasDistinctKeys es → length ls ≡ length es → slot_of es q ≡ Some x → is_pair x.state ≡ true → life_in (revived_entries es) (lives_of_pairs es ls) q ≡ life_in es ls q
 life-revived [] ls q x keys same held pair = refl
 life-revived (e ∷ es) [] q x keys same held pair = absurd (omega (arith, same))

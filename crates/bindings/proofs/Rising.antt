@@ -1,4 +1,4 @@
--- Rising lists of ports: what is listed settles them.
+-- A rising list of ports is determined by the ports in it.
 use Rattle.std.proofs.Common.{◌≡◌, ℕ, zero, suc, ◌+◌, ◌-◌, ◌<◌, ◌≤◌, ◌==◌, nat_le, nat_lt, Bool, true, false, cond, ◌&&◌, ◌||◌, not, inl, inr, List, [], ◌∷◌, refl, sym, ap, ◌∙◌, arith}
 use Rattle.std.specs.List.{filter, range_with_len}
 use Rattle.std.proofs.lemmas.Bool.{both_ways, cases_lt, cases_eq, or_from, or_left, or_right, and_from, and_left, and_parts, eq-eqb, ne_eqb, false_from_ne_true, ltb-true, ltb-false, leb-true}
@@ -8,7 +8,7 @@ use Rattle.bindings.specs.Ports.{in_either, lowest_of, highest_of}
 use Rattle.bindings.specs.Runs.{own_in, without_port, all_ports}
 use Rattle.bindings.proofs.Holding.{in-both}
 
--- no number up to the one before a rising list stands in it
+-- a number below all of a rising list isn't in the list
 pub not-below : (low : ℕ) (xs : List ℕ) (q : ℕ) → RiseAbove low xs → q ≤ low → is_listed q xs ≡ false
 not-below low [] q r h = refl
 not-below low (x ∷ xs) q r h =
@@ -114,7 +114,7 @@ rise-own_in low p (x ∷ xs) above r h = at (nat_lt p x) refl (λ past. rise-own
         let le : x ≤ p = ltb-false p x is in
         (r.0, ih (elim (cases_eq x p) [ inl same ↦ absurd (apart same) | inr other ↦ omega (arith, other) ]))
 
--- where no port is listed, there is none
+-- a list in which no port is listed is empty
 pub none-listed : (xs : List ℕ) → ((q : ℕ) → is_listed q xs ≡ false) → xs ≡ []
 none-listed [] h = refl
 none-listed (x ∷ xs) h = absurd (both_ways (is_listed x (x ∷ xs)) (h x) (or_left (x == x) (is_listed x xs) (eq-eqb x x refl)))
@@ -153,15 +153,15 @@ above-none lowest highest p low within =
     let from : lowest ≤ p = leb-true lowest p (and_parts (nat_le lowest p) (nat_le p highest) within).0 in
     omega arith
 
--- one more owned port
+-- the owned ports with one more are the list with that port at its place
 pub owned-more : (p : ℕ) (xs ys : List ℕ) → AreRising xs → AreRising ys → 0 < p → is_listed p xs ≡ false → ((q : ℕ) → is_listed q ys ≡ cond (q == p) true (is_listed q xs)) → ys ≡ own_in p xs
 owned-more p xs ys rx ry above h is = same-rising 0 ys (own_in p xs) ry (rise-own_in 0 p xs above rx h) (λ q. is q ∙ sym (listed-own_in p xs q))
 
--- one less
+-- the owned ports with one fewer are the list without that port
 pub owned-less : (p : ℕ) (xs ys : List ℕ) → AreRising xs → AreRising ys → ((q : ℕ) → is_listed q ys ≡ cond (q == p) false (is_listed q xs)) → ys ≡ without_port p xs
 owned-less p xs ys rx ry is = same-rising 0 ys (without_port p xs) ry (rise-filter 0 (λ q. not (q == p)) xs rx) (λ q. is q ∙ sym (listed-without p xs q))
 
--- all ports of both ranges
+-- a port is one of all ports of both ranges where it is in either range
 pub listed-all : (low high : PortBounds) (q : ℕ) → is_listed q (all_ports low high) ≡ in_either low high q
 listed-all low high q =
     listed-filter (in_either low high) (range_with_len (lowest_of low high) (highest_of low high + 1 - lowest_of low high)) q ∙ at (in_either low high q) refl
@@ -183,7 +183,7 @@ owned-all low high xs rises above is =
     (rise-filter 0 (in_either low high) (range_with_len (lowest_of low high) (highest_of low high + 1 - lowest_of low high)) (rise-range 0 (lowest_of low high) (highest_of low high + 1 - lowest_of low high) above))
     (λ q. is q ∙ sym (listed-all low high q))
 
--- ---- the ports of the one range are made owned ones, and then those of the other
+-- ---- the ports of one range are made owned, and then those of the other
 
 pub both-owned : (o a b : Bool) → (o ≡ true → (a || b) ≡ true) → ((o || a) || b) ≡ (a || b)
 both-owned true a b inside = sym (inside refl)

@@ -46,7 +46,7 @@ place-inj low high p q true false bp bq hp hq e = let w = bounds low p bp in let
 place-inj low high p q false true bp bq hp hq e = let w = bounds high p hp in let v = bounds low q bq in absurd (omega arith)
 place-inj low high p q false false bp bq hp hq e = let w = bounds high p hp in let v = bounds high q hq in omega arith
 
--- two keys of one number are one
+-- two keys with one number are one key
 bit-inj : (x y : Protocol) (a b : ℕ) → 3 * a + bit x ≡ 3 * b + bit y → (a ≡ b) × (x ≡ y)
 unfolding bit
 bit-inj Icmp Icmp a b e = (omega arith, refl)
@@ -131,7 +131,7 @@ few low high es d ports =
     let all = all-in low high es d ports in
     subst (λ (n : ℕ). n ≤ key_count low high) (length-indexes low high es) (length-le_from_distinct_below (indexes low high es) (key_count low high) (distinct low high es d all) (all-below low high es all))
 
--- the entry that a key would have
+-- the entry that is added for a key
 added : Key → Entry
 added key =
     let pair : Pair = record { key = key; endpoint = any_entry.pair.endpoint } in
@@ -145,7 +145,7 @@ one-more low high es key inside ports k x = at (same_key key k) refl
     at true same h = ap (λ (q : Key). in_either low high q.port.0) (sym (key-eq key k same)) ∙ inside
     at false other h = ports k x h
 
--- one more key of the ranges finds room
+-- a table whose entries are in the ranges has capacity for a key of the ranges without an entry
 pub has-room : (t : Table) → IsTable t → AreInRanges t → (key : Key) → in_either t.zero t.one key.port.0 ≡ true → slot_of t.entries key ≡ None → length t.entries < t.capacity
 unfolding added
 has-room t is ports key inside free =

@@ -19,7 +19,7 @@ swap_choices true false x y o h = refl
 swap_choices false true x y o h = refl
 swap_choices false false x y o h = refl
 
--- nothing is found either once one more is put in that doesn't pass
+-- where nothing is found in a list, nothing is found after an entry that fails the test is put in
 pub find-put_none : (p : Entry → Bool) (e : Entry) (es : List Entry) → find p es ≡ None → p e ≡ false → find p (put_in e es) ≡ None
 find-put_none p e [] h fails = cond-false (p e) (Some e) None fails
 find-put_none p e (x ∷ xs) h fails = at (nat_lt (place_of e.pair) (place_of x.pair)) (find-put_none p e xs (find-none p x xs h).1 fails)
@@ -28,7 +28,7 @@ find-put_none p e (x ∷ xs) h fails = at (nat_lt (place_of e.pair) (place_of x.
     at true ih = cond-false (p e) (Some e) (find p (x ∷ xs)) fails ∙ h
     at false ih = cond-false (p x) (Some x) (find p (put_in e xs)) (find-none p x xs h).0 ∙ ih
 
--- nor once entries are left out
+-- where nothing is found in a list, nothing is found after entries are left out
 pub find-filter_none : (p q : Entry → Bool) (es : List Entry) → find p es ≡ None → find p (filter q es) ≡ None
 find-filter_none p q [] h = refl
 find-filter_none p q (x ∷ xs) h = at (q x) (find-filter_none p q xs (find-none p x xs h).1)
@@ -54,7 +54,7 @@ slot-put e (x ∷ xs) q h = at (nat_lt (place_of e.pair) (place_of x.pair)) (slo
         ap (cond (same_key x.pair.key q) (Some x)) ih
         ∙ swap_choices (same_key x.pair.key q) (same_key e.pair.key q) (Some x) (Some e) (slot_of xs q) clash
 
--- the test on keys fails either way
+-- two keys that differ in one order of the test differ in the other
 pub other_way : (a b : Key) → same_key a b ≡ false → same_key b a ≡ false
 other_way a b fails = key-false b a (λ e. both_ways (same_key a b) fails (key-true a b (sym e)))
 
@@ -87,7 +87,7 @@ pub keys-map : (f : Entry → Entry) (es : List Entry) → ((x : Entry) → (f x
 keys-map f [] same d = tt
 keys-map f (x ∷ xs) same d = (ap (slot_of (map f xs)) (same x) ∙ none-map f xs x.pair.key same d.0, keys-map f xs same d.1)
 
--- of two pairs, if the one doesn't serve the other's endpoint, the other doesn't serve the one's
+-- where a pair doesn't serve another one's endpoint, the other one doesn't serve its endpoint
 serves_not : (x e : Entry) → is_pair x.state ≡ true → (is_pair e.state ≡ true → serves e.pair.endpoint x ≡ false) → serves x.pair.endpoint e ≡ false
 serves_not x e live fails =
     false_from_ne_true (serves x.pair.endpoint e) (λ holds.
@@ -115,7 +115,7 @@ endpoints-filter p (x ∷ xs) d = at (p x) (endpoints-filter p xs d.1)
     at true ih = (λ live. find-filter_none (serves x.pair.endpoint) p xs (d.0 live), ih)
     at false ih = ih
 
--- what holds where no reason stands against an entry
+-- the conditions under which no reason refuses an entry
 pub record IsWelcome (capacity : ℕ) (es : List Entry) (e : Entry) : Type 0 where
   pub room : length es < capacity
   pub key : slot_of es e.pair.key ≡ None
@@ -132,7 +132,7 @@ welcome capacity es e h =
       endpoint = λ live. none_from_is_some (entry_of es e.pair.endpoint) (elim (and_cases (is_pair e.state) (is_some (entry_of es e.pair.endpoint)) three.0) [ inl fails ↦ absurd (both_ways (is_pair e.state) fails live) | inr fails ↦ fails ]);
     }
 
--- no reason stands against an entry with room, a free key and an endpoint without a pair
+-- no reason refuses an entry where there is capacity, a free key and an endpoint without a pair
 pub refusal-none : (capacity : ℕ) (es : List Entry) (e : Entry) → length es < capacity → slot_of es e.pair.key ≡ None → (is_pair e.state ≡ true → entry_of es e.pair.endpoint ≡ None) → refusal_of capacity es e ≡ None
 refusal-none capacity es e room key endpoint =
     let quiet : (is_pair e.state && is_some (entry_of es e.pair.endpoint)) ≡ false =

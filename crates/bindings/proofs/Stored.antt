@@ -1,4 +1,4 @@
--- What single calls make of a store.
+-- A store after each of its calls.
 use Rattle.std.proofs.Common.{◌≡◌, ℕ, ◌+◌, true, false, not, cond, ◌&&◌, Option, Some, None, List, [], refl, sym, ap, ◌∙◌, arith}
 use Rattle.std.specs.List.{find, count_by}
 use Rattle.std.specs.Option.{option_map}
@@ -33,14 +33,14 @@ seen slots index found = record { entries = entries_of slots.rows; lives = lives
 pub held-by : (rows : List (Row Item)) (key : Key) (i : Item) → AreKeyed rows → slots.item_of rows key ≡ Some i → slot_of (entries_of rows) key ≡ Some i.entry
 held-by rows key i k h = slot-is rows key k ∙ ap (option_map (λ (z : Item). z.entry)) h
 
--- and has the key
+-- the entry of a key's item has the key
 pub item-key : (rows : List (Row Item)) (key : Key) (i : Item) → AreKeyed rows → slots.item_of rows key ≡ Some i → i.entry.pair.key ≡ key
 item-key rows key i k h = slot-key (entries_of rows) key i.entry (held-by rows key i k h)
 
 cancelled : (m n p q k : ℕ) → m ≡ n + k → m ≡ p → p ≡ q + k → n ≡ q
 cancelled m n p q k h g f = omega (arith, h, g, f)
 
--- a key's life was changed, or there was none
+-- a store after a key's life was changed, or after a key without one changed nothing
 pub changed-life : (old new : PortSlots Item) (index : EndpointIndex Hashers) (found : List Key) (key : Key) (g : Activity → Activity) → IsIndexed old.rows index → slots.Rises 0 old.rows
     → ((i : Item) → slots.item_of old.rows key ≡ Some i → new ≡ record old { rows = slots.with_item key (record i { life = g i.life }) old.rows }) → (slots.item_of old.rows key ≡ None → new ≡ old)
     → IsIndexed new.rows index × (seen new index found ≡ record (seen old index found) { lives = lives_with g key (entries_of old.rows) (lives_of old.rows) })
@@ -64,11 +64,11 @@ changed-life old new index found key g k r some none = by (slots.item_of old.row
           rw (rows, room, entries-same 0 key t i old.rows r e refl, lives-changed 0 key g t i old.rows k.keyed r e refl) refl,
         )
 
--- no rows, and no endpoints
+-- an index without endpoints is that of no rows
 pub none-indexed : (index : EndpointIndex Hashers) → ((x : Endpoint) → number_of_endpoint index x ≡ None) → ((a : Ip) → count_in index a ≡ 0) → IsIndexed [] index
 none-indexed index none counts = record { keyed = tt; indexed = none; counted = counts }
 
--- more room alone
+-- an index that has only more capacity is still that of the rows
 pub readied : (rows : List (Row Item)) (index index2 : EndpointIndex Hashers) → IsIndexed rows index → index2.entries ≡ index.entries → IsIndexed rows index2
 readied rows index index2 k same = record {
   keyed = k.keyed;
@@ -76,7 +76,7 @@ readied rows index index2 k same = record {
   counted = λ a. ap (count_by (is_of a)) same ∙ k.counted a;
 }
 
--- an entry came in
+-- the index is that of the rows after an entry was added
 pub added : (old : PortSlots Item) (index index2 : EndpointIndex Hashers) (r : Row Item) → IsIndexed old.rows index → r.key ≡ r.item.entry.pair.key → (is_pair r.item.entry.state ≡ true → entry_of (entries_of old.rows) r.item.entry.pair.endpoint ≡ None)
     → ((x : Endpoint) → number_of_endpoint index2 x ≡ cond (serves x r.item.entry) (Some r.number) (number_of_endpoint index x)) → ((a : Ip) → count_in index2 a ≡ count_in index a + one_of a r.item.entry) → IsIndexed (slots.put_in r old.rows) index2
 added old index index2 r k key free listed counts = record {
@@ -85,7 +85,7 @@ added old index index2 r k key free listed counts = record {
   counted = λ a. counts a ∙ ap (λ n. n + one_of a r.item.entry) (k.counted a) ∙ sym (count-put a r.item.entry (entries_of old.rows)) ∙ ap (pairs_of a) (sym (entries-put r old.rows k.keyed key));
 }
 
--- a key's row went
+-- the index is that of the rows after a key's row was removed
 pub removed : (rows : List (Row Item)) (index index2 : EndpointIndex Hashers) (key : Key) (i : Item) → IsIndexed rows index → slots.Rises 0 rows → slots.item_of rows key ≡ Some i → (is_pair i.entry.state ≡ true → HasDistinctEndpoints (entries_of rows))
     → ((x : Endpoint) → number_of_endpoint index2 x ≡ cond (serves x i.entry) None (number_of_endpoint index x)) → ((a : Ip) → count_in index a ≡ count_in index2 a + one_of a i.entry) → IsIndexed (slots.without key rows) index2
 removed rows index index2 key i k r e d unlisted counts = record {
@@ -97,7 +97,7 @@ removed rows index index2 key i k r e d unlisted counts = record {
       ∙ ap (pairs_of a) (sym (entries-without key rows k.keyed));
 }
 
--- a key without a row has none to go
+-- no row is removed where the key has none
 pub none-removed : (rows : List (Row Item)) (key : Key) → slots.item_of rows key ≡ None → slots.without key rows ≡ rows
 none-removed rows key h = rows-without_none key rows (by (slots.row_of rows key) h)
   where
@@ -105,7 +105,7 @@ none-removed rows key h = rows-without_none key rows (by (slots.row_of rows key)
     by None h = refl
     by (Some r) h = cc
 
--- the item of a key's entry
+-- the entry of a key is that of an item
 pub item-found : (rows : List (Row Item)) (key : Key) (e : Entry) → AreKeyed rows → slot_of (entries_of rows) key ≡ Some e → (i : Item) × (slots.item_of rows key ≡ Some i) × (i.entry ≡ e)
 item-found rows key e k h = by (slots.item_of rows key) refl
   where
@@ -120,7 +120,7 @@ item-absent rows key k h = by (slots.item_of rows key) refl
     by None f = f
     by (Some i) f = (let some = slot-is rows key k ∙ ap (option_map (λ (j : Item). j.entry)) f in absurd (cc))
 
--- a key's entry has another state
+-- the store is right after the state of a key's entry was changed
 pub turned : (old new : PortSlots Item) (index index2 : EndpointIndex Hashers) (key : Key) (s : EntryState) (e : Entry) → IsIndexed old.rows index → slots.Rises 0 old.rows → slot_of (entries_of old.rows) key ≡ Some e
     → (is_pair s ≡ true → is_pair e.state ≡ true) → (is_pair e.state ≡ true → is_pair s ≡ false → HasDistinctEndpoints (entries_of old.rows))
     → ((i : Item) → slots.item_of old.rows key ≡ Some i → new ≡ record old { rows = slots.with_item key (record i { entry = entry_in s e.pair }) old.rows })
@@ -176,7 +176,7 @@ unserved old index x k h = entry-is old.rows x ∙ by (find (λ (r : Row Item). 
     by None h = refl
     by (Some r) h = cc
 
--- the first row behind a key, by its key
+-- the first row after a key is found by its key
 pub next-row : (old : PortSlots Item) (last : Option Key) (key : Key) → AreKeyed old.rows → slots.Rises 0 old.rows → Some key ≡ option_map (λ (r : Row Item). r.key) (find (slots.stands_behind last) old.rows)
     → (i : Item) × (slots.item_of old.rows key ≡ Some i) × (after_key last (entries_of old.rows) ≡ Some i.entry)
 next-row old last key k rises h = by (find (slots.stands_behind last) old.rows) refl
@@ -206,7 +206,7 @@ row-absent rows key k h = by (slots.row_of rows key) (item-absent rows key k h)
     by None h = refl
     by (Some r) h = cc
 
--- the rows once one was put in
+-- the rows after one was put in, with the item and the key given by equations
 pub put-rows : (old new : PortSlots Item) (key key2 : Key) (n : SlotNumber) (item item2 : Item) → new ≡ record old { rows = slots.put_in (record { key = key; number = n; item = item }) old.rows } → key ≡ key2 → item ≡ item2
     → new.rows ≡ slots.put_in (record { key = key2; number = n; item = item2 }) old.rows
 put-rows old new key key2 n item item2 h e f =
@@ -214,7 +214,7 @@ put-rows old new key key2 n item item2 h e f =
     ∙ ap (λ (k : Key). slots.put_in (record { key = k; number = n; item = item }) old.rows) e
     ∙ ap (λ (i : Item). slots.put_in (record { key = key2; number = n; item = i }) old.rows) f
 
--- the item of a key's life
+-- the life of a key is that of an item
 pub item-of_life : (rows : List (Row Item)) (key : Key) (l : Activity) → AreKeyed rows → life_in (entries_of rows) (lives_of rows) key ≡ Some l → (i : Item) × (slots.item_of rows key ≡ Some i) × (i.life ≡ l)
 item-of_life rows key l k h = by (slots.item_of rows key) refl
   where

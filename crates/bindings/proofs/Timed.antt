@@ -1,4 +1,4 @@
--- What changes of the rows and of the moments leave of their being looked at in time.
+-- Each entry that may be released is still looked at in time after a change of the rows or the moments.
 use Rattle.std.proofs.Common.{◌≡◌, ℕ, ◌≤◌, Bool, true, false, not, ◌&&◌, ◌||◌, cond, nat_lt, nat_le, Option, Some, None, List, [], ◌∷◌, map, refl, ap, sym, ◌∙◌, arith}
 use Rattle.std.specs.Option.{option_map}
 use Rattle.std.proofs.Math.ListN.{get_or-map}
@@ -22,7 +22,7 @@ use Rattle.bindings.specs.Dues.{IsTimed, IsTimedAt, AreTimed, AreTimedBut, Keeps
 use Rattle.bindings.proofs.Found.{find-passes}
 use Rattle.bindings.proofs.Listed.{none-listed}
 
--- ---- which row stands under a key
+-- ---- the row of a key
 
 pub row-key : (rows : List (Row Item)) (key : Key) (r : Row Item) → slots.row_of rows key ≡ Some r → r.key ≡ key
 row-key rows key r h = key-eq r.key key (find-passes (slots.has_key key) rows r h)
@@ -69,7 +69,7 @@ none-without key (x ∷ rows) = by (same_key x.key key) refl (none-without key r
 
 -- ---- one key
 
--- a key's slot is due in time
+-- a key whose slot has a moment not after its entry is idle is looked at in time
 pub timed-by : (alone : Bool) (rows : List (Row Item)) (key : Key) (n : SlotNumber) (i : Item) (moments : List (Option ℕ)) (m : ℕ) → slots.number_of rows key ≡ Some n → slots.item_of rows key ≡ Some i
     → moment_of moments n ≡ Some m → m ≤ due_moment key.protocol i.life → IsTimedAt alone moments rows key
 timed-by alone rows key n i moments m has holds is early r h go =
@@ -88,7 +88,7 @@ due-by now (Some m) h = (m, refl, leb-true m now h)
 
 -- ---- one key's row changes
 
--- the other keys' rows stay, and that key is looked at in time
+-- where the rows of the other keys stay and this key is looked at in time, all are
 kept-timed : (alone : Bool) (key : Key) (old new : List (Option ℕ)) (rows rows2 : List (Row Item)) → ((q : Key) → same_key key q ≡ false → slots.row_of rows2 q ≡ slots.row_of rows q)
     → KeepsDues rows2 key old new → IsTimedAt alone new rows2 key → AreTimed alone old rows → AreTimed alone new rows2
 kept-timed alone key old new rows rows2 others keeps set timed q r h go = by (same_key key q) refl
@@ -103,7 +103,7 @@ pub added-timed : (alone : Bool) (old new : List (Option ℕ)) (r : Row Item) (r
     → AreTimed alone old rows → AreTimed alone new (slots.put_in r rows)
 added-timed alone old new r rows = kept-timed alone r.key old new rows (slots.put_in r rows) (row-put r rows)
 
--- a key's item was changed, or there was none
+-- all keys are looked at in time after this key's item was changed, or where it has none
 pub changed-timed : (alone : Bool) (key : Key) (change : Item → Item) (old new : List (Option ℕ)) (rows rows2 : List (Row Item))
     → ((i : Item) → slots.item_of rows key ≡ Some i → rows2 ≡ slots.with_item key (change i) rows) → (slots.item_of rows key ≡ None → rows2 ≡ rows)
     → KeepsDues rows2 key old new → IsTimedAt alone new rows2 key → AreTimed alone old rows → AreTimed alone new rows2
@@ -125,7 +125,7 @@ none-timed alone moments key r h go = absurd (cc)
 
 -- ---- all that came due
 
--- one of the listed keys is looked at in time again
+-- a listed key that is set again is looked at in time
 pub timed-again : (alone : Bool) (key : Key) (keys : List Key) (old new : List (Option ℕ)) (rows : List (Row Item)) → KeepsDues rows key old new → IsTimedAt alone new rows key
     → AreTimedBut alone (key ∷ keys) old rows → AreTimedBut alone keys new rows
 timed-again alone key keys old new rows keeps set but q none r h go = by (same_key key q) refl
@@ -136,11 +136,11 @@ timed-again alone key keys old new rows keeps set but q none r h go = by (same_k
         let w = but q (ap (λ b. b || is_among q keys) e ∙ none) r h go in
         (w.0, keeps q r.number (ap (option_map (λ (x : Row Item). x.number)) h) (differs key q e) ∙ w.1, w.2)
 
--- none is left
+-- where no listed key is left, all keys are looked at in time
 pub timed-all : (alone : Bool) (moments : List (Option ℕ)) (rows : List (Row Item)) → AreTimedBut alone [] moments rows → AreTimed alone moments rows
 timed-all alone moments rows but key = but key refl
 
--- once the due moments are cleared, those keys are left whose moments weren't due
+-- after the due moments are unset, each key that isn't listed is looked at in time
 pub timed-but : (alone : Bool) (now : ℕ) (moments : List (Option ℕ)) (found : List ℕ) (keys : List Key) (rows : List (Row Item)) → AreDue now moments found → AreListed rows found keys
     → AreTimed alone moments rows → AreTimedBut alone keys (map (cleared now) moments) rows
 timed-but alone now moments found keys rows due listed timed key none r h go =
@@ -162,7 +162,7 @@ timed-but alone now moments found keys rows due listed timed key none r h go =
 abbrev pub keys_of : List Entry → List Key
 keys_of es = map (λ e. e.pair.key) es
 
--- entries that may be let go otherwise may where the gateway is lone
+-- an entry that may be released otherwise may be released where the gateway is lone
 more-go : (s : EntryState) → may_go false s ≡ true → may_go true s ≡ true
 more-go Pending h = h
 more-go Doomed h = h
@@ -170,7 +170,7 @@ more-go Live h = h
 more-go Closing h = h
 more-go Held h = absurd (cc)
 
--- no more entries are to be looked at
+-- where the gateway has not just become lone, all keys are looked at in time as before
 pub timed-as : (alone lone : Bool) (moments : List (Option ℕ)) (rows : List (Row Item)) → (lone && not alone) ≡ false → AreTimed alone moments rows → AreTimed lone moments rows
 timed-as true true moments rows h timed = timed
 timed-as true false moments rows h timed = λ key r is go. timed key r is (more-go r.item.entry.state go)
@@ -191,7 +191,7 @@ all-among (x ∷ rows) key r keyed h = by (same_key x.key key) refl (all-among r
     by true e ih = own ∙ ap (λ b. b || rest) e
     by false e ih = own ∙ ap (λ b. b || rest) e ∙ ih (sym (cond-false (same_key x.key key) (Some x) (slots.row_of rows key) e) ∙ h)
 
--- all entries are to be looked at
+-- with the keys of all entries listed, each other key is looked at in time
 pub timed-none : (lone : Bool) (moments : List (Option ℕ)) (rows : List (Row Item)) → AreKeyed rows → AreTimedBut lone (keys_of (entries_of rows)) moments rows
 timed-none lone moments rows keyed key none r h go =
     absurd (both_ways (is_among key (keys_of (entries_of rows))) none (all-among rows key r keyed h))

@@ -1,4 +1,4 @@
--- What an entry in another state leaves of the list's rules.
+-- The rules of a list of entries still hold after the state of one entry was changed.
 use Rattle.std.proofs.Common.{◌≡◌, Bool, true, false, cond, ◌&&◌, Some, None, List, [], ◌∷◌, length, refl, ap, ◌∙◌}
 use Rattle.std.proofs.lemmas.Bool.{cond-true, cond-false, and_right}
 use Rattle.std.proofs.lemmas.List.{length-map}
@@ -26,7 +26,7 @@ unserved : (b : Bool) (s : Bool) (e : Bool) → (b && e) ≡ false → b ≡ tru
 unserved true s e h pair = and_right s e h
 unserved false s e h pair = cc
 
--- an endpoint without a pair has none afterwards
+-- an endpoint without a pair has none after the state of an entry was changed
 none-turned : (key : Key) (s : EntryState) (es : List Entry) (q : Endpoint) → HasDistinctKeys es → IsPairAt key es → entry_of es q ≡ None → entry_of (with_state key s es) q ≡ None
 none-turned key s [] q keys is h = refl
 none-turned key s (x ∷ xs) q keys is h = at (has_key key x) refl (λ other. none-turned key s xs q keys.1 (in-rest key x xs other is) parts.1)

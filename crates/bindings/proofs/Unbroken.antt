@@ -1,4 +1,4 @@
--- The ports of a rising list from one on, and their unbroken runs.
+-- The ports of a rising list from a port on, and their unbroken runs.
 use Rattle.std.proofs.Common.{◌≡◌, ℕ, zero, suc, ◌+◌, ◌-◌, ◌<◌, ◌≤◌, ◌==◌, nat_le, Bool, true, false, cond, ◌||◌, not, Option, Some, None, IfSome, IfNone, inl, inr, List, [], ◌∷◌, refl, sym, ap, ◌∙◌, arith}
 use Rattle.std.proofs.lemmas.Bool.{both_ways, cases_lt, cases_eq, cond-true, cond-false, or_parts, or_left, or_right, and_right, eq-eqb, ne_eqb, le-leb, lt-leb, false_from_ne_true, and_parts, leb-true}
 use Rattle.addresses.specs.declared.transport.Port.{Port}
@@ -8,7 +8,7 @@ use Rattle.bindings.specs.declared.entries.PortBounds.{PortBounds}
 use Rattle.bindings.specs.Runs.{run_of, runs_on, ports_from_on, first_of}
 use Rattle.bindings.proofs.Rising.{not-below, listed-filter}
 
--- a port that isn't listed is passed over
+-- a port that isn't listed is skipped
 pub from-skip : (q : ℕ) (xs : List ℕ) → is_listed q xs ≡ false → ports_from_on q xs ≡ ports_from_on (q + 1) xs
 from-skip q [] h = refl
 from-skip q (x ∷ xs) h =
@@ -25,21 +25,21 @@ from-skip q (x ∷ xs) h =
           | inr from ↦ le-leb q x from ∙ sym (le-leb (q + 1) x (omega (arith, differs)))
         ]
 
--- all of them, where each is as high
+-- the ports from one on are all ports, where each is at least that one
 pub from-all : (a : ℕ) (xs : List ℕ) → ((q : ℕ) → is_listed q xs ≡ true → a ≤ q) → ports_from_on a xs ≡ xs
 from-all a [] h = refl
 from-all a (x ∷ xs) h =
     cond-true (nat_le a x) (x ∷ ports_from_on a xs) (ports_from_on a xs) (le-leb a x (h x (or_left (x == x) (is_listed x xs) (eq-eqb x x refl))))
     ∙ ap (λ zs. x ∷ zs) (from-all a xs (λ q there. h q (or_right (x == q) (is_listed q xs) there)))
 
--- none, where each is lower
+-- there is no port from one on, where each is lower
 pub from-none : (a : ℕ) (xs : List ℕ) → ((q : ℕ) → is_listed q xs ≡ true → q < a) → ports_from_on a xs ≡ []
 from-none a [] h = refl
 from-none a (x ∷ xs) h =
     cond-false (nat_le a x) (x ∷ ports_from_on a xs) (ports_from_on a xs) (lt-leb a x (h x (or_left (x == x) (is_listed x xs) (eq-eqb x x refl))))
     ∙ from-none a xs (λ q there. h q (or_right (x == q) (is_listed q xs) there))
 
--- the owned ports of a range, from one behind its end on, and from its start on
+-- no owned port of a range is after the range's end
 pub none-owned : (r : Range) (a : ℕ) → IsRange r → r.highest < a → ports_from_on a r.owned ≡ []
 none-owned r a is h =
     from-none a r.owned (λ q there.
@@ -51,18 +51,18 @@ all-owned r is =
     from-all r.lowest r.owned (λ q there.
     leb-true r.lowest q (and_parts (nat_le r.lowest q) (nat_le q r.highest) (is.owned q there)).0)
 
--- no port behind a range's end is owned
+-- no port after a range's end is owned
 pub not-owned : (r : Range) (a : ℕ) → IsRange r → r.highest < a → is_listed a r.owned ≡ false
 not-owned r a is h =
     false_from_ne_true (is_listed a r.owned) (λ there.
     let high : a ≤ r.highest = leb-true a r.highest (and_parts (nat_le r.lowest a) (nat_le a r.highest) (is.owned a there)).1 in
     absurd (omega arith))
 
--- an owned port isn't behind a range's end
+-- an owned port isn't after a range's end
 pub owned-high : (r : Range) (a : ℕ) → IsRange r → is_listed a r.owned ≡ true → a ≤ r.highest
 owned-high r a is there = leb-true a r.highest (and_parts (nat_le r.lowest a) (nat_le a r.highest) (is.owned a there)).1
 
--- a port that is listed comes first, and then those behind it
+-- where a port is listed, the ports from it on are that port and the ports after it
 pub from-take : (low q : ℕ) (xs : List ℕ) → RiseAbove low xs → is_listed q xs ≡ true → ports_from_on q xs ≡ q ∷ ports_from_on (q + 1) xs
 from-take low q [] r h = cc
 from-take low q (x ∷ xs) r h =
@@ -99,7 +99,7 @@ pub run-stops : (first last next : ℕ) (xs : List ℕ) → next ≡ last + 1 �
 run-stops first last next xs is h =
     ended first last next (ports_from_on next xs) is (listed-filter (nat_le next) xs next ∙ and_right (nat_le next next) (is_listed next xs) h)
 
--- and goes on with one that is
+-- a run goes on with the next port where that is listed
 pub run-goes : (low first last next : ℕ) (xs : List ℕ) → next ≡ last + 1 → RiseAbove low xs → is_listed next xs ≡ true → runs_on first last (ports_from_on next xs) ≡ runs_on first next (ports_from_on (next + 1) xs)
 run-goes low first last next xs is r h =
     ap (runs_on first last) (from-take low next xs r h)
@@ -107,7 +107,7 @@ run-goes low first last next xs is r h =
 
 -- ---- the first owned port from one on
 
--- the ports between are passed over, so many
+-- the unlisted ports up to a listed one are skipped
 from-reach : (low n a p : ℕ) (xs : List ℕ) → p ≡ a + n → RiseAbove low xs → is_listed p xs ≡ true → ((q : ℕ) → a ≤ q → q < p → is_listed q xs ≡ false) → ports_from_on a xs ≡ p ∷ ports_from_on (p + 1) xs
 from-reach low zero a p xs is r here none =
     let same : a ≡ p = omega (arith, is) in ap (λ (m : ℕ). ports_from_on m xs) same ∙ from-take low p xs r here
@@ -132,7 +132,7 @@ found-none r a (Some p) none = tt
 
 -- ---- the end of a run
 
--- a run goes on over ports that are all owned, so many
+-- a run goes on over ports that are all owned
 run-along : (low first n last end : ℕ) (xs : List ℕ) → end ≡ last + n → RiseAbove low xs → ((q : ℕ) → last < q → q ≤ end → is_listed q xs ≡ true)
     → runs_on first last (ports_from_on (last + 1) xs) ≡ runs_on first end (ports_from_on (end + 1) xs)
 run-along low first zero last end xs is r owned =
@@ -141,7 +141,7 @@ run-along low first (suc n) last end xs is r owned =
     run-goes low first last (last + 1) xs refl r (owned (last + 1) (omega arith) (omega (arith, is)))
     ∙ run-along low first n (last + 1) end xs (omega (arith, is)) r (λ q past to. owned q (omega (arith, past)) to)
 
--- and ends before one that isn't
+-- a run ends before a port that isn't owned
 run-ends : (r : Range) (first end : ℕ) → IsRange r → first ≤ end → ((q : ℕ) → first ≤ q → q ≤ end → is_listed q r.owned ≡ true) → is_listed (end + 1) r.owned ≡ false
     → first_of (runs_on first first (ports_from_on (first + 1) r.owned)) ≡ Some (run_of first end)
 run-ends r first end is order owned stops =
@@ -156,7 +156,7 @@ not-true : (b : Bool) → not b ≡ true → b ≡ false
 not-true true h = cc
 not-true false h = refl
 
--- the first port that isn't owned is behind one that is
+-- the first port that isn't owned, from an owned one on, is after that one
 pub behind-first : (r : Range) (first port : ℕ) → is_listed first r.owned ≡ true → IsFirstFrom (λ q. not (is_owned r q)) first port → first < port
 behind-first r first port owned is =
     elim (cases_eq port first) [
@@ -171,7 +171,7 @@ run-before r first port end range owned is next =
     run-ends r first end range (omega (arith, past, next)) (λ q from to. not-false (is_owned r q) (is.first q from (omega (arith, to, next))))
     (ap (λ (n : ℕ). is_listed n r.owned) next ∙ not-true (is_owned r port) is.passes)
 
--- where none isn't owned, it ends with the range
+-- where no port that isn't owned follows, a run ends with the range
 pub run-whole : (r : Range) (first highest : ℕ) → r.highest ≡ highest → IsRange r → is_listed first r.owned ≡ true → ((q : ℕ) → first ≤ q → q < 65536 → is_owned r q ≡ true)
     → first_of (runs_on first first (ports_from_on (first + 1) r.owned)) ≡ Some (run_of first highest)
 run-whole r first highest end range owned all =

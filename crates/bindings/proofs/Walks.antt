@@ -1,4 +1,4 @@
--- Entry after entry: what is left of a list behind a key.
+-- A walk from entry to entry: the part of a list after a key.
 use Rattle.std.proofs.Common.{◌≡◌, ℕ, suc, ◌+◌, ◌<◌, ◌≤◌, Bool, true, false, not, cond, nat_lt, Option, Some, None, List, [], ◌∷◌, ◌++◌, length, map, refl, sym, ap, ◌∙◌, arith}
 use Rattle.std.specs.List.{find, filter}
 use Rattle.std.proofs.lemmas.Bool.{cond-true, cond-false, lt-ltb, le-ltb, ltb-true}
@@ -14,7 +14,7 @@ use Rattle.bindings.proofs.Found.{cond_none}
 use Rattle.bindings.proofs.Places.{turn-none, without-none}
 use Rattle.bindings.proofs.Slots.{found-slot}
 
--- the entries behind a key; all where there is none
+-- the entries after a key; all where there is no key
 abbrev pub behind : Option Key → List Entry → List Entry
 behind last es = filter (stands_behind last) es
 
@@ -31,7 +31,7 @@ pub rises-distinct : (low : ℕ) (es : List Entry) → RisesUp low es → HasDis
 rises-distinct low [] r = tt
 rises-distinct low (x ∷ xs) r = (none-below (suc (place_of x.pair)) xs x.pair.key r.1 (omega arith), rises-distinct (suc (place_of x.pair)) xs r.1)
 
--- what is found stands no lower, and under its own key
+-- an entry that is found isn't at a lower place, and is that of its own key
 pub found-above : (low : ℕ) (p : Entry → Bool) (es : List Entry) (e : Entry) → RisesUp low es → find p es ≡ Some e → low ≤ place_of e.pair
 found-above low p [] e r h = absurd (cc)
 found-above low p (x ∷ xs) e r h = by (p x) h (found-above (suc (place_of x.pair)) p xs e r.1)
@@ -40,7 +40,7 @@ found-above low p (x ∷ xs) e r h = by (p x) h (found-above (suc (place_of x.pa
     by true h ih = (let same : x ≡ e = cc in let place = ap (λ (y : Entry). place_of y.pair) same in let s = r.0 in omega (arith, place, s))
     by false h ih = (let s = r.0 in let t = ih h in omega (arith, s, t))
 
--- ---- behind a key
+-- ---- after a key
 
 pub is-behind : (last : Option Key) (x : Entry) → ((key : Key) → last ≡ Some key → key_place key < place_of x.pair) → stands_behind last x ≡ true
 is-behind None x h = refl
@@ -57,7 +57,7 @@ pub behind-none : (es : List Entry) → behind None es ≡ es
 behind-none [] = refl
 behind-none (x ∷ xs) = ap (λ ys. x ∷ ys) (behind-none xs)
 
--- a key's own place is not behind it, and what stands behind the first entry found stands behind the key
+-- a key's own place is before that of each entry after the key
 pub below-last : (last : Option Key) (x : Entry) → stands_behind last x ≡ true → (key : Key) → last ≡ Some key → key_place key < place_of x.pair
 below-last None x h key e = absurd (cc)
 below-last (Some k) x h key e = (let same : k ≡ key = cc in let place = ap key_place same in let lower = ltb-true (key_place k) (place_of x.pair) h in omega (arith, place, lower))
@@ -83,7 +83,7 @@ pub behind-end : (last : Option Key) (es : List Entry) → after_key last es ≡
 behind-end last [] h = refl
 behind-end last (x ∷ xs) h = (let n = cond_none (stands_behind last x) x (after_key last xs) h in cond-false (stands_behind last x) (x ∷ behind last xs) (behind last xs) n.0 ∙ behind-end last xs n.1)
 
--- a walk ends
+-- each step of a walk leaves fewer entries
 pub behind-less : (low : ℕ) (last : Option Key) (es : List Entry) (e : Entry) → RisesUp low es → after_key last es ≡ Some e → length (behind (Some e.pair.key) es) < length (behind last es)
 behind-less low last es e r h = (let s = ap length (behind-first low last es e r h) in omega (arith, s))
 
@@ -106,7 +106,7 @@ pairs-end test last es h = ap (pairs_in test) (behind-end last es h)
 
 -- ---- waking
 
--- those behind a key wake up
+-- the entries, of which those after a key are woken
 abbrev pub woken_behind : Option Key → List Entry → List Entry
 woken_behind last es = map (λ e. cond (stands_behind last e) (woken_entry e) e) es
 
@@ -175,7 +175,7 @@ length-behind_turned last key s (x ∷ xs) = by (has_key key x) (length-behind_t
 
 -- ---- dropping
 
--- the first Doomed entry of all is the first behind the key, until one is met
+-- the first Doomed entry of a list is the first after the key, as long as no Doomed one was met
 pub drop-pair : (low : ℕ) (last : Option Key) (es : List Entry) (e : Entry) → RisesUp low es → after_key last es ≡ Some e → is_pair e.state ≡ true
     → find (λ x. not (is_pair x.state)) es ≡ find (λ x. not (is_pair x.state)) (behind last es) → find (λ x. not (is_pair x.state)) es ≡ find (λ x. not (is_pair x.state)) (behind (Some e.pair.key) es)
 drop-pair low last es e r h pair first =

@@ -1,4 +1,4 @@
--- When a table looks at its entries again.
+-- When a table looks at its entries again. A slot is due at the moment of its entry's next look.
 use Rattle.std.specs.Prelude.{◌≡◌, ℕ, ◌≤◌, Bool, true, false, ◌&&◌, Option, Some, None, List, length, count_by}
 use Rattle.std.specs.List.{filter}
 use Rattle.nat_types.specs.declared.pairs.Key.{Key}
@@ -18,16 +18,16 @@ abbrev pub IsTimed : List (Option ℕ) → Row Item → Type 0
 IsTimed moments r =
     (moment : ℕ) × (moment_of moments r.number ≡ Some moment) × (moment ≤ due_moment r.key.protocol r.item.life)
 
--- a key's entry is looked at in time where it may be let go
+-- a key's entry is looked at in time where it may be released
 abbrev pub IsTimedAt : Bool → List (Option ℕ) → List (Row Item) → Key → Type 0
 IsTimedAt lone moments rows key =
     (r : Row Item) → row_of rows key ≡ Some r → may_go lone r.item.entry.state ≡ true → IsTimed moments r
 
--- each entry that may be let go is looked at in time
+-- each entry that may be released is looked at in time
 abbrev pub AreTimed : Bool → List (Option ℕ) → List (Row Item) → Type 0
 AreTimed lone moments rows = (key : Key) → IsTimedAt lone moments rows key
 
--- the same of the entries whose keys aren't listed
+-- each entry that may be released and whose key isn't listed is looked at in time
 abbrev pub AreTimedBut : Bool → List Key → List (Option ℕ) → List (Row Item) → Type 0
 AreTimedBut lone keys moments rows = (key : Key) → is_among key keys ≡ false → IsTimedAt lone moments rows key
 
@@ -36,7 +36,7 @@ abbrev pub KeepsDues : List (Row Item) → Key → List (Option ℕ) → List (O
 KeepsDues rows key old new =
     (q : Key) (n : SlotNumber) → number_of rows q ≡ Some n → (q ≡ key → ⊥) → moment_of new n ≡ moment_of old n
 
--- what a store keeps: there is a moment or none for each slot, and room to list so many keys
+-- what a store keeps: there is a moment or none for each slot, and capacity to list so many keys
 pub record AreWatched (alone : Bool) (moments : List (Option ℕ)) (slots : PortSlots Item) (places : ℕ) : Type 0 where
   pub timed : AreTimed alone moments slots.rows
   pub count : length moments ≡ slots.limit
@@ -55,10 +55,10 @@ abbrev pub may_go_by : Bool → Option Entry → Bool
 may_go_by lone None = false
 may_go_by lone (Some e) = may_go lone e.state
 
--- a key's entry is idle and may be let go
+-- a key's entry is idle and may be released
 abbrev pub is_idle_key : Bool → ℕ → List Entry → List Activity → Key → Bool
 is_idle_key lone now es ls key = may_go_by lone (slot_of es key) && rests_at es ls key now
 
--- the keys among these whose entries are idle and may be let go
+-- the keys among these whose entries are idle and may be released
 abbrev pub idle_among : Bool → ℕ → List Entry → List Activity → List Key → List Key
 idle_among lone now es ls keys = filter (is_idle_key lone now es ls) keys

@@ -13,7 +13,7 @@ use Rattle.bindings.specs.declared.entries.Entry.{Entry}
 use Rattle.bindings.specs.declared.entries.TableFault.{TableFault}
 use Rattle.bindings.specs.declared.entries.TableFault.TheVariants.{Full, PortTaken, EndpointTaken}
 
--- a proposal given up is no pair of the table
+-- an entry is a pair of the table, unless it is Doomed: a proposal given up
 abbrev pub is_pair : EntryState → Bool
 is_pair Pending = true
 is_pair Doomed = false
@@ -57,7 +57,7 @@ is_pair_of address e = is_pair e.state && e.pair.endpoint.address.0 == address.0
 abbrev pub pairs_of : Ip → List Entry → ℕ
 pairs_of address entries = count_by (is_pair_of address) entries
 
--- the same slots but for this key
+-- the slots with that of this key replaced
 abbrev pub set_at : (Key → Option Entry) → Key → Option Entry → Key → Option Entry
 set_at slots key slot q = (if same_key key q then slot else slots q)
 
@@ -71,7 +71,7 @@ abbrev pub HasDistinctEndpoints : List Entry → Type 0
 HasDistinctEndpoints [] = Unit {0}
 HasDistinctEndpoints (e ∷ es) = (is_pair e.state ≡ true → entry_of es e.pair.endpoint ≡ None) × HasDistinctEndpoints es
 
--- why an entry can't come into a table of that capacity: the first reason that holds
+-- the first reason that holds for which an entry can't come into a table of that capacity
 abbrev pub refusal_of : ℕ → List Entry → Entry → Option TableFault
 refusal_of capacity entries e =
     (if nat_le capacity (length entries) then Some Full

@@ -1,4 +1,4 @@
--- Lists of entries by protocol (icmp first) and port, and what a change makes of them.
+-- Lists of entries by protocol (icmp first) and port, and their changes.
 use Rattle.std.specs.Prelude.{◌≡◌, ℕ, ◌≤◌, zero, suc, Bool, true, cond, not, nat_lt, List, [], ◌∷◌, map, if◌then◌else◌, Option, Some, None, ◌+◌, ◌*◌}
 use Rattle.std.specs.List.{filter, find}
 use Rattle.addresses.specs.Transport.{protocol_number}
@@ -8,7 +8,7 @@ use Rattle.nat_types.specs.declared.pairs.Pair.{Pair}
 use Rattle.bindings.specs.declared.entries.Entry.{Entry}
 use Rattle.bindings.specs.Entries.{is_pair, has_key, slot_of, entry_in, place_of}
 
--- how many entries stand before a pair's place
+-- how many entries are before a pair's place
 abbrev pub place_in : Pair → List Entry → ℕ
 place_in p [] = zero
 place_in p (x ∷ xs) = (if nat_lt (place_of p) (place_of x.pair) then zero else suc (place_in p xs))
@@ -26,17 +26,17 @@ without key es = filter (λ e. not (has_key key e)) es
 abbrev pub with_state : Key → EntryState → List Entry → List Entry
 with_state key state es = map (λ e. cond (has_key key e) (entry_in state e.pair) e) es
 
--- no entry stands before this place, or before the one in front of it
+-- no entry is before this place, or before the entry in front of it
 abbrev pub Rises : ℕ → List Entry → Type 0
 Rises low [] = Unit {0}
 Rises low (x ∷ xs) = (low ≤ place_of x.pair) × Rises (place_of x.pair) xs
 
--- each entry stands from this place on, and behind the one in front of it
+-- each entry is at this place or later, and after the entry in front of it
 abbrev pub RisesUp : ℕ → List Entry → Type 0
 RisesUp low [] = Unit {0}
 RisesUp low (x ∷ xs) = (low ≤ place_of x.pair) × RisesUp (suc (place_of x.pair)) xs
 
--- by protocol (icmp first) and port
+-- the entries are in order, by protocol (icmp first) and port
 abbrev pub AreInOrder : List Entry → Type 0
 AreInOrder es = Rises 0 es
 
@@ -51,11 +51,11 @@ IsOneToOne es =
 abbrev pub key_place : Key → ℕ
 key_place key = 65536 * protocol_number key.protocol + key.port.0
 
--- an entry stands behind a key; each does where there is none
+-- an entry is after a key; each entry is where there is no key
 abbrev pub stands_behind : Option Key → Entry → Bool
 stands_behind None e = true
 stands_behind (Some key) e = nat_lt (key_place key) (place_of e.pair)
 
--- the first entry behind a key in the order, or the first of all
+-- the first entry after a key in the order, or the first of all where there is no key
 abbrev pub after_key : Option Key → List Entry → Option Entry
 after_key last es = find (stands_behind last) es

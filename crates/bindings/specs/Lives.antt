@@ -33,7 +33,7 @@ lives_without key (e ∷ es) (l ∷ ls) = (if has_key key e then ls else l ∷ l
 abbrev pub HasPast : List Entry → List Activity → Key → History → Type 0
 HasPast es ls key past = (life : Activity) × (life_in es ls key ≡ Some life) × Agrees key.protocol past life
 
--- Entry by entry, what stood at a key's entry stands there still, but for this key.
+-- each key's entry but this one's agrees with the pasts with which it agreed before
 abbrev pub KeepsOthers : Key → List Entry → List Activity → List Entry → List Activity → Type 0
 KeepsOthers key es ls es2 ls2 =
     (q : Key) (past : History) → same_key key q ≡ false → HasPast es ls q past → HasPast es2 ls2 q past
@@ -46,7 +46,7 @@ pub record IsLifeSet (protocol : Protocol) (goes : History → History) (old new
 
 -- ---- idle pairs
 
--- An idle entry may be let go: a Live one, and a Held one where the gateway is lone.
+-- an idle entry may be released: a Live one, and a Held one where the gateway is lone
 abbrev pub may_go : Bool → EntryState → Bool
 may_go lone Pending = false
 may_go lone Doomed = false
@@ -54,22 +54,22 @@ may_go lone Live = true
 may_go lone Closing = false
 may_go lone Held = lone
 
--- an entry with this life is idle and may be let go
+-- an entry with this life is idle and may be released
 abbrev pub is_idle_row : Bool → ℕ → Entry → Activity → Bool
 is_idle_row lone now e l = may_go lone e.state && looks_idle e.pair.key.protocol l now
 
--- the keys of the idle entries that may be let go, in the order of the list
+-- the keys of the idle entries that may be released, in the order of the list
 abbrev pub idle_keys_in : Bool → ℕ → List Entry → List Activity → List Key
 idle_keys_in lone now [] ls = []
 idle_keys_in lone now (e ∷ es) [] = []
 idle_keys_in lone now (e ∷ es) (l ∷ ls) =
     (if is_idle_row lone now e l then e.pair.key ∷ idle_keys_in lone now es ls else idle_keys_in lone now es ls)
 
--- a key stands among these
+-- a key is among these
 abbrev pub is_among : Key → List Key → Bool
 is_among key keys = list_any (λ k. same_key k key) keys
 
--- ---- what is asked of one key's entry
+-- ---- questions about one key's entry
 
 abbrev pub rests_by : Key → ℕ → Option Activity → Bool
 rests_by key now None = false

@@ -1,4 +1,4 @@
--- Want of memory.
+-- Which memory is missing where a table isn't made.
 use Rattle.std.specs.Prelude.{ℕ, ◌≤◌, ◌⊎◌}
 use Rattle.memory.specs.Memory.{WasRefused}
 use Rattle.port_range.specs.Memory.{LacksMarks}
@@ -6,8 +6,8 @@ use Rattle.slots.specs.Memory.{HasPlaces, LacksPlaces, LacksDues}
 use Rattle.bindings.specs.declared.entries.PortBounds.{PortBounds}
 use Rattle.bindings.specs.Ports.{key_count}
 
--- There are slots for so many entries, at least, and no more than timers tell: just as many as who was asked for them gave. What is as long as they are
--- isn't there: memory was refused for when each is looked at, or for the keys of those that are.
+-- There are slots for at least so many entries, and no more than timers have; how many is known to the call that made
+-- them. There is no memory for as many moments, or for as many keys.
 pub record LacksWatch (room : ℕ) : Type 0 where
   pub limit : ℕ
   pub least : room ≤ limit
@@ -15,10 +15,10 @@ pub record LacksWatch (room : ℕ) : Type 0 where
   pub given : HasPlaces room limit
   pub refused : LacksDues limit ⊎ WasRefused limit
 
--- a store with room for so many entries: there are no slots for them, or nobody looks at them
+-- there is no memory for a store of so many entries: none for the slots, or none for the looks at the entries
 abbrev pub LacksStore : ℕ → Type 0
 LacksStore room = LacksPlaces room ⊎ LacksWatch room
 
--- a table for the ports of these ranges, for each protocol
+-- there is no memory for a table of the ports of these ranges, for each protocol
 abbrev pub LacksTable : PortBounds → PortBounds → Type 0
 LacksTable zero one = LacksMarks ⊎ LacksStore (key_count zero one)

@@ -15,7 +15,7 @@ use Rattle.bindings.specs.Entries.{slot_of}
 abbrev pub key_of : Protocol → ℕ → Key
 key_of protocol port = record { protocol = protocol; port = record { 0 = port } }
 
--- no entry of that protocol has the port, a Doomed or Pending one neither
+-- no entry of that protocol has the port, not even a Doomed or a Pending one
 abbrev pub is_free_in : List Entry → Protocol → ℕ → Bool
 is_free_in entries protocol port = is_none (slot_of entries (key_of protocol port))
 
@@ -90,7 +90,7 @@ pub record AreAlike (lowest highest : ℕ) (ports : Ports) : Type 0 where
   pub tcp : IsLike ports.tcp lowest highest ports.tcp
   pub udp : IsLike ports.tcp lowest highest ports.udp
 
--- the bounds stay
+-- the bounds of a range don't change
 pub record SameEnds (old new : Range) : Type 0 where
   pub low : new.lowest ≡ old.lowest
   pub high : new.highest ≡ old.highest
@@ -100,13 +100,13 @@ pub record SameBounds (old new : Ports) : Type 0 where
   pub tcp : SameEnds old.tcp new.tcp
   pub udp : SameEnds old.udp new.udp
 
--- which ports are owned stays
+-- the owned ports don't change
 pub record SameOwned (old new : Ports) : Type 0 where
   pub icmp : new.icmp.owned ≡ old.icmp.owned
   pub tcp : new.tcp.owned ≡ old.tcp.owned
   pub udp : new.udp.owned ≡ old.udp.owned
 
--- which ports are free stays
+-- the free ports don't change
 pub record SameFree (old new : Ports) : Type 0 where
   pub icmp : new.icmp.free ≡ old.icmp.free
   pub tcp : new.tcp.free ≡ old.tcp.free

@@ -1,4 +1,4 @@
--- What a table's entries are once the peer begins anew.
+-- The entries of a table after the peer begins anew.
 use Rattle.std.specs.Prelude.{Bool, true, false, Option, Some, None, List, [], ◌∷◌, map, if◌then◌else◌}
 use Rattle.std.specs.List.{filter}
 use Rattle.nat_types.specs.declared.pairs.EntryState.{EntryState}
@@ -7,7 +7,7 @@ use Rattle.activity.specs.Lives.{Activity}
 use Rattle.bindings.specs.declared.entries.Entry.{Entry}
 use Rattle.bindings.specs.Entries.{is_pair, entry_in}
 
--- what was proposed or asked to be closed translates
+-- the state of a pair after that: a pair that was proposed, or that the peer was asked to close, translates
 abbrev pub woken : EntryState → EntryState
 woken Pending = Live
 woken Doomed = Doomed
@@ -15,7 +15,7 @@ woken Live = Live
 woken Closing = Live
 woken Held = Held
 
--- a pair that translates again then
+-- the state is one of which a pair translates after that, and not before
 abbrev pub comes_back : EntryState → Bool
 comes_back Pending = true
 comes_back Doomed = false
@@ -26,11 +26,11 @@ comes_back Held = false
 abbrev pub woken_entry : Entry → Entry
 woken_entry e = entry_in (woken e.state) e.pair
 
--- the entries then: proposals given up are no more
+-- the entries after that: Doomed ones are removed
 abbrev pub revived_entries : List Entry → List Entry
 revived_entries es = map woken_entry (filter (λ e. is_pair e.state) es)
 
--- what becomes of a slot
+-- the slot of a key after that
 abbrev pub revived_slot : Option Entry → Option Entry
 revived_slot None = None
 revived_slot (Some e) = (if is_pair e.state then Some (woken_entry e) else None)

@@ -22,7 +22,7 @@ abbrev pub runs_of : List ℕ → List PortBounds
 runs_of [] = []
 runs_of (p ∷ ps) = runs_on p p ps
 
--- those of a list from a port on
+-- the ports of a list from a port on
 abbrev pub ports_from_on : ℕ → List ℕ → List ℕ
 ports_from_on from ports = filter (nat_le from) ports
 
@@ -39,7 +39,7 @@ abbrev pub own_in : ℕ → List ℕ → List ℕ
 own_in p [] = p ∷ []
 own_in p (q ∷ qs) = (if nat_lt p q then p ∷ q ∷ qs else q ∷ own_in p qs)
 
--- without one
+-- the list without a port
 abbrev pub without_port : ℕ → List ℕ → List ℕ
 without_port p ports = filter (λ q. not (q == p)) ports
 

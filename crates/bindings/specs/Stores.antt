@@ -1,4 +1,4 @@
--- The entries of a table in slots, and what the index says of them.
+-- The entries of a table in slots, and what the index of endpoints has of them.
 use Rattle.std.specs.Prelude.{◌≡◌, ℕ, Option, List, [], ◌∷◌, map, if◌then◌else◌}
 use Rattle.std.specs.List.{find}
 use Rattle.std.specs.Option.{option_map}
@@ -15,8 +15,8 @@ use Rattle.bindings.specs.declared.entries.Entry.{Entry}
 use Rattle.bindings.specs.declared.store.Item.{Item}
 use Rattle.bindings.specs.Entries.{serves, is_pair_of, pairs_of}
 
--- entries and their lives, how many there is room for, for how many more pairs the index has room, by what it hashes, and
--- the keys that were to be looked at last
+-- entries and their lives, for how many there is capacity, for how many more pairs the index has capacity, by what it
+-- hashes, and the keys that were found last to be looked at
 pub record Store : Type 0 where
   pub entries : List Entry
   pub lives : List Activity
@@ -31,7 +31,7 @@ entries_of rows = map (λ r. r.item.entry) rows
 abbrev pub lives_of : List (Row Item) → List Activity
 lives_of rows = map (λ r. r.item.life) rows
 
--- each row stands under its entry's key
+-- each row is under its entry's key
 abbrev pub AreKeyed : List (Row Item) → Type 0
 AreKeyed [] = Unit {0}
 AreKeyed (r ∷ rows) = (r.key ≡ r.item.entry.pair.key) × AreKeyed rows

@@ -16,8 +16,8 @@ use Rattle.bindings.specs.Ports.{AreAlike, AreFree, in_either, lowest_of, highes
 use Rattle.bindings.specs.Lives.{HasPast, lives_without, idle_keys_in}
 
 -- A table: its entries by protocol (icmp first) and port, their lives, the ports that the gateway owns, the ranges of
--- both gateways, how many entries it has room for, for how many more adds it is ready, and by what it hashes endpoints
--- and inside addresses.
+-- both gateways, for how many entries there is capacity, for how many more adds the table is ready, and by what it
+-- hashes endpoints and inside addresses.
 pub record Table : Type 0 where
   pub entries : List Entry
   pub lives : List Activity
@@ -40,7 +40,7 @@ IsPast t key past = HasPast t.entries t.lives key past
 abbrev pub Accounts : Table → Key → ℕ → List ℕ → Type 0
 Accounts t key now uses = (past : History) × IsPast t key past × AccountsFor key.protocol now past uses
 
--- the keys of its idle entries that may be let go, by protocol and port
+-- the keys of a table's idle entries that may be released, by protocol and port
 abbrev pub idle_keys_of : Table → Bool → ℕ → List Key
 idle_keys_of t lone now = idle_keys_in lone now t.entries t.lives
 
@@ -88,7 +88,7 @@ with_entry_state t key state = record t { entries = with_state key state t.entri
 abbrev pub without_entry : Table → Key → Table
 without_entry t key = record t { entries = without key t.entries; lives = lives_without key t.entries t.lives }
 
--- The fields keep the same, with room for all that may come.
+-- The parts of a table agree with one another, with capacity for all entries that may come.
 pub record IsStored (entries : List Entry) (lives : List Activity) (ports : Ports) (zero one : PortBounds) (capacity places : ℕ) : Type 0 where
   pub order : AreInOrder entries
   pub keys : HasDistinctKeys entries

@@ -10,7 +10,7 @@ use nat_types::{Endpoint, EntryState, Key, Pair};
 use std::fmt;
 use thiserror::Error;
 
-/// A pair, and where it stands.
+/// A pair in the table, and its state.
 #[derive(Clone, Copy, Debug, PartialEq, Eq)]
 pub struct Entry {
     pub pair: Pair,
@@ -33,7 +33,7 @@ impl PortBounds {
     }
 }
 
-/// Why an entry can't come into the table.
+/// The reason for which an entry can't come into the table.
 #[derive(Clone, Copy, Debug, PartialEq, Eq, Error)]
 pub enum TableFault {
     Full,
@@ -69,7 +69,7 @@ pub(crate) fn is_translating(state: EntryState) -> bool
     }
 }
 
-/// Whether an idle entry may be let go: a Live one, and a Held one where the gateway is lone.
+/// Whether an idle entry of this state may be released: a Live one, and a Held one where the gateway is lone.
 pub(crate) fn may_go_state(lone: bool, state: EntryState) -> bool
     ensures { result ≡ may_go lone state }
 {
@@ -92,7 +92,8 @@ pub(crate) fn endpoint_of(pair: Pair) -> Endpoint
     pair.endpoint
 }
 
-/// The state of a pair once the peer begins anew: what was proposed or asked to be closed translates.
+/// Returns the state of a pair after the peer begins anew: a pair that was proposed, or that the peer was asked to
+/// close, translates.
 pub(crate) fn woken_state(state: EntryState) -> EntryState
     ensures { result ≡ woken state }
 {

@@ -11,19 +11,19 @@ ghost use Rattle.activity.specs.Rests.{HaveRested};
 ghost use Rattle.activity.specs.Lives.{least_rest};
 ghost use Rattle.activity.specs.declared.packets.Packet.{Packet as Carried};
 
-/// Where all entries lie in the ranges, a key of the ranges without an entry never meets Full.
+/// States that the table is never Full for a key of the ranges without an entry, where all entries are in the ranges.
 pub fn room_law()
     ensures { (t : Seen) → IsTable t → AreInRanges t → (key : OutsidePort)
         → in_either t.zero t.one key.port.0 ≡ true → slot_of t.entries key ≡ None
         → length t.entries < t.capacity }
 {}
 
-/// A list of uses has the moments at which the gateway used a key's pair in its present life. `Accounts` says that the
-/// key's entry knows of them: it begins where they have rested and the entry comes in (`begins`) or is renewed
-/// (`renewed`), and goes on with a carried packet (`carried`), where the entry's life begins anew while its pair is in use
-/// (`anew`), and with any change that leaves the entry its pasts (`kept`).
-/// Where the entry is idle, or unused, they have rested (`idle`, `listed`, `unused`): `HaveRested` of `activity` says what
-/// that gives to a trace.
+/// States what a key's entry knows of the uses of its pair. A list of uses has the times at which the gateway used a
+/// key's pair in its present life. `Accounts` says that the key's entry knows of all of them. That begins where they
+/// have rested and the entry comes in (`begins`) or is renewed (`renewed`), and goes on with a carried packet
+/// (`carried`), where the entry's life begins anew while its pair is in use (`anew`), and with any change that leaves
+/// the entry its pasts (`kept`). Where the entry is idle, or unused, all the uses have rested (`idle`, `listed`,
+/// `unused`): `HaveRested` of `activity` says what that means for a trace.
 pub fn uses_law()
     ensures begins { (t : Seen) → (key : OutsidePort) → (by_install : Bool) → (now : ℕ)
         → (uses : List ℕ) → IsPast t key (came by_install now)

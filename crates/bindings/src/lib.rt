@@ -1,4 +1,5 @@
-//! The gateway's table of pairs: entries by protocol and port, what they carried, and the ports that it owns.
+//! The gateway's table of pairs: entries by protocol and port, what their pairs carried, and the ports that the gateway
+//! owns.
 #![tactic(auto)]
 
 mod entries;

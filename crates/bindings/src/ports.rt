@@ -24,7 +24,7 @@ pub(crate) struct Ports {
     pub udp: Range,
 }
 
-/// The lowest port of two ranges.
+/// Returns the lowest port of two ranges.
 pub(crate) fn lowest_port(zero: PortBounds, one: PortBounds) -> Port
     ensures { result.0 ≡ lowest_of zero one }
 {
@@ -35,7 +35,7 @@ pub(crate) fn lowest_port(zero: PortBounds, one: PortBounds) -> Port
     }
 }
 
-/// The highest port of two ranges.
+/// Returns the highest port of two ranges.
 pub(crate) fn highest_port(zero: PortBounds, one: PortBounds) -> Port
     ensures { result.0 ≡ highest_of zero one }
 {
@@ -63,7 +63,7 @@ fn unowned(alloc: Global, lowest: Port, highest: Port) -> Result<Range, AllocErr
     }
 }
 
-/// Takes a port of the range, where it is free.
+/// Takes a port of the range, where it is free, so that it is free no more.
 fn take_in(range: &mut Range, port: Port)
     ensures free { (p : ℕ) → is_free range.new p ≡ (if p == port.0 then false
         else is_free range.old p) }
@@ -91,7 +91,7 @@ fn put_back_in(range: &mut Range, port: Port)
 }
 
 impl Ports {
-    /// All free, and none owned.
+    /// Makes ranges of free ports, none of them owned. An Err says that there is no memory.
     pub(crate) fn new(alloc: Global, lowest: Port, highest: Port) -> Result<Ports, AllocError>
         requires { is_bad lowest.0 highest.0 ≡ false }
         ensures alike { IfOk result (AreAlike lowest.0 highest.0) }
@@ -114,7 +114,7 @@ impl Ports {
         Ok(Ports { icmp, tcp, udp })
     }
 
-    /// Takes a key that is free, and leaves another one.
+    /// Takes a key that is free, so that it is free no more, and leaves any other key as it is.
     pub(crate) fn take(&mut self, key: Key)
         ensures free { (q : OutsidePort) → is_free_at self.new q ≡ (if same_key key q then false
             else is_free_at self.old q) }
@@ -144,7 +144,7 @@ impl Ports {
         }
     }
 
-    /// Makes a port of the ranges an owned one.
+    /// Makes a port of the ranges owned, for each protocol.
     pub(crate) fn own(&mut self, port: Port)
         requires alike { AreAlike self.old.tcp.lowest self.old.tcp.highest self.old }
         requires within { is_within self.old.tcp.lowest self.old.tcp.highest port.0 ≡ true }
@@ -166,7 +166,7 @@ impl Ports {
         self.tcp.recall();
     }
 
-    /// Makes the ports of a range that lies in these owned ones.
+    /// Makes the ports of a range that lies in these owned, for each protocol.
     fn own_range(&mut self, bounds: PortBounds)
         requires alike { AreAlike self.old.tcp.lowest self.old.tcp.highest self.old }
         requires low { self.old.tcp.lowest ≤ bounds.lowest.0 }
@@ -182,7 +182,7 @@ impl Ports {
         self.udp.own_between(lowest, highest);
     }
 
-    /// Makes all ports of the ranges owned ones. No other port was.
+    /// Makes all ports of the ranges owned. No other port is owned before the call.
     pub(crate) fn own_all(&mut self, zero: PortBounds, one: PortBounds)
         requires alike { AreAlike (lowest_of zero one) (highest_of zero one) self.old }
         requires inside { (p : ℕ) → is_owned self.old.tcp p ≡ true
@@ -197,7 +197,7 @@ impl Ports {
         self.tcp.recall();
     }
 
-    /// Makes all ports free, and owns none.
+    /// Makes all ports free, and none of them owned.
     pub(crate) fn reset(&mut self)
         requires { AreAlike self.old.tcp.lowest self.old.tcp.highest self.old }
         ensures alike { AreAlike self.old.tcp.lowest self.old.tcp.highest self.new }
@@ -210,7 +210,7 @@ impl Ports {
         self.udp.reset();
     }
 
-    /// Gives up an owned port that is free for each protocol.
+    /// Makes an owned port that is free for each protocol unowned.
     pub(crate) fn disown(&mut self, port: Port)
         requires alike { AreAlike self.old.tcp.lowest self.old.tcp.highest self.old }
         requires owned { is_owned self.old.tcp port.0 ≡ true }
@@ -234,7 +234,7 @@ impl Ports {
         self.tcp.recall();
     }
 
-    /// Of 64 ports, the first of which is 64 times a number, those that are owned, and free for each protocol, as bits.
+    /// Returns, as bits, the ports among the 64 from `64 * index` on that are owned, and free for each protocol.
     fn spare_word(&self, index: usize) -> u64
         requires { index < 1024 }
         ensures { (i : ℕ) → i < 64 → is_set result i ≡ is_spare_in self.now (index * 64 + i) }
@@ -245,7 +245,7 @@ impl Ports {
             & self.udp.free_word(index)
     }
 
-    /// The greatest port below a number that is owned, and free for each protocol.
+    /// Returns the greatest port below `end` that is owned, and free for each protocol, or None where there is none.
     pub(crate) fn spare_below(&self, end: usize) -> Option<Port>
         requires { end ≤ 65536 }
         ensures some { IfSome result (λ port. IsLastBelow (is_spare_in self.now) end port.0) }

@@ -1,4 +1,4 @@
-//! What becomes of a table's entries once the peer begins anew, or is off for good.
+//! The changes of all entries of a table when the peer begins anew, or is off for good.
 ghost use Rattle.std.specs.Prelude.{◌≡◌, ◌≤◌, Some, map, if◌then◌else◌};
 ghost use Rattle.std.specs.List.{filter};
 ghost use Rattle.bindings.specs.Entries.{is_pair, entry_in, slot_of};
@@ -14,7 +14,7 @@ use crate::ports::Ports;
 use crate::store::Store;
 use nat_types::{EntryState, Pair};
 
-/// Takes an entry out where it is Doomed, and makes its key free.
+/// Removes an entry where it is Doomed, and makes its key free.
 fn drop_if_doomed(store: &mut Store, ports: &mut Ports, pair: Pair, state: EntryState)
     requires held { slot_of store.old.entries pair.key ≡ Some (entry_in state pair) }
     requires same { AreAlike ports.old.tcp.lowest ports.old.tcp.highest ports.old }
@@ -37,7 +37,7 @@ fn drop_if_doomed(store: &mut Store, ports: &mut Ports, pair: Pair, state: Entry
     }
 }
 
-/// Takes the Doomed entries out, and their lives, and makes their keys free.
+/// Removes the Doomed entries and their lives, and makes their keys free.
 pub(crate) fn drop_doomed(store: &mut Store, ports: &mut Ports)
     requires same { AreAlike ports.old.tcp.lowest ports.old.tcp.highest ports.old }
     requires free { AreFree ports.old.tcp.lowest ports.old.tcp.highest store.old.entries ports.old }
@@ -60,7 +60,7 @@ pub(crate) fn drop_doomed(store: &mut Store, ports: &mut Ports)
     store.recall();
 }
 
-/// What was proposed or asked to be closed translates.
+/// Makes each pair that was proposed, or that the peer was asked to close, translate.
 pub(crate) fn wake(store: &mut Store)
     ensures entries { store.new.entries ≡ map woken_entry store.old.entries }
     ensures lives { store.new.lives ≡ store.old.lives }
@@ -78,7 +78,7 @@ pub(crate) fn wake(store: &mut Store)
     }
 }
 
-/// The list of packets of each pair begins empty.
+/// Begins the life of each pair anew at `now`, with an empty list of packets.
 pub(crate) fn renew_all(store: &mut Store, now: u64)
     ensures { store.new ≡ record store.old {
       lives = map (life_renewed now) store.old.lives;

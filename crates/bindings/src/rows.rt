@@ -13,7 +13,7 @@ use memory::push;
 use nat_types::{EntryState, Key, Pair};
 use std::alloc::{AllocError, Global};
 
-/// Why an entry can't come in: the first reason that holds.
+/// Returns the first reason that holds for which an entry can't come in, or None where it can.
 pub(crate) fn refusal(
     store: &Store,
     capacity: usize,
@@ -71,7 +71,7 @@ fn is_listed_state(translating: bool, state: EntryState) -> bool
     }
 }
 
-/// The pairs that translate, or all but Doomed ones, in order.
+/// Returns the pairs that translate, or all but Doomed ones, in order.
 pub(crate) fn list_pairs(
     alloc: Global,
     store: &Store,
@@ -92,7 +92,7 @@ pub(crate) fn list_pairs(
     Ok(pairs)
 }
 
-/// Whether a key's entry is idle and may be let go.
+/// Whether a key's entry is idle and may be released.
 fn is_idle_entry(store: &Store, key: Key, lone: bool, now: u64) -> bool
     ensures { result ≡ is_idle_key lone now store.now.entries store.now.lives key }
 {
@@ -102,7 +102,7 @@ fn is_idle_entry(store: &Store, key: Key, lone: bool, now: u64) -> bool
     }
 }
 
-/// How many of the keys have idle entries that may be let go.
+/// Returns how many of the keys have idle entries that may be released.
 pub(crate) fn count_idle(store: &Store, keys: &[Key], lone: bool, now: u64) -> usize
     ensures { result
         ≡ count_by (is_idle_key lone now store.now.entries store.now.lives) keys.now }
@@ -116,7 +116,8 @@ pub(crate) fn count_idle(store: &Store, keys: &[Key], lone: bool, now: u64) -> u
     count
 }
 
-/// Lists those of the keys whose entries are idle and may be let go.
+/// Appends those of the keys whose entries are idle and may be released to a list with capacity for
+/// them.
 pub(crate) fn list_idle(store: &Store, keys: &[Key], lone: bool, now: u64, out: &mut Vec<Key>)
     requires { vec_len out.old + count_by (is_idle_key lone now store.now.entries store.now.lives)
         keys.now ≤ vec_capacity out.old }

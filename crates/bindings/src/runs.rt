@@ -1,4 +1,4 @@
-//! The owned ports of a range, in order.
+//! The owned ports of a range, in order, and their unbroken runs.
 ghost use Rattle.std.specs.Prelude.{◌≡◌, ◌+◌, [], ◌∷◌, true, Some, map, IfOk, OnErr, IfSome, IfNone};
 ghost use Rattle.memory.specs.Memory.{WasRefused};
 ghost use Rattle.port_range.specs.Ports.{is_owned};
@@ -10,7 +10,7 @@ use memory::push;
 use port_range::Range;
 use std::alloc::{AllocError, Global};
 
-/// The first owned port from one on.
+/// Returns the first owned port that is at least `from`, or None where there is none.
 fn first_owned(range: &Range, from: Port) -> Option<Port>
     ensures owned { IfSome result (λ p. is_owned range.now p.0 ≡ true) }
     ensures some { IfSome result (λ p. ports_from_on from.0 range.now.owned
@@ -21,7 +21,7 @@ fn first_owned(range: &Range, from: Port) -> Option<Port>
     range.next_owned(from)
 }
 
-/// The last port of the unbroken run that begins with an owned one.
+/// Returns the last port of the unbroken run of owned ports that begins with `first`.
 fn end_of_run(range: &Range, first: Port, highest: Port) -> Port
     requires highest { range.now.highest ≡ highest.0 }
     requires owned { is_owned range.now first.0 ≡ true }
@@ -35,7 +35,8 @@ fn end_of_run(range: &Range, first: Port, highest: Port) -> Port
     }
 }
 
-/// The first unbroken run of the owned ports from one on.
+/// Returns the first unbroken run of the owned ports from `from` on, or None where no such port is
+/// owned.
 pub(crate) fn find_run(range: &Range, from: Port, highest: Port) -> Option<PortBounds>
     requires { range.now.highest ≡ highest.0 }
     ensures { result ≡ first_run from.0 range.now.owned }
@@ -49,7 +50,7 @@ pub(crate) fn find_run(range: &Range, from: Port, highest: Port) -> Option<PortB
     }
 }
 
-/// The owned ports, rising.
+/// Returns the owned ports, rising.
 pub(crate) fn list_owned(
     alloc: Global,
     range: &Range,

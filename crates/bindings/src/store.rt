@@ -35,7 +35,7 @@ use slots::{Dues, EndpointIndex, Hashers, PortSlots, SlotNumber};
 use std::alloc::{AllocError, Global};
 use std::marker::Model;
 
-/// What a slot has.
+/// The content of a slot: an entry and its life.
 #[derive(Drop)]
 pub(crate) struct Item {
     entry: Entry,
@@ -46,14 +46,14 @@ pub(crate) struct Item {
 #[derive(Drop)]
 pub(crate) struct Store {
     slots: PortSlots<Item>,
-    // The slot of each pair, by its endpoint, and how many pairs each inside address has. A Doomed entry is none.
+    // The slot of each pair, by its endpoint, and how many pairs each inside address has. A Doomed entry isn't a pair.
     index: EndpointIndex<Hashers>,
-    // When each entry that may be let go is looked at again: at the latest when it is idle. A slot that was given up may
-    // be due, too, and is looked at then for whoever has it.
+    // The time at which each entry that may be released is looked at again, which is not after the entry is idle. A
+    // slot that no entry has any more may be due too. Its next entry is then looked at once too often.
     dues: Dues,
-    // Whether Held entries are looked at, too.
+    // Whether Held entries are looked at too, as those of a lone gateway are.
     alone: bool,
-    // The keys that are to be looked at now, with room for one of each slot.
+    // The keys that are to be looked at now, with capacity for one of each slot.
     found: Vec<Key>,
 }
 
@@ -92,7 +92,7 @@ fn item_with(pair: Pair, state: EntryState, life: Activity) -> Item
     Item { entry, life }
 }
 
-/// An entry that comes in is found by its endpoint where it is a pair.
+/// Adds the endpoint of a new entry to the index, where the entry is a pair.
 fn list_pair(index: &mut EndpointIndex<Hashers>, pair: Pair, state: EntryState, number: SlotNumber)
     requires spare { 0 < index.old.spare }
     requires free { is_pair state ≡ true
@@ -109,7 +109,7 @@ fn list_pair(index: &mut EndpointIndex<Hashers>, pair: Pair, state: EntryState, 
     }
 }
 
-/// An entry that goes is found no more.
+/// Removes the endpoint of an entry that is removed from the index, where the entry is a pair.
 fn unlist(index: &mut EndpointIndex<Hashers>, pair: Pair, state: EntryState)
     requires held { is_pair state ≡ true → IsSome (number_of_endpoint index.old pair.endpoint) }
     ensures slots { (x : InsidePort) → number_of_endpoint index.new x ≡ (if serves x (entry_in
@@ -124,7 +124,8 @@ fn unlist(index: &mut EndpointIndex<Hashers>, pair: Pair, state: EntryState)
     }
 }
 
-/// An entry that isn't a pair in its new state is found no more.
+/// Removes the endpoint of an entry from the index, where the entry is a pair before the change of its state and not
+/// after.
 fn unlist_turned(index: &mut EndpointIndex<Hashers>, pair: Pair, was: EntryState, state: EntryState)
     requires held { is_pair was ≡ true → IsSome (number_of_endpoint index.old pair.endpoint) }
     ensures slots { (x : InsidePort) → number_of_endpoint index.new x
@@ -140,7 +141,7 @@ fn unlist_turned(index: &mut EndpointIndex<Hashers>, pair: Pair, was: EntryState
     }
 }
 
-/// The entry in a slot that is in use.
+/// Returns the entry in a slot that is in use.
 fn entry_at(slots: &PortSlots<Item>, number: SlotNumber) -> Option<Entry>
     ensures { (key : OutsidePort) → (item : Kept) → number_of slots.now.rows key ≡ Some number
         → item_of slots.now.rows key ≡ Some item → result ≡ Some item.entry }
@@ -151,7 +152,7 @@ fn entry_at(slots: &PortSlots<Item>, number: SlotNumber) -> Option<Entry>
     }
 }
 
-/// Puts a pair in another state into a key's slot.
+/// Sets the state of the pair in a key's slot.
 fn put_state(slots: &mut PortSlots<Item>, key: Key, pair: Pair, state: EntryState)
     ensures some { (item : Kept) → item_of slots.old.rows key ≡ Some item → slots.new
         ≡ record slots.old {
@@ -165,7 +166,7 @@ fn put_state(slots: &mut PortSlots<Item>, key: Key, pair: Pair, state: EntryStat
     }
 }
 
-/// A packet is carried with a key's pair.
+/// Adds a packet to the life in a key's slot.
 #[inline(always)]
 fn put_packet(slots: &mut PortSlots<Item>, key: Key, packet: Packet)
     ensures some { (item : Kept) → item_of slots.old.rows key ≡ Some item → slots.new
@@ -186,7 +187,7 @@ fn put_packet(slots: &mut PortSlots<Item>, key: Key, packet: Packet)
     }
 }
 
-/// The list of packets of a key's pair begins empty.
+/// Begins the life in a key's slot anew, with an empty list of packets.
 fn put_renewal(slots: &mut PortSlots<Item>, key: Key, now: u64)
     ensures some { (item : Kept) → item_of slots.old.rows key ≡ Some item → slots.new
         ≡ record slots.old {
@@ -204,8 +205,8 @@ fn put_renewal(slots: &mut PortSlots<Item>, key: Key, now: u64)
     }
 }
 
-/// A key whose entry may be let go is due no later than the entry is idle. One that is due before that
-/// is looked at then, and set anew.
+/// Makes a key's slot due not later than its entry is idle, where the entry may be released. A slot that is due before
+/// that is left, and is set again after it was looked at.
 #[inline(always)]
 fn set_in_time(slots: &PortSlots<Item>, dues: &mut Dues, alone: bool, key: Key)
     requires count { length dues.old.moments ≡ slots.now.limit }
@@ -225,7 +226,7 @@ fn set_in_time(slots: &PortSlots<Item>, dues: &mut Dues, alone: bool, key: Key)
     }
 }
 
-/// Whether a slot is due at that moment or before.
+/// Whether a slot is due at that time or before.
 fn is_due_by(dues: &Dues, number: SlotNumber, moment: u64) -> bool
     requires { number.0 < length dues.now.moments }
     ensures { result ≡ is_due moment (moment_of dues.now.moments number) }
@@ -236,7 +237,7 @@ fn is_due_by(dues: &Dues, number: SlotNumber, moment: u64) -> bool
     }
 }
 
-/// Sets those keys again that came due and whose entries may be let go.
+/// Sets the slots of those keys again that came due and whose entries may be released.
 fn set_again(slots: &PortSlots<Item>, dues: &mut Dues, alone: bool, keys: &[Key])
     requires count { length dues.old.moments ≡ slots.now.limit }
     requires timed { AreTimedBut alone keys.now dues.old.moments slots.now.rows }
@@ -248,7 +249,7 @@ fn set_again(slots: &PortSlots<Item>, dues: &mut Dues, alone: bool, keys: &[Key]
     }
 }
 
-/// Sets all keys whose entries may be let go once the gateway is lone.
+/// Sets the slots of all keys whose entries may be released by a lone gateway.
 fn set_all(slots: &PortSlots<Item>, dues: &mut Dues)
     requires count { length dues.old.moments ≡ slots.now.limit }
     requires keyed { AreKeyed slots.now.rows }
@@ -263,7 +264,8 @@ fn set_all(slots: &PortSlots<Item>, dues: &mut Dues)
     }
 }
 
-/// The gateway is lone, or isn't: where it comes to be, all keys are set whose entries may now be let go.
+/// Records whether the gateway is lone. Where it has just become lone, the slots of all entries that may now be
+/// released are set.
 fn set_alone(slots: &PortSlots<Item>, dues: &mut Dues, alone: bool, lone: bool)
     requires count { length dues.old.moments ≡ slots.now.limit }
     requires keyed { AreKeyed slots.now.rows }
@@ -276,7 +278,7 @@ fn set_alone(slots: &PortSlots<Item>, dues: &mut Dues, alone: bool, lone: bool)
     }
 }
 
-/// The key that has a slot, if one has.
+/// Returns the key that has a slot, or None where no key has it.
 fn key_at(slots: &PortSlots<Item>, number: SlotNumber) -> Option<Key>
     requires { AreKeyed slots.now.rows }
     ensures own { (key : OutsidePort) → number_of slots.now.rows key ≡ Some number
@@ -289,7 +291,7 @@ fn key_at(slots: &PortSlots<Item>, number: SlotNumber) -> Option<Key>
     }
 }
 
-/// Lists the keys of the slots that were found, in any order.
+/// Lists the keys of the slots that were found due, in any order.
 fn list_keys(slots: &PortSlots<Item>, dues: &mut Dues, keys: &mut Vec<Key>)
     requires keyed { AreKeyed slots.now.rows }
     requires empty { keys.old.items ≡ [] }
@@ -305,7 +307,7 @@ fn list_keys(slots: &PortSlots<Item>, dues: &mut Dues, keys: &mut Vec<Key>)
     }
 }
 
-/// A key's place in the order by protocol (icmp first) and port.
+/// Returns a key's place in the order by protocol (icmp first) and port.
 fn place(key: Key) -> u32
     ensures { result ≡ key_place key }
 {
@@ -321,7 +323,8 @@ fn sort_keys(keys: &mut Vec<Key>)
 }
 
 impl Store {
-    /// No entries, and room for so many.
+    /// Makes a store without entries, with capacity for `room` entries. An Err says that there is no memory, or that
+    /// there are too many slots.
     pub(crate) fn new(alloc: Global, room: usize, hashers: Hashers) -> Result<Store, AllocError>
         ensures entries { IfOk result (λ s. s.entries ≡ []) }
         ensures lives { IfOk result (λ s. s.lives ≡ []) }
@@ -349,7 +352,7 @@ impl Store {
         })
     }
 
-    /// Reminds the prover of the order of the entries; it does nothing when it runs.
+    /// Reminds the prover of the order of the entries. The call does nothing at run time.
     pub(crate) fn recall(&self)
         ensures order { RisesUp 0 self.now.entries }
         ensures alike { length self.now.lives ≡ length self.now.entries }
@@ -363,7 +366,7 @@ impl Store {
         self.slots.len()
     }
 
-    /// Makes room in the index for so many more pairs.
+    /// Reserves capacity in the index for `more` more pairs.
     pub(crate) fn ready(&mut self, more: usize) -> Result<(), AllocError>
         ensures ok { OnOk result (more ≤ self.new.spare) }
         ensures spare { self.old.spare ≤ self.new.spare }
@@ -374,7 +377,7 @@ impl Store {
         self.index.ready(more)
     }
 
-    /// The entry of a key.
+    /// Returns the entry of a key, or None where the key has none.
     #[inline(always)]
     pub(crate) fn entry(&self, key: Key) -> Option<Entry>
         ensures { result ≡ slot_of self.now.entries key }
@@ -385,7 +388,7 @@ impl Store {
         }
     }
 
-    /// The entry of an endpoint. A Doomed one doesn't count.
+    /// Returns the entry of an endpoint, or None where the endpoint has none. A Doomed entry doesn't count.
     #[inline(always)]
     pub(crate) fn entry_of(&self, endpoint: Endpoint) -> Option<Entry>
         ensures { result ≡ entry_of self.now.entries endpoint }
@@ -397,14 +400,14 @@ impl Store {
         }
     }
 
-    /// How many pairs an inside address has. Doomed ones don't count.
+    /// Returns how many pairs an inside address has. Doomed entries don't count.
     pub(crate) fn pairs_of(&self, address: Ip) -> u32
         ensures { result ≡ pairs_of address self.now.entries }
     {
         self.index.count_of(address)
     }
 
-    /// The first entry behind a key in the order, or the first of all.
+    /// Returns the first entry after a key in the order, or the first of all for None.
     pub(crate) fn entry_after(&self, last: Option<Key>) -> Option<Entry>
         ensures { result ≡ after_key last self.now.entries }
     {
@@ -415,7 +418,7 @@ impl Store {
         }
     }
 
-    /// One more entry, with its life.
+    /// Adds an entry with its life.
     pub(crate) fn add(&mut self, pair: Pair, state: EntryState, life: Activity)
         requires vacant { slot_of self.old.entries pair.key ≡ None }
         requires free { is_pair state ≡ true
@@ -435,7 +438,7 @@ impl Store {
         set_in_time(&self.slots, &mut self.dues, self.alone, key);
     }
 
-    /// Gives a key's entry another state. None becomes a pair by it.
+    /// Sets the state of a key's entry. An entry that isn't a pair doesn't become one.
     pub(crate) fn turn(&mut self, key: Key, state: EntryState)
         requires pair { (e : Row) → slot_of self.old.entries key ≡ Some e
             → is_pair state ≡ true
@@ -458,7 +461,7 @@ impl Store {
         }
     }
 
-    /// Takes a key's entry out, and its life.
+    /// Removes a key's entry and its life.
     pub(crate) fn take_out(&mut self, key: Key)
         requires { (e : Row) → slot_of self.old.entries key ≡ Some e
             → is_pair e.state ≡ true
@@ -476,7 +479,7 @@ impl Store {
         }
     }
 
-    /// Takes all entries out.
+    /// Removes all entries.
     pub(crate) fn clear(&mut self)
         ensures entries { self.new.entries ≡ [] }
         ensures lives { self.new.lives ≡ [] }
@@ -488,7 +491,7 @@ impl Store {
         self.index.clear();
     }
 
-    /// A packet is carried with a key's pair.
+    /// Adds a packet that a key's pair carried to its life.
     #[inline(always)]
     pub(crate) fn carry(&mut self, key: Key, packet: Packet)
         ensures lives { self.new ≡ record self.old {
@@ -504,7 +507,7 @@ impl Store {
         set_in_time(&self.slots, &mut self.dues, self.alone, key);
     }
 
-    /// The list of packets of a key's pair begins empty.
+    /// Begins the life of a key's pair anew at `now`, with an empty list of packets.
     pub(crate) fn renew(&mut self, key: Key, now: u64)
         ensures lives { self.new ≡ record self.old {
           lives = lives_with (life_renewed now) key self.old.entries self.old.lives;
@@ -519,7 +522,8 @@ impl Store {
         set_in_time(&self.slots, &mut self.dues, self.alone, key);
     }
 
-    /// Finds the keys that are to be looked at, in order. The keys of all idle entries that may be let go are among them.
+    /// Finds the keys that are to be looked at, in order. The keys of all idle entries that may be released are among
+    /// them.
     pub(crate) fn find_due(&mut self, lone: bool, now: u64)
         ensures among { idle_keys_in lone now self.old.entries self.old.lives
             ≡ idle_among lone now self.old.entries self.old.lives self.new.found }
@@ -535,7 +539,7 @@ impl Store {
         set_again(&self.slots, &mut self.dues, lone, &self.found);
     }
 
-    /// The keys that were found last.
+    /// Returns the keys that the last `find_due` found.
     pub(crate) fn found(&self) -> &[Key]
         ensures { result.now ≡ self.now.found }
     {

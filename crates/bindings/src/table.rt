@@ -1,4 +1,4 @@
-//! The table of a gateway.
+//! The table of pairs of a gateway.
 ghost use Rattle.std.specs.Prelude.{◌≡◌, ◌+◌, ◌-◌, ◌<◌, ◌≤◌, ℕ, [], None, Some, true, false, ◌==◌, ◌++◌, ◌&&◌, length, map, max, vec_len, vec_capacity, IsOk, if◌then◌else◌, IfOk, IfErr, IfSome, IfNone, OnOk, OnErr};
 ghost use Rattle.memory.specs.Memory.{WasRefused};
 ghost use Rattle.slots.specs.Memory.{LacksEndpoints};
@@ -37,7 +37,8 @@ use slots::Hashers;
 use std::alloc::{AllocError, Global};
 use std::marker::Model;
 
-/// Entries by protocol (icmp first) and port: distinct keys, and distinct endpoints except Doomed ones.
+/// A table of entries by protocol (icmp first) and port. Keys are distinct, and so are endpoints, except those of
+/// Doomed entries.
 #[derive(Drop)]
 pub struct Table {
     alloc: Global,
@@ -79,8 +80,9 @@ fn port_count(bounds: PortBounds) -> usize
 }
 
 impl Table {
-    /// An empty table for the ranges of both gateways, with room for all their ports for each protocol. It owns no port,
-    /// and hashes endpoints by the caller's hashers.
+    /// Makes an empty table for the ranges of both gateways, with capacity for all their ports for each protocol. The
+    /// table owns no port, and hashes endpoints by the caller's hashers. An Err says that there is no memory, or that
+    /// there are too many slots (`LacksTable`).
     pub fn new(
         alloc: Global,
         zero: PortBounds,
@@ -115,14 +117,14 @@ impl Table {
         })
     }
 
-    /// Reminds the prover of what each table keeps; it does nothing when it runs.
+    /// Reminds the prover of what each table keeps. The call does nothing at run time.
     pub fn recall(&self)
         ensures { IsTable self.now }
     {
         self.ports.tcp.recall();
     }
 
-    /// The entry of an outside port, whatever its state.
+    /// Returns the entry of an outside port, whatever its state, or None where the port has none.
     #[inline(always)]
     pub fn pair_of_port(&self, key: Key) -> Option<Entry>
         ensures { result ≡ slot_of self.now.entries key }
@@ -130,22 +132,22 @@ impl Table {
         self.store.entry(key)
     }
 
-    /// How many entries there are, whatever their state.
+    /// Returns how many entries there are, whatever their state.
     pub fn len(&self) -> usize
         ensures { result ≡ length self.now.entries }
     {
         self.store.len()
     }
 
-    /// The entry that follows a key in the order by protocol (icmp first) and port, whatever its state; of `None` the
-    /// first one. The key needs no entry of its own.
+    /// Returns the entry that follows a key in the order by protocol (icmp first) and port, whatever its state, or the
+    /// first entry for None. The key needs no entry of its own.
     pub fn entry_after(&self, last: Option<Key>) -> Option<Entry>
         ensures { result ≡ after_key last self.now.entries }
     {
         self.store.entry_after(last)
     }
 
-    /// The entry of an endpoint. A Doomed one doesn't count.
+    /// Returns the entry of an endpoint, or None where the endpoint has none. A Doomed entry doesn't count.
     #[inline(always)]
     pub fn port_of(&self, endpoint: Endpoint) -> Option<Entry>
         ensures { result ≡ entry_of self.now.entries endpoint }
@@ -153,16 +155,18 @@ impl Table {
         self.store.entry_of(endpoint)
     }
 
-    /// How many pairs an inside address has, of all protocols together and whatever their state. Doomed ones don't count.
+    /// Returns how many pairs an inside address has, of all protocols together and whatever their state. Doomed entries
+    /// don't count.
     pub fn pairs_of(&self, address: Ip) -> u32
         ensures { result ≡ pairs_of address self.now.entries }
     {
         self.store.pairs_of(address)
     }
 
-    /// Makes the table ready for as many adds as there are endpoints, until the next call. Each later `add` that succeeds
-    /// uses one of them up, whatever its endpoint. So a caller hands in one endpoint for each add that may come: a record
-    /// gives at most one, its own or that of the one packet whose wait it ends.
+    /// Makes the table ready for as many calls of `add` as there are endpoints, until the next call of `ready`. Each
+    /// later `add` that succeeds uses one of them up, whatever its endpoint. So a caller passes one endpoint for each
+    /// `add` that may come: a record gives at most one, its own or that of the one packet whose wait it ends. An Err
+    /// says that there is no memory, or that there would be more than 4,294,967,295 entries, and changes nothing.
     pub fn ready(&mut self, endpoints: &[Endpoint]) -> Result<(), AllocError>
         ensures ok { OnOk result (self.new ≡ record self.old { ready = length endpoints.now }) }
         ensures err { OnErr result (self.new ≡ self.old) }
@@ -176,7 +180,7 @@ impl Table {
         Ok(())
     }
 
-    /// Adds a pair in that state, whose life begins now.
+    /// Adds a pair in a state. Its life begins at `now`.
     pub fn add(
         &mut self,
         pair: Pair,
@@ -216,7 +220,7 @@ impl Table {
         Ok(())
     }
 
-    /// Puts a key's entry into another state. It is no Doomed one; a key without an entry changes nothing.
+    /// Sets the state of a key's entry, which must not be Doomed. A key without an entry changes nothing.
     pub fn set_state(&mut self, key: Key, state: EntryState)
         requires { (entry : Row) → slot_of self.old.entries key ≡ Some entry
             → is_pair entry.state
@@ -231,7 +235,7 @@ impl Table {
         self.store.turn(key, state);
     }
 
-    /// Takes a key's entry out. A key without an entry changes nothing.
+    /// Removes a key's entry. A key without an entry changes nothing.
     pub fn remove(&mut self, key: Key)
         ensures entries { self.new ≡ without_entry self.old key }
         ensures slots { (q : OutsidePort) → slot_of self.new.entries q
@@ -243,8 +247,8 @@ impl Table {
         self.ports.put_back(key);
     }
 
-    /// The peer begins anew: what was proposed or asked to be closed translates, with the lives that it has, and
-    /// proposals given up are no more.
+    /// Changes the entries as the peer begins anew: pairs that were proposed, or that the peer was asked to close,
+    /// translate, with the lives that they have, and Doomed entries (proposals given up) are removed.
     pub fn revive(&mut self)
         ensures entries { self.new.entries ≡ revived_entries self.old.entries }
         ensures slots { (q : OutsidePort) → slot_of self.new.entries q
@@ -262,8 +266,8 @@ impl Table {
         wake(&mut self.store);
     }
 
-    /// The operator says that the peer is off. It may have carried packets until then, so that the life of every pair
-    /// begins anew: the lists of their packets begin empty.
+    /// Begins the life of every pair anew at `now`, as the operator says that the peer is off. The peer may have
+    /// carried packets until then, so the lists of packets begin empty.
     pub fn renew_all(&mut self, now: u64)
         ensures lives { self.new ≡ record self.old {
           lives = map (life_renewed now) self.old.lives;
@@ -274,7 +278,7 @@ impl Table {
         renew_all(&mut self.store, now);
     }
 
-    /// Takes all entries out, and gives all ports up. It stays ready for as many adds as it was.
+    /// Removes all entries, and makes all ports unowned. The table remains ready for as many calls of `add` as before.
     pub fn clear(&mut self)
         ensures { self.new ≡ record self.old { entries = []; lives = []; owned = [] } }
     {
@@ -282,7 +286,7 @@ impl Table {
         self.ports.reset();
     }
 
-    /// All pairs but Doomed ones, by protocol (icmp first) and port.
+    /// Returns all pairs but Doomed ones, by protocol (icmp first) and port.
     pub fn pairs(&self) -> Result<Vec<Pair>, AllocError>
         ensures items { IfOk result (λ v. v.items ≡ pairs_in is_pair self.now.entries) }
         ensures refused { OnErr result (WasRefused 1) }
@@ -290,7 +294,7 @@ impl Table {
         list_pairs(self.alloc, &self.store, false)
     }
 
-    /// The Live and Held pairs, by protocol (icmp first) and port.
+    /// Returns the Live and Held pairs, by protocol (icmp first) and port.
     pub fn translating(&self) -> Result<Vec<Pair>, AllocError>
         ensures items { IfOk result (λ v. v.items ≡ pairs_in translates self.now.entries) }
         ensures refused { OnErr result (WasRefused 1) }
@@ -298,8 +302,8 @@ impl Table {
         list_pairs(self.alloc, &self.store, true)
     }
 
-    /// The lowest owned free port with that parity, else the lowest owned free one (RFC 4787, section 4.2.2).
-    /// None just where no owned port is free for the protocol.
+    /// Returns the lowest owned port with that parity that is free for the protocol, else the lowest owned free one
+    /// (RFC 4787, section 4.2.2), or None where no owned port is free for the protocol.
     pub fn free_like(&self, protocol: Protocol, parity: Parity) -> Option<Port>
         ensures chosen { result ≡ chosen_port self.now.entries self.now.owned self.now.zero
             self.now.one protocol parity }
@@ -311,14 +315,14 @@ impl Table {
         self.ports.free_like(protocol, parity)
     }
 
-    /// Whether the gateway owns a port. While a table is loaded: whether the gateway is to own it.
+    /// Whether the gateway owns a port or, while a table is loaded, is to own it.
     pub fn owns(&self, port: Port) -> bool
         ensures { result ≡ owns self.now port.0 }
     {
         self.ports.tcp.owns(port)
     }
 
-    /// The gateway owns a port of the two ranges from now on.
+    /// Makes the gateway the owner of a port of the two ranges.
     pub fn own(&mut self, port: Port)
         requires within { in_either self.old.zero self.old.one port.0 ≡ true }
         requires foreign { owns self.old port.0 ≡ false }
@@ -330,14 +334,14 @@ impl Table {
         self.ports.own(port);
     }
 
-    /// The gateway owns all ports of the two ranges from now on.
+    /// Makes the gateway the owner of all ports of the two ranges.
     pub fn own_all(&mut self)
         ensures { self.new ≡ record self.old { owned = all_ports self.old.zero self.old.one } }
     {
         self.ports.own_all(self.zero, self.one);
     }
 
-    /// The gateway gives up an owned port that no entry has.
+    /// Makes the gateway the owner no more of an owned port that no entry has.
     pub fn disown(&mut self, port: Port)
         requires owned { owns self.old port.0 ≡ true }
         requires vacant { is_vacant self.old.entries port.0 ≡ true }
@@ -349,7 +353,7 @@ impl Table {
         self.ports.disown(port);
     }
 
-    /// The owned ports, rising. While a table is loaded these are the ports that the gateway is to own.
+    /// Returns the owned ports, rising. While a table is loaded, these are the ports that the gateway is to own.
     pub fn owned(&self) -> Result<Vec<Port>, AllocError>
         ensures items { IfOk result (λ v. v.items ≡ map port_at self.now.owned) }
         ensures refused { OnErr result (WasRefused 1) }
@@ -359,7 +363,8 @@ impl Table {
         list_owned(self.alloc, &self.ports.tcp, lowest, highest)
     }
 
-    /// The first unbroken run of the owned ports from one on, to its end. It may go from the one range into the other.
+    /// Returns the first unbroken run of the owned ports from `from` on, to its end, or None where no such port is
+    /// owned. A run may go from one range into the other.
     pub fn first_run(&self, from: Port) -> Option<PortBounds>
         ensures { result ≡ first_run from.0 self.now.owned }
     {
@@ -380,7 +385,7 @@ impl Table {
         self.owns(port) && self.is_vacant(port)
     }
 
-    /// The greatest port below a number that may be given away.
+    /// Returns the greatest port below `end` that may be given away, or None where there is none.
     pub fn spare_below(&self, end: usize) -> Option<Port>
         requires { end ≤ 65536 }
         ensures some { IfSome result (λ port. IsLastBelow (is_spare self.now.entries
@@ -391,8 +396,8 @@ impl Table {
         self.ports.spare_below(end)
     }
 
-    /// The pair of a key carried a packet, to or from a remote host. The flags of a UDP packet aren't read. A key without
-    /// an entry changes nothing.
+    /// Adds a packet that the pair of a key carried, to or from a remote host, to the pair's life. The flags of a UDP
+    /// packet aren't read. A key without an entry changes nothing.
     #[inline(always)]
     pub fn carried(&mut self, key: Key, remote: Remote, way: Way, flags: TcpFlags, now: u64)
         ensures longer { let packet : Carried = record {
@@ -425,7 +430,8 @@ impl Table {
         self.store.carry(key, packet);
     }
 
-    /// The list of packets of a key's pair begins empty. A key without an entry changes nothing.
+    /// Begins the life of a key's pair anew at `now`, with an empty list of packets. A key without an entry changes
+    /// nothing.
     pub fn renew(&mut self, key: Key, now: u64)
         ensures renewed { (past : History) → IsPast self.old key past
             → IsPast self.new key (renewed now past) }
@@ -438,7 +444,7 @@ impl Table {
         self.store.renew(key, now);
     }
 
-    /// Whether a key's pair is idle at a moment. A key without an entry isn't.
+    /// Whether a key's pair is idle at `now`. A key without an entry isn't.
     pub fn idle(&self, key: Key, now: u64) -> bool
         ensures idle { (past : History) → IsPast self.now key past → result
             ≡ is_idle key.protocol past now }
@@ -455,8 +461,9 @@ impl Table {
         self.store.is_unused(key)
     }
 
-    /// Appends the keys of the idle entries that may be let go, each once, by protocol (icmp first) and port: of the Live
-    /// ones, and where the gateway is lone of the Held ones too. Room for as many keys as there are entries is enough.
+    /// Appends the keys of the idle entries that may be released, each once, by protocol (icmp first) and port: of the
+    /// Live ones, and where the gateway is lone of the Held ones too. Capacity for as many keys as there are entries is
+    /// enough. An Err says that there is no memory, and changes nothing.
     pub fn idle_keys(&mut self, lone: bool, now: u64, keys: &mut Vec<Key>) -> Result<(), AllocError>
         ensures keys { OnOk result (keys.new.items
             ≡ keys.old.items ++ idle_keys_of self.old lone now) }

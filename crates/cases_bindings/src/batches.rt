@@ -1,5 +1,5 @@
-//! Two tables, of which the one is drawn and the other loaded: what each line answers, or why it is
-//! refused. A line has a call and what is given to it.
+//! Two tables, one drawn and the other loaded: each line of a file has a call with its arguments, and the program
+//! prints what the call answers, or why the line is refused.
 
 ghost use Rattle.bindings.specs.Ports.{AreBounds};
 
@@ -13,14 +13,14 @@ use nat_types::Record;
 use std::alloc::AllocError;
 use std::mem;
 
-/// The table that is drawn, and the one that is loaded.
+/// The table that is drawn, and the table that is loaded.
 #[derive(Drop)]
 pub(crate) struct Tables {
     sender: Sender,
     loader: Loader,
 }
 
-/// The first and the last port of a range. Where they are none, the line is wrong, and any range comes.
+/// Reads the first and the last port of a range. Where they aren't one, the line is wrong, and the result is any range.
 pub(crate) fn bounds(case: &mut Case) -> PortBounds
     ensures { AreBounds result }
 {
@@ -76,7 +76,7 @@ impl Tables {
         case.end();
     }
 
-    /// Draws records, and hands them to the other table.
+    /// Draws records, and gives them to the other table.
     fn draw(&mut self, case: &mut Case) {
         let records = self.sender.draw(case.count());
         self.hand_on(records.as_slice(), case);
@@ -86,7 +86,7 @@ impl Tables {
         }
     }
 
-    /// Prints how many records there are, and which.
+    /// Prints how many records there are, and each of them, and gives them to the other table.
     fn hand_on(&mut self, records: &[Record], case: &mut Case) {
         case.put(records.len());
         for item in records {
@@ -108,7 +108,7 @@ impl Tables {
 }
 
 impl Actor for Tables {
-    /// A call that gives nothing back prints nothing, but where it is refused.
+    /// Does the call of a line. A call without an answer prints nothing, unless it is refused.
     fn act(&mut self, case: &mut Case) {
         match case.word() {
             "new" => self.begin(case),

@@ -1,5 +1,5 @@
-//! One gateway's side of the binding protocol: what each line answers, pushes and notes, or why it is
-//! refused. A line has a call and what is given to it.
+//! One gateway's side of the binding protocol: each line of a file has a call with its arguments, and the program
+//! prints what the call answers, pushes and notes, or why the line is refused.
 
 use crate::batches::bounds;
 use crate::side::Side;
@@ -8,7 +8,7 @@ use cases_words::{Actor, Case};
 use nat_types::GatewayId;
 use std::alloc::Global;
 
-/// The core of the last line `core`. A list has it, or none: what lies in one is let go by one call.
+/// The core of the last line `core`, in a list of at most one, so that one call drops it.
 #[derive(Drop)]
 pub(crate) struct Cores {
     sides: Vec<Side>,
@@ -21,8 +21,9 @@ impl Cores {
         }
     }
 
-    /// A new core, in place of the one before: as `0 founder 20000 20003 40000 40003 200 2`: who it is, how it begins, both
-    /// ranges, the link's places, and the most pairs that an inside address may have, if there is a limit.
+    /// Begins a new core, in place of the one before, by a line such as `0 founder 20000 20003 40000 40003 200 2`: its
+    /// gateway, how it begins, both ranges, the places of the link, and the most pairs that an inside address may have,
+    /// if there is a limit.
     fn begin(&mut self, case: &mut Case) {
         let id = case.gateway();
         let is_founder = case.is_first("founder", "unsynced");
@@ -62,7 +63,8 @@ impl Actor for Cores {
     }
 }
 
-/// The most pairs that an inside address may have, where one more word is left; none where the line is refused.
+/// Reads the most pairs that an inside address may have, where one more word is left. None says that the line is
+/// refused.
 fn limit_in(case: &mut Case) -> Option<Option<u16>> {
     if case.left() == 0 {
         return Some(None);
@@ -76,7 +78,7 @@ fn limit_in(case: &mut Case) -> Option<Option<u16>> {
     }
 }
 
-/// What a call of a core answers.
+/// Does a call of a core, and prints what it answers.
 fn call(side: &mut Side, case: &mut Case) {
     case.back();
     match case.word() {
@@ -106,7 +108,7 @@ fn inbound(side: &Side, case: &mut Case) {
     }
 }
 
-/// As `restart 2 accept udp 20000`: the boot, and at most one record that comes with it.
+/// Does a call such as `restart 2 accept udp 20000`: the boot, and at most one record that comes with it.
 fn restart(side: &mut Side, case: &mut Case) {
     let boot = case.number();
     if case.left() == 0 {

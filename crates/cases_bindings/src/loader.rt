@@ -10,7 +10,7 @@ use nat_types::{Endpoint, Record};
 use resync::{Loaded, Loading};
 use std::alloc::{AllocError, Global};
 
-/// A table, and how far its loading is.
+/// A table, and the state of its loading.
 #[derive(Drop)]
 pub(crate) struct Loader {
     table: Table,
@@ -20,7 +20,7 @@ pub(crate) struct Loader {
     ghost within: { AreInRanges table },
 }
 
-/// An endpoint for which a table is made ready.
+/// Returns an endpoint for which a table is made ready.
 pub(crate) fn any_endpoint() -> Endpoint {
     Endpoint {
         protocol: Protocol::Udp,
@@ -43,7 +43,8 @@ impl Loader {
         Ok(Loader { table, loading })
     }
 
-    /// None where the record is out of place.
+    /// Takes a record into the table that is loaded. None says that the record is out of place, or
+    /// that there is no memory.
     pub(crate) fn take(&mut self, item: Record, case: &mut Case) -> Option<Loaded> {
         if self.table.ready(&[any_endpoint()]).is_err() {
             case.fault();
@@ -52,7 +53,7 @@ impl Loader {
         self.loading.take(&mut self.table, item, 0).ok()
     }
 
-    /// How many ports it is to own, and its entries.
+    /// Prints how many ports the table's gateway is to own, and the table's entries.
     pub(crate) fn tell(&self, case: &mut Case) {
         match self.table.owned() {
             Ok(ports) => case.put(ports.len()),

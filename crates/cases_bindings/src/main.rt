@@ -1,7 +1,7 @@
-//! Calls the table, its ports and its timers, and judges traces; then draws one table and loads another, and calls one
-//! gateway's side of the binding protocol: all by the lines of files. It prints what each line answers, or why it is refused.
-//! A line is empty, begins with `#`, or has a call and what is given to it; those of the table, its ports and its timers have
-//! the part in front.
+//! Calls the table, its ports and its timers, and judges traces, by the lines of files. Then it draws one table and
+//! loads another, and calls one gateway's side of the binding protocol. For each line the program prints what the call
+//! answers, or why the line is refused. A line is empty, begins with `#`, or has a call with its arguments. Lines on
+//! the table, its ports and its timers begin with the name of that part.
 #![tactic(auto)]
 
 mod batches;

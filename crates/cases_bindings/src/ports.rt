@@ -8,19 +8,19 @@ use std::alloc::Global;
 
 const PARITIES: [(&str, Parity); 2] = [("even", Parity::Even), ("odd", Parity::Odd)];
 
-/// `even` or `odd`.
+/// Reads a parity: `even` or `odd`.
 pub(crate) fn parity(case: &mut Case) -> Parity {
     case.pick(&PARITIES, Parity::Even)
 }
 
-/// The range that the lines so far have come to.
+/// The range of ports after the lines so far.
 #[derive(Drop)]
 pub(crate) struct PortCase {
     range: Range,
 }
 
 impl PortCase {
-    /// The first range of the sample settings.
+    /// Makes the first range of the sample settings.
     pub(crate) fn sample(alloc: Global) -> Result<PortCase, RangeFault> {
         let range = Range::new(alloc, Port(20000), Port(30000))?;
         Ok(PortCase { range })
@@ -88,7 +88,7 @@ impl PortCase {
 }
 
 impl Actor for PortCase {
-    /// A call that gives nothing back prints nothing, but where it is refused.
+    /// Does the call of a line. A call without an answer prints nothing, unless it is refused.
     fn act(&mut self, case: &mut Case) {
         let _part = case.word();
         match case.word() {

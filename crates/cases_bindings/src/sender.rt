@@ -1,4 +1,4 @@
-//! The table that is sent, and its cursor.
+//! The table that is drawn, with its cursor.
 ghost use Rattle.std.specs.Prelude.{◌≡◌};
 ghost use Rattle.bindings.specs.Ports.{AreBounds};
 ghost use Rattle.resync.specs.Batch.{CanBeSent};
@@ -13,7 +13,7 @@ use nat_types::{EntryState, Key, Pair, Record};
 use resync::Cursor;
 use std::alloc::AllocError;
 
-/// A table whose pairs have a spelling on the link, and how far its batch is drawn.
+/// A table whose pairs have a spelling on the link, with the cursor of its batch.
 #[derive(Drop)]
 pub(crate) struct Sender {
     table: Table,
@@ -26,7 +26,7 @@ pub(crate) struct Sender {
 }
 
 impl Sender {
-    /// An empty table, which owns the first range.
+    /// Makes an empty table, whose gateway owns the first range.
     pub(crate) fn new(
         zero: PortBounds,
         one: PortBounds,
@@ -47,7 +47,7 @@ impl Sender {
         Ok(sender)
     }
 
-    /// It owns the first range.
+    /// Makes the table's gateway own the first range.
     fn own_first(&mut self, case: &mut Case) {
         for port in self.zero.lowest.0..=self.zero.highest.0 {
             self.own(Port(port), case);
@@ -94,7 +94,7 @@ impl Sender {
         }
     }
 
-    /// So many records, at most 64, or all that are left.
+    /// Draws so many records, at most 64, or all that are left.
     pub(crate) fn draw(&mut self, count: usize) -> ArrayVec<Record, 64> {
         let mut records = ArrayVec::new();
         self.cursor.draw(&self.table, count.min(64), &mut records);

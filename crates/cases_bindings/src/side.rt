@@ -1,4 +1,4 @@
-//! One gateway's side of the protocol, with its end of the link.
+//! One gateway's side of the binding protocol, with its end of the link.
 ghost use Rattle.std.specs.Prelude.{◌≡◌, ◌<◌, ◌+◌, ◌≤◌, length, IfSome, vec_capacity, vec_len};
 ghost use Rattle.bindings.specs.Ports.{AreBounds};
 ghost use Rattle.link.specs.Grammar.{IsWellFormedRecord};
@@ -20,7 +20,7 @@ use nat_types::{Endpoint, EntryState, GatewayId, Key, Note, Record};
 use spec_binding::rows_leave;
 use std::alloc::Global;
 
-/// A core that has boot 1, its end of the link, and its clock.
+/// A core of boot 1, its end of the link, and its clock.
 #[derive(Drop)]
 pub(crate) struct Side {
     alloc: Global,
@@ -28,11 +28,11 @@ pub(crate) struct Side {
     core: Core,
     link: Link,
     clock: u64,
-    /// How many of the link's records were printed.
+    /// The number of the link's records that were printed.
     printed: usize,
 }
 
-/// A datagram of the peer's without records.
+/// Returns a datagram of the peer without records.
 fn empty_datagram(sender: GatewayId, boot: u64) -> Datagram {
     Datagram {
         sender,
@@ -45,7 +45,7 @@ fn empty_datagram(sender: GatewayId, boot: u64) -> Datagram {
     }
 }
 
-/// A core; gateway 0 alone is a founder.
+/// Makes a core. Only gateway 0 may be a founder.
 fn begin_core(
     alloc: Global,
     id: GatewayId,
@@ -64,7 +64,7 @@ fn begin_core(
     Core::unsynced(alloc, id, zero, one, limit, hashers).ok()
 }
 
-/// How many ports a table's gateway owns.
+/// Returns how many ports a table's gateway owns, or None where there is no memory for their list.
 fn count_owned(table: &Table) -> Option<usize>
     ensures { IfSome result (λ n. n ≡ length table.now.owned) }
 {
@@ -74,7 +74,7 @@ fn count_owned(table: &Table) -> Option<usize>
     }
 }
 
-/// As the link has begun a session anew.
+/// Gives the core the start of a session of the link.
 fn begin_session(core: &mut Core, link: &mut Link, now: u64, notes: &mut Vec<Note>)
     requires begins { occupied link.old ≡ 0 }
     requires room { length (restart_batch (book_of core.old)) ≤ free_places link.old }
@@ -85,7 +85,7 @@ fn begin_session(core: &mut Core, link: &mut Link, now: u64, notes: &mut Vec<Not
     core.peer_restarted(link, now, notes);
 }
 
-/// A record that comes while a batch is promised.
+/// Gives the core a record that comes while a batch is promised.
 fn take_promised(core: &mut Core, link: &mut Link, item: &Record, now: u64, notes: &mut Vec<Note>)
     requires formed { IsWellFormedRecord item.now }
     requires ready { 0 < core.old.table.ready }
@@ -123,7 +123,7 @@ impl Side {
         })
     }
 
-    /// The clock goes on.
+    /// Sets the clock, which never goes back.
     pub(crate) fn set_clock(&mut self, case: &mut Case) {
         let now = case.number();
         if now < self.clock {
@@ -132,7 +132,7 @@ impl Side {
         self.clock = now;
     }
 
-    /// Makes the table ready for one more pair, and gives room for the notes of any call.
+    /// Makes the table ready for one more pair, and returns a list with capacity for the notes of any call.
     fn prepare(&mut self) -> Option<Vec<Note>>
         ensures ready { IfSome result (λ v. 0 < self.new.core.table.ready) }
         ensures room { IfSome result (λ v. vec_len v + length self.new.core.table.entries
@@ -206,7 +206,7 @@ impl Side {
         self.tell_done(&notes, case);
     }
 
-    /// As `udp 20000 198.51.100.7 53 out -`: the key, the remote host, the way and the flags.
+    /// Does a call such as `udp 20000 198.51.100.7 53 out -`: the key, the remote host, the way and the flags.
     pub(crate) fn carried(&mut self, case: &mut Case) {
         let (key, remote) = (case.key(), case.remote());
         let (way, flags) = (case.way(), case.flags());
@@ -218,7 +218,7 @@ impl Side {
         self.tell_done(&notes, case);
     }
 
-    /// A datagram without records comes of a boot of the peer's; whether it begins a session.
+    /// Gives the link a datagram without records of a boot of the peer, and returns whether it begins a session.
     fn hear(&mut self, boot: u64, case: &mut Case) -> bool {
         let mut bytes = Vec::new(self.alloc);
         case.keep(write(&empty_datagram(self.id.other(), boot), &mut bytes));
@@ -231,7 +231,7 @@ impl Side {
         }
     }
 
-    /// The known boot of the peer is heard again.
+    /// Gives the link a datagram of the boot of the peer that is known already.
     pub(crate) fn hear_again(&mut self, case: &mut Case) {
         let boot = self.link.known_peer();
         if self.hear(boot, case) {
@@ -239,7 +239,8 @@ impl Side {
         }
     }
 
-    /// A greater boot is heard, maybe with a record that comes while the batch is promised. Then the batch is handed in.
+    /// Gives the link a datagram of a greater boot of the peer, and maybe the core a record that comes while the batch
+    /// is promised. Then the core passes its batch to the link.
     pub(crate) fn restart(&mut self, boot: u64, item: Option<&Record>, case: &mut Case) {
         if boot <= self.link.known_peer() {
             return refuse("it isn't greater", case);
@@ -276,7 +277,7 @@ impl Side {
         self.tell_done(&notes, case);
     }
 
-    /// How many records a batch of its table has at most.
+    /// Returns how many records a batch of the core's table has at most.
     fn most_of_batch(&self) -> Option<usize>
         ensures { IfSome result (λ n. length (restart_batch (book_of self.now.core)) ≤ n) }
     {
@@ -289,7 +290,8 @@ impl Side {
         Some(ports + pairs + 2)
     }
 
-    /// Where a packet to an outside port goes: to the endpoint of a Live or Held pair, once the core is synced.
+    /// Returns the endpoint to which a packet to an outside port goes: that of a Live or Held pair, once the core is
+    /// synced. None where there is no such pair.
     pub(crate) fn inbound(&self, key: Key) -> Option<Endpoint> {
         let entry = self.core.table().pair_of_port(key)?;
         match entry.state {
@@ -300,7 +302,7 @@ impl Side {
         }
     }
 
-    /// The operator says that the peer's boots up to one are over.
+    /// Gives the core the operator's word that the peer's boots up to one are over.
     pub(crate) fn peer_off(&mut self, boot: u64, case: &mut Case) {
         let Some(mut notes) = self.prepare() else {
             return case.fault();
@@ -317,7 +319,7 @@ impl Side {
         self.tell_done(&notes, case);
     }
 
-    /// How far it is, its entries, and the ports that it owns.
+    /// Prints whether the core is unsynced, paired or lone, its entries, and the ports that its gateway owns.
     pub(crate) fn tell(&self, case: &mut Case) {
         let stage = match (self.core.is_synced(), self.core.is_lone()) {
             (false, _) => "unsynced",

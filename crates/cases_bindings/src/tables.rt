@@ -11,7 +11,7 @@ use nat_types::{EntryState, Key};
 use std::alloc::AllocError;
 use std::mem;
 
-/// The table that the lines so far have come to, and the ranges that it was made for.
+/// The table after the lines so far, and the ranges for which it was made.
 #[derive(Drop)]
 pub(crate) struct TableCase {
     table: Table,
@@ -21,7 +21,7 @@ pub(crate) struct TableCase {
     ghost second: { table.one ≡ one },
 }
 
-/// An entry, if there is one.
+/// Prints an entry, if there is one.
 fn show(entry: Option<Entry>, case: &mut Case) {
     match entry {
         Some(entry) => {
@@ -32,7 +32,7 @@ fn show(entry: Option<Entry>, case: &mut Case) {
     }
 }
 
-/// The first and the last port of a range; none where the line is refused.
+/// Reads the first and the last port of a range. None says that the line is refused.
 fn bounds(case: &mut Case) -> Option<PortBounds>
     ensures { IfSome result AreBounds }
 {
@@ -48,7 +48,7 @@ fn bounds(case: &mut Case) -> Option<PortBounds>
 }
 
 impl TableCase {
-    /// The ranges of the sample settings.
+    /// Makes a table of the ranges of the sample settings.
     pub(crate) fn sample(case: &mut Case) -> Result<TableCase, AllocError> {
         let zero = PortBounds {
             lowest: Port(20000),
@@ -61,7 +61,7 @@ impl TableCase {
         TableCase::new(zero, one, case)
     }
 
-    /// An empty table, which owns the first range.
+    /// Makes an empty table, whose gateway owns the first range.
     fn new(zero: PortBounds, one: PortBounds, case: &mut Case) -> Result<TableCase, AllocError>
         requires zero { AreBounds zero }
         requires one { AreBounds one }
@@ -72,14 +72,14 @@ impl TableCase {
         Ok(made)
     }
 
-    /// It owns the first range.
+    /// Makes the table's gateway own the first range.
     fn own_first(&mut self, case: &mut Case) {
         for port in self.zero.lowest.0..=self.zero.highest.0 {
             self.own(Port(port), case);
         }
     }
 
-    /// The calls that give nothing back print nothing, but where they are refused.
+    /// Does a call without an answer. The call prints nothing, unless it is refused.
     fn change(&mut self, case: &mut Case) {
         case.back();
         match case.word() {
@@ -179,7 +179,7 @@ impl TableCase {
         }
     }
 
-    /// A pair comes by Install, `installed`, or by this gateway's choice, `chosen`.
+    /// Adds a pair that comes by Install, `installed`, or by this gateway's choice, `chosen`.
     fn add(&mut self, case: &mut Case) {
         let (pair, state) = (case.pair(), case.state());
         let by_install = case.is_first("installed", "chosen");
@@ -212,7 +212,7 @@ impl TableCase {
         tell_found(self.table.free_like(protocol, parity), case);
     }
 
-    /// The first run of owned ports from one on.
+    /// Prints the first run of owned ports from a port on.
     fn tell_run(&self, case: &mut Case) {
         match self.table.first_run(case.port()) {
             Some(run) => {
@@ -223,7 +223,8 @@ impl TableCase {
         }
     }
 
-    /// How many keys are idle and may be let go by a gateway that is alone, or paired; and which.
+    /// Prints how many keys have idle entries that a gateway may release, which is `alone` or
+    /// `paired`, and which keys these are.
     fn tell_idle(&mut self, case: &mut Case) {
         let is_alone = case.is_first("alone", "paired");
         let now = case.number();

@@ -1,22 +1,22 @@
-//! What is printed behind a line of one side: one part after the other.
+//! The parts of the answer to a line of one side, printed one after another.
 
 use addresses::Port;
 use cases_words::Case;
 use nat_types::{Endpoint, EntryState, Key, Note, Pair, Record};
 use spec_binding::Want;
 
-/// Whether the line has its colon, and nothing behind it.
+/// Whether the line so far ends with its colon.
 fn is_bare(case: &Case) -> bool {
     case.out.last().copied() == Some(b':')
 }
 
-/// Begins one more part.
+/// Begins one more part of the answer.
 pub(crate) fn begin_part(word: &str, case: &mut Case) {
     let mark = if is_bare(case) { " " } else { "; " };
     case.say(mark, word);
 }
 
-/// Where there is no part, `nothing`; and the line's end.
+/// Ends the answer, with `nothing` where there is no part.
 pub(crate) fn end_parts(case: &mut Case) {
     if is_bare(case) {
         case.put(" nothing");
@@ -24,7 +24,7 @@ pub(crate) fn end_parts(case: &mut Case) {
     case.end();
 }
 
-/// Why the line is refused.
+/// Prints why the line is refused.
 pub(crate) fn refuse(why: &str, case: &mut Case) {
     case.say(" refused, ", why);
 }
@@ -63,7 +63,7 @@ pub(crate) fn tell_record(item: &Record, case: &mut Case) {
     }
 }
 
-/// The records that are pushed, but for so many that were printed before.
+/// Prints the records that were pushed, without the `printed` ones that were printed before.
 pub(crate) fn tell_pushed(records: &[Record], printed: usize, case: &mut Case) {
     for item in records.get(printed..).unwrap_or(&[]) {
         begin_part("pushes ", case);

@@ -1,11 +1,11 @@
-//! A trace and two tables, line by line.
+//! A trace and two tables, given line by line.
 
 use cases_words::{Actor, Case};
 use nat_types::{GatewayId, Note, NoteKind, Pair};
 use spec_trace::audit;
 use std::alloc::Global;
 
-/// The notes so far, and what each gateway holds after them.
+/// The notes so far, and the pairs that each gateway holds after them.
 #[derive(Drop)]
 pub(crate) struct Trace {
     notes: Vec<Note>,
@@ -70,7 +70,7 @@ impl Actor for Trace {
     }
 }
 
-/// `Used` and a pair, and so on, as a note is printed.
+/// Reads what happened as a note prints it: `Used` and a pair, and so on.
 fn happening(case: &mut Case) -> NoteKind {
     match case.word() {
         "Used" => NoteKind::Used(case.pair()),

@@ -1,4 +1,4 @@
-//! Lines on the due moments of slots.
+//! Lines on the times at which slots are due.
 ghost use Rattle.std.specs.Prelude.{◌≡◌, length};
 
 use crate::listing::list_all;
@@ -7,7 +7,7 @@ use std::alloc::{AllocError, Global};
 use std::mem;
 use timers::Timers;
 
-/// Slots that the lines so far have set, and how many there are.
+/// The slots that the lines so far have set, and their number.
 #[derive(Drop)]
 pub(crate) struct TimerCase {
     timers: Timers,
@@ -46,7 +46,7 @@ impl TimerCase {
         }
     }
 
-    /// How many slots were due, and which, in order, since `due` gives them in any.
+    /// Prints how many slots were due, and which, sorted, since `due` returns them in any order.
     fn tell_due(&mut self, case: &mut Case) {
         case.title("", ": ");
         let now = case.number();

@@ -1,4 +1,4 @@
-//! A gateway behind some events, to which a vector is handed again and again, cut and changed.
+//! A gateway after some events, which gets a vector again and again, cut and changed.
 
 use crate::gates::{Gate, Seen};
 use crate::tallies::{Run, Tally};
@@ -10,14 +10,14 @@ use settings::Settings;
 use std::alloc::Global;
 use std::mem;
 
-/// Where bytes come in.
+/// The place where bytes come in: a side of the gateway, or the link.
 #[derive(Clone, Copy)]
 pub(crate) enum Way {
     Wire(Side),
     Link,
 }
 
-/// What happens to a gateway before a vector comes.
+/// An event that happens to a gateway before a vector comes.
 #[derive(Drop)]
 pub(crate) enum Before {
     Tick(u64),
@@ -31,7 +31,7 @@ fn event_of(way: Way, bytes: &[u8]) -> Event<'_> {
     }
 }
 
-/// Which gateway it is, and what happened to it.
+/// The gateway's settings, number and boot, and the events that happen to it before a vector comes.
 #[derive(Drop)]
 pub(crate) struct Start {
     pub(crate) settings: Settings,
@@ -41,19 +41,20 @@ pub(crate) struct Start {
     pub(crate) events: Vec<Before>,
 }
 
-/// How a vector comes in, and from which byte on a gateway begins anew for each byte that is changed.
+/// The way by which a vector comes in, and the first byte from which on a new gateway is begun for each byte that is
+/// changed.
 #[derive(Clone, Copy)]
 pub(crate) struct Plan {
     pub(crate) way: Way,
     pub(crate) anew: usize,
 }
 
-/// A gateway behind its events, and what came of the bytes that were handed to it since. It goes by `end`.
+/// A gateway after its events, and what came of the bytes that it got since. A caller ends it by `end`.
 pub(crate) struct Bench<G> {
     pub(crate) start: Start,
     gateway: Option<G>,
     out: Out,
-    /// What shows of it behind the last step.
+    /// The gateway's visible state after the last step.
     seen: Seen,
     told: Vec<u8>,
     drops: u32,
@@ -90,12 +91,12 @@ impl<G: Gate> Bench<G> {
         drop(told);
     }
 
-    /// More happens to it before a vector comes.
+    /// Adds an event that happens to the gateway before a vector comes.
     pub(crate) fn add(&mut self, event: Before, case: &mut Case) {
         case.keep(self.start.events.push(event));
     }
 
-    /// A gateway begins, and all happens to it that happened before.
+    /// Begins a new gateway, and gives it all events that come before a vector.
     fn begin(&mut self, case: &mut Case) {
         let start = &self.start;
         let begun = G::begun(
@@ -117,7 +118,8 @@ impl<G: Gate> Bench<G> {
         }
     }
 
-    /// Bytes come. Behind a drop the gateway is to stand as before.
+    /// Gives the gateway bytes, and returns the outcome. Counts the drops, and those after which the gateway's visible
+    /// state differs.
     fn hand_in(&mut self, way: Way, bytes: &[u8], case: &mut Case) -> Outcome {
         match self.gateway.as_mut() {
             Some(gateway) => {
@@ -137,7 +139,8 @@ impl<G: Gate> Bench<G> {
         }
     }
 
-    /// Hands in a vector cut at every length, whole, and with every byte changed to every other value, and prints what came.
+    /// Gives the gateway a vector cut at every length, whole, and with every byte changed to every other value, and
+    /// prints the outcomes.
     pub(crate) fn try_vector(&mut self, plan: Plan, vector: &mut [u8], case: &mut Case) {
         self.told.clear();
         self.drops = 0;
@@ -153,7 +156,7 @@ impl<G: Gate> Bench<G> {
         case.end();
     }
 
-    /// From no byte to the whole vector.
+    /// Gives the gateway the beginnings of a vector, from no byte to the whole vector.
     fn cut(&mut self, plan: Plan, vector: &[u8], case: &mut Case) {
         let mut run = Run::new("  cut to ");
         for length in 0..=vector.len() {
@@ -164,7 +167,8 @@ impl<G: Gate> Bench<G> {
         run.tell(case);
     }
 
-    /// From the last byte to the first, so that each boot that is heard is greater than those before.
+    /// Gives the gateway a vector with each byte changed, from the last byte to the first, so that each boot that the
+    /// gateway hears is greater than those before.
     fn change(&mut self, plan: Plan, vector: &mut [u8], case: &mut Case) {
         let mut run = Run::new("  byte ");
         for behind in 1..=vector.len() {
@@ -178,7 +182,7 @@ impl<G: Gate> Bench<G> {
         run.tell(case);
     }
 
-    /// One byte becomes each other value, rising. Afterwards it is as it was.
+    /// Gives the gateway a vector with one byte changed to each other value, rising, and restores the byte.
     fn change_at(&mut self, way: Way, vector: &mut [u8], at: usize, case: &mut Case) -> Tally {
         let mut tally = Tally::new();
         let byte = vector.get(at).copied().unwrap_or(0);
@@ -199,14 +203,14 @@ fn set(bytes: &mut [u8], at: usize, value: u8) {
     }
 }
 
-/// Lets a gateway go, if it is there.
+/// Ends a gateway, if there is one.
 fn end_if_there<G: Gate>(gateway: Option<G>) {
     if let Some(gateway) = gateway {
         gateway.end();
     }
 }
 
-/// What happened before happens to a gateway.
+/// Gives a gateway an event that comes before a vector.
 fn live<G: Gate>(gateway: &mut G, event: &Before, out: &mut Out, case: &mut Case) {
     match event {
         Before::Tick(moment) => gateway.step(Event::Tick(*moment), out, case),

@@ -1,4 +1,4 @@
-//! What the lines of the vectors set up: a gateway, and what happened to it.
+//! The gateway that the lines of the vectors set up, and the events that happen to it.
 
 use crate::benches::{Before, Bench, Plan, Start, Way};
 use crate::gates::Gate;
@@ -7,7 +7,7 @@ use cases_words::{Actor, Case};
 use settings::Settings;
 use std::{fs, mem};
 
-/// The gateway of the lines so far. It goes by `end`.
+/// The gateway that the lines so far have set up. A caller ends it by `end`.
 pub(crate) struct Desk<G> {
     rt: HostRuntime,
     bench: Option<Bench<G>>,
@@ -23,7 +23,7 @@ impl<G: Gate> Desk<G> {
         end_if_there(bench);
     }
 
-    /// As `many.toml 0 boot 1 founded`: another gateway, by the settings of a file.
+    /// Sets up another gateway, by a line such as `many.toml 0 boot 1 founded`, with the settings of a file.
     fn start(&mut self, case: &mut Case) {
         match read_settings(&self.rt, case.word()) {
             Ok(settings) => {
@@ -38,10 +38,11 @@ impl<G: Gate> Desk<G> {
 impl<G: Gate> Actor for Desk<G> {
     /// Does what a line says.
     ///
-    /// - `gateway FILE I boot N`, `gateway FILE 0 boot N founded`: the vectors below are handed to this gateway
-    /// - `tick MOMENT`, `frame SIDE HEX`, `datagram HEX`: this happens to it before a vector comes
-    /// - `vector NAME SIDE HEX`, `vector NAME link HEX`: a frame or a datagram is handed in, cut, whole and changed, all to one
-    ///   gateway; with `anew BYTE` behind it from this byte on to another one for each byte
+    /// - `gateway FILE I boot N`, `gateway FILE 0 boot N founded`: sets up the gateway for the vectors below
+    /// - `tick MOMENT`, `frame SIDE HEX`, `datagram HEX`: adds an event that happens to the gateway before a vector
+    ///   comes
+    /// - `vector NAME SIDE HEX`, `vector NAME link HEX`: gives one gateway a frame or a datagram, cut, whole and
+    ///   changed; with `anew BYTE` at its end, a new gateway is begun for each changed byte from this one on
     fn act(&mut self, case: &mut Case) {
         match case.word() {
             "gateway" => self.start(case),
@@ -95,7 +96,7 @@ fn try_vector<G: Gate>(bench: &mut Bench<G>, case: &mut Case) {
     bench.try_vector(Plan { way, anew }, vector.as_mut_slice(), case);
 }
 
-/// From which byte on a gateway begins anew for each; from none where no word says so.
+/// Reads the first byte from which on a new gateway is begun for each byte. Without a word there is no such byte.
 fn anew_in(case: &mut Case) -> usize {
     if case.left() == 0 {
         return usize::MAX;
@@ -106,7 +107,7 @@ fn anew_in(case: &mut Case) -> usize {
     case.count()
 }
 
-/// A side, or the link.
+/// Reads a side, or the link.
 fn way_of(case: &mut Case) -> Way {
     if case.word() == "link" {
         return Way::Link;
@@ -121,7 +122,7 @@ fn end_if_there<G: Gate>(bench: Option<Bench<G>>) {
     }
 }
 
-/// The settings of a file.
+/// Reads the settings of a file.
 fn read_settings(rt: &HostRuntime, name: &str) -> Result<Settings> {
     let text = fs::read_to_string(rt, name)?;
     Ok(settings_file::read(rt.alloc(), text.as_str())?)

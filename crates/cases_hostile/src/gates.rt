@@ -1,4 +1,4 @@
-//! A gateway, as far as a vector has to do with it.
+//! The calls of a gateway that a vector needs.
 
 use crate::telling::write_pairs;
 use cases_words::Case;
@@ -8,7 +8,8 @@ use settings::Settings;
 use std::alloc::Global;
 use std::io::{self, Write};
 
-/// What shows of a gateway: its pairs, how many entries it has (these and proposals given up), whether it is synced, and where it is Active.
+/// The visible state of a gateway: its pairs, how many entries it has (these and proposals given up), whether it is
+/// synced, and where it is Active.
 #[derive(Drop)]
 pub(crate) struct Seen {
     pairs: Vec<Pair>,
@@ -29,7 +30,7 @@ impl Seen {
         }
     }
 
-    /// Writes the pairs, a line each, and then whether it is synced, and Active inside and outside.
+    /// Writes the pairs, a line each, and then whether the gateway is synced, and Active inside and outside.
     pub(crate) fn write(&self, told: &mut Vec<u8>) -> io::Result<()> {
         write_pairs(told, self.pairs.as_slice())?;
         let (synced, inside, outside) = (self.synced, self.inside_active, self.outside_active);
@@ -37,10 +38,10 @@ impl Seen {
     }
 }
 
-/// What is done with a gateway. Nothing is known of it: a function that knew its type would have to show of each of its parts
-/// where it lies.
+/// The calls of a gateway that are tested, without contracts. A function that knew the gateway's type would have to
+/// show for each of its parts where that is in memory.
 pub(crate) trait Gate: Sized {
-    /// A gateway of that number in that boot; none where there is no such gateway.
+    /// Begins the gateway of a number in a boot, or returns None where there is no such gateway.
     fn begun(
         alloc: Global,
         settings: &Settings,
@@ -49,16 +50,16 @@ pub(crate) trait Gate: Sized {
         found: bool,
     ) -> Option<Self>;
 
-    /// One step, by a cleared `Out`. Where memory is refused the line is wrong.
+    /// Takes one step, with an `Out` that is cleared first. Without memory the line is wrong.
     fn step(&mut self, event: Event<'_>, out: &mut Out, case: &mut Case) -> Outcome;
 
-    /// What shows of it.
+    /// Returns the gateway's visible state.
     fn seen(&self, case: &mut Case) -> Seen;
 
-    /// Whether it shows what was seen. To look for each pair is cheaper than to list all.
+    /// Whether the gateway's visible state is `seen`. A look-up of each pair is cheaper than a list of all.
     fn shows(&self, seen: &Seen) -> bool;
 
-    /// Gives its memory back.
+    /// Frees the gateway's memory.
     fn end(self);
 }
 

@@ -1,6 +1,6 @@
-//! Bytes that were cut and changed, and scripts that mean harm. Each vector of `vectors.cases` is handed to a gateway cut at
-//! every length and with every byte changed; each script of `scripts.list` is run event by event, with `audit` after each.
-//! It prints what came of all that, and a digest of what was told meanwhile.
+//! Runs cut and changed bytes, and hostile scripts. Each vector of `vectors.cases` is given to a gateway cut at every
+//! length and with every byte changed. Each script of `scripts.list` is run event by event, with `audit` after each.
+//! The program prints the outcomes, and a digest of the output meanwhile.
 #![tactic(auto)]
 
 mod benches;

@@ -19,9 +19,9 @@ pub(crate) struct Scripts {
 }
 
 impl Actor for Scripts {
-    /// `NAME SETTINGS`: runs NAME.script by the settings of SETTINGS.toml. It prints how many events were refused, how many
-    /// frames were sent on, how many notes there are, and a digest of all that was told; and that the audit passed so many
-    /// times, or the first event behind which it doesn't.
+    /// Does a line `NAME SETTINGS`: runs NAME.script by the settings of SETTINGS.toml. Prints how many events were
+    /// refused, how many frames were sent on, how many notes there are, a digest of all output, and how often the audit
+    /// passed, or the first event after which it fails.
     fn act(&mut self, case: &mut Case) {
         case.title("", ": ");
         let script = text_at(&self.rt, case.word(), "script");
@@ -38,18 +38,18 @@ impl Actor for Scripts {
     }
 }
 
-/// The text of the file of a name and a kind.
+/// Returns the text of the file with a name and a kind.
 fn text_at(rt: &HostRuntime, name: &str, kind: &str) -> Result<String> {
     let path = format!(in rt.alloc(); "{name}.{kind}")?;
     Ok(fs::read_to_string(rt, path.as_str())?)
 }
 
-/// The job of two texts, of which nothing is said, so that what a caller has to show stays small.
+/// Reads the job of two texts. The function has no contract, so that its caller has little to prove.
 fn read(alloc: Global, settings: &str, script: &str) -> Result<Job, Fault> {
     read_job(alloc, settings, script)
 }
 
-/// A new world, of which nothing is said either.
+/// Founds a new world. The function has no contract, so that its caller has little to prove.
 fn founded(alloc: Global, settings: &Settings) -> Result<World<'_>, NoMemory> {
     World::founded(alloc, settings)
 }
@@ -66,7 +66,7 @@ fn run(settings: &Settings, events: &[WorldEvent], case: &mut Case) {
     }
 }
 
-/// What came of a script's events so far.
+/// The outcomes of a script's events so far.
 #[derive(Drop)]
 struct Watch {
     told: Vec<u8>,
@@ -126,7 +126,7 @@ impl Watch {
         }
     }
 
-    /// The audit's answer, once nothing was wrong before.
+    /// Records the audit's answer, as long as no audit has failed.
     fn keep(&mut self, judged: Result<(), AuditFault>) {
         if self.wrong.is_none() {
             match judged {
@@ -154,12 +154,12 @@ impl Watch {
     }
 }
 
-/// The step of one event, of which nothing is said.
+/// Runs one event. The function has no contract, so that its caller has little to prove.
 fn step(world: &mut World<'_>, event: &[WorldEvent]) -> Result<Vec<Step>, NoMemory> {
     world.run(event)
 }
 
-/// How both gateways stand: whether they are synced, and the pairs that they hold.
+/// Writes the state of both gateways at the end: whether they are synced, and the pairs that they hold.
 fn write_end(told: &mut Vec<u8>, world: &World<'_>) -> io::Result<()> {
     for id in [GatewayId::Zero, GatewayId::One] {
         let synced = world.synced(id);

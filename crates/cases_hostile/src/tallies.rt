@@ -1,15 +1,15 @@
-//! How often each outcome came, and runs of places with as many of each.
+//! Counts of outcomes, and runs of places with the same counts.
 
 use cases_words::Case;
 use gateway::Outcome;
 
-/// The outcomes that aren't drops, then those by the reason's number.
+/// The number of places of a tally: those of the outcomes that aren't drops, then one for each reason's number.
 const KINDS: usize = 28;
 
-/// The place of the drops in front of that with reason 1.
+/// The place before that of the drops with reason 1. The outcome `Done` is counted there.
 const DROPS: usize = 2;
 
-/// How often each outcome came.
+/// The count of each outcome.
 #[derive(Clone, Copy, PartialEq, Eq)]
 pub(crate) struct Tally([u32; KINDS]);
 
@@ -18,7 +18,7 @@ impl Tally {
         Tally([0; KINDS])
     }
 
-    /// It came once more.
+    /// Counts an outcome.
     pub(crate) fn count(&mut self, outcome: Outcome) {
         let place = match outcome {
             Outcome::Sent => 0,
@@ -51,7 +51,7 @@ fn tell_kind(place: usize, case: &mut Case) {
     }
 }
 
-/// A run of places, rising or falling, at which all came alike.
+/// A run of neighbouring places, rising or falling, with the same counts.
 #[derive(Drop)]
 pub(crate) struct Run {
     word: &'static str,
@@ -60,7 +60,7 @@ pub(crate) struct Run {
 }
 
 impl Run {
-    /// No place so far.
+    /// Returns a run of no place so far.
     pub(crate) fn new(word: &'static str) -> Run {
         Run {
             word,
@@ -69,7 +69,8 @@ impl Run {
         }
     }
 
-    /// What came at the next place; where it isn't as before, the run so far is printed, and another begins.
+    /// Adds the counts of the next place. Where they differ from those before, the run so far is printed, and another
+    /// begins.
     pub(crate) fn add(&mut self, place: usize, tally: Tally, case: &mut Case) {
         match self.places {
             Some((least, most)) if tally == self.tally => {

@@ -1,4 +1,4 @@
-//! What was told, as bytes, and their digest.
+//! The output of steps as bytes, and the digest of that output.
 
 use gateway::{Out, Outcome};
 use nat_types::{Note, Pair};
@@ -6,7 +6,7 @@ use sha2::{Digest, Sha256};
 use std::fmt::Display;
 use std::io::{self, Write};
 
-/// The first 64 bits of the SHA-256 of bytes.
+/// Returns the first 64 bits of the SHA-256 of bytes.
 pub(crate) fn digest_of(bytes: &[u8]) -> u64 {
     let mut hasher = Sha256::new();
     hasher.update(bytes);
@@ -16,7 +16,8 @@ pub(crate) fn digest_of(bytes: &[u8]) -> u64 {
     u64::from_be_bytes(first)
 }
 
-/// An outcome by its word, and then a line for each thing that was told: frames and datagrams, their bytes behind them.
+/// Writes an outcome by its word, and then a line for each thing that was output, where frames and datagrams have their
+/// bytes at the end.
 pub(crate) fn write_step(told: &mut Vec<u8>, outcome: Outcome, out: &Out) -> io::Result<()> {
     write_outcome(told, outcome)?;
     write_frames(told, out)?;
@@ -33,7 +34,7 @@ fn write_outcome(told: &mut Vec<u8>, outcome: Outcome) -> io::Result<()> {
     }
 }
 
-/// Why an event was refused.
+/// Writes why an event was refused.
 pub(crate) fn write_refusal<D: Display + Drop>(told: &mut Vec<u8>, fault: D) -> io::Result<()> {
     writeln!(told, "refused {fault}")
 }
@@ -61,7 +62,7 @@ fn write_notes(told: &mut Vec<u8>, notes: &[Note]) -> io::Result<()> {
     Ok(())
 }
 
-/// The pairs, a line each.
+/// Writes the pairs, a line each.
 pub(crate) fn write_pairs(told: &mut Vec<u8>, pairs: &[Pair]) -> io::Result<()> {
     for pair in pairs {
         writeln!(told, "{pair}")?;

@@ -9,7 +9,7 @@ use Rattle.interfaces.specs.Stations.{fixed_of, fixed_on, is_on}
 pub on-count : (side : Side) (set : List Set) → length (fixed_on side set) ≡ count_by (is_on side) set
 on-count side set = length-map (filter (is_on side) set) fixed_of ∙ length-filter (is_on side) set
 
--- before one of them there are fewer than in all
+-- before a neighbour on a side there are fewer on that side than in all
 pub on-room : (side : Side) (set : List Set) (i : ℕ) (d : Set) → i < length set → is_on side (get_or set i d) ≡ true
     → length (fixed_on side (take i set)) < length (fixed_on side set)
 on-room side set i d within is =

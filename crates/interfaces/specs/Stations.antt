@@ -1,4 +1,4 @@
--- What an interface of a gateway shows, and what becomes of it.
+-- What callers see of an interface of a gateway, and how each event changes it.
 use Rattle.std.specs.Prelude.{◌≡◌, ℕ, Bool, true, false, List, [], map, length, None, if◌then◌else◌}
 use Rattle.std.specs.List.{filter}
 use Rattle.nat_types.specs.declared.gateways.GatewayId.{GatewayId}
@@ -24,8 +24,8 @@ use Rattle.interfaces.specs.Cables.{plugged}
 use Rattle.interfaces.specs.declared.tallies.Tally.{Tally}
 use Rattle.interfaces.specs.Tallies.{complained, none_in, replied}
 
--- an interface: its network, its cable, the interval (cs) at which it advertises, its virtual router,
--- the neighbours that it knows, and how much was said there of the gateway's own
+-- an interface: its network, its cable, the interval (cs) at which it advertises, its virtual router, the neighbours
+-- that it knows, and the tally of the answers to Echos and of the ICMP errors that the gateway sent there
 pub record Interface : Type 0 where
   pub network : Network
   pub cable : Cable
@@ -39,11 +39,11 @@ is_active_in Initialize = false
 is_active_in Backup = false
 is_active_in Active = true
 
--- its router is Active
+-- an interface's router is Active
 abbrev pub is_active : Interface → Bool
 is_active station = is_active_in station.router.state
 
--- one side is another
+-- two sides are one
 abbrev pub same_side : Side → Side → Bool
 same_side Inside Inside = true
 same_side Inside Outside = false
@@ -76,13 +76,13 @@ new_station settings id side =
       said = none_in 0;
     }
 
--- its router takes a step, and all else stays
+-- an interface's router takes a step, and all else stays
 pub record IsRouterStep (old : Interface) (event : Event) (now : ℕ) (action : Action) (new : Interface)
     : Type 0 where
   pub line : IsStep old.router event now action new.router
   pub rest : new ≡ record old { router = new.router }
 
--- its cable is said to be in (true) or out, at a moment
+-- an interface's cable is reported in (true) or out, at a moment
 abbrev pub with_plug : Interface → Bool → ℕ → Interface
 with_plug station up now = record station { cable = plugged station.cable up now }
 
@@ -93,7 +93,7 @@ with_reply station now = record station { said = replied now station.said }
 abbrev pub with_complaint : Interface → ℕ → Interface
 with_complaint station now = record station { said = complained now station.said }
 
--- a neighbour is learnt or renewed
+-- the sender of an ARP packet is learnt or renewed
 abbrev pub with_neighbour : Interface → ArpPacket → ℕ → Interface
 with_neighbour station p now = record station {
   neighbours = record station.neighbours {

@@ -1,21 +1,21 @@
-//! A side's cable.
+//! The state of a side's cable.
 ghost use Rattle.std.specs.Prelude.{◌≡◌};
 ghost use Rattle.interfaces.specs.Cables.{is_in, is_whole, plugged};
 
-/// How long a cable has been in when its side is whole again, in centiseconds.
+/// How long a cable must be in until its side counts as whole again, in centiseconds.
 pub const WHOLE_AFTER: u64 = 300;
 
-/// Whether a side's cable is in, and since when.
+/// The state of a side's cable: out, or in and since when.
 #[derive(Clone, Copy, Debug, PartialEq, Eq)]
 pub enum Cable {
-    /// It is out.
+    /// The cable is out.
     Out,
-    /// It came in at this moment; at none, where it has been in since the gateway began.
+    /// The cable came in at this time, or at None where it has been in since the gateway began.
     In(Option<u64>),
 }
 
 impl Cable {
-    /// Whether it is in.
+    /// Whether the cable is in.
     pub fn is_in(self) -> bool
         ensures { result ≡ is_in self }
     {
@@ -25,7 +25,7 @@ impl Cable {
         }
     }
 
-    /// Whether it is in, and didn't come in less than `WHOLE_AFTER` centiseconds ago.
+    /// Whether the cable is in, and didn't come in less than `WHOLE_AFTER` centiseconds ago.
     pub fn is_whole(self, now: u64) -> bool
         ensures { result ≡ is_whole self now }
     {
@@ -36,7 +36,8 @@ impl Cable {
         }
     }
 
-    /// The cable once it is said to be in or out: nothing changes where it is so already.
+    /// Returns the cable after it is reported in (`up`) or out at `now`. Nothing changes where the
+    /// cable is so already.
     pub fn plugged(self, up: bool, now: u64) -> Cable
         ensures { result ≡ plugged self up now }
     {

@@ -10,23 +10,23 @@ ghost use Rattle.interfaces.specs.declared.cables.TheConstants.{WHOLE_AFTER};
 ghost use Rattle.interfaces.specs.declared.tallies.Tally.{Tally};
 ghost use Rattle.interfaces.specs.declared.tallies.TheConstants.{MOST_ERRORS, MOST_REPLIES};
 
-/// An advertisement's frame has as many bytes as the constant says, and so has a gratuitous ARP's.
+/// States that the frame of an advertisement has `ADVERT_FRAME` bytes, and that of a gratuitous ARP `ARP_FRAME`.
 pub fn sizes_law()
     ensures advert { (network : Network) (priority interval : ℕ)
         → length (advert_frame network priority interval) ≡ ADVERT_FRAME }
     ensures gratuitous { (network : Network) → length (gratuitous_frame network) ≡ ARP_FRAME }
 {}
 
-/// The numbers that the definitions take from the code: how many centiseconds after its cable came in a
-/// side is whole, and how much is said there in one second.
+/// States the numbers that the definitions take from the code: how many centiseconds after its cable came in a side is
+/// whole, and how many answers and errors of its own the gateway sends there in one second.
 pub fn limits_law()
     ensures whole_after { WHOLE_AFTER ≡ 300 }
     ensures most_replies { MOST_REPLIES ≡ 100 }
     ensures most_errors { MOST_ERRORS ≡ 10 }
 {}
 
-/// Where no more is counted than may be sent, a tally stays within its limits; it goes on within one second, and
-/// begins anew in another.
+/// States that a tally stays within its limits where no more is counted than may be sent. A tally goes on within one
+/// second, and begins anew in another.
 pub fn tallies_law()
     ensures none { (second : ℕ) → IsWithin (none_in second) }
     ensures replied { (now : ℕ) (tally : Tally) → IsWithin tally → may_reply now tally ≡ true

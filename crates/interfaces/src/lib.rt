@@ -1,5 +1,5 @@
-//! One interface of a gateway: its network, its cable, its virtual router, the neighbours that it
-//! knows, and how much it said itself.
+//! One interface of a gateway: its network, its cable, its virtual router, its neighbours, and the
+//! tally of the answers to Echos and of the ICMP errors that the gateway sent there.
 #![tactic(auto)]
 
 mod cables;

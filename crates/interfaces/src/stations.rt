@@ -29,18 +29,18 @@ use vrrp_packet::Advert;
 use vrrp_states::laws::exactly_one_line;
 use vrrp_states::{Action, Router, State};
 
-/// One interface of a gateway: its network, its cable, its virtual router, the neighbours that it knows,
-/// and how much was said there of the gateway's own.
-/// Each moment is of one clock, in centiseconds.
+/// One interface of a gateway: its network, its cable, its virtual router, the neighbours that it knows, and the tally
+/// of the answers to Echos and of the ICMP errors that the gateway sent there. Each `now` is a time of one clock, in
+/// centiseconds.
 #[derive(Drop)]
 pub struct Interface {
     network: Network,
     cable: Cable,
-    /// Centiseconds from one advertisement to the next.
+    /// The time from one advertisement to the next, in centiseconds.
     interval: u16,
     router: Router,
     cache: Cache,
-    /// What was said there of the gateway's own.
+    /// The tally of the answers to Echos and of the ICMP errors that the gateway sent there.
     said: Tally,
 }
 
@@ -77,7 +77,7 @@ fn fixed(neighbour: &settings::Neighbour) -> Neighbour
     }
 }
 
-/// How many static neighbours are on a side.
+/// Returns how many static neighbours are on a side.
 fn fixed_count(set: &[settings::Neighbour], side: Side) -> usize
     ensures { result ≡ length (fixed_on side set.now) }
 {
@@ -86,7 +86,7 @@ fn fixed_count(set: &[settings::Neighbour], side: Side) -> usize
         .count()
 }
 
-/// The static neighbours on a side, in their order.
+/// Returns the static neighbours on a side, in the order of the settings.
 fn fixed_neighbours(
     alloc: Global,
     set: &[settings::Neighbour],
@@ -105,8 +105,8 @@ fn fixed_neighbours(
 }
 
 impl Interface {
-    /// The interface of a gateway on a side, with the static neighbours there and its router in
-    /// Initialize. An `Err` stands for a refused growth.
+    /// Makes the interface of a gateway on a side, with the static neighbours there and its router in Initialize. An
+    /// Err says that there is no memory.
     #[tactic(auto, unfolding(crate::specs::Stations::new_station))]
     pub fn new(
         alloc: Global,
@@ -131,7 +131,7 @@ impl Interface {
         })
     }
 
-    /// Reminds the prover that all hardware addresses have six bytes; it does nothing when it runs.
+    /// Reminds the prover that all hardware addresses have six bytes. The call does nothing at run time.
     pub fn recall(&self)
         ensures { IsWired self.now }
     {
@@ -139,34 +139,35 @@ impl Interface {
         self.cache.recall();
     }
 
+    /// Returns the interface's network.
     pub fn network(&self) -> Network
         ensures { result ≡ self.now.network }
     {
         self.network
     }
 
-    /// Is told that its cable is in (`up`) or out. Where it is so already, nothing changes.
+    /// Records that the interface's cable is in (`up`) or out. Where the cable is so already, nothing changes.
     pub fn plug(&mut self, up: bool, now: u64)
         ensures { self.new ≡ with_plug self.old up now }
     {
         self.cable = self.cable.plugged(up, now);
     }
 
-    /// Whether one more Echo may be answered there in this second.
+    /// Whether the gateway may answer one more Echo there in this second.
     pub fn may_reply(&self, now: u64) -> bool
         ensures { result ≡ may_reply now self.now.said }
     {
         self.said.may_reply(now)
     }
 
-    /// Whether one more error may be sent there in this second.
+    /// Whether the gateway may send one more ICMP error of its own there in this second.
     pub fn may_complain(&self, now: u64) -> bool
         ensures { result ≡ may_complain now self.now.said }
     {
         self.said.may_complain(now)
     }
 
-    /// Counts an answer to an Echo that was sent there.
+    /// Counts an answer to an Echo that the gateway sent there.
     pub fn count_reply(&mut self, now: u64)
         requires { may_reply now self.old.said ≡ true }
         ensures { self.new ≡ with_reply self.old now }
@@ -174,7 +175,7 @@ impl Interface {
         self.said = self.said.replied(now);
     }
 
-    /// Counts an error that was sent there.
+    /// Counts an ICMP error of the gateway's own that it sent there.
     pub fn count_complaint(&mut self, now: u64)
         requires { may_complain now self.old.said ≡ true }
         ensures { self.new ≡ with_complaint self.old now }
@@ -182,22 +183,22 @@ impl Interface {
         self.said = self.said.complained(now);
     }
 
-    /// Whether its cable is in.
+    /// Whether the interface's cable is in.
     pub fn is_in(&self) -> bool
         ensures { result ≡ is_in self.now.cable }
     {
         self.cable.is_in()
     }
 
-    /// Whether its cable is in, and didn't come in less than `WHOLE_AFTER` centiseconds ago.
+    /// Whether the interface's cable is in, and didn't come in less than `WHOLE_AFTER` centiseconds ago.
     pub fn is_whole(&self, now: u64) -> bool
         ensures { result ≡ is_whole self.now.cable now }
     {
         self.cable.is_whole(now)
     }
 
-    /// Whether its router is Active: then it answers for the virtual address, and takes the frames
-    /// to the virtual router.
+    /// Whether the interface's router is Active. Then the interface answers for the virtual address, and takes the
+    /// frames to the virtual router.
     pub fn is_active(&self) -> bool
         ensures { result ≡ is_active self.now }
     {
@@ -207,8 +208,7 @@ impl Interface {
         }
     }
 
-    /// Starts the router, where the gateway is founded or loaded; nothing is sent yet (RFC 9568,
-    /// section 6.4.1).
+    /// Starts the router, where the gateway is founded or loaded. Nothing is sent yet (RFC 9568, section 6.4.1).
     pub fn start(&mut self, now: u64)
         requires { IsMoment now }
         ensures { IsRouterStep self.old Start now Nothing self.new }
@@ -217,7 +217,7 @@ impl Interface {
         let _action = self.router.start(now);
     }
 
-    /// At most one move of the router, where its timer is due.
+    /// Moves the router at most once, where its timer is due, and returns what the router sends.
     pub fn tick(&mut self, now: u64) -> Action
         requires { IsMoment now }
         ensures { IsRouterStep self.old Tick now result self.new }
@@ -225,7 +225,8 @@ impl Interface {
         self.router.tick(now)
     }
 
-    /// An advertisement of this virtual router, from another gateway's primary address.
+    /// Gives the router an advertisement of its virtual router, from another gateway's primary address, and returns
+    /// what the router sends.
     pub fn heard(&mut self, advert: &Advert, from: Ip, now: u64) -> Action
         requires { IsMoment now }
         ensures { IsRouterStep self.old (Heard advert.now.priority advert.now.interval from.0) now
@@ -234,15 +235,15 @@ impl Interface {
         self.router.heard(advert, from, now)
     }
 
-    /// Stops the router (RFC 9568, sections 6.4.2 and 6.4.3).
+    /// Stops the router, and returns what the router sends (RFC 9568, sections 6.4.2 and 6.4.3).
     pub fn stop(&mut self) -> Action
         ensures { (now : ℕ) → IsRouterStep self.old Stop now result self.new }
     {
         self.router.stop()
     }
 
-    /// Learns or renews the sender of an ARP packet at a moment, if it is one that is learnt, and
-    /// says whether it is.
+    /// Learns or renews the sender of an ARP packet at `now`, if the sender is one that is learnt, and returns whether
+    /// it is.
     #[tactic(auto, unfolding(crate::specs::Stations::after_arp))]
     pub fn learn(&mut self, packet: &ArpPacket, now: u64) -> bool
         ensures learnt { result ≡ is_learnable self.old.network packet.now }
@@ -255,7 +256,8 @@ impl Interface {
         learns
     }
 
-    /// The hardware address of a neighbour that is static, or was learnt and is valid at a moment.
+    /// Returns the hardware address of a neighbour that is static, or was learnt and is valid at `now`, or None where
+    /// there is no such neighbour.
     #[inline(always)]
     pub fn mac_of(&self, address: Ip, now: u64) -> Option<Mac>
         ensures mac { result ≡ mac_at address.0 now self.now.neighbours }
@@ -264,9 +266,9 @@ impl Interface {
         self.cache.mac_of(address, now)
     }
 
-    /// Whether a packet just sent to a neighbour at a moment is to be followed by a request for its
-    /// address: it isn't static, was learnt or renewed 90,000 centiseconds ago or more, and last
-    /// asked for 100 ago or more. If so, it counts as asked for now.
+    /// Whether a packet that was sent to a neighbour at `now` must be followed by an ARP request for its address. The
+    /// answer is true where the neighbour isn't static, was learnt or renewed 90,000 centiseconds ago or more, and was
+    /// last asked for 100 ago or more. The neighbour then counts as asked for at `now`.
     #[inline(always)]
     pub fn ask(&mut self, address: Ip, now: u64) -> bool
         ensures asks { result ≡ asks_at address.0 now self.old.neighbours }
@@ -279,8 +281,8 @@ impl Interface {
         self.cache.ask(address, now)
     }
 
-    /// Reads a frame that came in here, on this side of a gateway that is `up` or not; or gives the
-    /// reason of the first step that refuses it.
+    /// Reads a frame that came in here, on this side of a gateway that is `up` or not. An Err has the reason of the
+    /// first step that refuses the frame.
     #[inline(always)]
     pub fn read_frame(&self, side: Side, up: bool, bytes: &[u8]) -> Result<Reading, Reason>
         ensures reading { result
@@ -291,15 +293,15 @@ impl Interface {
         packet_rules::read_frame(side, &self.network, self.is_active(), up, bytes)
     }
 
-    /// The hardware address by which an ARP packet is answered here, where it asks for an address of
-    /// the gateway.
+    /// Returns the hardware address with which an ARP packet is answered here, or None where the packet is no request
+    /// for an address of the gateway.
     pub fn answer_to(&self, packet: &ArpPacket) -> Option<Mac>
         ensures { result ≡ answer_to self.now.network (is_active self.now) packet.now }
     {
         packet_rules::answer_to(&self.network, self.is_active(), packet)
     }
 
-    /// Puts the frame of an advertisement with this priority behind a list with room for it.
+    /// Appends the frame of an advertisement with this priority to a list with capacity for it.
     pub fn append_advert(&self, list: &mut Vec<u8>, priority: u8)
         requires { vec_len list.old + ADVERT_FRAME ≤ vec_capacity list.old }
         ensures items { list.new.items
@@ -310,8 +312,8 @@ impl Interface {
         packet_rules::append_advert(list, &self.network, priority, self.interval);
     }
 
-    /// Puts the frame that tells everyone where the virtual address is behind a list with room for
-    /// it.
+    /// Appends the gratuitous ARP frame that tells everyone the hardware address of the virtual address to a list with
+    /// capacity for it.
     pub fn append_gratuitous(&self, list: &mut Vec<u8>)
         requires { vec_len list.old + ARP_FRAME ≤ vec_capacity list.old }
         ensures items { list.new.items ≡ list.old.items ++ gratuitous_frame self.now.network }

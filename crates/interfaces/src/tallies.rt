@@ -1,4 +1,4 @@
-//! How much a gateway says itself at a side in one second.
+//! How many answers to Echos and ICMP errors of its own a gateway sends at a side in one second.
 
 /// The most Echos that are answered at a side in one second.
 pub const MOST_REPLIES: u8 = 100;
@@ -6,7 +6,8 @@ pub const MOST_REPLIES: u8 = 100;
 /// The most errors of its own that the gateway sends at a side in one second.
 pub const MOST_ERRORS: u8 = 10;
 
-/// What was said at a side in a second of the clock, which is a hundred moments.
+/// The counts of the Echos that were answered and of the errors that were sent at a side in one
+/// second of the clock, of 100 centiseconds.
 #[derive(Clone, Copy, Debug, PartialEq, Eq)]
 pub struct Tally {
     pub second: u64,
@@ -18,7 +19,7 @@ impl Tally {
     ghost use Rattle.std.specs.Prelude.{◌≡◌, true};
     ghost use Rattle.interfaces.specs.Tallies.{at_moment, complained, may_complain, may_reply, none_in, replied};
 
-    /// Nothing was said yet.
+    /// Returns a tally in which nothing is counted yet.
     pub fn new() -> Tally
         ensures { result ≡ none_in 0 }
     {
@@ -29,7 +30,7 @@ impl Tally {
         }
     }
 
-    /// The tally at a moment: each second begins with none.
+    /// Returns the tally at `now`: each second begins with zero counts.
     #[tactic(auto, unfolding(crate::specs::Tallies::at_moment))]
     fn at_moment(self, now: u64) -> Tally
         ensures { result ≡ at_moment now self }
@@ -46,21 +47,21 @@ impl Tally {
         }
     }
 
-    /// Whether one more Echo may be answered at a moment.
+    /// Whether one more Echo may be answered at `now`.
     pub fn may_reply(self, now: u64) -> bool
         ensures { result ≡ may_reply now self }
     {
         self.at_moment(now).replies < MOST_REPLIES
     }
 
-    /// Whether one more error may be sent at a moment.
+    /// Whether one more error may be sent at `now`.
     pub fn may_complain(self, now: u64) -> bool
         ensures { result ≡ may_complain now self }
     {
         self.at_moment(now).errors < MOST_ERRORS
     }
 
-    /// One more Echo was answered.
+    /// Returns the tally after one more Echo was answered at `now`.
     pub fn replied(self, now: u64) -> Tally
         requires { may_reply now self ≡ true }
         ensures { result ≡ replied now self }
@@ -73,7 +74,7 @@ impl Tally {
         }
     }
 
-    /// One more error was sent.
+    /// Returns the tally after one more error was sent at `now`.
     pub fn complained(self, now: u64) -> Tally
         requires { may_complain now self ≡ true }
         ensures { result ≡ complained now self }

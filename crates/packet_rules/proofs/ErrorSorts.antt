@@ -27,7 +27,7 @@ use Rattle.packet_rules.specs.Steps.{IsPassable}
 use Rattle.packet_rules.specs.Queries.{kind_leaving}
 use Rattle.packet_rules.proofs.Sorts.{body-there, cut-first, header-nine, own-six, payload-some, type-there}
 
--- an error passed on, cut, has its protocol
+-- an error that is passed on and cut keeps its protocol
 passed-nine : (new : ErrorFlow) (packet : List ℕ) (total : ℕ) → 9 < total → 20 ≤ length packet → 20 ≤ (header_of packet).header_length → slice_index (take total (passed_on new packet)) 9 ≡ slice_index packet 9
 passed-nine new packet total far long holds =
     let header = take (header_of packet).header_length packet in
@@ -51,7 +51,7 @@ passed-type networks t next bytes wired six f =
     let there = ap (λ xs. slice_index xs 9) (body-there next.0 (exit_mac networks t).0 rest 8 0 six own) ∙ nine in
     (type-there next.0 (exit_mac networks t).0 rest 8 0 six own, there ∙ f.error.protocol)
 
--- the type of its message
+-- an error that is passed on keeps the type of its message
 passing-begins : (networks : Networks) (t : Translation) (packet : List ℕ) → IsIpv4 packet → IsErrorPacket packet → Begins (passed_by networks t packet) packet
 unfolding passed_by
 passing-begins networks t packet ip e = passed-begins (new_error_flow networks t (error_flow packet)) packet ip e
@@ -69,7 +69,7 @@ one-error : (bytes : List ℕ) → (frame_of bytes).ethertype ≡ 2048 → (head
 unfolding is_error_frame
 one-error bytes type protocol kind = rw (type, protocol, kind) refl
 
--- an error's type is none of a query's
+-- an error's type is no query's
 no-query : (n : ℕ) (exit : Side) → is_error n ≡ true → (n == kind_number (kind_leaving exit)) ≡ false
 no-query n Inside is = grind (arith, nat_tests)
 no-query n Outside is = grind (arith, nat_tests)
@@ -78,7 +78,7 @@ no-translation : (exit : Side) (bytes : List ℕ) → (frame_of bytes).ethertype
 unfolding is_translation
 no-translation exit bytes type protocol kind = rw (type, protocol, kind) refl
 
--- it is an error's, and no translation's
+-- the frame by which an error is passed on is an error's, and no translation's
 pub passed-is_error : (networks : Networks) (t : Translation) (next : Mac) (bytes : List ℕ) → IsWired networks → length next.0 ≡ 6 → IsPassable bytes → is_error_frame (passed_frame networks t next bytes) ≡ true
 passed-is_error networks t next bytes wired six f =
     let x = passed-type networks t next bytes wired six f in
@@ -91,7 +91,7 @@ passed-is_none networks exit t next bytes wired six f =
     let kind = ap is_error (passed-kind networks t next bytes wired six f) ∙ f.error.error.kind in
     no-translation exit _ x.0 x.1 (no-query _ exit kind)
 
--- an ARP frame is none
+-- an ARP frame isn't an error's
 no-error : (bytes : List ℕ) → (frame_of bytes).ethertype ≡ 2054 → is_error_frame bytes ≡ false
 unfolding is_error_frame
 no-error bytes type = rw type refl
@@ -99,7 +99,7 @@ no-error bytes type = rw type refl
 pub arp-is_no_error : (dst src : List ℕ) (p : ArpPacket) → length dst ≡ 6 → length src ≡ 6 → is_error_frame (frame_bytes dst src p) ≡ false
 arp-is_no_error dst src p six1 six2 = no-error _ (type-there dst src _ 8 6 six1 six2)
 
--- nor is a virtual router's
+-- a virtual router's gratuitous ARP frame isn't an error's
 pub gratuitous-is_no_error : (network : Network) → is_error_frame (gratuitous_frame network) ≡ false
 gratuitous-is_no_error network = arp-is_no_error broadcast_mac (virtual_of network).0 (gratuitous_packet (virtual_of network) network.interface.virtual_ip) refl refl
 

@@ -88,7 +88,7 @@ packet-read c network peer priority interval writable fits router other =
     let foreign = other-number _ _ (λ e. other (sym e ∙ source)) in
     ok-reading _ _ own _ network.own_ip (two-true _ _ none (two-true _ _ named foreign)) read.1 source
 
--- it is no Echo
+-- an advertisement is no Echo
 no-echo : (network peer : Network) (active : Bool) (priority interval : ℕ) → is_echo (frame_of (advert_frame network priority interval)).body ≡ false
 unfolding is_echo
 no-echo network peer active priority interval = refl

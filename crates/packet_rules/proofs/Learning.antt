@@ -1,4 +1,4 @@
--- The senders that are learnt, by a test and by the fact.
+-- The test of a sender agrees with the relation that says which senders are learnt.
 use Rattle.std.proofs.Common.{◌≡◌, ◌≢◌, ◌/◌, ◌-◌, ◌^◌, ◌%◌, Bool, true, false, ◌&&◌, IsTrue, ◌↔◌, replicate, slice_index, refl, sym, ap, ◌∙◌}
 use Rattle.std.specs.Bool.{Decides}
 use Rattle.std.proofs.lemmas.Bool.Decides.{Decides-eqb, Decides-not, same_from_decides}
@@ -14,11 +14,11 @@ decides-and : {P Q : Type 0} (a b : Bool) → Decides a P → Decides b Q → De
 decides-and true b p q = (λ t. (p.0 refl, q.0 t), λ h. q.1 h.1)
 decides-and false b p q = (λ t. cc, λ h. p.1 h.0)
 
--- who sent a packet
+-- the sender of a packet
 abbrev sender : ArpPacket → Neighbour
 sender p = record { address = p.sender_ip; mac = p.sender_mac }
 
--- a learner on the network
+-- an interface that learns, on this network
 pub record IsInterface (i : Learner) (network : Network) : Type 0 where
   pub address : i.network ≡ network.interface.virtual_ip
   pub length : i.length ≡ network.interface.prefix_length
@@ -62,7 +62,7 @@ learnable-of network p i is f = record {
   one_station = f.1.1.1.1;
 }
 
--- the test answers as the fact is
+-- a test that holds exactly of the learnable senders is `is_learnable`
 pub learnable-is : (b : Bool) (network : Network) (p : ArpPacket) (i : Learner) → IsInterface i network → (IsTrue b ↔ IsLearnable i (sender p)) → b ≡ is_learnable network p
 learnable-is b network p i is h =
     same_from_decides b (is_learnable network p)

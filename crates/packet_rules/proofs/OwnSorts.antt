@@ -1,4 +1,4 @@
--- Which frames are the box's own, and what they show.
+-- Which frames are the box's own, and which addresses they show.
 use Rattle.std.proofs.Common.{◌≡◌, ◌≢◌, ◌⊎◌, inl, inr, ◌≤◌, ◌<◌, ◌==◌, not, ◌&&◌, ◌||◌, ℕ, ◌+◌, ◌-◌, ◌*◌, ◌/◌, ◌%◌, ◌^◌, Bool, true, false, cond, Result, Ok, Err, List, ◌∷◌, ◌++◌, length, take, drop, slice_index, refl, ap, ap₂, sym, subst, ◌∙◌, arith, length-drop}
 use Rattle.std.proofs.lemmas.Bool.Decides.{nat_tests}
 use Rattle.std.proofs.lemmas.List.{get_or-drop, get_or-take, length-take}
@@ -53,7 +53,7 @@ number-same m n e = grind (arith, nat_tests)
 number-other : (m n : ℕ) → m ≢ n → (m == n) ≡ false
 number-other m n e = grind (arith, nat_tests)
 
--- two numbers that a test tells apart
+-- two numbers are unequal where a test holds of the second and not of the first
 differ-by : (f : ℕ → Bool) (m n : ℕ) (b : Bool) → (m == n) ≡ b → f m ≡ false → f n ≡ true → b ≡ false
 differ-by f m n false is out lies = refl
 differ-by f m n true is out lies =
@@ -69,11 +69,11 @@ virtual-lies : (interface : InterfaceSettings) → lies_in interface.virtual_ip.
 unfolding lies_in
 virtual-lies interface = number-same _ _ refl
 
--- the outside virtual address lies not inside
+-- the outside virtual address isn't in the inside network
 virtual-apart : (networks : Networks) → IsPlaced networks → lies_in networks.outside.interface.virtual_ip.0 networks.inside.interface ≡ false
 virtual-apart networks placed = placed.apart networks.outside.interface.virtual_ip.0 (virtual-lies networks.outside.interface)
 
--- an address in a header of bytes
+-- four bytes make an address of 32 bits
 four-fit : (a b c d : ℕ) → a < 256 → b < 256 → c < 256 → d < 256 → a * 16777216 + (b * 65536 + (c * 256 + (d * 1 + 0))) < 4294967296
 four-fit a b c d w x y z = omega arith
 
@@ -105,12 +105,12 @@ cut-source xs total far =
 number-written : (x : ℕ) → x < 4294967296 → x / 16777216 % 256 * 16777216 + (x / 65536 % 256 * 65536 + (x / 256 % 256 * 256 + (x % 256 * 1 + 0))) ≡ x
 number-written x h = omega arith
 
--- a header with other addresses has them
+-- a header whose addresses are replaced has the new source
 header-source : (f : Flow) (header rest more : List ℕ) → 20 ≤ length header → f.source.0 < 4294967296 → (header_of ((header_with f header ++ rest) ++ more)).source ≡ f.source.0
 header-source f (b0 ∷ b1 ∷ b2 ∷ b3 ∷ b4 ∷ b5 ∷ b6 ∷ b7 ∷ b8 ∷ b9 ∷ b10 ∷ b11 ∷ b12 ∷ b13 ∷ b14 ∷ b15 ∷ b16 ∷ b17 ∷ b18 ∷ b19 ∷ options) rest more long fits = number-written f.source.0 fits
 header-source f _ rest more long fits = absurd (omega arith)
 
--- the tests of an own frame that fail
+-- a conjunction of tests fails where one of its tests fails
 and-none : (a b c : Bool) → c ≡ false → (a && (b && c)) ≡ false
 and-none true true c none = none
 and-none true false c none = refl
@@ -140,7 +140,7 @@ other-source-none networks side bytes source is own rest =
     let none : ((source == network.own_ip.0) || ((slice_index (payload_of packet) 0 == 0) && ((source == network.interface.virtual_ip.0) || (source == networks.outside.interface.virtual_ip.0)))) ≡ false = three-none _ _ _ _ own rest in
     rw is (and-none ((frame_of bytes).ethertype == 2048) ((header_of packet).protocol == PROTOCOL) _ none)
 
--- an ARP frame isn't, nor is an advertisement
+-- an ARP frame isn't own, and neither is an advertisement
 type-none : (networks : Networks) (side : Side) (bytes : List ℕ) → (frame_of bytes).ethertype ≡ 2054 → is_own_frame networks side bytes ≡ false
 unfolding is_own_frame
 type-none networks side bytes type = rw type refl
@@ -265,7 +265,7 @@ GoesSo networks side t bytes =
     let flow = flow_in bytes in
     direction_of networks side flow.protocol flow.source.0 flow.destination.0 ≡ Ok (way_of t)
 
--- nor what goes back in
+-- the frame of a hairpin isn't own
 hairpin-none : (networks : Networks) (side : Side) (own other : Pair) (next : Mac) (bytes : List ℕ) → IsWired networks → length next.0 ≡ 6 → IsForwardable bytes → GoesSo networks side (Hairpin own other) bytes
     → (b : Bool) → ((header_of (frame_of bytes).body).protocol == PROTOCOL) ≡ b → is_own_frame networks Inside (sent_frame networks (Hairpin own other) next bytes) ≡ false
 hairpin-none networks side own other next bytes wired six f goes false other_one =
@@ -347,7 +347,7 @@ passed-is_not_own networks side (Hairpin own other) next bytes wired placed six 
     let from = passed-source networks (Hairpin own other) next bytes wired six f placed.outside_virtual in
     other-source-none networks Inside _ virtual from (not-inside networks virtual placed (virtual-apart networks placed)).0 (inl (frame-kind _ is))
 
--- What the box says itself.
+-- The packets that the box sends of its own.
 abbrev pub OwnPackets : Type 0
 OwnPackets = (service from to : ℕ) (message : List ℕ) → service < 2 ^ 8 → from < 2 ^ 32 → to < 2 ^ 32 → 20 + length message < 2 ^ 16
     → IsOwnPacket service from to message (own_packet service from to message)
@@ -369,7 +369,7 @@ knows-outside : (networks : Networks) (side : Side) → IsPlaced networks → (n
 knows-outside networks Inside placed = placed.inside_knows
 knows-outside networks Outside placed = placed.outside_knows
 
--- what it answers
+-- the packet that answers an Echo fits in the total length
 ask-short : (bytes : List ℕ) → IsAskable bytes → 20 + length (reply_message (payload_of (frame_of bytes).body)) < 65536
 ask-short bytes f =
     let packet = (frame_of bytes).body in
@@ -404,7 +404,7 @@ answer-said law bytes f are =
     let bodies = body-bytes bytes are in
     law 0 (header_of packet).destination (header_of packet).source (reply_message (payload_of packet)) (omega arith) (destination-fits packet bodies) (source-fits packet bodies) (ask-short bytes f)
 
--- and what it complains of
+-- the message of a complaint
 abbrev complaint-message : Complaint → List ℕ → List ℕ
 complaint-message Exceeded packet = exceeded_message packet
 complaint-message (TooBig mtu) packet = too_long_message packet mtu
@@ -428,7 +428,7 @@ complaint-said law network Exceeded packet own are =
 complaint-said law network (TooBig mtu) packet own are =
     law 192 network.own_ip.0 (header_of packet).source (too_long_message packet mtu) (omega arith) own (source-fits packet are) (complaint-short (TooBig mtu) packet)
 
--- the tests of an own frame that hold
+-- the tests of an own frame hold where each part does
 own-first : (a b c d : Bool) → a ≡ true → b ≡ true → c ≡ true → (a && (b && (c || d))) ≡ true
 own-first a b c d x y z = rw (x, y, z) refl
 
@@ -523,7 +523,7 @@ answer-is_own law networks side active next bytes wired placed six are f is =
     (ap (λ (xs : List ℕ). slice_index (payload_of xs) 0) frame.1 ∙ ap (λ (xs : List ℕ). slice_index xs 0) said.payload)
     (asked-at networks side active bytes placed is).one
 
--- At the outside they show nothing inside.
+-- An own frame at the outside shows no address of the inside network.
 not-true : (b : Bool) → not b ≡ true → b ≡ false
 not-true false is = refl
 not-true true is = cc

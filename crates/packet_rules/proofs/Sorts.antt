@@ -43,7 +43,7 @@ record Six (xs : List ℕ) : Type 0 where
   pub f : ℕ
   pub is : xs ≡ a ∷ b ∷ c ∷ d ∷ e ∷ f ∷ []
 
--- a list of six has these
+-- a list of length six is one of six elements
 six : (xs : List ℕ) → length xs ≡ 6 → Six xs
 six [] h = absurd (omega (arith, h))
 six (a ∷ []) h = absurd (omega (arith, h))
@@ -57,7 +57,7 @@ six (a ∷ b ∷ c ∷ d ∷ e ∷ f ∷ g ∷ xs) h = absurd (omega (arith, h))
 abbrev type_and : List ℕ → List ℕ → ℕ → ℕ → List ℕ → List ℕ
 type_and dst src high low rest = ((dst ++ src) ++ (high ∷ low ∷ [])) ++ rest
 
--- the EtherType behind two hardware addresses
+-- a frame's EtherType comes after its two hardware addresses
 pub type-there : (dst src rest : List ℕ) (high low : ℕ) → length dst ≡ 6 → length src ≡ 6 → (frame_of (type_and dst src high low rest)).ethertype ≡ high * 256 + low
 type-there dst src rest high low long long2 =
     let d = six dst long in
@@ -66,7 +66,7 @@ type-there dst src rest high low long long2 =
     ∙ ap (λ xs. (frame_of (type_and (d.a ∷ d.b ∷ d.c ∷ d.d ∷ d.e ∷ d.f ∷ []) xs high low rest)).ethertype) s.is
     ∙ omega arith
 
--- and the body behind them
+-- a frame's body comes after its hardware addresses and EtherType
 pub body-there : (dst src rest : List ℕ) (high low : ℕ) → length dst ≡ 6 → length src ≡ 6 → (frame_of (type_and dst src high low rest)).body ≡ rest
 body-there dst src rest high low long long2 =
     let d = six dst long in
@@ -74,7 +74,7 @@ body-there dst src rest high low long long2 =
     ap (λ xs. (frame_of (type_and xs src high low rest)).body) d.is
     ∙ ap (λ xs. (frame_of (type_and (d.a ∷ d.b ∷ d.c ∷ d.d ∷ d.e ∷ d.f ∷ []) xs high low rest)).body) s.is
 
--- a header with other addresses has its protocol
+-- a header keeps its protocol when its addresses are replaced
 pub header-nine : (flow : Flow) (header rest more : List ℕ) → 20 ≤ length header → slice_index ((header_with flow header ++ rest) ++ more) 9 ≡ slice_index header 9
 header-nine flow [] rest more long = absurd (omega (arith, long))
 header-nine flow (a ∷ []) rest more long = absurd (omega (arith, long))
@@ -88,7 +88,7 @@ header-nine flow (a ∷ b ∷ c ∷ d ∷ e ∷ f ∷ g ∷ h ∷ []) rest more 
 header-nine flow (a ∷ b ∷ c ∷ d ∷ e ∷ f ∷ g ∷ h ∷ i ∷ []) rest more long = absurd (omega (arith, long))
 header-nine flow (a ∷ b ∷ c ∷ d ∷ e ∷ f ∷ g ∷ h ∷ i ∷ j ∷ header) rest more long = refl
 
--- a translated packet, cut, has its protocol
+-- a packet that is translated and cut keeps its protocol
 translated-nine : (flow : Flow) (packet : List ℕ) (total : ℕ) → 9 < total → 20 ≤ length packet → 20 ≤ (header_of packet).header_length → slice_index (take total (translated flow packet)) 9 ≡ slice_index packet 9
 translated-nine flow packet total far long holds =
     let header = take (header_of packet).header_length packet in
@@ -96,13 +96,13 @@ translated-nine flow packet total far long holds =
     ∙ header-nine flow header _ _ (omega (arith, length-take (header_of packet).header_length packet, long, holds))
     ∙ get_or-take (header_of packet).header_length packet 9 0 (omega arith)
 
--- bytes with this EtherType and protocol are those of a translation
+-- bytes with EtherType 2048 and protocol 17 or 6 are those of a translation
 is-one : (exit : Side) (bytes : List ℕ) → (frame_of bytes).ethertype ≡ 2048 → ((header_of (frame_of bytes).body).protocol ≡ 17) ⊎ ((header_of (frame_of bytes).body).protocol ≡ 6) → is_translation exit bytes ≡ true
 unfolding is_translation
 is-one exit bytes type (inl protocol) = rw (type, protocol) refl
 is-one exit bytes type (inr protocol) = rw (type, protocol) refl
 
--- and so are those of a query of the kind that leaves there
+-- bytes with a query of the kind that leaves at a side are those of a translation there
 is-query : (exit : Side) (bytes : List ℕ) → (frame_of bytes).ethertype ≡ 2048 → (header_of (frame_of bytes).body).protocol ≡ 1 → slice_index (payload_of (frame_of bytes).body) 0 ≡ kind_number (kind_leaving exit) → is_translation exit bytes ≡ true
 unfolding is_translation
 is-query Inside bytes type protocol kind = rw (type, protocol, kind) refl
@@ -112,7 +112,7 @@ is-none : (exit : Side) (bytes : List ℕ) → (frame_of bytes).ethertype ≡ 20
 unfolding is_translation
 is-none exit bytes type = rw type refl
 
--- the protocol of what is carried
+-- a packet that carries UDP or TCP has protocol 17 or 6
 carried-protocol : (packet : List ℕ) → IsTransport packet → ((header_of packet).protocol ≡ 17) ⊎ ((header_of packet).protocol ≡ 6)
 carried-protocol packet (inl udp) = inl udp.protocol
 carried-protocol packet (inr tcp) = inr tcp.protocol
@@ -131,7 +131,7 @@ pub translation-nine : (networks : Networks) (t : Translation) (packet : List �
 unfolding translated_by
 translation-nine networks t packet total far long holds = translated-nine _ packet total far long holds
 
--- the first byte of the payload stays where the packet is cut behind its total length
+-- the first byte of the payload stays where the packet is cut after its total length
 pub cut-first : (bytes packet : List ℕ) → Begins bytes packet → 20 ≤ (header_of packet).header_length → (header_of packet).header_length < (header_of packet).total_length
     → slice_index (payload_of (take (header_of packet).total_length bytes)) 0 ≡ slice_index (payload_of packet) 0
 cut-first bytes packet begins holds some =
@@ -231,11 +231,11 @@ pub sent-is_translation : (networks : Networks) (side : Side) (t : Translation) 
     → is_translation (exit_of (way_of t)) (sent_frame networks t next bytes) ≡ true
 sent-is_translation networks side t next bytes wired six1 f kind goes = sent-by networks side t next bytes wired six1 f kind goes f.translatable
 
--- an ARP frame is none
+-- an ARP frame isn't a translation's
 pub arp-is_none : (exit : Side) (dst src : List ℕ) (p : ArpPacket) → length dst ≡ 6 → length src ≡ 6 → is_translation exit (frame_bytes dst src p) ≡ false
 arp-is_none exit dst src p six1 six2 = is-none exit _ (type-there dst src _ 8 6 six1 six2)
 
--- nor is a virtual router's
+-- a virtual router's gratuitous ARP frame isn't a translation's
 pub gratuitous-is_none : (exit : Side) (network : Network) → is_translation exit (gratuitous_frame network) ≡ false
 gratuitous-is_none exit network = arp-is_none exit broadcast_mac (virtual_of network).0 (gratuitous_packet (virtual_of network) network.interface.virtual_ip) refl refl
 

@@ -29,7 +29,7 @@ unfoldable pub is_asked : Network → Bool → Frame → Bool
 is_asked network active frame =
     network.icmp.echo && (is_to_box network active frame && is_echo frame.body)
 
--- what is found out of it; its Reply is as long as its message behind a header without options
+-- what is read of an Echo to the box; its Reply is as long as its message after a header without options
 abbrev pub asked_of : List ℕ → Asked
 asked_of packet = record {
   source = record { 0 = (header_of packet).source };
@@ -37,13 +37,13 @@ asked_of packet = record {
   length = 20 + length (payload_of packet);
 }
 
--- what is known of a frame of which something is said: a whole packet, and it no fragment
+-- what is known of a frame whose packet the box may complain of: the packet is whole, and no fragment
 pub record IsWhole (bytes : List ℕ) : Type 0 where
   pub whole : 14 ≤ length bytes
   pub short : length bytes ≤ LONGEST
   pub ipv4 : IsIpv4 (frame_of bytes).body
 
--- what is known of a frame whose Echo is answered, and what its answer asks for
+-- what is known of a frame whose Echo is answered, and what its answer requires
 pub record IsAskable (bytes : List ℕ) : Type 0 where
   pub frame : IsWhole bytes
   pub protocol : (header_of (frame_of bytes).body).protocol ≡ PROTOCOL

@@ -1,4 +1,4 @@
--- What a packet's flow is to a table of pairs.
+-- The endpoint and the key by which a table of pairs finds the pair of a packet's flow.
 use Rattle.std.specs.Prelude.{ℕ, List}
 use Rattle.nat_types.specs.declared.pairs.Endpoint.{Endpoint}
 use Rattle.nat_types.specs.declared.pairs.Key.{Key}
@@ -16,7 +16,7 @@ use Rattle.icmp.specs.declared.packets.ErrorPacket.{ErrorPacket}
 unfoldable pub flow_in : List ℕ → Flow
 flow_in bytes = flow_of (frame_of bytes).body
 
--- what the first reading finds out of a frame's packet
+-- what the first reading of a frame's packet gives
 abbrev pub packet_in : List ℕ → Packet
 packet_in bytes = let packet = (frame_of bytes).body in record {
   flow = flow_in bytes;
@@ -36,7 +36,7 @@ target_of flow = record { protocol = flow.protocol; port = flow.destination_port
 unfoldable pub error_flow_in : List ℕ → ErrorFlow
 error_flow_in bytes = error_flow (frame_of bytes).body
 
--- what the first reading finds out of it
+-- what the first reading of a frame's error gives
 abbrev pub error_in : List ℕ → ErrorPacket
 error_in bytes = record {
   flow = error_flow_in bytes;

@@ -23,7 +23,7 @@ way_of (Outward pair) = way.TheVariants.Outward
 way_of (Inward pair) = way.TheVariants.Inward
 way_of (Hairpin own other) = way.TheVariants.Hairpin
 
--- the pairs that it uses, in order: of a hairpin the sender's own first
+-- the pairs that a translation uses, in order: of a hairpin the sender's own first
 abbrev pub pairs_of : Translation → List Pair
 pairs_of (Outward pair) = pair ∷ []
 pairs_of (Inward pair) = pair ∷ []

@@ -1,4 +1,4 @@
--- The two networks: who is addressed, where an address lies, which way a packet goes, and to whom.
+-- The two networks: who is addressed, where an address lies, which way a packet goes, and its next hop.
 use Rattle.std.specs.Prelude.{◌≡◌, ◌≢◌, ◌<◌, ℕ, ◌+◌, ◌-◌, ◌/◌, ◌%◌, ◌^◌, Bool, true, false, not, ◌==◌, ◌&&◌, ◌||◌, Result, Ok, Err, List, [], ◌∷◌, length, if◌then◌else◌}
 use Rattle.std.specs.Str.{bytes_eq}
 use Rattle.addresses.specs.Address.{virtual_mac}
@@ -29,7 +29,7 @@ abbrev pub network_of : Networks → Side → Network
 network_of networks Inside = networks.inside
 network_of networks Outside = networks.outside
 
--- the networks as one gateway stands in them
+-- the two networks of one gateway, by the settings
 abbrev pub networks_of : Settings → GatewayId → Networks
 networks_of settings id = record {
   inside = record {
@@ -86,8 +86,8 @@ unfoldable pub is_martian : ℕ → Bool
 is_martian address = let first = address / 2 ^ 24 in
     (first == 0) || (first == 127) || (address / 2 ^ 28 == 14) || (address / 2 ^ 28 == 15)
 
--- 7. a packet to the outside virtual address goes back in by the pair of its port; but no host stands
--- behind the identifier of a query
+-- 7. a packet to the outside virtual address goes back in by the pair of its port; a query has no way, since its
+-- identifier names no inside host
 unfoldable pub hairpin_direction : Protocol → Result Direction Reason
 hairpin_direction protocol = (if same_protocol protocol Icmp then Err NoBinding else Ok Hairpin)
 
@@ -139,13 +139,13 @@ may_come networks Outside source =
     not (lies_in source networks.inside.interface)
     && not (source == networks.outside.interface.virtual_ip.0)
 
--- such a source, neither martian nor the broadcast address of the side's network
+-- a source that may come in at the side, and is neither martian nor the broadcast address of the side's network
 unfoldable pub may_answer : Networks → Side → ℕ → Bool
 may_answer networks side source =
     may_come networks side source
     && (not (is_martian source) && not (is_broadcast source (network_of networks side).interface))
 
--- the next hop of what the box says to a source: the source itself, at the outside as `outside_hop` has it
+-- the next hop of what the box sends to a source: inside the source itself, outside as `outside_hop` has it
 abbrev pub back_hop : Networks → Side → ℕ → ℕ
 back_hop networks Inside source = source
 back_hop networks Outside source = outside_hop networks source

@@ -1,5 +1,5 @@
--- What the box says itself: the frame that answers an Echo to it, and the frame that complains of a packet that it drops
--- (RFC 792; RFC 1812, section 4.3.2).
+-- What the box sends of its own: the frame that answers an Echo to it, and the frame that complains of a packet that it
+-- drops (RFC 792; RFC 1812, section 4.3.2).
 use Rattle.std.specs.Prelude.{◌≡◌, ◌<◌, ℕ, Bool, false, not, ◌/◌, ◌%◌, ◌==◌, ◌&&◌, ◌||◌, Option, Some, None, List, ◌++◌, slice_index, Result, Ok, Err, if◌then◌else◌}
 use Rattle.addresses.specs.declared.ethernet.Mac.{Mac}
 use Rattle.frames.specs.Frame.{frame_of, header_bytes}
@@ -16,7 +16,7 @@ use Rattle.packet_rules.specs.declared.reasons.Reason.{Reason}
 use Rattle.packet_rules.specs.declared.reasons.Reason.TheVariants.{TtlOver, TooLong}
 use Rattle.packet_rules.specs.Networks.{exit_of, is_broadcast, is_martian, lies_in, may_answer, mtu_of, network_of}
 
--- the frame by which an interface says something itself: to the next hop, from its own MAC
+-- the frame by which an interface sends a packet of its own: to the next hop, from its own MAC
 unfoldable pub own_frame : Network → Mac → List ℕ → List ℕ
 own_frame network next packet = header_bytes next.0 network.own_mac.0 2048 ++ packet
 
@@ -25,7 +25,7 @@ unfoldable pub answer_packet : List ℕ → List ℕ
 answer_packet packet =
     reply_packet (payload_of packet) (header_of packet).destination (header_of packet).source
 
--- what is said of a packet, from the interface's own address to the packet's source
+-- the packet that complains of a packet, from the interface's own address to the packet's source
 unfoldable pub complaint_packet : Network → Complaint → List ℕ → List ℕ
 complaint_packet network Exceeded packet =
     exceeded_packet packet network.own_ip.0 (header_of packet).source
@@ -53,7 +53,7 @@ is_to_host networks destination =
     && (not (is_broadcast destination networks.inside.interface)
     && not (is_broadcast destination networks.outside.interface))
 
--- a packet that came in at a side and of which something may be said there (RFC 1812, section 4.3.2.7)
+-- a packet that came in at a side and of which the box may complain there (RFC 1812, section 4.3.2.7)
 unfoldable pub is_told : Networks → Side → List ℕ → Bool
 is_told networks side packet =
     (network_of networks side).icmp.errors
@@ -65,18 +65,20 @@ is_told networks side packet =
 unfoldable pub is_unbroken : List ℕ → Bool
 is_unbroken packet = (header_of packet).flags_word / 0x4000 % 2 == 1
 
--- the side at which a packet of this way would leave; without a way it isn't looked at how long a packet is
+-- the side at which a packet of this way would leave; nothing tests the length of a packet without a way, so any side
+-- would do
 abbrev pub exit_for : Side → Result Direction Reason → Side
 exit_for side (Ok way) = exit_of way
 exit_for side (Err reason) = side
 
--- what there is to say where a packet is dropped for a reason, with the `mtu` of the side at which it would leave
+-- the complaint about a packet that is dropped for a reason, with the `mtu` of the side at which it would leave
 unfoldable pub complaint_about : ℕ → Reason → List ℕ → Option Complaint
 complaint_about mtu TtlOver packet = Some Exceeded
 complaint_about mtu TooLong packet = (if is_unbroken packet then Some (TooBig mtu) else None)
 complaint_about mtu reason packet = None
 
--- what is said where a frame's packet, which came in at `side`, is dropped for a reason; it would leave at `exit`
+-- the complaint that is sent where a frame's packet, which came in at `side`, is dropped for a reason; the packet would
+-- leave at `exit`
 unfoldable pub complaint_of : Networks → Side → Side → Reason → List ℕ → Option Complaint
 complaint_of networks side exit reason bytes =
     let packet = (frame_of bytes).body in
@@ -103,6 +105,6 @@ HidesHosts networks bytes =
     (lies_in header.source networks.inside.interface ≡ false)
     × (lies_in header.destination networks.inside.interface ≡ false)
 
--- each is a byte
+-- each number of a list is a byte
 abbrev pub AreBytes : List ℕ → Type 0
 AreBytes bytes = (place : ℕ) → slice_index bytes place < 256

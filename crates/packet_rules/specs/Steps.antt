@@ -38,7 +38,8 @@ reason_of fault.TheVariants.Fragment = Fragment
 reason_of fault.TheVariants.NotUdpTcp = NotUdpTcp
 reason_of fault.TheVariants.BadTransport = BadTransport
 
--- the reason for a fault of an ICMP message; that a message asks nothing drops no packet, since such a one goes on as before
+-- the reason for a fault of an ICMP message; NotAsked drops no packet, since a packet that is no Echo to the box goes
+-- on to the next step
 abbrev pub reason_of_icmp : IcmpFault → Reason
 reason_of_icmp NotError = NotUdpTcp
 reason_of_icmp BadError = BadTransport
@@ -63,7 +64,7 @@ destination_refusal network active frame =
     && ((frame.ethertype == 2048) || (frame.ethertype == 2054)) then None
     else Some NotMine)
 
--- 3. an ARP packet, or that the bytes are none
+-- 3. the ARP packet in these bytes, or BadArp where they are none
 unfoldable pub arp_reading : List ℕ → Result Reading Reason
 arp_reading body =
     (if is_none (arp_refusal body) then Ok (Arp (packet_of body)) else Err BadArp)
@@ -83,7 +84,7 @@ is_from_peer network packet =
     ((advert_of (payload_of packet)).router == network.interface.virtual_router)
     && not ((header_of packet).source == network.own_ip.0)
 
--- 5. such an advertisement, or that the packet carries none
+-- 5. the advertisement in a packet, or BadAdvert where it carries none of another gateway for the virtual router
 unfoldable pub advert_reading : Network → List ℕ → Result Reading Reason
 advert_reading network packet =
     (if is_none (advert_refusal packet) && is_from_peer network packet
@@ -107,7 +108,7 @@ query_refusal side packet =
 unfoldable pub error_refusal : List ℕ → Option Reason
 error_refusal packet = option_map reason_of_icmp (packet_refusal packet)
 
--- 6. its time to live isn't over
+-- 6. a packet's time to live isn't over
 unfoldable pub ttl_refusal : List ℕ → Option Reason
 ttl_refusal packet = (if nat_le 2 (header_of packet).ttl then None else Some TtlOver)
 
@@ -126,21 +127,21 @@ abbrev pub and_then : {X Y : Type 0} → Result X Reason → (X → Result Y Rea
 and_then (Ok x) next = next x
 and_then (Err reason) next = Err reason
 
--- 6. a UDP or TCP packet
+-- 6. the reading of a UDP or TCP packet
 unfoldable pub transport_reading : List ℕ → Result Reading Reason
 transport_reading packet =
     unless (transport_refusal packet) (
     unless (ttl_refusal packet) (
     Ok (Packet (packet_read packet))))
 
--- 6. an ICMP query
+-- 6. the reading of an ICMP query
 unfoldable pub query_reading : Side → List ℕ → Result Reading Reason
 query_reading side packet =
     unless (query_refusal side packet) (
     unless (ttl_refusal packet) (
     Ok (Packet (packet_read packet))))
 
--- 6. an ICMP error
+-- 6. the reading of an ICMP error
 unfoldable pub error_reading : Side → List ℕ → Result Reading Reason
 error_reading side packet =
     unless (error_refusal packet) (
@@ -148,33 +149,33 @@ error_reading side packet =
     unless (about_refusal side packet) (
     Ok (Error (error_packet_of packet)))))
 
--- 6. a packet of ICMP
+-- 6. the reading of a packet of ICMP
 unfoldable pub icmp_reading : Side → List ℕ → Result Reading Reason
 icmp_reading side packet =
     (if has_error_kind (payload_of packet) then error_reading side packet
     else query_reading side packet)
 
--- 5, 6. a packet that isn't VRRP's
+-- 5, 6. the reading of a packet that isn't VRRP's
 unfoldable pub packet_reading : Side → Network → Frame → Result Reading Reason
 packet_reading side network frame =
     unless (virtual_refusal network frame) (
     (if (header_of frame.body).protocol == PROTOCOL then icmp_reading side frame.body
     else transport_reading frame.body))
 
--- 5, 6. a packet that is no Echo to the box
+-- 5, 6. the reading of a packet that is no Echo to the box
 unfoldable pub other_reading : Side → Network → Frame → Result Reading Reason
 other_reading side network frame =
     (if is_vrrp frame.body then advert_reading network frame.body
     else packet_reading side network frame)
 
--- 4 to 6. an IPv4 packet; an Echo to the box is taken before step 5
+-- 4 to 6. the reading of an IPv4 packet; an Echo to the box is taken before step 5
 unfoldable pub ipv4_reading : Side → Network → Bool → Frame → Result Reading Reason
 ipv4_reading side network active frame =
     unless (header_refusal frame.body) (
     (if is_asked network active frame then Ok (Asked (asked_of frame.body))
     else other_reading side network frame))
 
--- 3 to 6. what the frame carries
+-- 3 to 6. the reading of what a frame carries
 unfoldable pub body_reading : Side → Network → Bool → Frame → Result Reading Reason
 body_reading side network active frame =
     (if frame.ethertype == 2054 then arp_reading frame.body
@@ -190,14 +191,14 @@ reading_of side network active up bytes =
     unless (destination_refusal network active frame) (
     body_reading side network active frame)))
 
--- the packet of a frame that came in at this side, where it is a query, is of the side's kind
+-- where the packet of a frame that came in at this side is a query, the query is of the side's kind
 abbrev pub IsOfSide : Side → List ℕ → Type 0
 IsOfSide side bytes =
     let packet = (frame_of bytes).body in
     (header_of packet).protocol ≡ PROTOCOL
     → slice_index (payload_of packet) 0 ≡ kind_number (kind_entering side)
 
--- what is known of a frame whose packet passes, and what a translation asks for
+-- what is known of a frame whose packet passes, and what a translation requires
 pub record IsForwardable (bytes : List ℕ) : Type 0 where
   pub whole : 14 ≤ length bytes
   pub short : length bytes ≤ LONGEST
@@ -205,7 +206,7 @@ pub record IsForwardable (bytes : List ℕ) : Type 0 where
   pub translatable : IsTranslatable (frame_of bytes).body
   pub ttl : 2 ≤ (header_of (frame_of bytes).body).ttl
 
--- what is known of a frame whose error passes, and what its passing on asks for
+-- what is known of a frame whose error passes, and what its passing on requires
 pub record IsPassable (bytes : List ℕ) : Type 0 where
   pub whole : 14 ≤ length bytes
   pub short : length bytes ≤ LONGEST
@@ -213,8 +214,7 @@ pub record IsPassable (bytes : List ℕ) : Type 0 where
   pub error : IsErrorPacket (frame_of bytes).body
   pub ttl : 2 ≤ (header_of (frame_of bytes).body).ttl
 
--- what is known of a frame that is read as this: of an ARP packet its sender's six bytes, of an
--- advertisement its interval
+-- what is known of a frame by its reading: of an ARP packet the sender's six bytes, of an advertisement the interval
 abbrev pub Carries : Side → List ℕ → Reading → Type 0
 Carries side bytes (Arp packet) = length packet.sender_mac.0 ≡ 6
 Carries side bytes (Advert advert from) = (1 ≤ advert.interval) × (advert.interval ≤ 4095)

@@ -16,7 +16,7 @@ use arp::ARP_FRAME;
 use frames::{EtherType, write_header};
 use vrrp_packet::{Advert, PROTOCOL};
 
-/// An advertisement's IPv4 header with this checksum.
+/// Returns an advertisement's IPv4 header with this checksum.
 fn advert_header(source: Ip, checksum: u16) -> [u8; 20]
     ensures { result ≡ header_of source.0 checksum }
 {
@@ -27,7 +27,7 @@ fn advert_header(source: Ip, checksum: u16) -> [u8; 20]
     ]
 }
 
-/// An advertisement's IPv4 header.
+/// Returns an advertisement's IPv4 header with its right checksum.
 fn summed_header(source: Ip) -> [u8; 20]
     ensures { result ≡ header_of source.0 (checksum_of (header_of source.0 0)) }
 {
@@ -35,7 +35,7 @@ fn summed_header(source: Ip) -> [u8; 20]
     advert_header(source, checksum)
 }
 
-/// The Ethernet header of an advertisement.
+/// Returns the Ethernet header of an advertisement.
 fn frame_header(network: &Network) -> [u8; 14]
     ensures { result ≡ header_bytes vrrp_mac (virtual_of network.now).0 2048 }
 {
@@ -45,7 +45,7 @@ fn frame_header(network: &Network) -> [u8; 14]
     header
 }
 
-/// The message of an advertisement.
+/// Returns the VRRP message of an advertisement.
 fn message(network: &Network, priority: u8, interval: u16) -> [u8; 12]
     requires positive { 0 < interval }
     requires twelve_bits { interval ≤ 4095 }
@@ -62,8 +62,9 @@ fn message(network: &Network, priority: u8, interval: u16) -> [u8; 12]
     message
 }
 
-/// Puts the frame of an advertisement with this priority and interval (cs) behind a list with room
-/// for it: from the virtual router's Ethernet address and the own IPv4 address.
+/// Appends the frame of an advertisement with this priority and interval (centiseconds) to a list
+/// with capacity for it. The frame comes from the virtual router's Ethernet address and the
+/// gateway's own IPv4 address.
 pub fn append_advert(list: &mut Vec<u8>, network: &Network, priority: u8, interval: u16)
     requires room { vec_len list.old + ADVERT_FRAME ≤ vec_capacity list.old }
     requires positive { 0 < interval }
@@ -78,7 +79,8 @@ pub fn append_advert(list: &mut Vec<u8>, network: &Network, priority: u8, interv
     append_reserved(list, &message(network, priority, interval));
 }
 
-/// Puts the frame that tells everyone where the virtual address is behind a list with room for it.
+/// Appends the gratuitous ARP frame that tells everyone the hardware address of the virtual address
+/// to a list with capacity for it.
 pub fn append_gratuitous(list: &mut Vec<u8>, network: &Network)
     requires { vec_len list.old + ARP_FRAME ≤ vec_capacity list.old }
     ensures items { list.new.items ≡ list.old.items ++ gratuitous_frame network.now }

@@ -1,4 +1,4 @@
-//! To whom the gateway may say something of its own, and by whom it goes.
+//! Which sources the gateway may send packets of its own to, and by which next hop.
 ghost use Rattle.std.specs.Prelude.{◌≡◌};
 ghost use Rattle.packet_rules.specs.Networks.{back_hop, is_broadcast, may_answer, may_come, mtu_of};
 
@@ -30,7 +30,8 @@ fn may_come(networks: &Networks, side: Side, source: Ip) -> bool
     }
 }
 
-/// Whether something may be said at a side to a source that a packet there has.
+/// Whether the gateway may send a packet of its own at a side, to the source of a packet that came
+/// in there.
 #[tactic(auto, unfolding(crate::specs::Networks::may_answer))]
 pub fn may_answer(networks: &Networks, side: Side, source: Ip) -> bool
     ensures { result ≡ may_answer networks.now side source.0 }
@@ -40,7 +41,8 @@ pub fn may_answer(networks: &Networks, side: Side, source: Ip) -> bool
         && !is_broadcast(&networks.of(side).interface, source)
 }
 
-/// The address to which it goes next.
+/// Returns the next hop of a packet that the gateway sends at a side to a source: inside the source
+/// itself, outside as [`next_hop_outside`] says.
 pub fn next_hop_back(networks: &Networks, side: Side, source: Ip) -> Ip
     ensures { result.0 ≡ back_hop networks.now side source.0 }
 {
@@ -50,7 +52,7 @@ pub fn next_hop_back(networks: &Networks, side: Side, source: Ip) -> Ip
     }
 }
 
-/// The bytes of the longest packet that is sent at a side.
+/// Returns the length of the longest packet that is sent at a side, in bytes.
 pub fn mtu_at(networks: &Networks, side: Side) -> u16
     ensures { result ≡ mtu_of networks.now side }
 {

@@ -1,7 +1,7 @@
-//! Bytes at the end of a list.
+//! Appending of bytes to a list that has the capacity for them.
 ghost use Rattle.std.specs.Prelude.{◌≡◌, ◌+◌, ◌≤◌, ◌++◌, length, vec_len, vec_capacity};
 
-/// Puts bytes behind a list with room for them.
+/// Appends bytes to a list that has the capacity for them.
 #[inline(always)]
 pub fn append_reserved(list: &mut Vec<u8>, bytes: &[u8])
     requires { vec_len list.old + length bytes.now ≤ vec_capacity list.old }

@@ -8,7 +8,7 @@ use crate::networks::Network;
 use addresses::{Ip, Mac};
 use arp::{ARP_FRAME, ArpPacket, Interface, Neighbour, Operation};
 
-/// Whether the sender of a packet is learnt.
+/// Whether an interface learns the sender of an ARP packet as a neighbour.
 pub fn is_learnt(network: &Network, packet: &ArpPacket) -> bool
     ensures { result ≡ is_learnable network.now packet.now }
 {
@@ -37,8 +37,8 @@ fn mac_here(network: &Network, active: bool, address: Ip) -> Option<Mac>
     }
 }
 
-/// The hardware address by which a packet is answered at an interface that is `active` or not,
-/// where it asks for an address of the gateway.
+/// Returns the hardware address with which an ARP packet is answered at an interface that is
+/// `active` or not, or None where the packet is no request for an address of the gateway.
 pub fn answer_to(network: &Network, active: bool, packet: &ArpPacket) -> Option<Mac>
     ensures { result ≡ answer_to network.now active packet.now }
 {
@@ -48,7 +48,8 @@ pub fn answer_to(network: &Network, active: bool, packet: &ArpPacket) -> Option<
     }
 }
 
-/// Puts the frame that answers a request behind a list with room for it.
+/// Appends the frame that answers a request with the hardware address `mac` to a list with capacity
+/// for it.
 pub fn append_answer(list: &mut Vec<u8>, network: &Network, packet: &ArpPacket, mac: Mac)
     requires { vec_len list.old + ARP_FRAME ≤ vec_capacity list.old }
     ensures items { list.new.items ≡ list.old.items ++ answer_frame network.now packet.now mac }
@@ -60,7 +61,8 @@ pub fn append_answer(list: &mut Vec<u8>, network: &Network, packet: &ArpPacket, 
     append_reserved(list, &frame);
 }
 
-/// Puts the frame that asks everyone for an address behind a list with room for it.
+/// Appends the broadcast frame that requests the hardware address of an IPv4 address to a list with
+/// capacity for it.
 pub fn append_request(list: &mut Vec<u8>, network: &Network, address: Ip)
     requires { vec_len list.old + ARP_FRAME ≤ vec_capacity list.old }
     ensures items { list.new.items ≡ list.old.items ++ request_frame network.now address }

@@ -42,7 +42,7 @@ fn is_echo(packet: &Ipv4View<'_>) -> bool
     packet.protocol() == icmp::PROTOCOL && AskView::parse(packet.payload()).is_ok()
 }
 
-/// Whether a frame's packet is an Echo to the gateway, which is to answer Echos.
+/// Whether a frame's packet is an Echo to the gateway, and the settings have the gateway answer Echos.
 #[tactic(auto, unfolding(crate::specs::Asked::is_asked))]
 #[inline(always)]
 pub(crate) fn is_asked(
@@ -67,7 +67,7 @@ pub(crate) fn asked(packet: &Ipv4View<'_>) -> Asked
     }
 }
 
-/// What stands behind a frame's header.
+/// Returns the bytes after a frame's Ethernet header.
 fn body_of(bytes: &[u8]) -> &[u8]
     requires { 14 ≤ length bytes.now }
     ensures { result.now ≡ drop 14 bytes.now }
@@ -75,7 +75,7 @@ fn body_of(bytes: &[u8]) -> &[u8]
     &bytes[14..]
 }
 
-/// The packet of a frame of which it is known that it has one.
+/// Returns the packet of a frame that is known to carry one.
 pub(crate) fn packet_of(bytes: &[u8]) -> Ipv4View<'_>
     requires { IsWhole bytes.now }
     ensures { result.bytes.now ≡ (frame_of bytes.now).body }
@@ -96,7 +96,7 @@ fn ask_of<'a>(packet: &Ipv4View<'a>) -> AskView<'a>
     }
 }
 
-/// The header of a frame that the gateway sends of its own.
+/// Returns the Ethernet header of a frame that the gateway sends of its own to `next_mac`.
 pub(crate) fn own_header(network: &Network, next_mac: Mac) -> [u8; 14]
     ensures { result ≡ header_bytes next_mac.0 network.now.own_mac.0 2048 }
 {
@@ -105,7 +105,7 @@ pub(crate) fn own_header(network: &Network, next_mac: Mac) -> [u8; 14]
     header
 }
 
-/// Writes the packet that answers the Echo of a frame, and gives its length.
+/// Writes the packet that answers the Echo of a frame, and returns its length in bytes.
 #[tactic(auto, unfolding(crate::specs::Own::answer_packet))]
 fn write_answer(bytes: &[u8], out: &mut [u8; 1500]) -> usize
     requires { IsAskable bytes.now }
@@ -118,7 +118,8 @@ fn write_answer(bytes: &[u8], out: &mut [u8; 1500]) -> usize
     icmp::reply(&ask, packet.destination(), packet.source(), out)
 }
 
-/// Puts the frame that answers the Echo of a frame that came, `bytes`, behind a list with room for it.
+/// Appends the frame that answers the Echo of the received frame `bytes` to a list with capacity for as many bytes as
+/// that frame has.
 #[tactic(auto, unfolding(crate::specs::Own::own_frame))]
 pub fn append_echo_reply(list: &mut Vec<u8>, network: &Network, next_mac: Mac, bytes: &[u8])
     requires room { vec_len list.old + length bytes.now ≤ vec_capacity list.old }

@@ -1,5 +1,5 @@
-//! What the gateway says of a packet that it drops: Time Exceeded and Fragmentation Needed (RFC 1812, sections
-//! 4.3.2 and 5.3.1; RFC 1191).
+//! The ICMP errors that the gateway sends about packets that it drops: Time Exceeded and Fragmentation Needed (RFC
+//! 1812, sections 4.3.2 and 5.3.1; RFC 1191).
 ghost use Rattle.std.specs.Prelude.{◌≡◌, ◌≤◌, ◌+◌, ◌++◌, slice_index, take, vec_len, vec_capacity};
 ghost use Rattle.frames.specs.Frame.{frame_of};
 ghost use Rattle.icmp.specs.Own.{exceeded_packet, too_long_packet};
@@ -16,15 +16,16 @@ use addresses::{Ip, Mac};
 use ipv4::Ipv4View;
 use nat_types::Side;
 
-/// The bytes of the longest frame that complains.
+/// The most bytes that the frame of a [`Complaint`] has.
 pub const COMPLAINT_FRAME: usize = 590;
 
-/// What is said of a packet.
+/// The ICMP error that the gateway sends about a packet that it drops.
 #[derive(Clone, Copy, Debug, PartialEq, Eq)]
 pub enum Complaint {
-    /// Its time to live is over.
+    /// Time Exceeded: the packet's time to live is over.
     Exceeded,
-    /// It is longer than the packets that are sent at the side at which it would leave: so many bytes.
+    /// Fragmentation Needed: the packet is longer than this many bytes, the most that a packet has at the side at which
+    /// it would leave.
     TooBig(u16),
 }
 
@@ -38,7 +39,7 @@ fn is_any_error(packet: &Ipv4View<'_>) -> bool
         && (kind == 3 || kind == 4 || kind == 5 || kind == 11 || kind == 12)
 }
 
-/// The first byte, or 0.
+/// Returns the first byte, or 0 where there is none.
 fn first_of(bytes: &[u8]) -> u8
     ensures { result ≡ slice_index bytes.now 0 }
 {
@@ -48,7 +49,7 @@ fn first_of(bytes: &[u8]) -> u8
     }
 }
 
-/// Whether an address may be one host's.
+/// Whether an address may be that of one host: neither martian nor a network's broadcast address.
 #[tactic(auto, unfolding(crate::specs::Own::is_to_host))]
 fn is_to_host(networks: &Networks, destination: Ip) -> bool
     ensures { result ≡ is_to_host networks.now destination.0 }
@@ -93,8 +94,8 @@ fn complaint_about(mtu: u16, reason: Reason, packet: &Ipv4View<'_>) -> Option<Co
     }
 }
 
-/// The side at which a packet of this way would leave. Of a packet without a way it isn't looked at how long
-/// it is, so it is any side: the one where it came in.
+/// Returns the side at which a packet of this way would leave. For a packet without a way the answer is the side where
+/// it came in; nothing tests the length of such a packet, so any side would do.
 pub fn exit_for(side: Side, way: Result<Direction, Reason>) -> Side
     ensures { result ≡ exit_for side way }
 {
@@ -104,8 +105,8 @@ pub fn exit_for(side: Side, way: Result<Direction, Reason>) -> Side
     }
 }
 
-/// What is said where the packet of a frame that came in at a side is dropped for a reason. It would have
-/// left at `exit`.
+/// Returns the ICMP error that the gateway sends about a received frame's packet that it drops for a reason, or None
+/// where it sends none. The packet came in at `side` and would have left at `exit`.
 #[tactic(auto, unfolding(crate::specs::Own::complaint_of))]
 pub fn complaint_of(
     networks: &Networks,
@@ -125,7 +126,7 @@ pub fn complaint_of(
     }
 }
 
-/// Writes a Time Exceeded about a packet, and gives its length.
+/// Writes a Time Exceeded about a packet, and returns its length in bytes.
 fn write_exceeded(network: &Network, packet: &Ipv4View<'_>, out: &mut [u8; 576]) -> usize
     ensures bytes { take result out.new ≡ exceeded_packet packet.now.bytes.now
         network.now.own_ip.0 (header_of packet.now.bytes.now).source }
@@ -134,7 +135,7 @@ fn write_exceeded(network: &Network, packet: &Ipv4View<'_>, out: &mut [u8; 576])
     icmp::exceeded(packet, network.own_ip, packet.source(), out)
 }
 
-/// Writes a Fragmentation Needed about a packet, and gives its length.
+/// Writes a Fragmentation Needed about a packet, and returns its length in bytes.
 fn write_too_big(network: &Network, mtu: u16, packet: &Ipv4View<'_>, out: &mut [u8; 576]) -> usize
     ensures bytes { take result out.new ≡ too_long_packet packet.now.bytes.now mtu
         network.now.own_ip.0 (header_of packet.now.bytes.now).source }
@@ -143,7 +144,7 @@ fn write_too_big(network: &Network, mtu: u16, packet: &Ipv4View<'_>, out: &mut [
     icmp::too_long(packet, mtu, network.own_ip, packet.source(), out)
 }
 
-/// Writes the packet that complains of another, and gives its length.
+/// Writes the ICMP error about a packet that `complaint` names, and returns its length in bytes.
 #[tactic(auto, unfolding(crate::specs::Own::complaint_packet))]
 fn write_complaint(
     network: &Network,
@@ -161,7 +162,7 @@ fn write_complaint(
     }
 }
 
-/// Puts the frame that complains of the packet of a frame that came, `bytes`, behind a list with room for it.
+/// Appends the frame of a complaint about the packet of the received frame `bytes` to a list with capacity for it.
 #[tactic(auto, unfolding(crate::specs::Own::own_frame))]
 pub fn append_complaint(
     list: &mut Vec<u8>,

@@ -19,7 +19,7 @@ use icmp::{ErrorFlow, ErrorPacket};
 use ipv4::Flow;
 use nat_types::{Endpoint, Key, Side};
 
-/// The key of the pair by which the packet inside went out, if it did.
+/// Returns the key of the pair by which the packet inside an error went out, if it went out.
 pub fn key_inside(flow: ErrorFlow) -> Key
     ensures { result ≡ key_about flow }
 {
@@ -29,7 +29,7 @@ pub fn key_inside(flow: ErrorFlow) -> Key
     }
 }
 
-/// The endpoint to which the packet inside came in, if it did.
+/// Returns the endpoint to which the packet inside an error came in, if it came in.
 pub fn endpoint_inside(flow: ErrorFlow) -> Endpoint
     ensures { result ≡ endpoint_about flow }
 {
@@ -40,8 +40,8 @@ pub fn endpoint_inside(flow: ErrorFlow) -> Endpoint
     }
 }
 
-/// Which way an error goes that came in on this side: that of its own addresses, where the packet
-/// inside comes from where the error goes.
+/// Returns the way of an error that came in on a side: that of its own addresses, or `NoBinding` where these have none
+/// or the packet inside doesn't come from the error's destination.
 #[tactic(auto, unfolding(crate::specs::Errors::error_direction))]
 pub fn error_direction(
     networks: &Networks,
@@ -68,7 +68,7 @@ pub fn error_direction(
     }
 }
 
-/// The flow of an error, as if from another address, about a packet to it and to a port.
+/// Returns an error's flow with another source, and with this source and port as the destination of the packet inside.
 fn sent_from(flow: ErrorFlow, from: Ip, port: Port) -> ErrorFlow
     ensures { result ≡ error_from from port flow }
 {
@@ -83,7 +83,8 @@ fn sent_from(flow: ErrorFlow, from: Ip, port: Port) -> ErrorFlow
     }
 }
 
-/// The flow of an error to another address, about a packet from it and from a port.
+/// Returns an error's flow with another destination, and with this destination and port as the source of the packet
+/// inside.
 fn sent_to(flow: ErrorFlow, to: Ip, port: Port) -> ErrorFlow
     ensures { result ≡ error_to to port flow }
 {
@@ -98,7 +99,7 @@ fn sent_to(flow: ErrorFlow, to: Ip, port: Port) -> ErrorFlow
     }
 }
 
-/// The flow that an error of this flow has once it is passed on.
+/// Returns the flow that an error of this flow has after it is passed on.
 fn error_flow_by(networks: &Networks, translation: &Translation, old: ErrorFlow) -> ErrorFlow
     ensures { result ≡ new_error_flow networks.now translation.now old }
 {
@@ -113,7 +114,7 @@ fn error_flow_by(networks: &Networks, translation: &Translation, old: ErrorFlow)
     }
 }
 
-/// Passes an error of this flow on in place.
+/// Rewrites an error of this flow, in place, into the one that is passed on.
 #[tactic(auto, unfolding(crate::specs::Errors::passed_by))]
 fn pass(packet: &mut [u8], old: ErrorFlow, networks: &Networks, translation: &Translation)
     requires ipv4 { IsIpv4 packet.old }
@@ -129,7 +130,7 @@ fn pass(packet: &mut [u8], old: ErrorFlow, networks: &Networks, translation: &Tr
     }
 }
 
-/// Passes the error of a frame on in place.
+/// Rewrites the error of a frame, in place, into the one that is passed on.
 fn pass_body(frame: &mut [u8], old: ErrorFlow, networks: &Networks, translation: &Translation)
     requires whole { 14 ≤ length frame.old }
     requires ipv4 { IsIpv4 (frame_of frame.old).body }
@@ -143,8 +144,7 @@ fn pass_body(frame: &mut [u8], old: ErrorFlow, networks: &Networks, translation:
     pass(packet, old, networks, translation);
 }
 
-/// Makes of a frame that came the one by which its error is passed on, with the padding still behind
-/// it.
+/// Turns a received frame into the one by which its error is passed on, with the padding still after the packet.
 #[tactic(auto, using(crate::proofs::Cut::drop_kept))]
 fn pass_frame(
     frame: &mut [u8],
@@ -166,7 +166,8 @@ fn pass_frame(
     readdress(frame, networks, translation, next_mac);
 }
 
-/// Passes the error on of the frame at the end of a list.
+/// Turns the frame that begins at `start` in a list and ends with the list into the one by which its error is passed
+/// on.
 fn pass_tail(
     list: &mut Vec<u8>,
     start: usize,
@@ -191,7 +192,7 @@ fn pass_tail(
     pass_frame(frame, old, networks, translation, next_mac);
 }
 
-/// Puts the frame by which an error is passed on behind a list with room for the frame that came,
+/// Appends the frame by which an error is passed on, without padding, to a list with capacity for the received frame
 /// `bytes`, of which `packet` was read.
 #[tactic(auto, unfolding(crate::specs::Errors::passed_frame), using(crate::proofs::Cut::tail_cut))]
 pub fn append_passed(

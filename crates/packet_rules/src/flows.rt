@@ -1,11 +1,12 @@
-//! What a packet's flow is to a table of pairs.
+//! The endpoint and the key by which a table of pairs finds the pair of a packet's flow.
 ghost use Rattle.std.specs.Prelude.{◌≡◌};
 ghost use Rattle.packet_rules.specs.Flows.{source_of, target_of};
 
 use ipv4::Flow;
 use nat_types::{Endpoint, Key};
 
-/// The endpoint that a packet comes from, where it leaves.
+/// Returns the inside endpoint that an outgoing packet comes from: its source address and source
+/// port.
 pub fn source_endpoint(flow: Flow) -> Endpoint
     ensures { result ≡ source_of flow }
 {
@@ -16,7 +17,7 @@ pub fn source_endpoint(flow: Flow) -> Endpoint
     }
 }
 
-/// The outside port that a packet goes to, where it comes in.
+/// Returns the key of the outside port that an incoming packet goes to.
 pub fn target_key(flow: Flow) -> Key
     ensures { result ≡ target_of flow }
 {

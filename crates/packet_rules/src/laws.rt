@@ -1,4 +1,4 @@
-//! What follows of the definitions, and the numbers that they take from the code.
+//! What follows from the definitions, and the numbers that they take from the code.
 ghost use Rattle.std.specs.Prelude.{◌≡◌, ◌≢◌, ◌<◌, ◌^◌, ℕ, Bool, true, false, Ok, Err, List, length};
 ghost use Rattle.addresses.specs.declared.ethernet.Mac.{Mac as MacValue};
 ghost use Rattle.addresses.specs.declared.internet.Ip.{Ip as IpValue};
@@ -28,12 +28,12 @@ use icmp::{ask_grammar, error_packet_grammar, query_packet_grammar};
 use ipv4::{ipv4_grammar, transport_grammar};
 use vrrp_packet::{advert_grammar, written_is_read};
 
-/// The longest frame that is taken, in bytes: an Ethernet header and 1,500 bytes.
+/// States the length of the longest frame that is taken, in bytes: an Ethernet header and 1,500 bytes.
 pub fn limits_law()
     ensures longest_frame { LONGEST ≡ 1514 }
 {}
 
-/// What is known of a frame by what it is read as; and that it has a whole packet where its time to live is over.
+/// States what is known of a frame by its reading, and that a frame whose time to live is over has a whole packet.
 pub fn readings_law()
     ensures carries { (side : SideValue) (network : NetworkValue) (active up : Bool)
         (bytes : List ℕ) (reading : ReadingValue)
@@ -53,8 +53,8 @@ pub fn readings_law()
     advert_grammar();
 }
 
-/// The frame by which a packet is sent on counts as a translation, and that by which an error is
-/// passed on as an error; no frame of ARP or VRRP does as either.
+/// States that the frame by which a packet is sent on counts as a translation, and that by which an error is passed on
+/// as an error, not as a translation. No frame of ARP or VRRP counts as either.
 pub fn frames_law()
     ensures sent { (networks : NetworksValue) (side : SideValue) (t : TranslationValue)
         (next : MacValue) (bytes : List ℕ) → IsWired networks → length next.0 ≡ 6
@@ -89,7 +89,7 @@ pub fn frames_law()
         → is_error_frame (advert_frame network priority interval) ≡ false }
 {}
 
-/// What a router advertises, the other gateway reads at its interface.
+/// States that the other gateway reads at its interface what a router advertises.
 pub fn advert_law()
     ensures { (side : SideValue) (network peer : NetworkValue) (active : Bool)
         (priority interval : ℕ) → IsWritable (own_advert network priority interval) → network.own_ip.0 < 2 ^ 32

@@ -1,4 +1,4 @@
-//! The two networks: whom a frame addresses, which way its packet goes, and to whom next.
+//! The gateway's two networks: whether a frame addresses the gateway, which way a packet goes, and its next hop.
 ghost use Rattle.std.specs.Prelude.{◌≡◌, ◌<◌, ◌^◌, length};
 ghost use Rattle.settings.specs.Parts.{gateway_of};
 ghost use Rattle.packet_rules.specs.Networks.{network_of, networks_of, IsPlaced, IsWired, is_virtual, is_addressed, lies_in, is_martian, hairpin_direction, inside_direction, outside_direction, direction_of, outside_hop, exit_of};
@@ -16,15 +16,14 @@ pub struct Network {
     pub own_mac: Mac,
     /// The gateway's own (primary) address there.
     pub own_ip: Ip,
-    /// The outside virtual address, which is asked at both sides.
+    /// The outside virtual address. Hosts at both sides may send an Echo to this address.
     pub outside_ip: Ip,
-    /// What the gateway says itself by ICMP.
+    /// The settings of the ICMP messages that the gateway sends of its own.
     pub icmp: IcmpSettings,
 }
 
 impl Network {
-    /// Reminds the prover that the own hardware address has six bytes; it does nothing when it
-    /// runs.
+    /// Reminds the prover that the own hardware address has six bytes. The call does nothing at run time.
     pub fn recall(&self)
         ensures { length self.now.own_mac.0 ≡ 6 }
     {
@@ -47,12 +46,12 @@ pub enum Direction {
     Outward,
     /// From the outside to an inside host.
     Inward,
-    /// From an inside host to one by the outside address (RFC 4787, section 6).
+    /// From an inside host to an inside host, by the outside address (RFC 4787, section 6).
     Hairpin,
 }
 
 impl Direction {
-    /// The side at which a packet leaves.
+    /// Returns the side at which a packet leaves.
     pub fn exit(self) -> Side
         ensures { result ≡ exit_of self }
     {
@@ -64,7 +63,7 @@ impl Direction {
 }
 
 impl Networks {
-    /// The networks as a gateway of these settings stands in them.
+    /// Returns the two networks of the gateway `id`, by the settings.
     pub fn of_gateway(settings: &Settings, id: GatewayId) -> Networks
         ensures networks { result ≡ networks_of settings.now id }
         ensures placed { IsPlaced result }
@@ -73,6 +72,7 @@ impl Networks {
         networks_at(settings, id)
     }
 
+    /// Returns the network of a side.
     pub fn of(&self, side: Side) -> Network
         ensures { result ≡ network_of self.now side }
     {
@@ -82,8 +82,7 @@ impl Networks {
         }
     }
 
-    /// Reminds the prover that both own hardware addresses have six bytes; it does nothing when it
-    /// runs.
+    /// Reminds the prover that both own hardware addresses have six bytes. The call does nothing at run time.
     pub fn recall(&self)
         ensures { IsWired self.now }
     {
@@ -92,7 +91,7 @@ impl Networks {
     }
 }
 
-/// A gateway's networks.
+/// Returns a gateway's two networks, by the settings.
 fn networks_at(settings: &Settings, id: GatewayId) -> Networks
     ensures { result ≡ networks_of settings.now id }
 {
@@ -116,7 +115,7 @@ fn networks_at(settings: &Settings, id: GatewayId) -> Networks
     }
 }
 
-/// Reminds the prover that a gateway's addresses have 32 bits; it does nothing when it runs.
+/// Reminds the prover that a gateway's addresses have 32 bits. The call does nothing at run time.
 fn recall_numbers(settings: &Settings, id: GatewayId)
     ensures inside { (gateway_of settings.now id).inside_ip.0 < 2 ^ 32 }
     ensures outside { (gateway_of settings.now id).outside_ip.0 < 2 ^ 32 }
@@ -130,14 +129,14 @@ fn recall_numbers(settings: &Settings, id: GatewayId)
     recall_number(settings.outside.virtual_ip);
 }
 
-/// Reminds the prover that an address has 32 bits; it does nothing when it runs.
+/// Reminds the prover that an address has 32 bits. The call does nothing at run time.
 fn recall_number(address: Ip)
     ensures { address.0 < 2 ^ 32 }
 {
     let _address = address;
 }
 
-/// The six bytes, of which a proof knows that they are six.
+/// Returns the six bytes of a hardware address, with a contract that says that there are six.
 fn octets_of(mac: Mac) -> [u8; 6]
     ensures same { result ≡ mac.0 }
     ensures six { length result ≡ 6 }
@@ -147,7 +146,7 @@ fn octets_of(mac: Mac) -> [u8; 6]
     octets
 }
 
-/// Whether a frame goes to the virtual router.
+/// Whether a hardware address is that of the interface's virtual router.
 #[tactic(auto, unfolding(crate::specs::Networks::is_virtual))]
 pub(crate) fn is_to_virtual(network: &Network, mac: Mac) -> bool
     ensures { result ≡ is_virtual network.now mac.0 }
@@ -155,7 +154,8 @@ pub(crate) fn is_to_virtual(network: &Network, mac: Mac) -> bool
     mac == Mac::of_virtual_router(network.interface.virtual_router)
 }
 
-/// Whether a frame to this address is one for the gateway.
+/// Whether an interface takes frames to a hardware address: to its own, the broadcast address, that of the VRRP routers
+/// and, while the interface is `active`, that of its virtual router.
 #[tactic(auto, unfolding(crate::specs::Networks::is_addressed))]
 pub(crate) fn is_for_gateway(network: &Network, active: bool, mac: Mac) -> bool
     ensures { result ≡ is_addressed network.now active mac.0 }
@@ -173,7 +173,7 @@ pub(crate) fn contains(interface: &InterfaceSettings, address: Ip) -> bool
     interface.network().contains(address)
 }
 
-/// Whether no host has an address (RFC 1812, section 5.3.7).
+/// Whether an address is one that no host has (RFC 1812, section 5.3.7).
 #[tactic(auto, unfolding(crate::specs::Networks::is_martian))]
 pub(crate) fn is_martian(address: Ip) -> bool
     ensures { result ≡ is_martian address.0 }
@@ -182,8 +182,8 @@ pub(crate) fn is_martian(address: Ip) -> bool
     first == 0 || first == 127 || address.0 >> 28 == 14 || address.0 >> 28 == 15
 }
 
-/// Which way a packet goes that is for the outside virtual address: back in, by the pair of its port.
-/// No host stands behind the identifier of a query.
+/// Returns the way of an inside host's packet to the outside virtual address: back in, by the pair of its port. An ICMP
+/// query gets `NoBinding`: its identifier names no inside host that could receive it.
 #[tactic(auto, unfolding(crate::specs::Networks::hairpin_direction))]
 fn direction_of_hairpin(protocol: Protocol) -> Result<Direction, Reason>
     ensures { result ≡ hairpin_direction protocol }
@@ -235,7 +235,7 @@ fn direction_from_outside(
     Ok(Direction::Inward)
 }
 
-/// Which way a packet of this protocol goes that came in on this side.
+/// Returns the way of a packet of this protocol that came in on a side, or `NoBinding` where there is none.
 pub fn direction_taken(
     networks: &Networks,
     side: Side,
@@ -251,7 +251,8 @@ pub fn direction_taken(
     }
 }
 
-/// The address to which a packet that leaves goes next.
+/// Returns the next hop of a packet that leaves outside: its destination where that is in the outside network, else the
+/// router.
 #[tactic(auto, unfolding(crate::specs::Networks::outside_hop))]
 pub fn next_hop_outside(networks: &Networks, destination: Ip) -> Ip
     ensures { result.0 ≡ outside_hop networks.now destination.0 }

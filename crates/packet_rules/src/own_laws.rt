@@ -1,4 +1,4 @@
-//! Which frames are the gateway's own, and what they show.
+//! Which frames are the gateway's own, and which addresses they show.
 ghost use Rattle.std.specs.Prelude.{◌≡◌, ℕ, Bool, true, false, Ok, List, length};
 ghost use Rattle.addresses.specs.declared.ethernet.Mac.{Mac as MacValue};
 ghost use Rattle.addresses.specs.declared.internet.Ip.{Ip as IpValue};
@@ -23,8 +23,8 @@ ghost use Rattle.packet_rules.specs.Steps.{IsForwardable, IsOfSide, IsPassable};
 
 use icmp::own_packet_law;
 
-/// What answers an Echo to the gateway is an own frame, and so is what complains of a packet. A packet that is
-/// sent on is none, nor is an error that is passed on, nor any frame of ARP or VRRP.
+/// States that the answer to an Echo to the gateway is an own frame, and so is a complaint about a packet. No packet
+/// that is sent on is one, no error that is passed on, and no frame of ARP or VRRP.
 pub fn own_frames_law()
     ensures answer { (networks : NetworksValue) (side : SideValue) (active : Bool)
         (next : MacValue) (bytes : List ℕ) → IsWired networks → IsPlaced networks
@@ -66,9 +66,9 @@ pub fn own_frames_law()
     own_packet_law();
 }
 
-/// An own frame at the outside has no address of the inside network as its source or its destination. All else
-/// in it is fixed, an `mtu` of the settings, or of the packet that it answers or complains of, which came in
-/// there.
+/// States that an own frame at the outside has no address of the inside network as its source or its destination. All
+/// else in such a frame is fixed, an `mtu` of the settings, or of the packet that it answers or complains of, which
+/// came in there.
 pub fn shows_nothing_inside()
     ensures answer { (networks : NetworksValue) (active : Bool) (next : MacValue)
         (bytes : List ℕ) → IsWired networks → IsPlaced networks → length next.0 ≡ 6

@@ -5,7 +5,8 @@ ghost use Rattle.packet_rules.specs.Queries.{kind_entering, kind_leaving};
 use icmp::Kind;
 use nat_types::Side;
 
-/// The kind of query that is taken at a side: an Echo goes out, its Reply comes in.
+/// Returns the kind of query that is taken at a side: an Echo, which goes out, inside, and a Reply,
+/// which comes in, outside.
 pub(crate) fn kind_entering(side: Side) -> Kind
     ensures { result ≡ kind_entering side }
 {
@@ -15,7 +16,7 @@ pub(crate) fn kind_entering(side: Side) -> Kind
     }
 }
 
-/// The kind of query that leaves at a side.
+/// Returns the kind of query that leaves at a side: a Reply inside, an Echo outside.
 pub(crate) fn kind_leaving(side: Side) -> Kind
     ensures { result ≡ kind_leaving side }
 {

@@ -5,7 +5,7 @@ use icmp::ErrorPacket;
 use ipv4::Packet;
 use vrrp_packet::Advert;
 
-/// What a frame is read as.
+/// The content of a frame that passes the first steps.
 #[derive(Clone, Copy, Debug, PartialEq, Eq)]
 pub enum Reading {
     /// An ARP packet (RFC 826).
@@ -13,21 +13,22 @@ pub enum Reading {
     /// An advertisement of the interface's virtual router, and the primary address that it comes
     /// from (RFC 9568).
     Advert(Advert, Ip),
-    /// A UDP or TCP packet or an ICMP query to be translated, by what was read of it.
+    /// A UDP or TCP packet or an ICMP query to be translated: its flow, its TCP flags and its total
+    /// length.
     Packet(Packet),
-    /// An ICMP error about such a packet, by what was read of it (RFC 792).
+    /// An ICMP error about such a packet (RFC 792): its flow and its total length.
     Error(ErrorPacket),
-    /// An Echo to the box itself, by what was read of it (RFC 792).
+    /// An Echo to the gateway itself (RFC 792): its addresses and the length of its answer.
     Asked(Asked),
 }
 
-/// An Echo to the box itself.
+/// An Echo to the gateway itself.
 #[derive(Clone, Copy, Debug, PartialEq, Eq)]
 pub struct Asked {
-    /// Who asks.
+    /// The address of the host that sent the Echo.
     pub source: Ip,
-    /// The address that is asked.
+    /// The gateway's address to which the Echo goes.
     pub destination: Ip,
-    /// The bytes of the packet that answers it.
+    /// The length of the IPv4 packet that answers the Echo, in bytes.
     pub length: usize,
 }

@@ -1,11 +1,13 @@
-//! Why a frame is dropped.
+//! The reasons for which a frame, a link datagram or an operator's word is dropped, with their
+//! numbers and texts.
 ghost use Rattle.std.specs.Prelude.{◌≡◌, Some};
 ghost use Rattle.packet_rules.specs.Reasons.{number_of, text_of};
 
 use std::fmt;
 use thiserror::Error;
 
-/// Why a frame was dropped.
+/// The reason for which a frame, a link datagram or an operator's word was dropped. `Display` gives
+/// its text.
 #[derive(Clone, Copy, Debug, PartialEq, Eq, Error)]
 pub enum Reason {
     ShortFrame,
@@ -31,7 +33,7 @@ pub enum Reason {
 }
 
 impl Reason {
-    /// The reason's number, from 1 to 20.
+    /// Returns the reason's number, from 1 to 20.
     pub fn number(self) -> u8
         ensures { result ≡ number_of self }
     {

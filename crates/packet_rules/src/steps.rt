@@ -102,7 +102,7 @@ fn view_packet(bytes: &[u8]) -> Result<Ipv4View<'_>, Reason>
     }
 }
 
-/// Whether a packet goes to VRRP (RFC 9568, sections 5.1.1.2 and 5.1.1.4).
+/// Whether a packet is for VRRP: of its protocol, to its group address (RFC 9568, sections 5.1.1.2 and 5.1.1.4).
 #[tactic(auto, unfolding(crate::specs::Steps::is_vrrp))]
 #[inline(always)]
 fn is_for_vrrp(packet: &Ipv4View<'_>) -> bool
@@ -189,7 +189,7 @@ fn test_ttl(packet: &Ipv4View<'_>) -> Result<(), Reason>
     }
 }
 
-/// A UDP or TCP packet.
+/// Reads a UDP or TCP packet.
 #[tactic(auto, unfolding(crate::specs::Steps::transport_reading))]
 #[inline(always)]
 fn take_transport(view: &Ipv4View<'_>) -> Result<Reading, Reason>
@@ -200,8 +200,8 @@ fn take_transport(view: &Ipv4View<'_>) -> Result<Reading, Reason>
     Ok(Reading::Packet(packet))
 }
 
-/// Whether the packet inside an error went the other way: a query is of the kind that leaves where the
-/// error comes in.
+/// Refuses an error unless the packet inside went the other way: a query inside must be of the kind that leaves where
+/// the error comes in.
 #[tactic(auto, unfolding(crate::specs::Steps::about_refusal))]
 fn test_about(side: Side, view: &Ipv4View<'_>) -> Result<(), Reason>
     requires { IsErrorPacket view.now.bytes.now }
@@ -214,7 +214,7 @@ fn test_about(side: Side, view: &Ipv4View<'_>) -> Result<(), Reason>
     }
 }
 
-/// An ICMP query.
+/// Reads an ICMP query.
 #[tactic(auto, unfolding(crate::specs::Steps::query_reading))]
 fn take_query(side: Side, view: &Ipv4View<'_>) -> Result<Reading, Reason>
     ensures { result ≡ query_reading side view.now.bytes.now }
@@ -224,7 +224,7 @@ fn take_query(side: Side, view: &Ipv4View<'_>) -> Result<Reading, Reason>
     Ok(Reading::Packet(packet))
 }
 
-/// An ICMP error.
+/// Reads an ICMP error.
 #[tactic(auto, unfolding(crate::specs::Steps::error_reading))]
 fn take_error(side: Side, view: &Ipv4View<'_>) -> Result<Reading, Reason>
     ensures { result ≡ error_reading side view.now.bytes.now }
@@ -235,7 +235,7 @@ fn take_error(side: Side, view: &Ipv4View<'_>) -> Result<Reading, Reason>
     Ok(Reading::Error(packet))
 }
 
-/// A packet of ICMP: an error by its type, else a query, or it is refused.
+/// Reads an ICMP packet: as an error where its type is that of one, else as a query.
 #[tactic(auto, unfolding(crate::specs::Steps::icmp_reading))]
 #[inline(never)]
 fn take_icmp(side: Side, view: &Ipv4View<'_>) -> Result<Reading, Reason>
@@ -248,7 +248,7 @@ fn take_icmp(side: Side, view: &Ipv4View<'_>) -> Result<Reading, Reason>
     }
 }
 
-/// A packet that isn't VRRP's.
+/// Reads a packet that isn't VRRP's.
 #[tactic(auto, unfolding(crate::specs::Steps::packet_reading))]
 #[inline(always)]
 fn read_packet(
@@ -268,7 +268,7 @@ fn read_packet(
     }
 }
 
-/// A packet that is no Echo to the gateway.
+/// Reads a packet that is no Echo to the gateway.
 #[tactic(auto, unfolding(crate::specs::Steps::other_reading))]
 #[inline(always)]
 fn read_other(
@@ -305,8 +305,8 @@ fn read_ipv4(
     }
 }
 
-/// Reads a frame that came in on a side's network, at an interface that is `active` or not, by a gateway
-/// that is `up` or not; or gives the reason of the first step that refuses it.
+/// Reads a frame that came in on a side's network, at an interface that is `active` or not, by a gateway that is `up`
+/// or not. An Err has the reason of the first step that refuses the frame.
 #[inline(always)]
 pub fn read_frame(
     side: Side,

@@ -15,14 +15,15 @@ use frames::{EtherType, write_header};
 use ipv4::{Flow, Packet};
 use nat_types::Pair;
 
-/// By which pairs a packet is translated.
+/// The pairs by which a packet is translated, by the packet's way.
 #[derive(Clone, Copy, Debug, PartialEq, Eq)]
 pub enum Translation {
-    /// It leaves by the sender's pair.
+    /// The packet leaves by the sender's pair.
     Outward(Pair),
-    /// It comes in by the pair of the port that it goes to.
+    /// The packet comes in by the pair of the outside port that it goes to.
     Inward(Pair),
-    /// It goes back in, by the sender's own pair and the pair of the port that it goes to.
+    /// The packet goes back in, by the sender's own pair and the pair of the outside port that it
+    /// goes to, in this order.
     Hairpin(Pair, Pair),
 }
 
@@ -45,7 +46,7 @@ pub(crate) fn inside_port(pair: Pair) -> Port
 }
 
 impl Translation {
-    /// The way of the packet.
+    /// Returns the way of the packet.
     pub fn direction(&self) -> Direction
         ensures { result ≡ way_of self.now }
     {
@@ -56,8 +57,8 @@ impl Translation {
         }
     }
 
-    /// The address to which a packet to this destination goes next: outward as
-    /// [`next_hop_outside`] says, else the endpoint.
+    /// Returns the next hop of a packet to this destination: outward as [`next_hop_outside`] says,
+    /// else the address of the inside endpoint that it goes to.
     pub fn next_hop(&self, networks: &Networks, destination: Ip) -> Ip
         ensures { result.0 ≡ hop_of networks.now self.now destination.0 }
     {
@@ -69,7 +70,7 @@ impl Translation {
     }
 }
 
-/// The flow that a packet of this flow has once it is translated.
+/// Returns the flow that a packet of this flow has after the translation.
 #[inline(always)]
 fn flow_by(networks: &Networks, translation: &Translation, old: Flow) -> Flow
     ensures { result ≡ new_flow networks.now translation.now old }
@@ -127,7 +128,7 @@ fn translate_body(frame: &mut [u8], old: Flow, networks: &Networks, translation:
     translate(packet, old, networks, translation);
 }
 
-/// Gives a frame the header of one that is sent on.
+/// Writes the Ethernet header with which a frame is sent on to `next_mac` over a frame's own.
 #[tactic(auto, using(crate::proofs::Cut::header_length))]
 #[inline(always)]
 pub(crate) fn readdress(
@@ -145,8 +146,8 @@ pub(crate) fn readdress(
     write_header(frame, next_mac, own_mac, EtherType::IPV4);
 }
 
-/// Makes of a frame that came the one by which its packet is sent on, with the padding still behind
-/// it.
+/// Turns a received frame into the one by which its packet is sent on, with the padding still after
+/// the packet.
 #[tactic(auto, using(crate::proofs::Cut::drop_kept))]
 #[inline(always)]
 fn translate_frame(
@@ -169,7 +170,7 @@ fn translate_frame(
     readdress(frame, networks, translation, next_mac);
 }
 
-/// Translates the frame at the end of a list.
+/// Translates the frame that begins at `start` in a list and ends with the list.
 #[inline(always)]
 fn translate_tail(
     list: &mut Vec<u8>,
@@ -195,8 +196,8 @@ fn translate_tail(
     translate_frame(frame, old, networks, translation, next_mac);
 }
 
-/// Puts the frame by which a packet is sent on behind a list with room for the frame that came,
-/// `bytes`, of which `packet` was read.
+/// Appends the frame by which a packet is sent on, without padding, to a list with capacity for the
+/// received frame `bytes`, of which `packet` was read.
 #[tactic(auto, unfolding(crate::specs::Frames::sent_frame), using(crate::proofs::Cut::tail_cut))]
 #[inline(always)]
 pub fn append_sent(

@@ -32,7 +32,7 @@ is_set-clear word k flag off within i low =
           ∙ sym (cond-false (i == k) flag (is_set word i) (ne_eqb i k other)))
     ]
 
--- the lowest bits of a word, so many
+-- the word 2 ^ count - 1 has its `count` lowest bits set, and no other
 pub is_set-ones : (count i : ℕ) → is_set (2 ^ count - 1) i ≡ nat_lt i count
 unfolding is_set
 is_set-ones count i =
@@ -89,7 +89,7 @@ is_set-without a b i fits low = is_set-and a (18446744073709551615 - b) i ∙ ap
 
 -- ---- numbers
 
--- two tests that hold in the same cases are one
+-- a number's test by its offset in a word is that by the number
 end-test : (start highest end i : ℕ) → i < 64 → end ≡ min (highest + 1 - start) 64 → nat_lt i end ≡ nat_le (start + i) highest
 end-test start highest end i low is =
     elim (cases_lt i end) [
@@ -124,7 +124,7 @@ has_bit-in words index i low =
     let bit : (index * 64 + i) % 64 ≡ i = omega arith in
     ap (λ (x : ℕ). is_set (get_or words x 0) ((index * 64 + i) % 64)) word ∙ ap (λ (x : ℕ). is_set (get_or words index 0) x) bit
 
--- the same by the number
+-- the bit of a number by its word, where the number is given
 pub has_bit-of : (words : List ℕ) (index n : ℕ) → n / 64 ≡ index → has_bit words n ≡ is_set (get_or words index 0) (n % 64)
 unfolding has_bit
 has_bit-of words index n is = ap (λ (x : ℕ). is_set (get_or words x 0) (n % 64)) is
@@ -134,7 +134,7 @@ pub has_bit-past : (words : List ℕ) (n : ℕ) → 64 * length words ≤ n → 
 unfolding has_bit
 has_bit-past words n past = ap (λ (w : ℕ). is_set w (n % 64)) (get_or_past words (n / 64) 0 (omega arith)) ∙ is_set-zero (n % 64)
 
--- a number's bit after its word, or another one, was written
+-- a number's bit after one word was written: the new one at the number written, else the old one
 pub has_bit-set : (words : List ℕ) (number word : ℕ) (flag : Bool) → number < 64 * length words
     → ((i : ℕ) → i < 64 → is_set word i ≡ cond (i == number % 64) flag (is_set (get_or words (number / 64) 0) i))
     → (n : ℕ) → has_bit (set words (number / 64) word) n ≡ cond (n == number) flag (has_bit words n)
@@ -159,7 +159,7 @@ has_bit-set words number word flag within bits n =
         ∙ sym (has_bit-of words (number / 64) n here)
         ∙ sym (cond-false (n == number) flag (has_bit words n) (ne_eqb n number (λ e. apart (ap (λ (x : ℕ). x % 64) e))))
 
--- words that are right up to one, and then that one too
+-- where the words up to one agree with a test, and the word written there too, the words up to the next one agree
 pub has_bit-more : (words : List ℕ) (index word : ℕ) (test : ℕ → Bool) → index < length words
     → ((i : ℕ) → i < 64 → is_set word i ≡ test (index * 64 + i)) → ((n : ℕ) → n < 64 * index → has_bit words n ≡ test n)
     → (n : ℕ) → n < 64 * (index + 1) → has_bit (set words index word) n ≡ test n
@@ -173,7 +173,7 @@ has_bit-more words index word test within bits so-far n low =
           ∙ ap (λ (w : ℕ). is_set w (n % 64)) (get_or-set_same words index word 0 within) ∙ bits (n % 64) (omega arith) ∙ ap test moved)
     ]
 
--- a test that fails past the words is right of all numbers where it is of those of the words
+-- a test that fails past the words agrees with the bits of all numbers where it does with those of the words
 pub has_bit-all : (words : List ℕ) (index : ℕ) (test : ℕ → Bool) → length words ≤ index → ((n : ℕ) → n < 64 * index → has_bit words n ≡ test n)
     → ((n : ℕ) → 64 * length words ≤ n → test n ≡ false) → (n : ℕ) → has_bit words n ≡ test n
 has_bit-all words index test all so-far past n =

@@ -8,7 +8,7 @@ use Rattle.addresses.specs.Transport.{parity_of}
 use Rattle.port_range.specs.Ports.{Range, same_parity, fits, is_available, is_open, first_where, lowest_open, or_else, chosen_open, chosen_port, is_free, is_owned, IsRange, IsChosen}
 use Rattle.port_range.specs.Marks.{other_parity, IsLowestOf}
 
--- a choice of something is nothing only where the other is chosen
+-- a conditional that begins with an item is None only where its test fails and the rest is None
 pub cond_none : {X : Type 0} (b : Bool) (x : X) (o : Option X) → cond b (Some x) o ≡ None → (b ≡ false) × (o ≡ None)
 cond_none true x o h = cc
 cond_none false x o h = (refl, h)
@@ -95,7 +95,7 @@ parity-self Odd = refl
 pub parity-true : (a b : Parity) → a ≡ b → same_parity a b ≡ true
 parity-true a b e = ap (same_parity a) (sym e) ∙ parity-self a
 
--- what may be given out lies between the two
+-- each port that may be given out lies between the two
 abbrev pub Between : (ℕ → Bool) → ℕ → ℕ → Type 0
 Between test lowest highest = (q : ℕ) → test q ≡ true → (lowest ≤ q) × (q ≤ highest)
 
@@ -106,7 +106,7 @@ at-or-above test lowest highest wanted port q between is holds fit =
       | inr above ↦ above
     ]
 
--- a chosen port, as a relation
+-- a chosen port is one that `IsChosen` allows
 pub chosen-is : (test : ℕ → Bool) (lowest highest : ℕ) (parity : Parity) (port : Port) → Between test lowest highest → chosen_open test lowest highest parity ≡ Some port → IsChosen test parity port
 chosen-is test lowest highest parity port between h =
     elim (or_else-some (lowest_open test lowest highest (Some parity)) (lowest_open test lowest highest None) port h) [
@@ -125,13 +125,13 @@ chosen-is test lowest highest parity port between h =
           })
     ]
 
--- where none is chosen, none may be given out
+-- where no port is chosen, no port may be given out
 pub chosen-none : (test : ℕ → Bool) (lowest highest : ℕ) (parity : Parity) → Between test lowest highest → chosen_open test lowest highest parity ≡ None → (q : ℕ) → test q ≡ false
 chosen-none test lowest highest parity between h q =
     false_from_ne_true (test q) (λ holds.
     both_ways (test q) (lowest_open-none test lowest highest None (or_else-none (lowest_open test lowest highest (Some parity)) (lowest_open test lowest highest None) h).1 q (between q holds).0 (between q holds).1 refl) holds)
 
--- where two tests agree, they choose alike
+-- two tests that agree choose the same port
 first_where-same : (a b : ℕ → Bool) (start count : ℕ) → ((q : ℕ) → a q ≡ b q) → first_where a start count ≡ first_where b start count
 first_where-same a b start zero same = refl
 first_where-same a b start (suc count) same =
@@ -145,26 +145,26 @@ chosen-same a b lowest highest parity same =
     one : (wanted : Option Parity) → lowest_open a lowest highest wanted ≡ lowest_open b lowest highest wanted
     one wanted = first_where-same (is_open a wanted) (is_open b wanted) lowest (highest + 1 - lowest) (λ q. ap (λ x. x && fits wanted q) (same q))
 
--- what may be given out of a range lies in it
+-- a port of a range that may be given out lies in the range
 pub available-between : (range : Range) → IsRange range → Between (is_available range) range.lowest range.highest
 available-between range is q holds =
     let within = is.free q (and_parts (is_free range q) (is_owned range q) holds).0 in
     let parts = and_parts (nat_le range.lowest q) (nat_le q range.highest) within in
     (leb-true range.lowest q parts.0, leb-true q range.highest parts.1)
 
--- what the answer says where it is a port
+-- where the answer is a port, the port is one that `IsChosen` allows
 pub answer-like : (range : Range) (parity : Parity) (answer : Option Port) → IsRange range → answer ≡ chosen_port range parity → IfSome answer (IsChosen (is_available range) parity)
 answer-like range parity None is e = tt
 answer-like range parity (Some port) is e = chosen-is (is_available range) range.lowest range.highest parity port (available-between range is) (sym e)
 
--- what the answer says where it is none
+-- where the answer is None, no port may be given out
 pub answer-none : (range : Range) (parity : Parity) (answer : Option Port) → IsRange range → answer ≡ chosen_port range parity → IfNone answer ((port : ℕ) → is_available range port ≡ false)
 answer-none range parity None is e = chosen-none (is_available range) range.lowest range.highest parity (available-between range is) (sym e)
 answer-none range parity (Some port) is e = tt
 
 -- ---- what a search by parity finds is the choice
 
--- the first of some numbers that passes is what the search gives
+-- the first number that passes is what the search gives
 first_where-is : (test : ℕ → Bool) (start count : ℕ) (port : Port) → test port.0 ≡ true → start ≤ port.0 → port.0 < start + count → ((q : ℕ) → q < port.0 → test q ≡ false) → first_where test start count ≡ Some port
 first_where-is test start zero port passes from below none = absurd (omega arith)
 first_where-is test start (suc count) port passes from below none =
@@ -184,20 +184,20 @@ first_where-nothing test start (suc count) none =
 abbrev pub NonePass : (ℕ → Bool) → Parity → Type 0
 NonePass test parity = (q : ℕ) → parity_of q ≡ parity → test q ≡ false
 
--- a test of a kind fails where the number is of another, or fails itself
+-- the test of a parity fails where the number is of the other, or the test itself fails
 not-of : (test : ℕ → Bool) (parity : Parity) (q : ℕ) → (parity_of q ≡ parity → test q ≡ false) → is_open test (Some parity) q ≡ false
 not-of test parity q fails = false_from_ne_true (is_open test (Some parity) q) (λ holds.
     let parts = and_parts (test q) (same_parity (parity_of q) parity) holds in
     both_ways (test q) (fails (parity-eq (parity_of q) parity parts.1)) parts.0)
 
--- a number is of a parity, or of the other
+-- two parities are one, or the first is the other of the second
 parity-cases : (a b : Parity) → (a ≡ b) ⊎ (a ≡ other_parity b)
 parity-cases Even Even = inl refl
 parity-cases Even Odd = inr refl
 parity-cases Odd Even = inr refl
 parity-cases Odd Odd = inl refl
 
--- the lowest of the parity is chosen, where there is one
+-- the lowest port of the parity is chosen, where there is one
 pub chosen-like : (test : ℕ → Bool) (lowest highest : ℕ) (parity : Parity) (port : Port) → Between test lowest highest → IsLowestOf test parity port → chosen_open test lowest highest parity ≡ Some port
 chosen-like test lowest highest parity port between is =
     ap (λ o. or_else o (lowest_open test lowest highest None))
@@ -211,7 +211,7 @@ none-like test lowest highest parity none =
     ap (λ o. or_else o (lowest_open test lowest highest None))
     (first_where-nothing (is_open test (Some parity)) lowest (highest + 1 - lowest) (λ q. not-of test parity q (none q)))
 
--- else the lowest of the other one
+-- where no port of the parity passes, the lowest of the other parity is chosen
 pub chosen-other : (test : ℕ → Bool) (lowest highest : ℕ) (parity : Parity) (port : Port) → Between test lowest highest → NonePass test parity → IsLowestOf test (other_parity parity) port → chosen_open test lowest highest parity ≡ Some port
 chosen-other test lowest highest parity port between none is =
     none-like test lowest highest parity none
@@ -223,7 +223,7 @@ chosen-other test lowest highest parity port between none is =
       | inr other ↦ is.lowest q low other
     ]))
 
--- else none
+-- where no port of either parity passes, none is chosen
 pub chosen-nothing : (test : ℕ → Bool) (lowest highest : ℕ) (parity : Parity) → NonePass test parity → NonePass test (other_parity parity) → chosen_open test lowest highest parity ≡ None
 chosen-nothing test lowest highest parity none others =
     none-like test lowest highest parity none

@@ -25,7 +25,7 @@ is-first : (passes same rest : Bool) → same ≡ true → rest ≡ false → ((
 is-first true same rest is none = or_left same rest is
 is-first false same rest is none = none
 
--- a port below the start, or past the last, isn't listed
+-- a port below the start, or past the last one, isn't listed
 where-outside : (test : ℕ → Bool) (start count q : ℕ) → (start ≤ q → start + count ≤ q) → is_listed q (ports_where test start count) ≡ false
 where-outside test start zero q out = refl
 where-outside test start (suc count) q out =
@@ -33,7 +33,7 @@ where-outside test start (suc count) q out =
     ∙ not-first (test start) (start == q) (is_listed q (ports_where test (start + 1) count)) (ne_eqb start q (λ e. absurd (omega (arith, out (omega arith)))))
     ∙ where-outside test (start + 1) count q (λ low. omega (arith, out (omega arith)))
 
--- one between is listed where it passes
+-- a port between the start and the last one is listed where it passes
 where-within : (test : ℕ → Bool) (start count q : ℕ) → start ≤ q → q < start + count → is_listed q (ports_where test start count) ≡ test q
 where-within test start zero q low high = absurd (omega arith)
 where-within test start (suc count) q low high =
@@ -45,7 +45,7 @@ where-within test start (suc count) q low high =
           ∙ where-within test (start + 1) count q (omega arith) (omega arith))
     ]
 
--- what passes lies between
+-- each port that passes lies in the range
 abbrev pub PassWithin : ℕ → ℕ → (ℕ → Bool) → Type 0
 PassWithin lowest highest test = (port : ℕ) → test port ≡ true → is_within lowest highest port ≡ true
 
@@ -63,7 +63,7 @@ where-is lowest highest test order within q =
     fails : is_within lowest highest q ≡ false → test q ≡ false
     fails outside = false_from_ne_true (test q) (λ holds. both_ways (is_within lowest highest q) outside (within q holds))
 
--- they rise, above any number before the first
+-- the listed ports rise, above any number before the first
 rise-on : (passes : Bool) (low first : ℕ) (rest : List ℕ) → low < first → RiseAbove first rest → RiseAbove low rest → RiseAbove low (cond passes (first ∷ rest) rest)
 rise-on true low first rest before from_first from_low = (before, from_first)
 rise-on false low first rest before from_first from_low = from_low
@@ -73,7 +73,7 @@ where-rising test low start zero before = tt
 where-rising test low start (suc count) before =
     rise-on (test start) low start (ports_where test (start + 1) count) before (where-rising test start (start + 1) count (omega arith)) (where-rising test low (start + 1) count (omega arith))
 
--- where none passes, there is none
+-- where no port passes, the list is empty
 pub where-none : (test : ℕ → Bool) (start count : ℕ) → ((q : ℕ) → test q ≡ false) → ports_where test start count ≡ []
 where-none test start zero none = refl
 where-none test start (suc count) none =
@@ -92,7 +92,7 @@ kept-marks lowest highest marks h = record {
   rising = where-rising (has_bit marks.owned) 0 lowest (highest + 1 - lowest) (let low : 1024 ≤ lowest = h.low in omega arith);
 }
 
--- a port may be given where it has both marks
+-- a port may be given out where it has both marks
 pub available-is : (lowest highest : ℕ) (marks : Marked) → HasMarks lowest highest marks → (q : ℕ) → is_available (ranged lowest highest marks) q ≡ has_both marks.free marks.owned q
 available-is lowest highest marks h q =
     ap (λ b. b && is_listed q (ports_where (has_bit marks.owned) lowest (highest + 1 - lowest))) (where-is lowest highest (has_bit marks.free) h.order h.free q)
@@ -102,7 +102,7 @@ available-is lowest highest marks h q =
 abbrev pub ArePut : ℕ → Bool → List ℕ → List ℕ → Type 0
 ArePut port flag old new = (p : ℕ) → has_bit new p ≡ cond (p == port) flag (has_bit old p)
 
--- what is marked still lies in the range, where the port does
+-- each marked port lies in the range after one mark is written, where the port of that mark does
 pub within-put : (lowest highest port : ℕ) (flag : Bool) (old new : List ℕ) → PassWithin lowest highest (has_bit old) → (flag ≡ true → is_within lowest highest port ≡ true) → ArePut port flag old new → PassWithin lowest highest (has_bit new)
 within-put lowest highest port flag old new within fits put p holds =
     elim (cases_eq p port) [
@@ -110,7 +110,7 @@ within-put lowest highest port flag old new within fits put p holds =
       | inr other ↦ within p (sym (put p ∙ cond-false (p == port) flag (has_bit old p) (ne_eqb p port other)) ∙ holds)
     ]
 
--- what is listed follows the mark
+-- a port is listed after its mark is written where the mark is set
 pub listed-put : (lowest highest port : ℕ) (flag : Bool) (old new : List ℕ) → lowest ≤ highest → PassWithin lowest highest (has_bit old) → (flag ≡ true → is_within lowest highest port ≡ true) → ArePut port flag old new
     → (p : ℕ) → is_listed p (ports_where (has_bit new) lowest (highest + 1 - lowest)) ≡ cond (p == port) flag (is_listed p (ports_where (has_bit old) lowest (highest + 1 - lowest)))
 listed-put lowest highest port flag old new order before fits put p =
@@ -150,7 +150,7 @@ listed-more lowest highest low high old new order before below above more p =
 
 -- ---- the next port
 
--- the same port is found by a test that agrees with the other
+-- a port that is the first by one test is the first by a test that agrees
 pub some-first : (answer : Option Port) (a b : ℕ → Bool) (start : ℕ) → ((q : ℕ) → b q ≡ a q) → IfSome answer (λ port. IsFirstFrom a start port.0) → IfSome answer (λ port. IsFirstFrom b start port.0)
 some-first None a b start same h = tt
 some-first (Some port) a b start same h = record {
@@ -159,7 +159,7 @@ some-first (Some port) a b start same h = record {
   first = λ q low high. same q ∙ h.first q low high;
 }
 
--- where none is, none is, also past all ports
+-- where no port passes below 65536, none passes at all
 pub none-first : (answer : Option Port) (a b : ℕ → Bool) (start : ℕ) → ((q : ℕ) → b q ≡ a q) → ((q : ℕ) → 65536 ≤ q → b q ≡ false)
     → IfNone answer ((port : ℕ) → start ≤ port → port < 65536 → a port ≡ false) → IfNone answer ((port : ℕ) → start ≤ port → b port ≡ false)
 none-first None a b start same past h = λ port from.
@@ -170,7 +170,7 @@ not-false : (b : Bool) → not b ≡ false → b ≡ true
 not-false true h = refl
 not-false false h = cc
 
--- and where each is marked, each is listed
+-- where each port is marked, each is listed
 pub all-first : (answer : Option Port) (marked listed : ℕ → Bool) (start : ℕ) → ((q : ℕ) → listed q ≡ marked q)
     → IfNone answer ((port : ℕ) → start ≤ port → port < 65536 → not (marked port) ≡ false) → IfNone answer ((port : ℕ) → start ≤ port → port < 65536 → listed port ≡ true)
 all-first None marked listed start same h = λ port from low. same port ∙ not-false (marked port) (h port from low)
@@ -197,13 +197,13 @@ choice : (lowest highest : ℕ) (marks : Marked) (parity : Parity) → HasMarks 
 choice lowest highest marks parity h =
     chosen-same (is_available (ranged lowest highest marks)) (has_both marks.free marks.owned) lowest highest parity (available-is lowest highest marks h)
 
--- what is found of the parity is the choice
+-- the lowest port of the parity that is found is the chosen one
 pub found-like : (lowest highest : ℕ) (marks : Marked) (parity : Parity) (port : Port) → HasMarks lowest highest marks → IsLowestOf (has_both marks.free marks.owned) parity port
     → Some port ≡ chosen_port (ranged lowest highest marks) parity
 found-like lowest highest marks parity port h is =
     sym (choice lowest highest marks parity h ∙ chosen-like (has_both marks.free marks.owned) lowest highest parity port (between lowest highest marks h) is)
 
--- where none is, what is found of the other parity is
+-- where no port of the parity is found, the lowest of the other parity is the chosen one
 pub found-other : (lowest highest : ℕ) (marks : Marked) (parity : Parity) (answer : Option Port) → HasMarks lowest highest marks → NonePass (has_both marks.free marks.owned) parity
     → IfSome answer (IsLowestOf (has_both marks.free marks.owned) (other_parity parity)) → IfNone answer (NonePass (has_both marks.free marks.owned) (other_parity parity))
     → answer ≡ chosen_port (ranged lowest highest marks) parity
@@ -214,7 +214,7 @@ found-other lowest highest marks parity (Some port) h none some others =
 
 -- ---- how many words are looked at
 
--- the port found is none past the highest
+-- a found port is at most 65535
 found-port : (lowest highest : ℕ) (marks : Marked) (parity : Parity) (port : Port) → HasMarks lowest highest marks → IsLowestOf (has_both marks.free marks.owned) parity port → port.0 ≤ 65535
 found-port lowest highest marks parity port h is = omega (arith, (between lowest highest marks h port.0 is.passes).1, h.high)
 

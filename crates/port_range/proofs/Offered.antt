@@ -2,11 +2,11 @@
 
 -- The port that is chosen.
 pub use Rattle.port_range.proofs.Choice.{chosen-same}
--- what may be given out lies between the two
+-- each port that may be given out lies between the two
 pub use Rattle.port_range.proofs.Choice.{Between}
--- a chosen port, as a relation
+-- a chosen port is one that `IsChosen` allows
 pub use Rattle.port_range.proofs.Choice.{chosen-is}
--- where none is chosen, none may be given out
+-- where no port is chosen, no port may be given out
 pub use Rattle.port_range.proofs.Choice.{chosen-none}
 -- A bit of two words' conjunction.
 pub use Rattle.port_range.proofs.Bits.{is_set-and}

@@ -19,11 +19,11 @@ not-true false h = refl
 
 -- ---- one word
 
--- a word keeps its bits from one on
+-- `rest` has the bits of a word from a number on, and no lower ones
 abbrev pub IsFrom : ℕ → ℕ → ℕ → Type 0
 IsFrom word rest start = (i : ℕ) → i < 64 → is_set rest i ≡ (is_set word i && not (nat_lt i start))
 
--- and loses the lower ones; so a bit from there on that the rest doesn't have isn't set
+-- a bit from that number on that `rest` doesn't have isn't set in the word
 clear-from : (word rest start i : ℕ) → IsFrom word rest start → start ≤ i → i < 64 → is_set rest i ≡ false → is_set word i ≡ false
 clear-from word rest start i is from low clear =
     sym (and-true (is_set word i)) ∙ ap (λ b. is_set word i && not b) (sym (le-ltb i start from)) ∙ sym (is i low) ∙ clear
@@ -45,7 +45,7 @@ pub no-bit-from : (word rest start : ℕ) → rest ≡ 0 → IsFrom word rest st
 no-bit-from word rest start nothing is i from low =
     clear-from word rest start i is from low (ap (λ (w : ℕ). is_set w i) nothing ∙ is_set-zero i)
 
--- a word keeps its bits below one
+-- `rest` has the bits of a word below a number, and no higher ones
 abbrev pub IsBelow : ℕ → ℕ → ℕ → Type 0
 IsBelow word rest end = (i : ℕ) → i < 64 → is_set rest i ≡ (is_set word i && nat_lt i end)
 
@@ -79,13 +79,13 @@ pub no-bit-below : (word rest end : ℕ) → rest ≡ 0 → end ≤ 64 → IsBel
 no-bit-below word rest end nothing short is i below =
     clear-below word rest end i is below (omega (arith, below, short)) (ap (λ (w : ℕ). is_set w i) nothing ∙ is_set-zero i)
 
--- ---- the words from one on
+-- ---- the words from a number on
 
--- a word has the bits of one of the list's that agree with a flag
+-- a word has the bits that agree with a flag of one word of the list
 abbrev pub IsMatching : List ℕ → Bool → ℕ → ℕ → Type 0
 IsMatching words flag index word = (i : ℕ) → i < 64 → is_set word i ≡ agrees flag (is_set (get_or words index 0) i)
 
--- no number from one on agrees up to a word
+-- no number from a start on agrees up to a word
 abbrev pub NoneYet : List ℕ → Bool → ℕ → ℕ → Type 0
 NoneYet words flag from index = (n : ℕ) → from ≤ n → n < index * 64 → agrees flag (has_bit words n) ≡ false
 

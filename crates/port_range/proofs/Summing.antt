@@ -1,4 +1,4 @@
--- The summaries: which words have a port of a parity to give, and the lowest such port.
+-- The summaries: which words have a port of a parity to give out, and the lowest such port.
 use Rattle.std.proofs.Common.{◌≡◌, ℕ, zero, ◌+◌, ◌*◌, ◌/◌, ◌%◌, ◌^◌, ◌<◌, ◌==◌, nat_lt, Bool, true, false, cond, ◌&&◌, inl, inr, List, ◌++◌, length, take, drop, replicate, get_or, bit_and, w64, refl, sym, ap, ◌∙◌, arith}
 use Rattle.std.specs.Int.{trailing_zeros}
 use Rattle.std.proofs.lemmas.Bool.{cases_eq, cases_lt, both_ways, cond-true, cond-false, eq-eqb, ne_eqb, ltb-true, ltb-false, and_parts, and_from, and_left, false_from_ne_true, agree_below_at}
@@ -33,12 +33,12 @@ open-bits parity free owned index i low =
     ∙ ap (λ b. b && is_set (mask_of parity) i) (is_set-and (get_or free index 0) (get_or owned index 0) i)
     ∙ ap (λ b. (is_set (get_or free index 0) i && is_set (get_or owned index 0) i) && b) (mask-bits parity i low)
 
--- a port by its bit in the word
+-- a port has both marks where its bit is set in the free word and in the owned word
 both-bits : (free owned : List ℕ) (index q : ℕ) → q / 64 ≡ index → has_both free owned q ≡ (is_set (get_or free index 0) (q % 64) && is_set (get_or owned index 0) (q % 64))
 both-bits free owned index q is =
     ap (λ b. b && has_bit owned q) (has_bit-of free index q is) ∙ ap (λ b. is_set (get_or free index 0) (q % 64) && b) (has_bit-of owned index q is)
 
--- a port of the parity isn't to be given where its bit isn't set
+-- a port of the parity may not be given out where its bit isn't set
 not-open : (parity : Parity) (free owned : List ℕ) (index q : ℕ) → q / 64 ≡ index → parity_of q ≡ parity → is_set (open_word parity free owned index) (q % 64) ≡ false → has_both free owned q ≡ false
 not-open parity free owned index q is kind clear =
     let low : q % 64 < 64 = omega arith in
@@ -49,7 +49,7 @@ not-open parity free owned index q is kind clear =
     both_ways (is_set (open_word parity free owned index) (q % 64)) clear
     (open-bits parity free owned index (q % 64) low ∙ and_from bits (same_parity (parity_of (q % 64)) parity) (sym (both-bits free owned index q is) ∙ holds) same))
 
--- the same of a word that has none to give
+-- no port of the parity may be given out of a word that has none
 none-open : (parity : Parity) (free owned : List ℕ) (index q : ℕ) → q / 64 ≡ index → parity_of q ≡ parity → nat_lt 0 (open_word parity free owned index) ≡ false → has_both free owned q ≡ false
 none-open parity free owned index q is kind nothing =
     let clear : open_word parity free owned index ≡ 0 = omega (arith, ltb-false 0 (open_word parity free owned index) nothing) in
@@ -96,7 +96,7 @@ open-port parity free owned summary index word is holds named =
     let bit = bit_at-trailing_zeros w64 word (omega (arith, named, open-some parity free owned summary index is holds)) (omega (arith, named, open-fits parity free owned index)) in
     omega (arith, within, bit.0)
 
--- and lies in the word of the summary
+-- the port of a word's lowest bit lies in the word that the summary names, so the count of words is that of the port
 pub open-looked : (parity : Parity) (free owned summary : List ℕ) (index word : ℕ) → IsSummary parity free owned summary → has_bit summary index ≡ true
     → word ≡ open_word parity free owned index → index / 64 + 1 + 2 ≡ (index * 64 + trailing_zeros w64 word) / 4096 + 3
 open-looked parity free owned summary index word is holds named =
@@ -130,7 +130,7 @@ lowest-none parity free owned summary size is none port kind =
 
 -- ---- a summary that is kept
 
--- a summary stays right where one word changes, and its bit is said again
+-- a summary stays right where one word changes and its bit is updated
 pub summary-put : (parity : Parity) (free owned summary free' owned' summary' : List ℕ) (index : ℕ) → IsSummary parity free owned summary
     → AreOthers index free free' → AreOthers index owned owned' → length summary' ≡ length summary
     → ((n : ℕ) → has_bit summary' n ≡ cond (n == index) (nat_lt 0 (open_word parity free' owned' index)) (has_bit summary n))
@@ -147,7 +147,7 @@ summary-put parity free owned summary free' owned' summary' index is same-free s
   ];
 }
 
--- the same where the words come by other names
+-- a summary stays right where one word changes and its bit is updated, with the words given by equations
 pub summary-said : (parity : Parity) (free owned summary free' owned' summary' : List ℕ) (index : ℕ) (f o s : List ℕ) → f ≡ free' → o ≡ owned' → s ≡ summary
     → IsSummary parity free owned summary → AreOthers index free free' → AreOthers index owned owned' → length summary' ≡ length s
     → ((n : ℕ) → has_bit summary' n ≡ cond (n == index) (nat_lt 0 (open_word parity f o index)) (has_bit s n)) → IsSummary parity free' owned' summary'
@@ -157,7 +157,7 @@ summary-said parity free owned summary free' owned' summary' index f o s is-f is
     ∙ ap (λ l. cond (n == index) (nat_lt 0 (open_word parity free' l index)) (has_bit s n)) is-o
     ∙ ap (λ l. cond (n == index) (nat_lt 0 (open_word parity free' owned' index)) (has_bit l n)) is-s)
 
--- the same where the words from one to another change, which are said again
+-- a summary's bit stays right where the words from one to another change and their bits are updated
 each-ranged : (parity : Parity) (free owned summary owned' : List ℕ) (first last n : ℕ) (b : Bool) → is_within first last n ≡ b → IsSummary parity free owned summary → n < 1024
     → (is_within first last n ≡ false → get_or owned' n 0 ≡ get_or owned n 0)
     → cond b (nat_lt 0 (open_word parity free owned' n)) (has_bit summary n) ≡ nat_lt 0 (open_word parity free owned' n)
@@ -177,7 +177,7 @@ summary-ranged parity free owned summary owned' summary' first last f o s is-f i
       ∙ each-ranged parity free owned summary owned' first last n (is_within first last n) refl is low (same n);
 }
 
--- words that a slice's words are written back into
+-- words that replace all words of a slice are the slice
 pub written : (count : ℕ) (new old : List ℕ) → length new ≡ count → take count (new ++ drop (length new) old) ≡ new
 written count new old all =
     ap (λ (n : ℕ). take n (new ++ drop (length new) old)) (sym all) ∙ take-append_seam new (drop (length new) old)

@@ -1,4 +1,4 @@
--- What a loop makes of places that it writes one after another.
+-- What a loop that writes places one after another makes of them.
 use Rattle.std.proofs.Common.{◌≡◌, ℕ, ◌+◌, ◌*◌, ◌/◌, ◌%◌, ◌<◌, ◌≤◌, nat_le, Bool, true, false, cond, ◌||◌, inl, inr, List, get_or, refl, sym, ap, ◌∙◌, subst, arith}
 use Rattle.std.proofs.lemmas.Bool.{cases_eq, cases_lt, both_ways, cond-true, cond-false, and_from, and_left, and_right, le-leb, lt-leb}
 use Rattle.port_range.specs.Ports.{is_within}
@@ -11,7 +11,7 @@ pub record AreWritten {A : Type 0} (Done : ℕ → A → Type 0) (old now : ℕ 
   pub rest : (at : ℕ) → (first ≤ at → index ≤ at) → now at ≡ old at
   pub limit : (at : ℕ) → first ≤ at → at < index → at ≤ last
 
--- none is written yet
+-- no place is written at the start
 pub written-none : {A : Type 0} (Done : ℕ → A → Type 0) (old : ℕ → A) (first last : ℕ) → AreWritten Done old old first last first
 written-none Done old first last = record {
   done = λ at low high. absurd (omega (arith, low, high));
@@ -19,7 +19,7 @@ written-none Done old first last = record {
   limit = λ at low high. absurd (omega (arith, low, high));
 }
 
--- one more is
+-- one more place is written
 pub written-more : {A : Type 0} (Done : ℕ → A → Type 0) (old now next : ℕ → A) (first last index : ℕ) → first ≤ index → index ≤ last → Done index (next index)
     → ((at : ℕ) → (at ≡ index → ⊥) → next at ≡ now at) → AreWritten Done old now first last index → AreWritten Done old next first last (index + 1)
 written-more Done old now next first last index from to here others is = record {
@@ -34,7 +34,7 @@ written-more Done old now next first last index from to here others is = record 
   ];
 }
 
--- where all are, each place has its value or the old one
+-- where all places are written, each has its new value where it lies between first and last, else the old one
 pub written-all : {A : Type 0} (value old now : ℕ → A) (first last index : ℕ) → last < index → AreWritten (λ n x. x ≡ value n) old now first last index
     → (n : ℕ) → now n ≡ cond (is_within first last n) (value n) (old n)
 written-all value old now first last index end is n =
@@ -69,7 +69,7 @@ or-none : (b c : Bool) → c ≡ false → (b || c) ≡ b
 or-none true c h = refl
 or-none false c h = h
 
--- all bits, once the words are written
+-- once the words are written, each number has its old bit or lies between the two
 pub set-bits : (old new : List ℕ) (lowest highest index : ℕ) → highest / 64 < index → AreWritten (IsSetIn old lowest highest) (word_in old) (word_in new) (lowest / 64) (highest / 64) index
     → (n : ℕ) → has_bit new n ≡ (has_bit old n || is_within lowest highest n)
 set-bits old new lowest highest index end is n =
@@ -88,7 +88,7 @@ set-bits old new lowest highest index end is n =
         has_bit-of new (n / 64) n refl ∙ ap (λ (w : ℕ). is_set w (n % 64)) (is.rest (n / 64) out) ∙ sym (has_bit-of old (n / 64) n refl)
         ∙ sym (or-none (has_bit old n) (is_within lowest highest n) fails)
 
--- and the words that stay
+-- the words outside those that are written stay
 pub set-others : (old new : List ℕ) (lowest highest index : ℕ) → AreWritten (IsSetIn old lowest highest) (word_in old) (word_in new) (lowest / 64) (highest / 64) index
     → (at : ℕ) → is_within (lowest / 64) (highest / 64) at ≡ false → get_or new at 0 ≡ get_or old at 0
 set-others old new lowest highest index is at outside =

@@ -1,4 +1,4 @@
--- Free and owned ports as bits by number, and a summary for each parity: the words that have a port to give.
+-- Free and owned ports as bits by their numbers, and a summary for each parity: the words that have a port to give out.
 use Rattle.std.specs.Prelude.{◌≡◌, ℕ, ◌+◌, ◌-◌, ◌/◌, ◌≤◌, ◌<◌, zero, suc, nat_lt, Bool, true, false, ◌&&◌, Option, Some, None, List, [], ◌∷◌, length, slice_index, bit_and, if◌then◌else◌}
 use Rattle.addresses.specs.declared.transport.Parity.{Parity}
 use Rattle.addresses.specs.declared.transport.Parity.TheVariants.{Even, Odd}
@@ -13,7 +13,7 @@ pub record Marked : Type 0 where
   pub free : List ℕ
   pub owned : List ℕ
 
--- a port may be given where both its bits are set
+-- a port may be given out where both its bits are set
 abbrev pub has_both : List ℕ → List ℕ → ℕ → Bool
 has_both free owned port = has_bit free port && has_bit owned port
 
@@ -26,11 +26,11 @@ abbrev pub mask_of : Parity → ℕ
 mask_of Even = 0x5555555555555555
 mask_of Odd = 0xAAAAAAAAAAAAAAAA
 
--- the ports of a parity that a word has to give
+-- the ports of a parity that a word has to give out
 abbrev pub open_word : Parity → List ℕ → List ℕ → ℕ → ℕ
 open_word parity free owned index = bit_and (bit_and (slice_index free index) (slice_index owned index)) (mask_of parity)
 
--- the summary of a parity has the bit of each word that has a port of that parity to give
+-- the summary of a parity has the bit of each word that has a port of that parity to give out
 pub record IsSummary (parity : Parity) (free owned summary : List ℕ) : Type 0 where
   pub size : length summary ≡ 16
   pub each : (index : ℕ) → index < 1024 → has_bit summary index ≡ nat_lt 0 (open_word parity free owned index)
@@ -56,7 +56,7 @@ words_looked_at parity (Some port) = (if same_parity (parity_of port.0) parity t
 
 -- ---- a range by its marks
 
--- those of so many ports from a start that pass a test
+-- the ports that pass a test, of so many ports from a start
 abbrev pub ports_where : (ℕ → Bool) → ℕ → ℕ → List ℕ
 ports_where test start zero = []
 ports_where test start (suc count) = (if test start then start ∷ ports_where test (start + 1) count else ports_where test (start + 1) count)

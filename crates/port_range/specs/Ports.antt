@@ -37,7 +37,7 @@ is_within lowest highest port = nat_le lowest port && nat_le port highest
 abbrev pub is_bad : ℕ → ℕ → Bool
 is_bad lowest highest = nat_lt lowest FIRST_PORT.0 || nat_lt highest lowest
 
--- a range is refused as bad where it is, and else for want of memory
+-- a range is refused as BadRange where it is bad, and else as NoMemory
 abbrev pub IsReason : ℕ → ℕ → RangeFault → Type 0
 IsReason lowest highest BadRange = is_bad lowest highest ≡ true
 IsReason lowest highest NoMemory = is_bad lowest highest ≡ false
@@ -98,7 +98,8 @@ chosen_open test lowest highest parity =
 abbrev pub chosen_port : Range → Parity → Option Port
 chosen_port range parity = chosen_open (is_available range) range.lowest range.highest parity
 
--- The same as a relation: the port may be given out, has the parity where any does, and none below it is of its kind.
+-- The choice as a relation: the port may be given out, has the parity where any does, and none below it is of its
+-- parity.
 pub record IsChosen (test : ℕ → Bool) (parity : Parity) (port : Port) : Type 0 where
   pub available : test port.0 ≡ true
   pub like : (q : ℕ) → test q ≡ true → parity_of q ≡ parity → parity_of port.0 ≡ parity

@@ -1,4 +1,4 @@
--- The number that a search for those which pass a test comes to.
+-- The number at which a search for numbers that pass a test ends.
 use Rattle.std.specs.Prelude.{◌≡◌, ℕ, ◌<◌, ◌≤◌, Bool, true, false}
 
 -- the number passes, and is the first from a start on

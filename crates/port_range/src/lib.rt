@@ -1,4 +1,4 @@
-//! The ports of a range: which are free, which are owned, and which one an endpoint is given.
+//! The ports of a range: which are free, which are owned, and which one an endpoint gets.
 #![tactic(auto)]
 
 ghost use Rattle.std.specs.Prelude.{◌≡◌, ℕ, [], true, false, OnOk, IfOk, IfErr, Err, IfSome, IfNone, ◌+◌, ◌*◌, ◌<◌, ◌≤◌, ◌==◌, ◌&&◌, ◌||◌, not, if◌then◌else◌};
@@ -24,7 +24,7 @@ pub use words::highest_below;
 /// The first port that isn't well known (RFC 6335, section 6).
 pub const FIRST_PORT: Port = Port(1024);
 
-/// Why there is no range.
+/// The reason why a range can't be made.
 #[derive(Clone, Copy, Debug, PartialEq, Eq, Error)]
 pub enum RangeFault {
     #[error("not a range from 1024 to 65535")]
@@ -43,7 +43,7 @@ impl From<AllocError> for RangeFault {
     }
 }
 
-/// The ports from one to another. Each is free or taken, and owned or not; a free port that is owned may be given out.
+/// The ports from a lowest to a highest one. Each is free or taken, and owned or not. A free port that is owned may be given out.
 #[derive(Drop)]
 pub struct Range {
     lowest: Port,
@@ -63,7 +63,8 @@ impl Model for Range {
 }
 
 impl Range {
-    /// A range whose ports are all free, and all owned or none.
+    /// Makes a range whose ports are all free, and all owned or none. An Err is BadRange where the range isn't one from
+    /// 1024 to 65535, else NoMemory.
     fn begin(alloc: Global, lowest: Port, highest: Port, owned: bool) -> Result<Range, RangeFault>
         ensures good { OnOk result (is_bad lowest.0 highest.0 ≡ false) }
         ensures refused { IfErr result (IsReason lowest.0 highest.0) }
@@ -87,7 +88,8 @@ impl Range {
         })
     }
 
-    /// A range whose ports are all free and owned.
+    /// Makes a range whose ports are all free and owned. An Err is BadRange where the range isn't one from 1024 to
+    /// 65535, else NoMemory.
     pub fn new(alloc: Global, lowest: Port, highest: Port) -> Result<Range, RangeFault>
         ensures good { OnOk result (is_bad lowest.0 highest.0 ≡ false) }
         ensures refused { IfErr result (IsReason lowest.0 highest.0) }
@@ -102,7 +104,8 @@ impl Range {
         Range::begin(alloc, lowest, highest, true)
     }
 
-    /// A range whose ports are all free, and none of them owned.
+    /// Makes a range whose ports are all free, and none of them owned. An Err is BadRange where the range isn't one
+    /// from 1024 to 65535, else NoMemory.
     pub fn unowned(alloc: Global, lowest: Port, highest: Port) -> Result<Range, RangeFault>
         ensures good { OnOk result (is_bad lowest.0 highest.0 ≡ false) }
         ensures refused { IfErr result (IsReason lowest.0 highest.0) }
@@ -116,14 +119,15 @@ impl Range {
         Range::begin(alloc, lowest, highest, false)
     }
 
-    /// Reminds the prover of what each range keeps; it does nothing when it runs.
+    /// Reminds the prover of what each range keeps. The call does nothing at run time.
     pub fn recall(&self)
         ensures { IsRange self.now }
     {
         let _ = &self.marks;
     }
 
-    /// The lowest free owned port with that parity, else the lowest free owned one (RFC 4787, section 4.2.2).
+    /// Returns the lowest free owned port with that parity, else the lowest free owned port, or None where there is
+    /// none (RFC 4787, section 4.2.2).
     pub fn free_like(&self, parity: Parity) -> Option<Port>
         ensures chosen { result ≡ chosen_port self.now parity }
         ensures like { IfSome result (IsChosen (is_available self.now) parity) }
@@ -132,7 +136,7 @@ impl Range {
         self.free_like_counted(parity).0
     }
 
-    /// The port that `free_like` gives, and how many words the search looks at.
+    /// Returns the port that `free_like` returns, and how many words the search looks at.
     pub fn free_like_counted(&self, parity: Parity) -> (Option<Port>, u32)
         ensures port { result.0 ≡ chosen_port self.now parity }
         ensures like { IfSome result.0 (IsChosen (is_available self.now) parity) }
@@ -157,21 +161,21 @@ impl Range {
         self.lowest.0 <= port.0 && port.0 <= self.highest.0
     }
 
-    /// Whether a port of the range is free.
+    /// Whether a port of the range is free. A port outside the range isn't.
     pub fn is_free(&self, port: Port) -> bool
         ensures { result ≡ is_free self.now port.0 }
     {
         self.marks.is_free(port)
     }
 
-    /// Whether a port is owned.
+    /// Whether a port is owned. A port outside the range isn't.
     pub fn owns(&self, port: Port) -> bool
         ensures { result ≡ is_owned self.now port.0 }
     {
         self.marks.is_owned(port)
     }
 
-    /// The lowest owned port from one on.
+    /// Returns the lowest owned port that is at least `from`, or None where there is none.
     pub fn next_owned(&self, from: Port) -> Option<Port>
         ensures some { IfSome result (λ port. IsFirstFrom (is_owned self.now) from.0 port.0) }
         ensures none { IfNone result ((port : ℕ) → from.0 ≤ port
@@ -180,7 +184,8 @@ impl Range {
         self.marks.next_owned(from, true)
     }
 
-    /// The lowest port from one on that isn't owned, also one that lies outside the range.
+    /// Returns the lowest port that is at least `from` and isn't owned, or None where there is none. The port may lie
+    /// outside the range.
     pub fn next_unowned(&self, from: Port) -> Option<Port>
         ensures some { IfSome result (λ port. IsFirstFrom (λ q. not (is_owned self.now q)) from.0
             port.0) }
@@ -190,7 +195,7 @@ impl Range {
         self.marks.next_owned(from, false)
     }
 
-    /// The free ones of 64 ports, the first of which is 64 times a number, as bits.
+    /// Returns the free ports among the 64 ports from `64 * index` on, as bits, the lowest bit first.
     pub fn free_word(&self, index: usize) -> u64
         requires { index < 1024 }
         ensures { (i : ℕ) → i < 64 → is_set result i ≡ is_free self.now (index * 64 + i) }
@@ -198,7 +203,7 @@ impl Range {
         self.marks.free_word(index)
     }
 
-    /// The owned ones.
+    /// Returns the owned ports among the 64 ports from `64 * index` on, as bits, the lowest bit first.
     pub fn owned_word(&self, index: usize) -> u64
         requires { index < 1024 }
         ensures { (i : ℕ) → i < 64 → is_set result i ≡ is_owned self.now (index * 64 + i) }
@@ -206,7 +211,7 @@ impl Range {
         self.marks.owned_word(index)
     }
 
-    /// Takes a free port, owned or not.
+    /// Takes a free port, owned or not, so that it is free no more.
     pub fn take(&mut self, port: Port)
         requires { is_free self.old port.0 ≡ true }
         ensures free { (p : ℕ) → is_free self.new p ≡ (if p == port.0 then false
@@ -231,7 +236,7 @@ impl Range {
         self.marks.put_free(port, true);
     }
 
-    /// Makes a port of the range an owned one, whether it is free or taken.
+    /// Makes a port of the range owned, whether the port is free or taken.
     pub fn own(&mut self, port: Port)
         requires within { is_within self.old.lowest self.old.highest port.0 ≡ true }
         requires foreign { is_owned self.old port.0 ≡ false }
@@ -244,7 +249,7 @@ impl Range {
         self.marks.put_owned(port, true);
     }
 
-    /// Makes the ports from one to another, which lie in the range, owned ones.
+    /// Makes the ports from `lowest` to `highest`, which lie in the range, owned.
     pub fn own_between(&mut self, lowest: Port, highest: Port)
         requires low { self.old.lowest ≤ lowest.0 }
         requires high { highest.0 ≤ self.old.highest }
@@ -257,7 +262,7 @@ impl Range {
         self.marks.own_between(lowest, highest);
     }
 
-    /// Gives a free owned port up.
+    /// Makes a free owned port unowned.
     pub fn disown(&mut self, port: Port)
         requires owned { is_owned self.old port.0 ≡ true }
         requires free { is_free self.old port.0 ≡ true }
@@ -270,7 +275,7 @@ impl Range {
         self.marks.put_owned(port, false);
     }
 
-    /// Makes all ports free, and owns none.
+    /// Makes all ports of the range free, and none of them owned.
     pub fn reset(&mut self)
         ensures free { (port : ℕ) → is_free self.new port
             ≡ is_within self.old.lowest self.old.highest port }

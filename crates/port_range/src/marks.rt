@@ -1,4 +1,5 @@
-//! Free and owned ports as bits by number, and the search through a summary for each parity.
+//! Free and owned ports as bits by their numbers, and for each parity a summary that the search for
+//! a port goes through.
 ghost use Rattle.std.specs.Prelude.{◌≡◌, ℕ, ◌+◌, ◌*◌, ◌/◌, ◌<◌, ◌≤◌, ◌==◌, ◌&&◌, ◌||◌, false, length, slice_index, nat_lt, bit_and, IfOk, OnErr, IfSome, IfNone, if◌then◌else◌};
 ghost use Rattle.addresses.specs.Transport.{parity_of};
 ghost use Rattle.port_range.specs.Ports.{is_within};
@@ -12,10 +13,10 @@ use addresses::{Parity, Port};
 use std::alloc::{AllocError, Global};
 use std::marker::Model;
 
-/// Words of 64 ports, for all ports.
+/// The number of words, of 64 ports each, that cover all ports.
 const WORDS: usize = 1024;
 
-/// Words of a summary, which has a bit for each word of ports.
+/// The number of words of a summary, which has a bit for each word of ports.
 const SUMMARY_WORDS: usize = 16;
 
 pub(crate) fn other_parity(parity: Parity) -> Parity
@@ -27,7 +28,7 @@ pub(crate) fn other_parity(parity: Parity) -> Parity
     }
 }
 
-/// The bits of a word at the numbers of a parity.
+/// Returns the bits of a word at the numbers of a parity.
 fn mask_of(parity: Parity) -> u64
     ensures { result ≡ mask_of parity }
 {
@@ -37,7 +38,7 @@ fn mask_of(parity: Parity) -> u64
     }
 }
 
-/// The ports of a parity that a word has to give.
+/// Returns the ports of a parity, free and owned, in the word at `index`.
 fn open_word(free: &[u64], owned: &[u64], parity: Parity, index: usize) -> u64
     requires free { index < length free.now }
     requires owned { index < length owned.now }
@@ -46,7 +47,8 @@ fn open_word(free: &[u64], owned: &[u64], parity: Parity, index: usize) -> u64
     free[index] & owned[index] & mask_of(parity)
 }
 
-/// Says again in a summary whether a word has a port to give.
+/// Updates a summary's bit for the word at `index`: whether the word has a free owned port of the
+/// parity.
 fn sum_up(summary: &mut [u64], free: &[u64], owned: &[u64], parity: Parity, index: usize)
     requires summary { index < 64 * length summary.old }
     requires free { index < length free.now }
@@ -59,7 +61,7 @@ fn sum_up(summary: &mut [u64], free: &[u64], owned: &[u64], parity: Parity, inde
     put_bit(summary, index, some);
 }
 
-/// Makes a summary of all words.
+/// Fills a summary for all words.
 fn sum_up_all(summary: &mut [u64], free: &[u64], owned: &[u64], parity: Parity)
     requires size { length summary.old ≡ 16 }
     requires free { length free.now ≡ 1024 }
@@ -71,7 +73,7 @@ fn sum_up_all(summary: &mut [u64], free: &[u64], owned: &[u64], parity: Parity)
     }
 }
 
-/// Says again in a summary of the words from one to another whether they have a port to give.
+/// Updates a summary's bits for the words from `first` to `last`.
 fn sum_up_between(
     summary: &mut [u64],
     free: &[u64],
@@ -93,7 +95,8 @@ fn sum_up_between(
     }
 }
 
-/// The lowest port of a parity that may be given, and how many words were looked at.
+/// Returns the lowest port of a parity that is free and owned, or None where there is none, and how
+/// many words the search looked at.
 fn lowest_open(summary: &[u64], free: &[u64], owned: &[u64], parity: Parity) -> (Option<Port>, u32)
     requires free { length free.now ≡ 1024 }
     requires owned { length owned.now ≡ 1024 }
@@ -115,14 +118,14 @@ fn lowest_open(summary: &[u64], free: &[u64], owned: &[u64], parity: Parity) -> 
     }
 }
 
-/// Which ports are free, and which are owned.
+/// The bits of the free and of the owned ports, with a summary for each parity.
 #[derive(Drop)]
 pub(crate) struct Marks {
     free: Vec<u64>,
     owned: Vec<u64>,
-    /// The words that have an even port which is both.
+    /// The summary of the words that have an even port, free and owned.
     even: Vec<u64>,
-    /// The words that have an odd one.
+    /// The summary of the words that have an odd port, free and owned.
     odd: Vec<u64>,
 }
 
@@ -137,7 +140,7 @@ impl Model for Marks {
 }
 
 impl Marks {
-    /// No port is free, and none is owned.
+    /// Makes marks with no port free and none owned. An Err says that there is no memory.
     pub(crate) fn new(alloc: Global) -> Result<Marks, AllocError>
         ensures free { IfOk result (λ m. (port : ℕ) → has_bit m.free port ≡ false) }
         ensures owned { IfOk result (λ m. (port : ℕ) → has_bit m.owned port ≡ false) }
@@ -155,7 +158,8 @@ impl Marks {
         })
     }
 
-    /// The ports from one to another are free, and all of them owned or none; no other is either.
+    /// Makes the ports from `lowest` to `highest` free, and all of them owned or none. No other
+    /// port is free or owned after the call.
     pub(crate) fn fill(&mut self, lowest: Port, highest: Port, owned: bool)
         ensures free { (port : ℕ) → has_bit self.new.free port
             ≡ is_within lowest.0 highest.0 port }
@@ -205,7 +209,7 @@ impl Marks {
         sum_up(&mut self.odd, &self.free, &self.owned, Parity::Odd, index);
     }
 
-    /// The ports from one to another are owned too.
+    /// Makes the ports from `lowest` to `highest` owned, and leaves all other ports as they are.
     pub(crate) fn own_between(&mut self, lowest: Port, highest: Port)
         ensures owned { (port : ℕ) → has_bit self.new.owned port
             ≡ (has_bit self.old.owned port || is_within lowest.0 highest.0 port) }
@@ -234,7 +238,7 @@ impl Marks {
         );
     }
 
-    /// The free ones of 64 ports, the first of which is 64 times a number, as bits.
+    /// Returns the free ports among the 64 ports from `64 * index` on, as bits.
     pub(crate) fn free_word(&self, index: usize) -> u64
         requires { index < 1024 }
         ensures { (i : ℕ) → i < 64 → is_set result i ≡ has_bit self.now.free (index * 64 + i) }
@@ -242,7 +246,7 @@ impl Marks {
         self.free[index]
     }
 
-    /// The owned ones.
+    /// Returns the owned ports among the 64 ports from `64 * index` on, as bits.
     pub(crate) fn owned_word(&self, index: usize) -> u64
         requires { index < 1024 }
         ensures { (i : ℕ) → i < 64 → is_set result i ≡ has_bit self.now.owned (index * 64 + i) }
@@ -250,7 +254,8 @@ impl Marks {
         self.owned[index]
     }
 
-    /// The lowest port from one on that is owned, or where the flag isn't set that isn't.
+    /// Returns the lowest port that is at least `from` and is owned (or isn't, where `flag` is
+    /// false), or None where there is none.
     pub(crate) fn next_owned(&self, from: Port, flag: bool) -> Option<Port>
         ensures some { IfSome result (λ port. IsFirstFrom
             (λ q. agrees flag (has_bit self.now.owned q)) from.0 port.0) }
@@ -263,7 +268,8 @@ impl Marks {
         }
     }
 
-    /// The lowest port of a parity that is free and owned, and how many words were looked at.
+    /// Returns the lowest port of a parity that is free and owned, or None where there is none, and
+    /// how many words the search looked at.
     pub(crate) fn lowest(&self, parity: Parity) -> (Option<Port>, u32)
         ensures some { IfSome result.0 (IsLowestOf (has_both self.now.free self.now.owned) parity) }
         ensures none { IfNone result.0 ((port : ℕ) → parity_of port ≡ parity

@@ -1,4 +1,4 @@
-//! Numbers as bits of words of 64.
+//! Numbers as bits of a list of words of 64.
 ghost use Rattle.std.specs.Prelude.{◌≡◌, ℕ, ◌+◌, ◌-◌, ◌*◌, ◌/◌, ◌%◌, ◌^◌, ◌<◌, ◌≤◌, ◌==◌, ◌&&◌, ◌||◌, false, length, slice_index, nat_lt, replicate, IfOk, OnErr, IfSome, IfNone, if◌then◌else◌};
 ghost use Rattle.memory.specs.Memory.{WasRefused};
 ghost use Rattle.port_range.specs.Ports.{is_within};
@@ -8,7 +8,7 @@ ghost use Rattle.port_range.specs.Words.{is_set, has_bit, agrees, IsLowestBit, A
 use memory::copies_of;
 use std::alloc::{AllocError, Global};
 
-/// So many words that are 0.
+/// Returns `count` words that are 0.
 pub(crate) fn zeros(alloc: Global, count: usize) -> Result<Vec<u64>, AllocError>
     ensures items { IfOk result (λ v. v.items ≡ replicate count 0) }
     ensures refused { OnErr result (WasRefused count) }
@@ -46,7 +46,8 @@ pub(crate) fn put_bit(words: &mut [u64], number: usize, flag: bool)
     words[index] = with_bit(words[index], number % 64, flag);
 }
 
-/// The lowest number whose bit is set, and how many words were looked at.
+/// Returns the lowest number whose bit is set, or None where there is none, and how many words the
+/// search looked at.
 pub(crate) fn lowest_bit(words: &[u64]) -> (Option<usize>, u32)
     requires { length words.now ≤ 1024 }
     ensures some { IfSome result.0 (IsLowestBit words.now) }
@@ -63,7 +64,7 @@ pub(crate) fn lowest_bit(words: &[u64]) -> (Option<usize>, u32)
     (None, words.len() as u32)
 }
 
-/// A word whose so many lowest bits are set.
+/// Returns a word whose `count` lowest bits are set, and no other.
 fn low_ones(count: usize) -> u64
     requires { count ≤ 64 }
     ensures { (i : ℕ) → i < 64 → is_set result i ≡ nat_lt i count }
@@ -75,7 +76,8 @@ fn low_ones(count: usize) -> u64
     }
 }
 
-/// The word from a number on that has the bits of the numbers from one to another.
+/// Returns the 64 bits from the number `start` on, of which those of the numbers from `lowest` to
+/// `highest` are set.
 fn word_between(start: usize, lowest: usize, highest: usize) -> u64
     requires { highest ≤ 65535 }
     ensures { (i : ℕ) → i < 64 → is_set result i ≡ is_within lowest highest (start + i) }
@@ -85,7 +87,7 @@ fn word_between(start: usize, lowest: usize, highest: usize) -> u64
     low_ones(end) & !low_ones(below)
 }
 
-/// The same where a flag is set, else none.
+/// Returns `word_between` where `flag` is set, else 0.
 fn filled_word(start: usize, lowest: usize, highest: usize, flag: bool) -> u64
     requires { highest ≤ 65535 }
     ensures { (i : ℕ) → i < 64 → is_set result i
@@ -98,7 +100,8 @@ fn filled_word(start: usize, lowest: usize, highest: usize, flag: bool) -> u64
     }
 }
 
-/// Gives the numbers from one to another a flag, and clears all others.
+/// Sets or clears, by `flag`, the bits of the numbers from `lowest` to `highest`, and clears all
+/// others.
 pub(crate) fn fill_between(words: &mut [u64], lowest: usize, highest: usize, flag: bool)
     requires words { length words.old ≤ 1024 }
     requires high { highest < 64 * length words.old }
@@ -110,7 +113,7 @@ pub(crate) fn fill_between(words: &mut [u64], lowest: usize, highest: usize, fla
     }
 }
 
-/// Sets the bits of the numbers from one to another.
+/// Sets the bits of the numbers from `lowest` to `highest`, and leaves all others.
 pub(crate) fn set_between(words: &mut [u64], lowest: usize, highest: usize)
     requires words { length words.old ≤ 1024 }
     requires high { highest < 64 * length words.old }
@@ -125,14 +128,14 @@ pub(crate) fn set_between(words: &mut [u64], lowest: usize, highest: usize)
     }
 }
 
-/// The bits of a word that agree with a flag.
+/// Returns the bits of a word that agree with `flag`: the word itself, or its complement.
 fn matching(word: u64, flag: bool) -> u64
     ensures { (i : ℕ) → i < 64 → is_set result i ≡ agrees flag (is_set word i) }
 {
     if flag { word } else { !word }
 }
 
-/// The lowest bit from one on that is set.
+/// Returns the lowest set bit of a word that is at least `start`, or None where there is none.
 fn lowest_from(word: u64, start: usize) -> Option<usize>
     requires { start ≤ 64 }
     ensures some { IfSome result (IsFirstFrom (is_set word) start) }
@@ -147,7 +150,7 @@ fn lowest_from(word: u64, start: usize) -> Option<usize>
     }
 }
 
-/// The highest bit below one that is set.
+/// Returns the highest set bit of a word below `end`, or None where there is none.
 pub fn highest_below(word: u64, end: usize) -> Option<usize>
     requires { end ≤ 64 }
     ensures some { IfSome result (IsLastBelow (is_set word) end) }
@@ -161,7 +164,8 @@ pub fn highest_below(word: u64, end: usize) -> Option<usize>
     }
 }
 
-/// The lowest number from one on whose bit agrees with a flag.
+/// Returns the lowest number from `from` on whose bit agrees with `flag`, or None where there is
+/// none.
 pub(crate) fn next_bit(words: &[u64], from: usize, flag: bool) -> Option<usize>
     requires { length words.now ≤ 1024 }
     ensures some { IfSome result (IsFirstFrom (λ n. agrees flag (has_bit words.now n)) from) }

@@ -1,4 +1,4 @@
--- How many endpoints of an address stand in an index, and the counts that say so.
+-- How many endpoints of an address are in an index, and the counts of them.
 use Rattle.std.proofs.Common.{◌≡◌, ℕ, ◌+◌, ◌-◌, ◌<◌, ◌≤◌, Bool, true, false, cond, Option, Some, None, List, [], ◌∷◌, length, get_or, ◌&&◌, ◌==◌, is_some, refl, ap, sym, ◌∙◌, arith}
 use Rattle.std.specs.List.{count_by, position}
 use Rattle.std.specs.Map.{lookup, keys_of}
@@ -30,7 +30,7 @@ module _ (a : Ip) where
   abbrev one : Endpoint × SlotNumber → ℕ
   one e = cond (is_of a e) 1 0
 
-  -- an endpoint that had no slot is one more of its address
+  -- an endpoint that had no slot adds one to the count of its address
   pub count-put : (es : List (Endpoint × SlotNumber)) (x : Endpoint) (n : SlotNumber) → count_by (is_of a) (insert_entry endpoint_eq.it es x n) ≡ count_by (is_of a) es + cond (is_some (lookup (endpoint_eq.it x) es)) 0 (one_at x.address a)
   count-put [] x n = (let first = sum_by-cons one (x, n) [] in omega (arith, first))
   count-put (e ∷ es) x n = by (endpoint_eq.it x e.0) (count-put es x n) refl
@@ -46,7 +46,7 @@ module _ (a : Ip) where
           let new = sum_by-cons one e (insert_entry endpoint_eq.it es x n) in
           rw h (omega (arith, old, new, rest))
 
-  -- an endpoint that had a slot was one of its address
+  -- an endpoint that had a slot takes one from the count of its address
   pub count-out : (es : List (Endpoint × SlotNumber)) (x : Endpoint) → count_by (is_of a) es ≡ count_by (is_of a) (swap_remove_entry (endpoint_eq.it x) es) + cond (is_some (lookup (endpoint_eq.it x) es)) (one_at x.address a) 0
   count-out [] x = refl
   count-out (e ∷ es) x = by (position (endpoint_eq.it x) (keys_of (e ∷ es))) refl
@@ -65,7 +65,7 @@ module _ (a : Ip) where
           let fewer = sum_by-swap_remove one (e ∷ es) i e within in
           rw (swap_remove_entry-found (endpoint_eq.it x) (e ∷ es) i e p, some) (omega (arith, fewer, mine))
 
--- what one address's count becomes
+-- the count of one address after a change
 module _ (old new : List (Ip × ℕ)) (k : Ip) where
   set-one : (o : Option ℕ) → ((q : Ip) → lookup (is_address q) new ≡ cond (is_address k q) o (lookup (is_address q) old)) → (q : Ip) → count_at new q ≡ cond (is_address k q) (unwrap_or o 0) (count_at old q)
   set-one o h q = ap (λ r. unwrap_or r 0) (h q) ∙ through (is_address k q)
@@ -98,7 +98,7 @@ module _ (old new : List (Ip × ℕ)) (k : Ip) where
 pub count-within : (es : List (Endpoint × SlotNumber)) (counts : AddressCounts) (a : Ip) → AreCounted es counts → count_at counts.entries a ≤ length es
 count-within es counts a k = (let most = count_by-le-length (is_of a) es in let own = k a in omega (arith, most, own))
 
--- what a change of the index makes of the counts
+-- the counts after a change of the index
 module _ (es fs : List (Endpoint × SlotNumber)) (x : Endpoint) where
   pub put-new : (n : SlotNumber) → fs ≡ insert_entry endpoint_eq.it es x n → None ≡ lookup (endpoint_eq.it x) es → (a : Ip) → count_by (is_of a) fs ≡ count_by (is_of a) es + one_at x.address a
   put-new n h none a = ap (count_by (is_of a)) h ∙ count-put a es x n ∙ ap (λ o. count_by (is_of a) es + cond (is_some o) 0 (one_at x.address a)) (sym none)

@@ -44,7 +44,7 @@ due-times now first (suc i) (m ∷ ms) = at (is_due now m) (rw shift at (due-tim
     at true ih = first-isn't (first + suc i) first (due_from now (first + 1) ms) (λ e. omega (arith, e)) ∙ ih
     at false ih = ih
 
--- the due slots in any order
+-- a list of the due slots in any order has each due slot once
 pub are-due : (now : ℕ) (ms : List (Option ℕ)) (found : List ℕ) → IsPermutation (due_slots now ms) found → AreDue now ms found
 are-due now ms found p n = sum_by-IsPermutation (λ m. cond (eqb m n) 1 0) (due_slots now ms) found p ∙ here
   where
@@ -66,7 +66,7 @@ few-due now ms found p =
     let same = length_permutation (due_slots now ms) found p in
     omega (arith, few, same)
 
--- where no slot is set, none has a moment
+-- no slot has a moment where none is set
 pub none-at : (count slot : ℕ) → get_or (replicate {A = Option ℕ} count None) slot None ≡ None
 none-at zero slot = refl
 none-at (suc count) zero = refl

@@ -1,4 +1,4 @@
--- What the writing of one cell makes of the rows.
+-- The rows after one cell was written.
 use Rattle.std.proofs.Common.{◌≡◌, ℕ, zero, suc, ◌+◌, ◌<◌, ◌≤◌, Bool, true, false, not, cond, nat_lt, Option, Some, None, List, [], ◌∷◌, length, get_or, set, refl, ap, sym, ◌∙◌, arith}
 use Rattle.std.specs.List.{cons_option}
 use Rattle.std.specs.Option.{option_map}
@@ -15,12 +15,12 @@ use Rattle.slots.proofs.Rows.{row-key, absent, rises-lower, rows-rise, rows-same
 module _ {T : Type 0} where
   -- ---- one more row
 
-  -- a row that stands before all others goes first
+  -- a row before all others goes first
   pub put-first : (r : Row T) (rows : List (Row T)) → Rises (suc (key_place r.key)) rows → put_in r rows ≡ r ∷ rows
   put-first r [] h = refl
   put-first r (x ∷ xs) h = cond-true (nat_lt (key_place r.key) (key_place x.key)) _ _ (lt-ltb _ _ (omega (arith, h.0)))
 
-  -- one that stands behind the first goes on
+  -- a row after the first goes into the rest
   pub put-behind : (r : Row T) (o : Option (Row T)) (rows : List (Row T)) → ((x : Row T) → o ≡ Some x → nat_lt (key_place r.key) (key_place x.key) ≡ false) → put_in r (cons_option o rows) ≡ cons_option o (put_in r rows)
   put-behind r None rows h = refl
   put-behind r (Some x) rows h = cond-false (nat_lt (key_place r.key) (key_place x.key)) _ _ (h x refl)
@@ -50,7 +50,7 @@ module _ {T : Type 0} where
 
   -- ---- one row less
 
-  -- where no row has the key, none goes
+  -- where no row has the key, no row is removed
   pub without-absent : (key : Key) (rows : List (Row T)) → row_of rows key ≡ None → without key rows ≡ rows
   without-absent key [] h = refl
   without-absent key (x ∷ xs) h = by (has_key key x) h (without-absent key xs)

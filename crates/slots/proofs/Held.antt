@@ -1,4 +1,4 @@
--- The counts of addresses: each that is there is above 0.
+-- The counts of addresses: each that is listed is above 0.
 use Rattle.std.proofs.Common.{◌≡◌, ℕ, ◌-◌, ◌<◌, Bool, true, false, Option, Some, None, List, [], ◌∷◌, length, get_or, set, refl, sym, subst, arith}
 use Rattle.std.specs.List.{AllByRecursion, position}
 use Rattle.std.specs.Map.{keys_of, set_value}
@@ -24,11 +24,11 @@ set-rows test (e ∷ es) n some h = by (test e.0) refl (set-rows test es n some 
     by true t rest = rw t (some, h.1)
     by false t rest = rw t (h.0, rest)
 
--- a count above 0 is put in
+-- all counts are above 0 after one above 0 is inserted
 pub held-put : (same : Ip → Ip → Bool) (es fs : List (Ip × ℕ)) (k : Ip) (n : ℕ) → fs ≡ insert_entry same es k n → 0 < n → AreHeld es → AreHeld fs
 held-put same es fs k n h some all = subst AreHeld (sym h) (All-from_recursion (λ (e : Ip × ℕ). 0 < e.1) (insert_entry same es k n) (insert-rows same es k n some (recursion_from_All (λ (e : Ip × ℕ). 0 < e.1) es all)))
 
--- or written in the place of another
+-- all counts are above 0 after one is replaced by one above 0
 pub held-set : (test : Ip → Bool) (es fs : List (Ip × ℕ)) (n : ℕ) → fs ≡ set_value test es n → 0 < n → AreHeld es → AreHeld fs
 held-set test es fs n h some all = subst AreHeld (sym h) (All-from_recursion (λ (e : Ip × ℕ). 0 < e.1) (set_value test es n) (set-rows test es n some (recursion_from_All (λ (e : Ip × ℕ). 0 < e.1) es all)))
 
@@ -43,6 +43,6 @@ out-held test (e ∷ es) all = by (position test (keys_of (e ∷ es))) refl
         subst AreHeld (sym (swap_remove_entry-found test (e ∷ es) i e p))
         (All-take (λ (d : Ip × ℕ). 0 < d.1) (length (e ∷ es) - 1) (set (e ∷ es) i (get_or (e ∷ es) (length (e ∷ es) - 1) e)) (All-set (λ (d : Ip × ℕ). 0 < d.1) (e ∷ es) i (get_or (e ∷ es) (length (e ∷ es) - 1) e) last all))
 
--- or taken out
+-- all counts are above 0 after one is removed
 pub held-out : (test : Ip → Bool) (es fs : List (Ip × ℕ)) → fs ≡ swap_remove_entry test es → AreHeld es → AreHeld fs
 held-out test es fs h all = subst AreHeld (sym h) (out-held test es all)

@@ -26,7 +26,7 @@ protocols Udp Udp = refl
 last-first : (a b c : Bool) → (a && (b && c)) ≡ (c && (a && b))
 last-first a b c = sym (and_assoc a b c) ∙ and_comm (a && b) c
 
--- equality of endpoints is that of their parts
+-- equal endpoints have equal parts
 pub equal : (x y : Endpoint) → endpoint_eq.it x y ≡ same_endpoint x y
 unfolding same_endpoint
 equal x y =
@@ -37,7 +37,7 @@ pub looked-up : (es : List (Endpoint × SlotNumber)) (x : Endpoint) → lookup (
 looked-up [] x = refl
 looked-up (e ∷ es) x = ap (λ b. cond b (Some e.1) (lookup (endpoint_eq.it x) es)) (equal x e.0) ∙ ap (cond (same_endpoint x e.0) (Some e.1)) (looked-up es x)
 
--- a change of one endpoint
+-- the look-ups after the slot of one endpoint was changed
 pub changed-one : (es fs : List (Endpoint × SlotNumber)) (x : Endpoint) (o : Option SlotNumber) → ((q : Endpoint) → lookup (endpoint_eq.it q) fs ≡ cond (endpoint_eq.it x q) o (lookup (endpoint_eq.it q) es)) → (q : Endpoint) → look_up fs q ≡ set_at (look_up es) x o q
 changed-one es fs x o h q =
     sym (looked-up fs q) ∙ h q ∙ ap (λ b. cond b o (lookup (endpoint_eq.it q) es)) (equal x q) ∙ ap (cond (same_endpoint x q) o) (looked-up es q)

@@ -9,7 +9,7 @@ use Rattle.nat_types.proofs.Offered.{key-false}
 use Rattle.slots.specs.Rows.{key_place}
 use Rattle.slots.specs.Cells.{first_cell, key_at}
 
--- a cell has this place: the blocks of cells are moved to where their protocols' numbers stand
+-- the place of a cell: the blocks of cells are in the order of their protocols' numbers
 abbrev IsPlace : ℕ → ℕ → Type 0
 IsPlace c place =
     ((c < 65536) × (place ≡ 65536 + c))
@@ -27,7 +27,7 @@ place_at c = by (nat_lt c 65536) (nat_lt c 131072) refl refl
     by false true e f = inr (inl (ltb-false c 65536 e, (ltb-true c 131072 f, omega (arith, ltb-false c 65536 e))))
     by false false e f = inr (inr (ltb-false c 131072 f, omega (arith, ltb-false c 131072 f)))
 
--- places rise with the cells
+-- the places of later cells are greater
 rising : (c d p q : ℕ) → c < d → IsPlace c p → IsPlace d q → p < q
 rising c d p q h (inl a) (inl b) = let e = a.1 in let f = b.1 in omega (arith, h, e, f)
 rising c d p q h (inl a) (inr (inl b)) = let e = a.1 in let f = b.1.1 in omega (arith, h, e, f)

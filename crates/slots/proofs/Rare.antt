@@ -6,7 +6,7 @@ use Rattle.std.proofs.lemmas.Nat.{le-div, mul-le}
 use Rattle.std.proofs.lemmas.Bool.{cases_lt}
 use Rattle.slots.specs.KeyedHashing.{FallTogether, hash_by}
 
--- a product with a greater number, and by one
+-- the product of a factor and a greater number is the product and the rest
 further : (a x z s : ℕ) → a * (x + z) + s ≡ a * x + s + a * z
 further a x z s = omega arith
 
@@ -37,7 +37,7 @@ near m p q u some step same =
     let up = apart m (p / 79228162514264337593543950336) (q / 79228162514264337593543950336) some (omega (arith, step)) same in
     record { over = omega (arith, step, up); below = omega (arith, step, up) }
 
--- a step that is longer by less than a turn, and near to turns as well, is longer by little
+-- a step that is longer by less than a turn, and near to whole turns as well, is longer by little
 little : (m u d t r : ℕ) → IsNear u (m * t) → IsNear (u + d) (m * r) → d + 158456325028528675187087900672 ≤ 79228162514264337593543950336 * m → d < 158456325028528675187087900672
 little m u d t r first second short =
     let a = first.over in
@@ -49,7 +49,7 @@ little m u d t r first second short =
       | inr less ↦ (let no : m * r ≤ m * t = mul-le m r m t (omega arith) less in omega (arith, a, b, c, e, no))
     ]
 
--- the bucket by the whole product
+-- the bucket of a number by the whole product
 bucket : (m k a s x : ℕ) → m * k ≡ 4294967296 → hash_by a s x % m ≡ (a * x + s) / 79228162514264337593543950336 % m
 bucket m k a s x whole =
     let upper : hash_by a s x ≡ (a * x + s) / 79228162514264337593543950336 % 4294967296 = omega arith in

@@ -20,19 +20,19 @@ module _ {T : Type 0} where
       by None h = absurd (cc)
       by (Some t) h = cc
 
-  -- a first row that doesn't pass is passed over
+  -- a first row that doesn't pass is skipped
   pub skip : (test : Row T → Bool) (o : Option (Row T)) (rows : List (Row T)) → ((r : Row T) → o ≡ Some r → test r ≡ false) → find test (cons_option o rows) ≡ find test rows
   skip test None rows fails = refl
   skip test (Some r) rows fails = cond-false (test r) (Some r) (find test rows) (fails r refl)
 
-  -- one that passes is found
+  -- a first row that passes is found
   pub found : (test : Row T → Bool) (o : Option (Row T)) (rows : List (Row T)) (r : Row T) → o ≡ Some r → test r ≡ true → find test (cons_option o rows) ≡ Some r
   found test None rows r h passes = absurd (cc)
   found test (Some x) rows r h passes =
       let same : x ≡ r = cc in
       cond-true (test x) (Some x) (find test rows) (ap test same ∙ passes) ∙ ap Some same
 
-  -- a key of an earlier cell has no row
+  -- the key of an earlier cell has no row
   pub absent : (at : SlotNumber → Option T) (k : ℕ) (ns : List (Option SlotNumber)) (c : ℕ) → c < k → row_of (rows_from at k ns) (key_at c) ≡ None
   absent at k [] c h = refl
   absent at k (n ∷ ns) c h =
@@ -66,7 +66,7 @@ module _ {T : Type 0} where
         rises-lower _ _ rows (let p = places_rise k (suc k) (omega arith) in omega (arith, p, same)) r,
       )
 
-  -- the rows stand in the order of their cells
+  -- the rows are in the order of their cells
   pub rows-rise : (at : SlotNumber → Option T) (k : ℕ) (ns : List (Option SlotNumber)) → Rises (key_place (key_at k)) (rows_from at k ns)
   rows-rise at k [] = tt
   rows-rise at k (n ∷ ns) = rises-cons k (row_in at k n) (rows_from at (suc k) ns) (row-key at k n) (rows-rise at (suc k) ns)
@@ -76,7 +76,7 @@ module _ {T : Type 0} where
   rows-none at k [] h = refl
   rows-none at k (n ∷ ns) h = ap (λ o. cons_option (row_in at k o) (rows_from at (suc k) ns)) (h 0) ∙ rows-none at (suc k) ns (λ i. h (suc i))
 
-  -- slots that have the same under the numbers of some cells give them the same rows
+  -- slots that have the same items under the numbers of some cells give the same rows
   pub rows-same : (at at2 : SlotNumber → Option T) (k : ℕ) (ns : List (Option SlotNumber)) → ((i : ℕ) (n : SlotNumber) → get_or ns i None ≡ Some n → at2 n ≡ at n) → rows_from at2 k ns ≡ rows_from at k ns
   rows-same at at2 k [] h = refl
   rows-same at at2 k (n ∷ ns) h =
@@ -123,7 +123,7 @@ module _ {T : Type 0} where
             | inr behind ↦ (let none : n ≡ None = empty 0 (omega (arith, behind)) in let no : row_in at k n ≡ None = ap (row_in at k) none in absurd (cc))
           ]
 
-  -- what a cell's row has of its slot
+  -- the item of a cell's row is that of its slot
   pub item-in : (at : SlotNumber → Option T) (c : ℕ) (n : SlotNumber) → option_map (λ (r : Row T). r.item) (row_in at c (Some n)) ≡ at n
   item-in at c n = by (at n)
     where
@@ -147,7 +147,7 @@ module _ {T : Type 0} where
       by true e ih = (let first = cond-true (test x) (Some x) (find test rows) e in let same : x ≡ r = cc in ap test (sym same) ∙ e)
       by false e ih = ih (sym (cond-false (test x) (Some x) (find test rows) e) ∙ h)
 
-  -- a row that is found stands in a cell, with what its slot has
+  -- a row that is found is that of a cell, with the item of its slot
   pub record StandsIn (at : SlotNumber → Option T) (k : ℕ) (ns : List (Option SlotNumber)) (r : Row T) : Type 0 where
     pub cell : ℕ
     pub has : get_or ns cell None ≡ Some r.number

@@ -57,7 +57,7 @@ module _ {T : Type 0} where
           let same : r.number ≡ n = cc in
           ap (λ (m : SlotNumber). slab_get slots m.0) (sym same) ∙ s.item ∙ sym (ap (option_map (λ (x : Row T). x.item)) e)
 
-  -- a slot that isn't in use is no key's
+  -- a slot that isn't in use isn't that of any key
   pub fresh-number : (slots : Slab T) (cells : List (Option SlotNumber)) (n : SlotNumber) (q : Key) → slab_get slots n.0 ≡ None → number_of (rows_in slots cells) q ≡ Some n → ⊥
   fresh-number slots cells n q free h = by (row_of (rows_in slots cells) q) refl
     where
@@ -95,7 +95,7 @@ module _ {T : Type 0} where
   pub numbers-below : (slots : Slab T) (cells : List (Option SlotNumber)) (room : ℕ) → IsStored slots cells room → AreBelow slots.capacity (rows_in slots cells)
   numbers-below slots cells room s key n e = (let a = cell-by slots cells key n e in s.below a.cell n a.has)
 
-  -- a slot in use is some key's
+  -- a slot in use is that of a key
   pub held-by : (slots : Slab T) (cells : List (Option SlotNumber)) (room : ℕ) (n : SlotNumber) → IsStored slots cells room → is_some (slab_get slots n.0) ≡ true → (key : Key) × (number_of (rows_in slots cells) key ≡ Some n)
   held-by slots cells room n s used =
       let there = s.held n used in
@@ -105,7 +105,7 @@ module _ {T : Type 0} where
   used-by slots cells room n None s h = tt
   used-by slots cells room n (Some b) s h = held-by slots cells room n s (ap is_some (sym h))
 
-  -- the first row behind a key stands in the first cell behind its cell that has a number
+  -- the first row after a key is that of the first cell after its cell that has a number
   behind-low : (last : Option Key) (x : Row T) (c : ℕ) → ((key : Key) → last ≡ Some key → key_at (cell_of key) ≡ key) → x.key ≡ key_at c → c < cell_behind last → stands_behind last x ≡ false
   behind-low None x c h e low = absurd (omega (arith, low))
   behind-low (Some key) x c h e low =
@@ -280,7 +280,7 @@ module _ {T : Type 0} where
       made : rows_in slots2 cells ≡ with_item (key_at c) t (rows_in slots cells)
       made = old (item_at slots n) refl
 
-  -- a write through what `get_mut` lent
+  -- slots are stored after a write through what `get_mut` lent
   pub lent-stored : (slots : Slab T) (cells : List (Option SlotNumber)) (room c : ℕ) (n : SlotNumber) (w : T) → IsStored slots cells room → Some n ≡ get_or cells c None
       → Changed (with_value slots n.0 w) cells room (with_item (key_at c) w (rows_in slots cells))
   lent-stored slots cells room c n w s is =
@@ -291,7 +291,7 @@ module _ {T : Type 0} where
       let one = ap (λ b. (let k : ℕ = cond b 1 0 in k)) used in
       write-stored slots (with_value slots n.0 w) cells room c n w s has (Updates-with_value slots n.0 w used) (omega (arith, count, one)) refl
 
--- what a clause says of a key that is there
+-- a key is its cell's, as a clause says where there is one
 pub key-of : (last : Option Key) → IfSome last (λ key. key_at (cell_of key) ≡ key) → (key : Key) → last ≡ Some key → key_at (cell_of key) ≡ key
 key-of None h key e = absurd (cc)
 key-of (Some k) h key e =

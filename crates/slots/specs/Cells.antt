@@ -15,11 +15,11 @@ use Rattle.slots.specs.Rows.{Row}
 abbrev pub AreMarked : List (Option SlotNumber) → List Bool → Type 0
 AreMarked cells marks = (i : ℕ) → get_or marks (i / 256) false ≡ false → get_or cells i None ≡ None
 
--- a block for each cell
+-- each cell is in a block
 abbrev pub HasBlocks : List (Option SlotNumber) → List Bool → Type 0
 HasBlocks cells marks = length cells ≤ 256 * length marks
 
--- where a protocol's cells begin
+-- the first cell of a protocol
 abbrev pub first_cell : Protocol → ℕ
 first_cell Icmp = 0
 first_cell Tcp = 65536
@@ -29,7 +29,7 @@ first_cell Udp = 131072
 abbrev pub cell_of : Key → ℕ
 cell_of key = first_cell key.protocol + key.port.0
 
--- the cell behind a key's, or the first of all
+-- the cell after a key's, or the first of all for None
 abbrev pub cell_behind : Option Key → ℕ
 cell_behind None = 0
 cell_behind (Some key) = suc (cell_of key)
@@ -43,7 +43,7 @@ abbrev pub key_at : ℕ → Key
 key_at cell = record { protocol = protocol_at cell; port = record { 0 = cell - first_cell (protocol_at cell) } }
 
 module _ {T : Type 0} where
-  -- what a slot has
+  -- the item of a slot
   abbrev pub item_at : Slab T → SlotNumber → Option T
   item_at slots number = slab_get slots number.0
 
@@ -65,5 +65,5 @@ module _ {T : Type 0} where
     pub room : places ≤ slots.capacity
     pub below : (i : ℕ) (n : SlotNumber) → get_or cells i None ≡ Some n → n.0 < slots.capacity
     pub held : (n : SlotNumber) → IsSome (item_at slots n) → (i : ℕ) × (get_or cells i None ≡ Some n)
-    -- each slot's number fits into 32 bits
+    -- each slot's number fits in 32 bits
     pub small : slots.capacity ≤ 2147483647

@@ -3,7 +3,7 @@ use Rattle.std.specs.Prelude.{ℕ, Bool, ◌==◌, ◌<◌, List, All, unwrap_or
 use Rattle.std.specs.Map.{lookup}
 use Rattle.addresses.specs.declared.internet.Ip.{Ip}
 
--- the addresses that have endpoints, each with how many, and how many more fit without memory
+-- the addresses that have endpoints, each with its count, and how many more addresses fit without more memory
 pub record AddressCounts : Type 0 where
   pub entries : List (Ip × ℕ)
   pub spare : ℕ
@@ -11,11 +11,11 @@ pub record AddressCounts : Type 0 where
 abbrev pub is_address : Ip → Ip → Bool
 is_address a b = a.0 == b.0
 
--- the number at an address; 0 where it has none
+-- the count of an address; 0 where it has none
 abbrev pub count_at : List (Ip × ℕ) → Ip → ℕ
 count_at counts address = unwrap_or (lookup (is_address address) counts) 0
 
--- an address that is there has an endpoint
+-- each address that is listed has an endpoint
 abbrev pub AreHeld : List (Ip × ℕ) → Type 0
 AreHeld counts = All (λ e. 0 < e.1) counts
 

@@ -4,7 +4,7 @@ use Rattle.std.proofs.Common.{get_or}
 use Rattle.timers.specs.Due.{is_due}
 use Rattle.slots.specs.declared.numbers.SlotNumber.{SlotNumber}
 
--- what callers see: a moment or none for each slot, and the numbers of the slots that came due and weren't handed out
+-- what callers see: a moment or none for each slot, and the numbers of the slots that came due and weren't popped
 pub record Dues : Type 0 where
   pub moments : List (Option ℕ)
   pub found : List ℕ

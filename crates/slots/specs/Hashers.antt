@@ -5,7 +5,7 @@ use Rattle.slots.specs.declared.hashers.Hashers.{Hashers}
 use Rattle.slots.specs.declared.hashers.Hashers.TheVariants.{Fixed, Drawn}
 use Rattle.slots.specs.KeyedHashing.{fixed_keys, new_hasher}
 
--- its keys were drawn
+-- the keys of these hashers were drawn
 abbrev pub is_drawn : Hashers → Bool
 is_drawn Fixed = false
 is_drawn (Drawn keys) = true

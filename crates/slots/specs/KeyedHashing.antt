@@ -3,11 +3,11 @@ use Rattle.std.specs.Prelude.{◌≡◌, ℕ, ◌+◌, ◌-◌, ◌*◌, ◌/◌
 use Rattle.slots.specs.declared.keyed_hasher.Keys.{Keys}
 use Rattle.slots.specs.declared.keyed_hasher.KeyedHasher.{KeyedHasher}
 
--- a number with one byte more behind it, of which 64 bits are kept
+-- a number with one more byte at its end, of which 64 bits are kept
 abbrev pub with_byte : ℕ → ℕ → ℕ
 with_byte number byte = (256 * number + byte) % 18446744073709551616
 
--- a number with these bytes behind it
+-- a number with these bytes at its end
 abbrev pub written_from : ℕ → List ℕ → ℕ
 written_from = fold with_byte
 
@@ -28,7 +28,7 @@ fixed_keys = record { factor = 48181483302151357469556550866566148932; summand =
 abbrev pub new_hasher : Keys → KeyedHasher
 new_hasher keys = record { keys = keys; number = 0 }
 
--- of so many buckets, two numbers fall into one
+-- two numbers fall into one of so many buckets
 abbrev pub FallTogether : (buckets factor summand x y : ℕ) → Type 0
 FallTogether buckets factor summand x y = hash_by factor summand x % buckets ≡ hash_by factor summand y % buckets
 

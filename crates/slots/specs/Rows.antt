@@ -13,7 +13,7 @@ pub record Row (T : Type 0) : Type 0 where
   pub number : SlotNumber
   pub item : T
 
--- the rows by protocol (icmp first) and port, how many there is room for, and above all numbers of slots
+-- the rows by protocol (icmp first) and port, for how many there is capacity, and a limit above all numbers of slots
 pub record PortSlots (T : Type 0) : Type 0 where
   pub rows : List (Row T)
   pub room : ℕ
@@ -37,7 +37,7 @@ module _ {T : Type 0} where
   abbrev pub number_of : List (Row T) → Key → Option SlotNumber
   number_of rows key = option_map (λ r. r.number) (row_of rows key)
 
-  -- the rows with one more, at its place
+  -- the rows with one more, at its place in the order
   abbrev pub put_in : Row T → List (Row T) → List (Row T)
   put_in r [] = r ∷ []
   put_in r (x ∷ xs) = (if nat_lt (key_place r.key) (key_place x.key) then r ∷ x ∷ xs else x ∷ put_in r xs)
@@ -46,16 +46,16 @@ module _ {T : Type 0} where
   abbrev pub without : Key → List (Row T) → List (Row T)
   without key rows = filter (λ r. not (has_key key r)) rows
 
-  -- the rows, that of the key with this item
+  -- the rows, where that of the key has this item
   abbrev pub with_item : Key → T → List (Row T) → List (Row T)
   with_item key item rows = map (λ r. cond (has_key key r) (record r { item = item }) r) rows
 
-  -- a row stands behind a key; each does where there is none
+  -- a row is after a key; each row is where there is no key
   abbrev pub stands_behind : Option Key → Row T → Bool
   stands_behind None r = true
   stands_behind (Some key) r = nat_lt (key_place key) (key_place r.key)
 
-  -- each row stands from this place on, and behind the one in front of it
+  -- each row's place is at least `low`, and after that of the row before it
   abbrev pub Rises : ℕ → List (Row T) → Type 0
   Rises low [] = Unit {0}
   Rises low (r ∷ rows) = (low ≤ key_place r.key) × Rises (suc (key_place r.key)) rows

@@ -12,7 +12,7 @@ use std::alloc::{AllocError, Global};
 use std::hash::BuildHasher;
 use std::marker::Model;
 
-/// How many endpoints each address has. One that has none takes no memory.
+/// The count of endpoints of each address. An address that has none takes no memory.
 #[derive(Drop)]
 pub(crate) struct AddressCounts<S: BuildHasher + Drop> {
     counts: IndexMap<Ip, u32, S>,
@@ -32,7 +32,7 @@ impl<S: BuildHasher + Drop> Model for AddressCounts<S> {
     ghost invariant = { λ c. AreHeld c.counts.entries };
 }
 
-/// Gives an address that has a count another one.
+/// Replaces the count of an address that has one.
 fn rewrite<S: BuildHasher>(counts: &mut IndexMap<Ip, u32, S>, address: Ip, count: u32)
     requires { 0 < count_at counts.old.entries address }
     ensures counts { (a : Address) → count_at counts.new.entries a
@@ -46,7 +46,7 @@ fn rewrite<S: BuildHasher>(counts: &mut IndexMap<Ip, u32, S>, address: Ip, count
 }
 
 impl<S: BuildHasher + Drop> AddressCounts<S> {
-    /// No endpoints, with the caller's hasher.
+    /// Makes counts of no endpoints, with the caller's hasher.
     pub(crate) fn new(alloc: Global, hasher: S) -> AddressCounts<S>
         ensures { (a : Address) → count_at result.entries a ≡ 0 }
     {
@@ -55,7 +55,8 @@ impl<S: BuildHasher + Drop> AddressCounts<S> {
         }
     }
 
-    /// Makes room for so many more addresses.
+    /// Reserves capacity for `more` more addresses. An Err says that there is no memory, and
+    /// changes no count.
     pub(crate) fn ready(&mut self, more: usize) -> Result<(), AllocError>
         ensures room { OnOk result (more ≤ self.new.spare) }
         ensures spare { self.old.spare ≤ self.new.spare }
@@ -72,7 +73,7 @@ impl<S: BuildHasher + Drop> AddressCounts<S> {
         self.counts.get(&address).copied().unwrap_or(0)
     }
 
-    /// The address has one more.
+    /// Counts one more endpoint of an address.
     pub(crate) fn add_one(&mut self, address: Ip)
         requires room { 0 < self.old.spare }
         requires small { count_at self.old.entries address < 4294967295 }
@@ -87,7 +88,7 @@ impl<S: BuildHasher + Drop> AddressCounts<S> {
         }
     }
 
-    /// The address has one fewer. One that has none changes nothing.
+    /// Counts one endpoint fewer of an address. An address that has none changes nothing.
     pub(crate) fn take_one(&mut self, address: Ip)
         ensures counts { (a : Address) → count_at self.new.entries a
             ≡ count_at self.old.entries a - one_at address a }

@@ -10,11 +10,12 @@ use memory::copies_of;
 use std::alloc::{AllocError, Global};
 use std::marker::Model;
 
-/// A cell for each protocol and port. Cells are found in blocks of 256, of which those without a number are passed over.
+/// A cell for each protocol and port. A search goes through the cells in blocks of 256, and passes over blocks without
+/// a number.
 #[derive(Drop)]
 pub(crate) struct Cells {
     numbers: Vec<SmallNumber>,
-    // Which blocks had a number since the last `clear`.
+    // The blocks that had a number since the last `clear`.
     marks: Vec<bool>,
 }
 
@@ -31,7 +32,7 @@ impl Model for Cells {
         × HasBlocks c.numbers.items c.marks.items × (length c.numbers.items ≤ 196608) };
 }
 
-/// The first cell from one on that has a number.
+/// Returns the first cell from `from` on that has a number, or None where there is none.
 fn next_used(numbers: &[SmallNumber], marks: &[bool], from: usize) -> Option<usize>
     requires marked { AreMarked numbers.now marks.now }
     requires blocks { HasBlocks numbers.now marks.now }
@@ -73,7 +74,7 @@ fn unmark_all(marks: &mut [bool])
 }
 
 impl Cells {
-    /// So many empty cells, in so many blocks of 256.
+    /// Makes `count` empty cells, in `blocks` blocks of 256. An Err says that there is no memory.
     pub(crate) fn new(alloc: Global, count: usize, blocks: usize) -> Result<Cells, AllocError>
         requires blocks { count ≤ 256 * blocks }
         requires count { count ≤ 196608 }
@@ -109,7 +110,7 @@ impl Cells {
         self.numbers[cell] = SmallNumber::none();
     }
 
-    /// The first cell from one on that has a number.
+    /// Returns the first cell from `from` on that has a number, or None where there is none.
     pub(crate) fn next(&self, from: usize) -> Option<usize>
         ensures within { IfSome result (λ i. (from ≤ i) × (i < length self.now)) }
         ensures used { IfSome result (λ i. IsSome (get_or self.now i None)) }

@@ -1,19 +1,19 @@
-//! Where the keys of hashers are drawn from.
+//! The source from which the keys of hashers are drawn.
 ghost use Rattle.std.specs.Prelude.{ℕ, IfErr, IfOk};
 ghost use Rattle.std.specs.declared.io.Error.{Error};
 
 use std::io;
 use std::random::RandomSource;
 
-/// What numbers are drawn from.
+/// A source of random numbers.
 pub trait Draws {
-    /// Which number may be drawn, and what there is to draw from then.
+    /// The numbers that may be drawn, each with the source after the draw.
     ghost drew: { Self → ℕ → Self → Type 0 };
 
-    /// Why a number may be refused, and what there is to draw from then.
+    /// The reasons for which a draw may fail, each with the source after the draw.
     ghost refused: { Self → Error → Self → Type 0 };
 
-    /// The next number. It is an error where none is had.
+    /// Returns the next number, or an Err where none is obtained.
     fn draw(&mut self) -> io::Result<u128>
         ensures drew { IfOk result (λ number. drew self.old number self.new) }
         ensures refused { IfErr result (λ why. refused self.old why self.new) };
@@ -22,7 +22,7 @@ pub trait Draws {
 /// The system's random numbers.
 pub struct SystemDraws<'a, R>(pub &'a R);
 
-/// What the system gives is its own to say, so nothing is claimed.
+/// The system's numbers are left to the system, so the contract claims nothing of them.
 impl<R: RandomSource> Draws for SystemDraws<'_, R> {
     ghost drew = { λ _ _ _. Unit {0} };
 

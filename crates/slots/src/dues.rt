@@ -1,4 +1,4 @@
-//! Due moments by slot.
+//! The times at which slots are due.
 ghost use Rattle.std.specs.Prelude.{◌≡◌, ◌<◌, ◌≤◌, ◌++◌, [], ◌∷◌, None, Some, length, map, slice_set, vec_capacity, IfOk, IfNone, IfSome, OnErr};
 ghost use Rattle.timers.specs.Due.{cleared};
 ghost use Rattle.slots.specs.declared.numbers.SlotNumber.{SlotNumber as Number};
@@ -11,11 +11,12 @@ use std::alloc::{AllocError, Global};
 use std::marker::Model;
 use timers::Timers;
 
-/// A moment in centiseconds for each slot that is set.
+/// The time at which each slot that is set is due, in centiseconds, and the slots that were found
+/// due.
 #[derive(Drop)]
 pub struct Dues {
     timers: Timers,
-    // The numbers of the slots that came due, with room for all.
+    // The numbers of the slots that were found due, with capacity for all slots.
     found: Vec<usize>,
 }
 
@@ -30,7 +31,7 @@ impl Model for Dues {
     ghost invariant = { λ d. length d.timers ≤ vec_capacity d.found };
 }
 
-/// Takes the due slots out of the timers, and lists them.
+/// Unsets the due slots of the timers, and lists them.
 fn list_due(timers: &mut Timers, now: u64, found: &mut Vec<usize>)
     requires empty { found.old.items ≡ [] }
     requires room { length timers.old ≤ vec_capacity found.old }
@@ -46,7 +47,8 @@ fn list_due(timers: &mut Timers, now: u64, found: &mut Vec<usize>)
 }
 
 impl Dues {
-    /// So many slots, none of them set.
+    /// Makes `count` slots, none of them set. An Err says that there is no memory, or that there
+    /// are too many slots.
     pub fn new(alloc: Global, count: usize) -> Result<Dues, AllocError>
         ensures count { IfOk result (λ d. length d.moments ≡ count) }
         ensures none { IfOk result (λ d. (number : Number) → moment_of d.moments number ≡ None) }
@@ -58,7 +60,7 @@ impl Dues {
         Ok(Dues { timers, found })
     }
 
-    /// The moment at which a slot is due.
+    /// Returns the time at which a slot is due, in centiseconds, or None where the slot isn't set.
     pub fn get(&self, number: SlotNumber) -> Option<u64>
         requires { number.0 < length self.now.moments }
         ensures { result ≡ moment_of self.now.moments number }
@@ -66,7 +68,7 @@ impl Dues {
         self.timers.get(number.0)
     }
 
-    /// Makes a slot due at that moment, and at no other.
+    /// Makes a slot due at the time `due` (centiseconds), and at no other.
     pub fn set(&mut self, number: SlotNumber, due: u64)
         requires { number.0 < length self.old.moments }
         ensures { self.new ≡ record self.old {
@@ -76,8 +78,8 @@ impl Dues {
         self.timers.set(number.0, due);
     }
 
-    /// Finds the slots whose moment is at most `now`, in place of those that were found before, and
-    /// clears them.
+    /// Finds the slots that are due at `now` or before, and unsets them. The found slots replace
+    /// those that an earlier call found.
     pub fn find(&mut self, now: u64)
         ensures found { AreDue now self.old.moments self.new.found }
         ensures few { length self.new.found ≤ length self.old.moments }
@@ -87,7 +89,7 @@ impl Dues {
         list_due(&mut self.timers, now, &mut self.found);
     }
 
-    /// Hands out a slot that was found.
+    /// Returns a slot that was found, and removes it from those found, or None where none is left.
     pub fn pop(&mut self) -> Option<SlotNumber>
         ensures some { IfSome result (λ number. self.old.found ≡ self.new.found ++ number.0 ∷ []) }
         ensures none { IfNone result (self.old.found ≡ []) }

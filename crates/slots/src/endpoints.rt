@@ -1,4 +1,4 @@
-//! The slots of endpoints.
+//! An index from endpoints to slots.
 ghost use Rattle.std.specs.Prelude.{◌≡◌, ◌+◌, ◌<◌, ◌≤◌, length, None, Some, IsSome, IfOk, IsOk, OnOk, OnErr};
 ghost use Rattle.addresses.specs.declared.internet.Ip.{Ip as Address};
 ghost use Rattle.nat_types.specs.declared.pairs.Endpoint.{Endpoint as InsidePort};
@@ -16,10 +16,11 @@ use std::alloc::{AllocError, Global};
 use std::hash::BuildHasher;
 use std::marker::Model;
 
-/// The most endpoints of an index, so that the count of each address fits 32 bits.
+/// The most endpoints of an index, so that the count of each address fits in 32 bits.
 const MOST: usize = 4_294_967_295;
 
-/// The slot of each endpoint that has one, and how many of each address have.
+/// The slot of each endpoint that has one, and for each address the count of its endpoints with a
+/// slot.
 #[derive(Drop)]
 pub struct EndpointIndex<S: BuildHasher + Copy + Drop> {
     numbers: IndexMap<Endpoint, SlotNumber, S>,
@@ -45,7 +46,7 @@ impl<S: BuildHasher + Copy + Drop> Model for EndpointIndex<S> {
 }
 
 impl<S: BuildHasher + Copy + Drop> EndpointIndex<S> {
-    /// An index of no endpoints, that hashes endpoints and addresses by the caller's hasher.
+    /// Makes an index of no endpoints, which hashes endpoints and addresses by the caller's hasher.
     pub fn new(alloc: Global, hasher: S) -> EndpointIndex<S>
         ensures slots { (x : InsidePort) → slot_of result x ≡ None }
         ensures counts { (a : Address) → count_in result a ≡ 0 }
@@ -57,8 +58,8 @@ impl<S: BuildHasher + Copy + Drop> EndpointIndex<S> {
         }
     }
 
-    /// Makes room for so many more endpoints. It is an error too where there would be more than
-    /// 4,294,967,295 of them.
+    /// Reserves capacity for `more` more endpoints. An Err says that there is no memory, or that
+    /// there would be more than 4,294,967,295 endpoints, and changes no look-up.
     pub fn ready(&mut self, more: usize) -> Result<(), AllocError>
         ensures room { OnOk result (more ≤ self.new.spare) }
         ensures spare { self.old.spare ≤ self.new.spare }
@@ -74,7 +75,7 @@ impl<S: BuildHasher + Copy + Drop> EndpointIndex<S> {
         self.counts.ready(more)
     }
 
-    /// The slot of an endpoint.
+    /// Returns the slot of an endpoint, or None where the endpoint has none.
     #[inline(always)]
     pub fn get(&self, endpoint: Endpoint) -> Option<SlotNumber>
         ensures { result ≡ slot_of self.now endpoint }
@@ -82,14 +83,14 @@ impl<S: BuildHasher + Copy + Drop> EndpointIndex<S> {
         self.numbers.get(&endpoint).copied()
     }
 
-    /// How many endpoints of an address have a slot.
+    /// Returns how many endpoints of an address have a slot.
     pub fn count_of(&self, address: Ip) -> u32
         ensures { result ≡ count_in self.now address }
     {
         self.counts.get(address)
     }
 
-    /// Gives an endpoint that slot, and no other.
+    /// Gives an endpoint a slot, in place of the one that the endpoint had.
     pub fn put(&mut self, endpoint: Endpoint, number: SlotNumber)
         requires { 0 < self.old.spare }
         ensures slots { (x : InsidePort) → slot_of self.new x
@@ -109,7 +110,7 @@ impl<S: BuildHasher + Copy + Drop> EndpointIndex<S> {
         }
     }
 
-    /// Takes an endpoint out. One without a slot changes nothing.
+    /// Removes an endpoint. An endpoint without a slot changes nothing.
     pub fn remove(&mut self, endpoint: Endpoint)
         ensures slots { (x : InsidePort) → slot_of self.new x
             ≡ set_at (slot_of self.old) endpoint None x }
@@ -127,7 +128,7 @@ impl<S: BuildHasher + Copy + Drop> EndpointIndex<S> {
         }
     }
 
-    /// Takes all endpoints out.
+    /// Removes all endpoints, and keeps the capacity.
     pub fn clear(&mut self)
         ensures slots { (x : InsidePort) → slot_of self.new x ≡ None }
         ensures counts { (a : Address) → count_in self.new a ≡ 0 }

@@ -1,4 +1,4 @@
-//! A choice of hashers when the program runs.
+//! A choice of hashers at run time.
 ghost use Rattle.std.specs.Prelude.{◌≡◌, true, false, IfErr, IfOk};
 ghost use Rattle.slots.specs.Draws.{HaveDrawnKeys, LacksKeys};
 ghost use Rattle.slots.specs.Hashers.{hasher_of, is_drawn};
@@ -8,25 +8,24 @@ use crate::keyed_hasher::{KeyedHasher, Keys};
 use std::hash::BuildHasher;
 use std::io;
 
-/// Makes hashers with fixed keys, or with keys that were drawn.
+/// A maker of hashers, with fixed keys or with keys that were drawn.
 #[derive(Clone, Copy)]
 pub enum Hashers {
-    /// The same in each run.
+    /// Hashers with the same keys in each run.
     Fixed,
-    /// For endpoints that an adversary may pick.
+    /// Hashers with drawn keys, for endpoints that an adversary may pick.
     Drawn(Keys),
 }
 
 impl Hashers {
-    /// Hashers that are the same in each run.
+    /// Returns hashers that have the same keys in each run.
     pub fn fixed() -> Hashers
         ensures { is_drawn result ≡ false }
     {
         Hashers::Fixed
     }
 
-    /// Hashers with keys that are drawn now. It is an error where one of the two isn't had: that which
-    /// was answered for it.
+    /// Draws keys, and returns hashers with them. An Err is that of the draw that failed.
     pub fn drawn<D: Draws>(draws: &mut D) -> io::Result<Hashers>
         ensures kind { IfOk result (λ hashers. is_drawn hashers ≡ true) }
         ensures keys { IfOk result (λ hashers. HaveDrawnKeys D.drew draws.old hashers draws.new) }

@@ -1,5 +1,5 @@
-//! A hasher that costs a packet one product, and that nobody who hasn't seen its keys can make meet
-//! often.
+//! A hasher that takes one multiplication for a packet, and whose hashes collide rarely, whoever picks the numbers
+//! without having seen the keys.
 ghost use Rattle.std.specs.Prelude.{◌≡◌, ℕ, ◌%◌, ◌*◌, ◌+◌, IfErr, IfOk};
 ghost use Rattle.slots.specs.Draws.{AreDrawn, LacksKeys};
 ghost use Rattle.slots.specs.KeyedHashing.{finished, fixed_keys, new_hasher, written, written_from};
@@ -9,7 +9,7 @@ use crate::draws::Draws;
 use std::hash::Hasher;
 use std::io;
 
-/// What a hasher multiplies by and adds.
+/// The keys of a hasher: a factor and a summand.
 #[derive(Clone, Copy)]
 pub struct Keys {
     factor: u128,
@@ -17,7 +17,7 @@ pub struct Keys {
 }
 
 impl Keys {
-    /// The digits of pi behind the point, in base 16.
+    /// Returns fixed keys: the digits of pi after the point, in base 16.
     pub(crate) fn fixed() -> Keys
         ensures { result ≡ fixed_keys }
     {
@@ -27,7 +27,7 @@ impl Keys {
         }
     }
 
-    /// Keys that are drawn now: the factor, then the summand. It is an error where one isn't had.
+    /// Draws keys: the factor, then the summand. An Err is that of the draw that failed.
     pub(crate) fn drawn<D: Draws>(draws: &mut D) -> io::Result<Keys>
         ensures keys { IfOk result (λ keys. AreDrawn D.drew draws.old keys draws.new) }
         ensures refused { IfErr result
@@ -39,8 +39,8 @@ impl Keys {
     }
 }
 
-/// Hashes what is written to it as one number, of which the last 64 bits count: the upper 32 of the 128
-/// bits of factor times number plus summand (multiply-shift hashing). A map uses no more than 32.
+/// A hasher that takes what is written to it as one number, of which the last 64 bits count. The hash is the upper 32
+/// of the 128 bits of factor times number plus summand (multiply-shift hashing). A map uses no more than 32.
 #[derive(Clone, Copy)]
 pub struct KeyedHasher {
     keys: Keys,
@@ -77,10 +77,10 @@ impl Hasher for KeyedHasher {
     }
 }
 
-/// Collisions are rare: of so many buckets, a power of two, two numbers x and y fall into one under at
-/// most one factor of buckets / 2 - 1, whatever the summand and whoever picked the numbers, as long as
-/// he hadn't seen the keys. In a stretch of factors in which factor times y - x grows by 2^96 for each
-/// bucket but two, those under which they fall together lie within a growth of 2^97.
+/// States that collisions are rare. Of a power of two of buckets, two numbers x and y fall into one under at most one
+/// factor of buckets / 2 - 1, whatever the summand, and whoever picked the numbers without having seen the keys. In a
+/// stretch of factors in which factor times y - x grows by 2^96 for each bucket but two, the factors under which x and
+/// y fall together are within a growth of 2^97.
 pub fn collisions_are_rare()
     ensures { AreCollisionsRare }
 {}

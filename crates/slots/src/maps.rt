@@ -7,7 +7,8 @@ use indexmap::IndexMap;
 use std::alloc::AllocError;
 use std::hash::{BuildHasher, Hash};
 
-/// Makes room for so many more entries, where it isn't there yet.
+/// Reserves capacity for `more` more entries of a map, where the map doesn't have it yet. An Err
+/// says that there is no memory.
 #[tactic(auto, unfolding(memory::specs::Memory::WasRefused))]
 pub(crate) fn reserve<K: Eq + Hash, V, S: BuildHasher>(
     map: &mut IndexMap<K, V, S>,

@@ -1,5 +1,5 @@
 //! The numbers of slots.
 
-/// The number of a slot.
+/// The number of a slot of [`PortSlots`].
 #[derive(Clone, Copy, Debug, PartialEq, Eq)]
 pub struct SlotNumber(pub(crate) usize);

@@ -17,16 +17,16 @@ use slab::Slab;
 use std::alloc::{AllocError, Global};
 use std::marker::Model;
 
-/// How many cells there are: one for each port of each protocol.
+/// The number of cells: one for each port of each protocol.
 const CELLS: usize = 196_608;
 
-/// How many blocks of 256 cells these are.
+/// The number of blocks of 256 cells.
 const BLOCKS: usize = 768;
 
-/// More slots than timers tell aren't made. A number of 32 bits has room for each.
+/// The most slots that are made: `timers` has no more. The number of each fits in 32 bits.
 const MOST_SLOTS: usize = 2_147_483_647;
 
-/// Items in slots, by protocol (icmp first) and port.
+/// Items in slots, in the order of their protocols (icmp first) and ports.
 #[derive(Drop)]
 pub struct PortSlots<T> {
     slots: Slab<T>,
@@ -50,7 +50,7 @@ impl<T> Model for PortSlots<T> {
     ghost invariant = { λ s. IsStored s.slots s.cells s.room };
 }
 
-/// Where a protocol's cells begin.
+/// Returns the first cell of a protocol.
 fn first_cell_of(protocol: Protocol) -> usize
     ensures { result ≡ first_cell protocol }
 {
@@ -61,7 +61,7 @@ fn first_cell_of(protocol: Protocol) -> usize
     }
 }
 
-/// The protocol to which a cell belongs.
+/// Returns the protocol to which a cell belongs.
 fn protocol_of_cell(cell: usize) -> Protocol
     requires { cell < 196608 }
     ensures protocol { result ≡ protocol_at cell }
@@ -94,7 +94,7 @@ fn key_of_cell(cell: usize) -> Key
     Key { protocol, port }
 }
 
-/// The cell behind a key's, or the first of all.
+/// Returns the cell after a key's, or the first of all for None.
 fn first_cell_behind(last: Option<Key>) -> usize
     ensures cell { result ≡ cell_behind last }
     ensures key { IfSome last (λ key. key_at (cell_of key) ≡ key) }
@@ -105,7 +105,7 @@ fn first_cell_behind(last: Option<Key>) -> usize
     }
 }
 
-/// Empty slots for so many items.
+/// Makes empty slots for `room` items. An Err says that there is no memory.
 #[tactic(auto, unfolding(memory::specs::Memory::WasRefused, crate::specs::Memory::HasPlaces))]
 fn empty_slots<T: Drop>(alloc: Global, room: usize) -> Result<Slab<T>, AllocError>
     requires small { IsSmall T.row }
@@ -118,7 +118,8 @@ fn empty_slots<T: Drop>(alloc: Global, room: usize) -> Result<Slab<T>, AllocErro
 }
 
 impl<T: Drop> PortSlots<T> {
-    /// No items, and room for so many.
+    /// Makes slots without items, with capacity for `room` items. An Err says that there is no memory, or that there
+    /// are too many slots.
     pub fn new(alloc: Global, room: usize) -> Result<PortSlots<T>, AllocError>
         requires small { IsSmall T.row }
         ensures rows { IfOk result (λ s. s.rows ≡ []) }
@@ -136,7 +137,7 @@ impl<T: Drop> PortSlots<T> {
         Ok(PortSlots { slots, cells, room })
     }
 
-    /// Takes all items out.
+    /// Removes all items.
     pub fn clear(&mut self)
         ensures { self.new ≡ record self.old { rows = [] } }
     {
@@ -148,7 +149,7 @@ impl<T: Drop> PortSlots<T> {
 impl<T> PortSlots<T> {
     ghost use Rattle.slots.specs.Lends.{lends_item};
 
-    /// Reminds the prover of the order of the items and of their slots; it does nothing when it runs.
+    /// Reminds the prover of the order of the items and of their slots. The call does nothing at run time.
     pub fn recall(&self)
         ensures order { Rises 0 self.now.rows }
         ensures numbers { HasDistinctNumbers self.now.rows }
@@ -157,28 +158,28 @@ impl<T> PortSlots<T> {
         let _ = &self.room;
     }
 
-    /// Above the numbers of all slots that there are or may be. It stays what it is.
+    /// Returns a limit above the numbers of all slots that there are or may be. The limit never changes.
     pub fn limit(&self) -> usize
         ensures { result ≡ self.now.limit }
     {
         self.slots.capacity()
     }
 
-    /// How many items there are.
+    /// Returns how many items there are.
     pub fn len(&self) -> usize
         ensures { result ≡ length self.now.rows }
     {
         self.slots.len()
     }
 
-    /// The slot of a key.
+    /// Returns the slot of a key, or None where the key has no item.
     pub fn number_of(&self, key: Key) -> Option<SlotNumber>
         ensures { result ≡ number_of self.now.rows key }
     {
         self.cells.get(cell_of_key(key))
     }
 
-    /// The item of a key.
+    /// Returns the item of a key, or None where the key has none.
     #[inline(always)]
     pub fn get(&self, key: Key) -> Option<&T>
         ensures { option_copied result ≡ item_of self.now.rows key }
@@ -189,7 +190,7 @@ impl<T> PortSlots<T> {
         }
     }
 
-    /// The item in a slot, where a key has the slot.
+    /// Returns the item in a slot, where a key has the slot.
     #[inline(always)]
     pub fn at(&self, number: SlotNumber) -> Option<&T>
         ensures item { (key : OutsidePort) → number_of self.now.rows key ≡ Some number
@@ -200,7 +201,8 @@ impl<T> PortSlots<T> {
         self.slots.get(number.0)
     }
 
-    /// The first key behind another one that has an item, or the first of all. The other key needs no item of its own.
+    /// Returns the first key after `last` that has an item, or the first of all for None. The key `last` needs no item
+    /// of its own.
     pub fn key_after(&self, last: Option<Key>) -> Option<Key>
         ensures { result ≡ option_map (λ r. r.key) (find (stands_behind last) self.now.rows) }
     {
@@ -210,7 +212,7 @@ impl<T> PortSlots<T> {
         }
     }
 
-    /// Puts an item under a key that has none, into a slot that no other key has.
+    /// Puts an item under a key that has none, and returns its slot, which no other key has.
     pub fn insert(&mut self, key: Key, item: T) -> SlotNumber
         requires vacant { row_of self.old.rows key ≡ None }
         requires room { length self.old.rows < self.old.room }
@@ -224,7 +226,7 @@ impl<T> PortSlots<T> {
         number
     }
 
-    /// The item of a key for writing.
+    /// Returns the item of a key for writing, or None where the key has none.
     #[inline(always)]
     pub fn get_mut(&mut self, key: Key) -> Option<&mut T>
         ensures* writes_back { sem 𝓛 (lends_item T.row self.entry key result) }
@@ -236,7 +238,7 @@ impl<T> PortSlots<T> {
         }
     }
 
-    /// Takes a key's item out. A key without an item changes nothing.
+    /// Removes a key's item and returns it. A key without an item changes nothing.
     pub fn remove(&mut self, key: Key) -> Option<T>
         ensures item { result ≡ item_of self.old.rows key }
         ensures rows { self.new ≡ record self.old { rows = without key self.old.rows } }

@@ -4,8 +4,8 @@ ghost use Rattle.std.specs.Prelude.{◌≡◌, ◌<◌, None, Some, is_some};
 use crate::SlotNumber;
 use std::marker::Model;
 
-/// The number of a slot, or none. There is one for each protocol and port, and each packet reads some,
-/// so they are kept small: 0 stands for none, and else for the number below it.
+/// The number of a slot, or none. There is one for each protocol and port, and each packet reads some, so it is kept in
+/// 32 bits: 0 for none, else one more than the slot's number.
 #[derive(Clone, Copy)]
 pub(crate) struct SmallNumber(u32);
 
@@ -30,7 +30,7 @@ impl SmallNumber {
         SmallNumber(0)
     }
 
-    /// A slot's number, which is less than the greatest that fits.
+    /// Returns the small number of a slot's number, which must be below 4,294,967,295.
     pub(crate) fn of(number: SlotNumber) -> SmallNumber
         requires { number.0 < 4294967295 }
         ensures { result ≡ Some number }

@@ -29,7 +29,7 @@ same_count [] = refl
 same_count (l ∷ links) =
     omega (arith, sum_by-cons (λ o. cond (is_some o) 1 0) l.due (moments (links ++ unset_links ∷ [])), sum_by-cons (λ o. cond (is_some o) 1 0) l.due (moments links), same_count links)
 
--- one more slot, which isn't set
+-- a store that is linked is linked with one more slot, which isn't set
 pub IsLinked-push : (wheel : Wheel) (links : List Links) → IsLinked wheel links → length links + 1 < 2 ^ 64 → IsLinked wheel (links ++ unset_links ∷ [])
 IsLinked-push wheel links l room = record {
   heads = l.heads;

@@ -1,4 +1,4 @@
--- A wheel after a slot has been put into its chain, or taken out of it.
+-- A wheel after a slot was put into its chain, or removed from it.
 use Rattle.std.proofs.Common.{◌≡◌, ℕ, ◌+◌, ◌-◌, ◌<◌, cond, is_some, Option, Some, None, List, length, get_or, refl, sym, ap, ◌∙◌, subst, arith}
 use Rattle.std.proofs.Math.ListN.{set}
 use Rattle.std.proofs.lemmas.List.{length-set, length-map}
@@ -15,7 +15,7 @@ use Rattle.timers.proofs.Unlinking.{unlinked, unlinked-chains, unlinked-cleared,
 pub chain_within : (turns due : ℕ) → chain_of turns due < 1024
 chain_within turns due = omega arith
 
--- the heads, turns and links that a wheel has
+-- the chains are those of equal heads, turns and links
 move_chains : (heads new : List (Option ℕ)) (turns later : ℕ) (links after : List Links) (chains : ℕ → List ℕ) → new ≡ heads → later ≡ turns → after ≡ links → AreChains heads turns links chains → AreChains new later after chains
 move_chains heads new turns later links after chains e f h a =
     let P : List (Option ℕ) → Type 0 = λ hs. AreChains hs later after chains in

@@ -6,17 +6,17 @@ use Rattle.timers.specs.declared.links.Links.{Links}
 use Rattle.timers.specs.Chains.{links_of, times, Leads}
 use Rattle.timers.specs.Steps.{without}
 
--- past a slot, on to the one that it leads to
+-- a link that leads past a slot, to the one after it
 abbrev pub around : ℕ → Option ℕ → Option ℕ → Option ℕ
 around slot to None = None
 around slot to (Some other) = cond (eqb other slot) to (Some other)
 
--- the links lead past this slot
+-- the links lead past a slot
 pub record Bypassed (old new : List Links) (slot : ℕ) (chain : List ℕ) : Type 0 where
   pub next : (t : ℕ) → 0 < times t chain → eqb t slot ≡ false → (links_of new t).next ≡ around slot (links_of old slot).next (links_of old t).next
   pub previous : (t : ℕ) → 0 < times t chain → eqb t slot ≡ false → (links_of new t).previous ≡ around slot (links_of old slot).previous (links_of old t).previous
 
--- a slot is at the front of a chain that has it, or behind
+-- a slot that a chain doesn't have is neither its first slot nor in its rest
 pub front : (b : Bool) (n : ℕ) → cond b 1 0 + n ≡ 0 → (b ≡ false) × (n ≡ 0)
 front true n h = absurd (omega arith)
 front false n h = (refl, omega arith)
@@ -46,7 +46,7 @@ begins_elsewhere links previous at slot to [] h none = ap (around slot to) h ∙
 begins_elsewhere links previous at slot to (x ∷ rest) h none =
     ap (around slot to) h.0 ∙ cond-false (eqb x slot) to (Some x) (absent slot x rest none).0 ∙ sym h.0
 
--- behind the slot the links lead on as before, and back past it
+-- after the slot the links lead on as before, and back past it
 pub leads_on : (old new : List Links) (slot : ℕ) (previous at : Option ℕ) (chain : List ℕ) → Leads old previous at chain → times slot chain ≡ 0 → Bypassed old new slot chain → Leads new (around slot (links_of old slot).previous previous) at chain
 unfolding Leads
 leads_on old new slot previous at [] h none b = h
@@ -63,7 +63,7 @@ leads_on old new slot previous at (x ∷ rest) h none b =
       subst Q (sym (b.next x (here x rest) ne ∙ same)) (subst P (cond-false (eqb x slot) q (Some x) ne) on),
     )
 
--- a chain that hasn't the slot is as it was
+-- a chain that doesn't have the slot is the chain without it
 pub without_none : (slot : ℕ) (chain : List ℕ) → times slot chain ≡ 0 → without slot chain ≡ chain
 without_none slot [] h = refl
 without_none slot (x ∷ rest) h =
@@ -109,7 +109,7 @@ unfolding Leads
 answered_first links x u [] h is = absurd (none-some u (sym h ∙ is))
 answered_first links x u (y ∷ rest) h is = ap (λ s. (links_of links s).previous) (same_Some u y (sym is ∙ h.0)) ∙ h.1
 
--- the links forth of a slot in a chain are answered by links back
+-- where a slot's link leads to a next slot, that slot's link leads back
 pub answered : (links : List Links) (previous at : Option ℕ) (chain : List ℕ) (t u : ℕ) → Leads links previous at chain → 0 < times t chain → (links_of links t).next ≡ Some u → (links_of links u).previous ≡ Some t
 unfolding Leads
 answered links previous at [] t u h has is = absurd (omega arith)
@@ -119,7 +119,7 @@ answered links previous at (x ∷ rest) t u h has is =
       | inr other ↦ answered links (Some x) (links_of links x).next rest t u h.2 (behind t x rest other has) is
     ]
 
--- the links back of a slot in a chain come from links forth
+-- where a slot's link leads to a previous slot, that slot's link leads on to it
 pub from_before : (links : List Links) (previous at : Option ℕ) (chain : List ℕ) (t u : ℕ) → Leads links previous at chain → ((v : ℕ) → previous ≡ Some v → (links_of links v).next ≡ at) → 0 < times t chain → (links_of links t).previous ≡ Some u → (links_of links u).next ≡ Some t
 unfolding Leads
 from_before links previous at [] t u h outside has is = absurd (omega arith)

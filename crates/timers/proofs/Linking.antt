@@ -11,15 +11,15 @@ use Rattle.timers.proofs.Leading.{here, later, leads_same}
 use Rattle.timers.proofs.Writing.{names, names-true, names_it, next-with_previous, previous-with_previous, due-with_previous, length-with_previous, moments-with_previous, others-with_previous}
 use Rattle.timers.proofs.Standing.{moment_there, stands_from, few, head_stands, head_is_slot}
 
--- what a slot has that goes before that one
+-- the links of a new head before a slot
 abbrev pub first_links : Option ℕ → ℕ → Links
 first_links at due = record { next = at; previous = None; due = Some due }
 
--- the links once a slot has been put before that one
+-- the links after a slot was put before another
 abbrev pub put_before : List Links → Option ℕ → ℕ → ℕ → List Links
 put_before links at s due = set (with_previous links at (Some s)) s (first_links at due)
 
--- the chains once a slot has been put into one
+-- the chains after a slot was put into one
 abbrev pub put_in : (ℕ → List ℕ) → ℕ → ℕ → ℕ → List ℕ
 put_in chains own s chain = cond (eqb chain own) (s ∷ chains chain) (chains chain)
 
@@ -29,7 +29,7 @@ once_only x t rest few same has =
     let more : 0 < times x rest = subst P (sym same) has in
     omega (arith, cond-true {A = ℕ} (eqb x x) 1 0 (eq-eqb x x refl))
 
--- a chain whose first slot alone has a new one before it
+-- a chain whose first slot gets a new one before it, and nothing else, is led through from the new one
 leads_behind : (old new : List Links) (s : ℕ) (at : Option ℕ) (chain : List ℕ) → Leads old None at chain → ((t : ℕ) → times t chain ≤ 1) → ((x : ℕ) → at ≡ Some x → 0 < times x chain → ((links_of new x).previous ≡ Some s) × ((links_of new x).next ≡ (links_of old x).next)) → ((t : ℕ) → 0 < times t chain → (at ≡ Some t → ⊥) → links_of new t ≡ links_of old t) → Leads new (Some s) at chain
 unfolding Leads
 leads_behind old new s at [] h few first others = h
@@ -46,11 +46,11 @@ pub moments-put_before : (links : List Links) (at : Option ℕ) (s due : ℕ) �
 moments-put_before links at s due =
     map-set (λ l. l.due) (with_previous links at (Some s)) s (first_links at due) ∙ ap (λ ms. set ms s (Some due)) (moments-with_previous links at (Some s))
 
--- the slot's own links
+-- the new slot has its own links
 its_own : (links : List Links) (at : Option ℕ) (s due : ℕ) → s < length links → links_of (put_before links at s due) s ≡ first_links at due
 its_own links at s due within = get_or-set_same (with_previous links at (Some s)) s (first_links at due) unset_links (omega (arith, length-with_previous links at (Some s)))
 
--- another slot's
+-- another slot has the links that it had, but for the one before it
 of_another : (links : List Links) (at : Option ℕ) (s due t : ℕ) → eqb t s ≡ false → links_of (put_before links at s due) t ≡ links_of (with_previous links at (Some s)) t
 of_another links at s due t other = get_or-set_other (with_previous links at (Some s)) s t (first_links at due) unset_links (eqb-false t s other)
 
@@ -65,7 +65,7 @@ apart heads turns links chains a chain s t unset has =
 unset_none : (heads : List (Option ℕ)) (turns : ℕ) (links : List Links) (chains : ℕ → List ℕ) → AreChains heads turns links chains → (chain s : ℕ) → (links_of links s).due ≡ None → times s (chains chain) ≡ 0
 unset_none heads turns links chains a chain s unset = a.once chain s ∙ ap (λ o. cond {A = ℕ} (stands turns chain o) 1 0) unset
 
--- a slot stands in one chain alone
+-- a slot is in one chain only
 one_chain : (turns : ℕ) (o : Option ℕ) (chain other : ℕ) → stands turns chain o ≡ true → stands turns other o ≡ true → chain ≡ other
 one_chain turns o chain other h k =
     let m = moment_there turns chain o h in
@@ -75,7 +75,7 @@ one_chain turns o chain other h k =
 not_named : (o : Option ℕ) (t : ℕ) → (o ≡ Some t → ⊥) → names o t ≡ false
 not_named o t h = elim (cases_Bool (names o t)) [ inl is ↦ absurd (h (names-true o t is)) | inr not ↦ not ]
 
--- the slot's own chain
+-- the links lead through the slot's own chain, with the slot at its head
 led_own : (heads : List (Option ℕ)) (turns : ℕ) (links : List Links) (chains : ℕ → List ℕ) → AreChains heads turns links chains → (own s due : ℕ) → (links_of links s).due ≡ None → s < length links → Leads (put_before links (get_or heads own None) s due) None (Some s) (s ∷ chains own)
 unfolding Leads
 led_own heads turns links chains a own s due unset within =
@@ -91,7 +91,7 @@ led_own heads turns links chains a own s due unset within =
     let P : Option ℕ → Type 0 = λ n. Leads new (Some s) n (chains own) in
     (refl, ap (λ l. l.previous) mine, subst P (sym (ap (λ l. l.next) mine)) on)
 
--- another chain
+-- the links lead through each other chain as before
 led_other : (heads : List (Option ℕ)) (turns : ℕ) (links : List Links) (chains : ℕ → List ℕ) → AreChains heads turns links chains → (own chain s due : ℕ) → (chain ≡ own → ⊥) → (links_of links s).due ≡ None → Leads (put_before links (get_or heads own None) s due) None (get_or heads chain None) (chains chain)
 led_other heads turns links chains a own chain s due differ unset =
     let at = get_or heads own None in
@@ -119,7 +119,7 @@ led_put heads turns links chains a own chain s due unset within inside =
           )
     ]
 
--- the slot stands in its own chain once, and all others as before
+-- the slot is in its own chain once, and all others are where they were
 counted : (b : Bool) (own s t : ℕ) (chain : List ℕ) → eqb s t ≡ false → times t (cond b (s ∷ chain) chain) ≡ times t chain
 counted true own s t chain other = omega (arith, cond-false {A = ℕ} (eqb s t) 1 0 other)
 counted false own s t chain other = refl
@@ -154,7 +154,7 @@ once_put heads turns links chains a chain s due t unset within at slot =
           )
     ]
 
--- the chains then have the slot at the head of its own
+-- after the writes the slot is at the head of its own chain, and the chains are right
 pub put-chains : (heads : List (Option ℕ)) (turns : ℕ) (links : List Links) (chains : ℕ → List ℕ) → AreChains heads turns links chains → (s due : ℕ) → (links_of links s).due ≡ None → s < length links → chain_of turns due < length heads → AreChains (set heads (chain_of turns due) (Some s)) turns (put_before links (get_or heads (chain_of turns due) None) s due) (put_in chains (chain_of turns due) s)
 put-chains heads turns links chains a s due unset within inside =
     let own = chain_of turns due in
@@ -163,14 +163,14 @@ put-chains heads turns links chains a s due unset within inside =
       once = λ chain t. once_put heads turns links chains a chain s due t unset within (get_or heads own None) (head_is_slot heads turns links chains a own (get_or heads own None) refl);
     }
 
--- a slot that isn't set is none that the new one's links or the head's name
+-- a slot that isn't set is named neither by the new slot's links nor by the head's
 kept_apart : (heads : List (Option ℕ)) (turns : ℕ) (links : List Links) (chains : ℕ → List ℕ) → AreChains heads turns links chains → (own t : ℕ) → (links_of links t).due ≡ None → names (get_or heads own None) t ≡ false
 kept_apart heads turns links chains a own t unset =
     not_named (get_or heads own None) t (λ is.
     let stood = stands_from heads turns links chains a own t (head_stands heads turns links chains a own t is).0 in
     true≢false (sym stood ∙ ap (stands turns own) unset))
 
--- the slots that aren't set then have no neighbours still
+-- after the writes the slots that aren't set have no neighbours
 pub put-cleared : (heads : List (Option ℕ)) (turns : ℕ) (links : List Links) (chains : ℕ → List ℕ) → AreChains heads turns links chains → AreCleared links → (own s due : ℕ) → s < length links → AreCleared (put_before links (get_or heads own None) s due)
 put-cleared heads turns links chains a cleared own s due within t none =
     let at = get_or heads own None in

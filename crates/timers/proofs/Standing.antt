@@ -1,4 +1,4 @@
--- Which chain a slot stands in.
+-- The chain in which a slot is.
 use Rattle.std.proofs.Common.{◌≡◌, ℕ, ◌<◌, ◌≤◌, Bool, true, false, cond, Option, Some, None, inl, inr, List, length, get_or, refl, sym, ap, ◌∙◌, subst, arith}
 use Rattle.std.proofs.lemmas.Bool.{cond-true, cond-false, eqb-true, eq-eqb, cases_Bool, cases_lt}
 use Rattle.std.proofs.lemmas.Option.{none-some}
@@ -7,11 +7,11 @@ use Rattle.timers.specs.declared.links.Links.{Links}
 use Rattle.timers.specs.Chains.{links_of, unset_links, times, stands, chain_of, Leads, AreChains, IsSlot, IsBelow}
 use Rattle.timers.proofs.Leading.{answered, from_before, head_within}
 
--- a slot of a moment stands in that moment's chain
+-- a slot of a moment is in that moment's chain
 pub stands-own : (turns due : ℕ) → stands turns (chain_of turns due) (Some due) ≡ true
 stands-own turns due = eq-eqb (chain_of turns due) (chain_of turns due) refl
 
--- a slot that stands in a chain has a moment, whose chain it is
+-- a slot that is in a chain has a moment, whose chain it is
 pub moment_there : (turns chain : ℕ) (o : Option ℕ) → stands turns chain o ≡ true → (due : ℕ) × (o ≡ Some due) × (chain_of turns due ≡ chain)
 moment_there turns chain None h = cc
 moment_there turns chain (Some due) h = (due, refl, eqb-true (chain_of turns due) chain h)
@@ -20,7 +20,7 @@ pub only_there : (turns due chain : ℕ) (o : Option ℕ) → o ≡ Some due →
 only_there turns due chain o is h =
     sym (eqb-true (chain_of turns due) chain (sym (ap (stands turns chain) is) ∙ h))
 
--- what isn't an unset slot's is within the list
+-- a slot with a link that an unset slot doesn't have is one of the list
 pub within_from : (f : Links → Option ℕ) (links : List Links) (t v : ℕ) → f unset_links ≡ None → f (links_of links t) ≡ Some v → t < length links
 within_from f links t v none is =
     elim (cases_lt t (length links)) [
@@ -28,7 +28,7 @@ within_from f links t v none is =
       | inr h ↦ absurd (none-some v (sym none ∙ ap f (sym (get_or_past links t unset_links h)) ∙ is))
     ]
 
--- the slots of a chain are those that stand in it
+-- the slots of a chain are those that the test puts there
 pub stands_from : (heads : List (Option ℕ)) (turns : ℕ) (links : List Links) (chains : ℕ → List ℕ) → AreChains heads turns links chains → (chain t : ℕ) → 0 < times t (chains chain) → stands turns chain (links_of links t).due ≡ true
 stands_from heads turns links chains a chain t h =
     elim (cases_Bool (stands turns chain (links_of links t).due)) [
@@ -83,7 +83,7 @@ head_is_slot heads turns links chains a chain (Some u) is =
     let moment = moment_there turns chain (links_of links u).due stood in
     within_from (λ l. l.due) links u moment.0 refl moment.1
 
--- a slot's number is below what no store has more slots than
+-- a slot's number is below the limit of a store
 pub slot-below : (links : List Links) (limit : ℕ) (slot : Option ℕ) → length links ≤ limit → IsSlot links slot → IsBelow limit slot
 slot-below links limit None few within = tt
 slot-below links limit (Some s) few within = omega arith

@@ -14,7 +14,7 @@ behind_one : (b : Bool) (first n : ℕ) (xs ys : List ℕ) → IsPermutation xs 
 behind_one true first n xs ys h = IsPermutation-trans (first ∷ xs) (first ∷ n ∷ ys) (n ∷ first ∷ ys) (IsPermutation-cons first xs (n ∷ ys) h) (IsPermutation-middle (first ∷ []) n ys)
 behind_one false first n xs ys h = h
 
--- a due slot first, and then the others
+-- the due slots are a due slot and then the others, in some order
 due_first : (now first : ℕ) (ms : List (Option ℕ)) (s : ℕ) → is_due now (get_or ms s None) ≡ true → IsPermutation (due_from now first ms) ((first + s) ∷ due_from now first (set ms s None))
 due_first now first [] s is = cc
 due_first now first (m ∷ ms) zero is =
@@ -72,7 +72,7 @@ taken_one now before after list new s due within moment passed is appended =
       left = λ t moment_left h. stayed before s t moment_left within (ap (λ ms. get_or ms t None) (sym is) ∙ h);
     }
 
--- what isn't due doesn't become due
+-- a slot that isn't due doesn't become due
 pub still_not : (now : ℕ) (before after : List (Option ℕ)) (list new : List ℕ) → AreTaken now before after list new → (s : ℕ) → is_due now (get_or before s None) ≡ false → (o : Option ℕ) → get_or after s None ≡ o → is_due now o ≡ false
 still_not now before after list new h s not None is = refl
 still_not now before after list new h s not (Some due) is = ap (is_due now) (sym (h.left s due is)) ∙ not

@@ -15,7 +15,7 @@ use Rattle.timers.proofs.Standing.{moment_there}
 quotient_le : (a b : ℕ) → a ≤ b → a / 1024 ≤ b / 1024
 quotient_le a b h = omega arith
 
--- a due moment stands in one of the chains that are passed
+-- the chain of a due moment is one of the chains that are passed
 pub due_chain : (turns now due : ℕ) → due ≤ now → (k : ℕ) × (k < chain_count turns now) × ((turns % 1024 + k) % 1024 ≡ chain_of turns due)
 due_chain turns now due h =
     let far : ℕ = max turns (due / 1024) - turns in (
@@ -24,13 +24,13 @@ due_chain turns now due h =
       omega arith,
     )
 
--- what isn't due stands where it did once the wheel has turned to `now`
+-- a moment that isn't due keeps its chain after the wheel has turned to `now`
 same_chain : (turns now due : ℕ) → now < due → chain_of (max turns (now / 1024)) due ≡ chain_of turns due
 same_chain turns now due h =
     let same : max (max turns (now / 1024)) (due / 1024) ≡ max turns (due / 1024) = omega (arith, quotient_le now due (omega arith)) in
     ap (λ n. n % 1024) same
 
--- a chain without due slots stays so while slots are cleared
+-- a chain without due slots has none while slots are unset
 pub stays_none : (turns chain now : ℕ) (links after : List Links) (list new : List ℕ) → AreTaken now (moments links) (moments after) list new → HasNoneDue turns chain now links → HasNoneDue turns chain now after
 stays_none turns chain now links after list new taken none s stood =
     let m = moment_there turns chain (links_of after s).due stood in
@@ -59,7 +59,7 @@ same_stands turns now chain None not = refl
 same_stands turns now chain (Some due) not =
     ap (λ c. eqb c chain) (same_chain turns now due (leb-false due now not))
 
--- the wheel turned to `now`, where no slot is due
+-- a linked wheel where no slot is due is linked after it has turned to `now`
 pub turned : (old new : Wheel) (now : ℕ) (links : List Links) → IsLinked old links → AreNoneDue now links → new.heads.items ≡ old.heads.items → new.turns ≡ max old.turns (now / 1024) → new.count ≡ old.count → IsLinked new links
 turned old new now links l none heads turns count =
     let P : List (Option ℕ) → Type 0 = λ hs. AreChains hs new.turns links l.chains in
@@ -77,7 +77,7 @@ turned old new now links l none heads turns count =
       linked = subst P (sym heads) (subst Q (sym turns) a);
     }
 
--- where no slot is due none is found, and clearing changes nothing
+-- where no slot is due none is found, and unsetting the due ones changes nothing
 none_found : (now first : ℕ) (ms : List (Option ℕ)) → ((s : ℕ) → is_due now (get_or ms s None) ≡ false) → due_from now first ms ≡ []
 none_found now first [] none = refl
 none_found now first (m ∷ ms) none =

@@ -1,4 +1,4 @@
--- A slot is taken out of its chain.
+-- A slot is removed from its chain.
 use Rattle.std.proofs.Common.{◌≡◌, ℕ, ◌+◌, ◌<◌, false, cond, Option, Some, None, inl, inr, List, [], ◌∷◌, length, get_or, eqb, is_some, refl, sym, ap, ◌∙◌, subst, arith}
 use Rattle.std.proofs.Math.ListN.{set}
 use Rattle.std.proofs.lemmas.Bool.{cond-true, cond-false, eqb-true, eqb-false, eq-eqb, cases_Bool, true≢false, cases_eq}
@@ -11,15 +11,15 @@ use Rattle.timers.proofs.Leading.{around, Bypassed, leads_without, heads_chain}
 use Rattle.timers.proofs.Writing.{names, names-true, names_it, next-with_next, previous-with_next, due-with_next, length-with_next, moments-with_next, next-with_previous, previous-with_previous, due-with_previous, length-with_previous, moments-with_previous, others-with_next, others-with_previous}
 use Rattle.timers.proofs.Standing.{only_there, stands_from, in_own, few, agreed_next, agreed_previous, next_within, previous_within, head_stands}
 
--- with a slot's neighbours linked to one another
+-- the links with a slot's neighbours linked to one another
 abbrev pub joined : List Links → ℕ → List Links
 joined links s = with_previous (with_next links (links_of links s).previous (links_of links s).next) (links_of links s).next (links_of links s).previous
 
--- and the slot unset
+-- the links with a slot's neighbours linked to one another, and the slot unset
 abbrev pub unlinked : List Links → ℕ → List Links
 unlinked links s = set (joined links s) s unset_links
 
--- past a slot from its neighbour, and from no other
+-- a link is replaced exactly where the neighbour names the slot
 around_named : (slot t : ℕ) (o to at : Option ℕ) → (o ≡ Some t → at ≡ Some slot) → (at ≡ Some slot → o ≡ Some t) → cond (names o t) to at ≡ around slot to at
 around_named slot t o to None there back =
     elim (cases_Bool (names o t)) [
@@ -76,7 +76,7 @@ differ x s t same other =
       | inr not ↦ not
     ]
 
--- a chain without a slot has the others as often
+-- a chain without a slot has each other slot as often
 times-without : (t s : ℕ) (chain : List ℕ) → times t (without s chain) ≡ cond (eqb t s) 0 (times t chain)
 times-without t s [] = elim (cases_Bool (eqb t s)) [ inl is ↦ sym (cond-true {A = ℕ} (eqb t s) 0 0 is) | inr not ↦ sym (cond-false {A = ℕ} (eqb t s) 0 0 not) ]
 times-without t s (x ∷ rest) =
@@ -110,7 +110,7 @@ times-without t s (x ∷ rest) =
           )
     ]
 
--- the writes of the neighbours and of the slot
+-- the three writes, of the neighbours and of the slot, make the unlinked links
 pub unlinked_by : (links first second third : List Links) (s : ℕ) (old none : Links) → old ≡ links_of links s → first ≡ with_next links old.previous old.next → second ≡ with_previous first old.next old.previous → none ≡ unset_links → third ≡ set second s none → third ≡ unlinked links s
 unlinked_by links first second third s old none e f h k l =
     l
@@ -120,7 +120,7 @@ unlinked_by links first second third s old none e f h k l =
 other_kept : {X : Type 0} (f : Links → X) (links : List Links) (s t : ℕ) (l : Links) → eqb t s ≡ false → f (links_of (set links s l) t) ≡ f (links_of links t)
 other_kept {X} f links s t l other = ap f (get_or-set_other links s t l unset_links (eqb-false t s other))
 
--- the links then lead past the slot
+-- after the writes the links lead past the slot
 bypassed : (heads : List (Option ℕ)) (turns : ℕ) (links : List Links) (chains : ℕ → List ℕ) → AreChains heads turns links chains → (chain s due : ℕ) → (links_of links s).due ≡ Some due → Bypassed links (unlinked links s) s (chains chain)
 bypassed heads turns links chains a chain s due is_set =
     let n = (links_of links s).next in
@@ -155,7 +155,7 @@ around_other slot to (Some u) h =
 around_it : (slot : ℕ) (to at : Option ℕ) → at ≡ Some slot → to ≡ around slot to at
 around_it slot to at is = sym (cond-true (eqb slot slot) to (Some slot) (eq-eqb slot slot refl)) ∙ ap (around slot to) (sym is)
 
--- the heads lead past the slot
+-- after the writes the heads lead past the slot
 head_past : (heads : List (Option ℕ)) (turns : ℕ) (links : List Links) (chains : ℕ → List ℕ) → AreChains heads turns links chains → (chain s due : ℕ) → (links_of links s).due ≡ Some due → chain_of turns due < length heads → (q : Option ℕ) → (links_of links s).previous ≡ q → get_or (with_head heads (chain_of turns due) (links_of links s)) chain None ≡ around s (links_of links s).next (get_or heads chain None)
 head_past heads turns links chains a chain s due is_set within (Some u) is =
     ap (λ b. get_or (cond b heads (set heads (chain_of turns due) (links_of links s).next)) chain None) (ap is_some is)
@@ -172,7 +172,7 @@ head_past heads turns links chains a chain s due is_set within None is =
       | inr other ↦ written ∙ get_or-set_other heads own chain n None other ∙ around_other s n (get_or heads chain None) (λ e. other (heads_own heads turns links chains a chain s due is_set e))
     ]
 
--- each slot left stands in its own chain once
+-- each slot that is left is in its own chain once
 once_left : (heads : List (Option ℕ)) (turns : ℕ) (links : List Links) (chains : ℕ → List ℕ) → AreChains heads turns links chains → (s t chain : ℕ) → s < length links → IsSlot links (links_of links s).previous → IsSlot (with_next links (links_of links s).previous (links_of links s).next) (links_of links s).next → times t (without s (chains chain)) ≡ cond (stands turns chain (links_of (unlinked links s) t).due) 1 0
 once_left heads turns links chains a s t chain inside first second =
     elim (cases_Bool (eqb t s)) [
@@ -186,7 +186,7 @@ once_left heads turns links chains a s t chain inside first second =
           )
     ]
 
--- the chains are then those without the slot
+-- the chains after the writes are those without the slot
 pub unlinked-chains : (heads : List (Option ℕ)) (turns : ℕ) (links : List Links) (chains : ℕ → List ℕ) → AreChains heads turns links chains → (s due : ℕ) → (links_of links s).due ≡ Some due → s < length links → chain_of turns due < length heads → AreChains (with_head heads (chain_of turns due) (links_of links s)) turns (unlinked links s) (λ chain. without s (chains chain))
 unlinked-chains heads turns links chains a s due is_set inside within =
     let q = (links_of links s).previous in
@@ -215,7 +215,7 @@ not_behind heads turns links chains a s due t is_set unset =
       | inr not ↦ not
     ]
 
--- the slots that aren't set then have no neighbours, nor has that one
+-- after the writes the slots that aren't set have no neighbours, and neither has the slot
 pub unlinked-cleared : (heads : List (Option ℕ)) (turns : ℕ) (links : List Links) (chains : ℕ → List ℕ) → AreChains heads turns links chains → AreCleared links → (s due : ℕ) → (links_of links s).due ≡ Some due → s < length links → AreCleared (unlinked links s)
 unlinked-cleared heads turns links chains a cleared s due is_set within t none =
     let q = (links_of links s).previous in

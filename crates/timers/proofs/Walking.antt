@@ -17,7 +17,7 @@ use Rattle.timers.proofs.Standing.{stands_from, in_chain, few, moment_there, wit
 use Rattle.timers.proofs.Counting.{moment_of}
 use Rattle.timers.proofs.Taking.{still_not}
 
--- the slots from that one on, as the links lead, at most so many
+-- the slots from a slot on, as the links lead, at most so many
 abbrev pub walk : ℕ → List Links → Option ℕ → List ℕ
 walk zero links at = []
 walk (suc steps) links None = []
@@ -41,7 +41,7 @@ unfolding Leads
 begins links previous at [] h = h
 begins links previous at (x ∷ rest) h = h.0
 
--- the end of a chain is led through too
+-- links that lead through a chain lead through its end
 pub led_end : (links : List Links) (previous at : Option ℕ) (done rest : List ℕ) → Leads links previous at (done ++ rest) → (before : Option ℕ) × Leads links before (first_of_chain rest) rest
 unfolding Leads
 led_end links previous at [] rest h =
@@ -86,7 +86,7 @@ held : (s : ℕ) (done rest : List ℕ) → 0 < times s (done ++ s ∷ rest)
 held s [] rest = here s rest
 held s (x ∷ done) rest = later s x (done ++ s ∷ rest) (held s done rest)
 
--- a slot that stands between two parts of a chain is in neither
+-- a slot between two parts of a chain is in neither
 only_between : (s : ℕ) (done rest : List ℕ) → times s (done ++ s ∷ rest) ≤ 1 → (times s done ≡ 0) × (times s rest ≡ 0)
 only_between s [] rest few_there = (refl, omega (arith, cond-true {A = ℕ} (eqb s s) 1 0 (eq-eqb s s refl)))
 only_between s (x ∷ done) rest few_there =
@@ -122,7 +122,7 @@ passing_none now chain wheel links at l is = record {
   passed = λ s h. absurd (omega (arith, h));
 }
 
--- how far it is to the end
+-- the walk from a slot has the slots that are left
 pub steps_left : (now chain : ℕ) (wheel : Wheel) (links : List Links) (at : Option ℕ) → (p : IsPassing now chain wheel links at) → walk (length links) links at ≡ p.rest
 steps_left now chain wheel links at p =
     let l = p.linked in
@@ -138,7 +138,7 @@ next_there s done (x ∷ rest) h =
     let P : ℕ → Type 0 = λ k. 0 < times k (done ++ x ∷ rest) in
     subst P (same_Some x s h) (held x done rest)
 
--- the slot that comes next
+-- the next slot of a walk is one of the list
 pub passing_within : (now chain : ℕ) (wheel : Wheel) (links : List Links) (at : Option ℕ) (s : ℕ) → IsPassing now chain wheel links at → at ≡ Some s → s < length links
 passing_within now chain wheel links at s p is =
     let l = p.linked in
@@ -150,7 +150,7 @@ no_more : (rest : List ℕ) → first_of_chain rest ≡ None → rest ≡ []
 no_more [] h = refl
 no_more (x ∷ rest) h = absurd (none-some x (sym h))
 
--- at the end no slot of the chain is due
+-- at the end of a walk no slot of the chain is due
 pub passing_all : (now chain : ℕ) (wheel : Wheel) (links : List Links) (at : Option ℕ) → IsPassing now chain wheel links at → at ≡ None → (s : ℕ) → stands wheel.turns chain (links_of links s).due ≡ true → is_due now (links_of links s).due ≡ false
 passing_all now chain wheel links at p is s stood =
     let l = p.linked in
@@ -207,7 +207,7 @@ further now chain old new links after list longer s at to l done (x ∷ rest) sp
       )
     ]
 
--- one slot further
+-- a walk goes one slot further
 pub passing_more : (now chain : ℕ) (old new : Wheel) (links after : List Links) (list longer : List ℕ) (s : ℕ) (at to : Option ℕ) → (p : IsPassing now chain old links at) → at ≡ Some s → to ≡ (links_of links s).next → IsLinked new after → ((chains : ℕ → List ℕ) → AreChains old.heads.items old.turns links chains → AreChains new.heads.items new.turns after (λ c. passed now links s (chains c))) → AreTaken now (moments links) (moments after) list longer → (q : IsPassing now chain new after to) × (length q.rest + 1 ≡ length p.rest)
 passing_more now chain old new links after list longer s at to p is next linked chains taken =
     further now chain old new links after list longer s at to p.linked p.done p.rest p.split (sym p.front ∙ is) p.passed next linked chains taken

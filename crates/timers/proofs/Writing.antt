@@ -20,7 +20,7 @@ names-true (Some u) t h = ap (λ s. Some s) (sym (eqb-true t u h))
 pub names_it : (o : Option ℕ) (t : ℕ) → o ≡ Some t → names o t ≡ true
 names_it o t h = ap (λ p. names p t) h ∙ eq-eqb t t refl
 
--- one link of a slot after a write elsewhere or there
+-- a link of a slot is the new one after a write to that slot, else the old one
 pub one_written : {X : Type 0} (f : Links → X) (links : List Links) (u t : ℕ) (l : Links) → u < length links → f (links_of (set links u l) t) ≡ cond (eqb t u) (f l) (f (links_of links t))
 one_written {X} f links u t l within =
     elim (cases_Bool (eqb t u)) [
@@ -28,7 +28,7 @@ one_written {X} f links u t l within =
       | inr not ↦ ap f (get_or-set_other links u t l unset_links (eqb-false t u not)) ∙ sym (cond-false (eqb t u) (f l) (f (links_of links t)) not)
     ]
 
--- a write that leaves one link of its slot leaves it at all
+-- a write that leaves one link of its slot leaves that link of every slot
 pub one_kept : {X : Type 0} (f : Links → X) (links : List Links) (u t : ℕ) (l : Links) → u < length links → f l ≡ f (links_of links u) → f (links_of (set links u l) t) ≡ f (links_of links t)
 one_kept {X} f links u t l within same =
     elim (cases_Bool (eqb t u)) [

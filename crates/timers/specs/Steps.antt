@@ -11,21 +11,21 @@ abbrev pub without : ℕ → List ℕ → List ℕ
 without slot [] = []
 without slot (other ∷ rest) = cond (nat_eq other slot) (without slot rest) (other ∷ without slot rest)
 
--- with that slot after a slot, where there is one
+-- the links with `next` as the slot after a slot, where there is one
 abbrev pub with_next : List Links → Option ℕ → Option ℕ → List Links
 with_next links None next = links
 with_next links (Some slot) next = slice_set links slot (record (links_of links slot) { next = next })
 
--- with that slot before a slot, where there is one
+-- the links with `previous` as the slot before a slot, where there is one
 abbrev pub with_previous : List Links → Option ℕ → Option ℕ → List Links
 with_previous links None previous = links
 with_previous links (Some slot) previous = slice_set links slot (record (links_of links slot) { previous = previous })
 
--- the heads once the slot with these links has gone from that chain
+-- the heads after the slot with these links was removed from a chain
 abbrev pub with_head : List (Option ℕ) → ℕ → Links → List (Option ℕ)
 with_head heads chain links = cond (is_some links.previous) heads (slice_set heads chain links.next)
 
--- a chain once a slot of it has been passed
+-- a chain after one of its slots was passed: without the slot where it was due
 abbrev pub passed : ℕ → List Links → ℕ → List ℕ → List ℕ
 passed now links slot chain = cond (is_due now (links_of links slot).due) (without slot chain) chain
 
@@ -41,7 +41,7 @@ pub record AreTaken (now : ℕ) (before after : List (Option ℕ)) (list new : L
   pub cleared : map (cleared now) after ≡ map (cleared now) before
   pub left : (slot due : ℕ) → get_or after slot None ≡ Some due → get_or before slot None ≡ Some due
 
--- no slot in that chain is due
+-- no slot in a chain is due
 abbrev pub HasNoneDue : ℕ → ℕ → ℕ → List Links → Type 0
 HasNoneDue turns chain now links = (slot : ℕ) → stands turns chain (links_of links slot).due ≡ true → is_due now (links_of links slot).due ≡ false
 

@@ -1,4 +1,4 @@
-//! Due moments of numbered slots.
+//! The times at which numbered slots are due.
 #![tactic(auto)]
 
 ghost use Rattle.std.specs.Prelude.{◌≡◌, ◌+◌, ◌<◌, ◌≤◌, None, Some, length, map, max, take, drop, replicate, slice_set, vec_len, vec_capacity, IfOk, OnOk, OnErr, IsOk};
@@ -18,8 +18,7 @@ pub use crate::wheel::Wheel;
 use std::alloc::{AllocError, Global};
 use std::marker::Model;
 
-/// A moment for each slot that is set, in centiseconds: a wheel and its slots, which are numbered
-/// from 0 on.
+/// The time at which each slot that is set is due, in centiseconds. The slots are numbered from 0 on.
 #[derive(Drop)]
 pub struct Timers {
     wheel: Wheel,
@@ -40,7 +39,8 @@ impl Model for Timers {
 }
 
 impl Timers {
-    /// So many slots, none of them set.
+    /// Makes `count` slots, none of them set. An Err says that there is no memory, or that there are more slots than
+    /// 31-bit numbers.
     pub fn with_capacity(alloc: Global, count: usize) -> Result<Timers, AllocError>
         ensures unset { IfOk result (λ timers. timers ≡ replicate count None) }
         ensures refused { OnErr result (LacksTimers count) }
@@ -50,7 +50,7 @@ impl Timers {
         Ok(Timers { wheel, links })
     }
 
-    /// The moment at which a slot is due, if it is set.
+    /// Returns the time at which a slot is due, in centiseconds, or None where the slot isn't set.
     pub fn get(&self, slot: usize) -> Option<u64>
         requires { slot < length self.now }
         ensures { result ≡ get_or self.now slot None }
@@ -58,7 +58,7 @@ impl Timers {
         self.links.due(slot)
     }
 
-    /// Makes a slot due at that moment, and at no other.
+    /// Makes a slot due at the time `due` (centiseconds), and at no other.
     pub fn set(&mut self, slot: usize, due: u64)
         requires { slot < length self.old }
         ensures { self.new ≡ slice_set self.old slot (Some due) }
@@ -66,7 +66,7 @@ impl Timers {
         self.wheel.set(&mut self.links, slot, due);
     }
 
-    /// Makes a slot due at no moment.
+    /// Unsets a slot, which then is never due.
     pub fn clear(&mut self, slot: usize)
         requires { slot < length self.old }
         ensures { self.new ≡ slice_set self.old slot None }
@@ -74,15 +74,15 @@ impl Timers {
         self.wheel.clear(&mut self.links, slot);
     }
 
-    /// Appends the slots whose moment is at most `now`, in any order, and clears them. Makes room
-    /// for all slots that are set.
+    /// Appends the numbers of the slots that are due at `now` or before, in any order, and unsets these slots. The call
+    /// reserves capacity for all slots that are set.
     pub fn due(&mut self, now: u64, out: &mut Vec<usize>) -> Result<(), AllocError>
         ensures kept { take (length out.old.items) out.new.items ≡ out.old.items }
         ensures found { OnOk result (IsPermutation (due_slots now self.old) (drop (length
             out.old.items) out.new.items)) }
         ensures cleared { OnOk result (self.new ≡ map (cleared now) self.old) }
 
-        // An error changes nothing, and comes only where room for the set slots was asked for and refused.
+        // An error changes nothing, and comes only where there is no memory for as many numbers as slots are set.
         ensures err_slots { OnErr result (self.new ≡ self.old) }
         ensures err_list { OnErr result (out.new.items ≡ out.old.items) }
         ensures room { vec_len out.old + set_count self.old ≤ vec_capacity out.old

@@ -1,10 +1,11 @@
-//! What a wheel keeps of its caller's slots.
+//! The part of a wheel that each slot of its caller keeps.
 ghost use Rattle.std.specs.Prelude.{◌≡◌, ◌<◌, ◌≤◌, ◌^◌, ⊤, ℕ, List, length, slice_set};
 ghost use Rattle.timers.specs.declared.links.Links.{Links};
 ghost use Rattle.timers.specs.Chains.{due_of, unset_links, links_of, IsSlot, IsBelow};
 ghost use Rattle.timers.specs.Steps.{with_next, with_previous};
 
-/// A slot's neighbours in its chain, and its due moment in centiseconds where it is set.
+/// A slot's neighbours in its chain, and the time at which it is due, in centiseconds, where it is
+/// set.
 #[derive(Clone, Copy, Debug, PartialEq, Eq)]
 pub struct Links {
     pub(crate) next: Option<usize>,
@@ -13,7 +14,7 @@ pub struct Links {
 }
 
 impl Links {
-    /// Of a slot that isn't set.
+    /// Returns the links of a slot that isn't set.
     pub fn unset() -> Links
         ensures { result ≡ unset_links }
     {
@@ -24,7 +25,7 @@ impl Links {
         }
     }
 
-    /// The moment at which the slot is due, if it is set.
+    /// Returns the time at which the slot is due, in centiseconds, or None where it isn't set.
     pub fn due(&self) -> Option<u64>
         ensures { result ≡ due_of self.now }
     {
@@ -32,9 +33,9 @@ impl Links {
     }
 }
 
-/// A store of slots, numbered from 0 on, that keeps a wheel's links for it.
+/// A store of slots, numbered from 0 on, that keeps the links of a wheel.
 pub trait Slots {
-    // What a wheel leaves as it was.
+    // The part of the store that a wheel doesn't change.
     ghost Rest: { Type 0 };
 
     ghost rest: { Self → Self.Rest };
@@ -42,21 +43,21 @@ pub trait Slots {
     // The links of each slot.
     ghost all: { Self → List Links };
 
-    // Links name slots below this.
+    // Above the number of each slot that links name.
     ghost limit: { ℕ };
 
-    /// Reminds the prover of how many slots there may be; it does nothing when it runs.
+    /// Reminds the prover of how many slots there may be. The call does nothing at run time.
     fn recall(&self)
         ensures { length (all self.now) ≤ limit };
 
-    /// The links of that slot.
+    /// Returns the links of a slot.
     fn links(&self, slot: usize) -> Links
         requires { slot < length (all self.now) }
         ensures links { result ≡ links_of (all self.now) slot }
         ensures next { IsBelow limit result.next }
         ensures previous { IsBelow limit result.previous };
 
-    /// Gives that slot these links, and changes nothing else.
+    /// Sets the links of a slot, and changes nothing else.
     fn set_links(&mut self, slot: usize, links: Links)
         requires within { slot < length (all self.old) }
         requires next { IsBelow limit links.next }
@@ -65,7 +66,7 @@ pub trait Slots {
         ensures rest { rest self.new ≡ rest self.old };
 }
 
-/// The slot as it is: its type's range is what the prover is reminded of.
+/// Returns the slot as it is, with a contract that says that its number fits in 64 bits.
 fn in_range(slot: Option<usize>) -> Option<usize>
     ensures same { result ≡ slot }
     ensures below { IsBelow 18446744073709551616 result }
@@ -103,7 +104,7 @@ impl Slots for Vec<Links> {
     }
 }
 
-/// Gives a slot, if there is one, that slot after it.
+/// Makes `next` the slot after a slot, if there is one.
 pub(crate) fn set_next<S: Slots>(slots: &mut S, slot: Option<usize>, next: Option<usize>)
     requires slot { IsSlot (S.all slots.old) slot }
     requires next { IsBelow S.limit next }
@@ -116,7 +117,7 @@ pub(crate) fn set_next<S: Slots>(slots: &mut S, slot: Option<usize>, next: Optio
     }
 }
 
-/// Gives a slot, if there is one, that slot before it.
+/// Makes `previous` the slot before a slot, if there is one.
 pub(crate) fn set_previous<S: Slots>(slots: &mut S, slot: Option<usize>, previous: Option<usize>)
     requires slot { IsSlot (S.all slots.old) slot }
     requires previous { IsBelow S.limit previous }

@@ -1,4 +1,4 @@
-//! Links in a third of the bytes that their fields take: two words of 32 bits and a moment.
+//! Links in a third of the bytes that their fields take: two words of 32 bits and a time of 64.
 ghost use Rattle.std.specs.Prelude.{◌≡◌, ◌<◌, ◌≤◌, ◌%◌, ⊤, IfOk, OnErr, length, map, replicate};
 ghost use Rattle.timers.specs.Chains.{IsBelow, links_of, unset_links};
 ghost use Rattle.timers.specs.Memory.{LacksSlots};
@@ -8,11 +8,11 @@ use crate::links::{Links, Slots};
 use memory::copies_of;
 use std::alloc::{AllocError, Global};
 
-/// So many slots have numbers that fit a word.
+/// The most slots whose numbers fit in a word.
 const MOST: usize = 2_147_483_647;
 
-/// The links of a slot: twice one more than its neighbour's number, or 0, and in the lowest bit of the
-/// first word whether the slot is set. So each moment can be set, the last one too.
+/// The links of a slot. Each word is twice one more than its neighbour's number, or 0 without a neighbour. The lowest
+/// bit of the first word says whether the slot is set, so that the last time that `u64` has can be set too.
 #[derive(Clone, Copy)]
 pub struct Packed {
     next: u32,
@@ -20,7 +20,7 @@ pub struct Packed {
     due: u64,
 }
 
-/// The word of a slot's number, if there is one.
+/// Returns the word for a slot's number, or 0 for None.
 fn word_of(slot: Option<usize>) -> u32
     requires { IsBelow 2147483647 slot }
     ensures value { slot_in result ≡ slot }
@@ -32,7 +32,7 @@ fn word_of(slot: Option<usize>) -> u32
     }
 }
 
-/// The number in a word.
+/// Returns the slot's number in a word, or None where the word has none.
 fn slot_of(word: u32) -> Option<usize>
     ensures value { result ≡ slot_in word }
     ensures below { IsBelow 2147483647 result }
@@ -86,7 +86,7 @@ fn unpack(packed: Packed) -> Links
     }
 }
 
-/// A store of slots, whose numbers fit words.
+/// A store of slots whose numbers fit in words of 32 bits.
 #[derive(Drop)]
 pub struct PackedSlots {
     list: Vec<Packed>,
@@ -94,7 +94,8 @@ pub struct PackedSlots {
 }
 
 impl PackedSlots {
-    /// Slots that aren't set. There is no memory for more than have numbers.
+    /// Makes `count` slots that aren't set. An Err says that there is no memory, or that there are more slots than
+    /// 31-bit numbers.
     pub fn unset(alloc: Global, count: usize) -> Result<PackedSlots, AllocError>
         ensures unset { IfOk result (λ slots. all_unpacked slots.list.items
             ≡ replicate count unset_links) }
@@ -112,7 +113,7 @@ impl PackedSlots {
         Ok(PackedSlots { list })
     }
 
-    /// The moment at which a slot is due, if it is set.
+    /// Returns the time at which a slot is due, in centiseconds, or None where it isn't set.
     pub fn due(&self, slot: usize) -> Option<u64>
         requires { slot < length (all_unpacked self.now.list.items) }
         ensures { result ≡ (links_of (all_unpacked self.now.list.items) slot).due }

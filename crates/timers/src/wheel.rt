@@ -1,4 +1,4 @@
-//! A wheel of due moments.
+//! A timing wheel: slots in chains by the times at which they are due.
 ghost use Rattle.std.specs.Prelude.{◌≡◌, ◌+◌, ◌<◌, ◌≤◌, ◌^◌, ℕ, List, None, Some, length, map, max, ◌/◌, take, drop, slice_set, vec_len, vec_capacity, All, IfOk, OnOk, OnErr, IsOk};
 ghost use Rattle.std.specs.List.Sorted.{IsPermutation};
 ghost use Rattle.memory.specs.Memory.{WasRefused};
@@ -13,19 +13,19 @@ use crate::links::{Links, Slots, set_next, set_previous};
 use memory::{copies_of, reserve_exact};
 use std::alloc::{AllocError, Global};
 
-/// Due moments of slots in centiseconds, in 1,024 chains of slots that are due about the same time.
-/// The links of the chains lie in the slots.
+/// The slots that are set, in 1,024 chains of slots that are due at about the same time. The links of the chains are in
+/// the slots.
 #[derive(Drop)]
 pub struct Wheel {
     // The first slot of each chain.
     heads: Vec<Option<usize>>,
-    // How often the wheel has turned: it turns by a chain in 1,024 centiseconds.
+    // How often the wheel has turned. One turn, by a chain, takes 1,024 centiseconds.
     turns: u64,
     // How many slots are set.
     count: usize,
 }
 
-/// The chain of a moment, on a wheel that has turned so many times.
+/// Returns the number of the chain of a time, on a wheel that has turned `turns` times.
 fn chain_of(turns: u64, due: u64) -> usize
     ensures chain { result ≡ chain_number turns due }
     ensures within { result < 1024 }
@@ -33,14 +33,14 @@ fn chain_of(turns: u64, due: u64) -> usize
     (turns.max(due / 1024) % 1024) as usize
 }
 
-/// How many chains there are from the present one to that of `now`, each counted once.
+/// Returns how many chains there are from the present one to that of `now`, each counted once.
 fn chains_until(turns: u64, now: u64) -> usize
     ensures { result ≡ chain_count turns now }
 {
     (now / 1024).saturating_sub(turns).min(1023) as usize + 1
 }
 
-/// Once the slot with these links has gone, the slot after it heads the chain if it did.
+/// Makes the next slot the head of a chain, where the slot with these links was the head and is removed.
 fn set_head(heads: &mut Vec<Option<usize>>, chain: usize, links: Links)
     requires { chain < length heads.old.items }
     ensures { heads.new.items ≡ with_head heads.old.items chain links }
@@ -51,7 +51,7 @@ fn set_head(heads: &mut Vec<Option<usize>>, chain: usize, links: Links)
 }
 
 impl Wheel {
-    /// A wheel at moment 0, with no slot set.
+    /// Makes a wheel at time 0, with no slot set. An Err says that there is no memory.
     pub fn new(alloc: Global) -> Result<Wheel, AllocError>
         ensures linked { IfOk result (λ wheel. (links : List Links) → length links < 2 ^ 64
             → All (λ slot. slot ≡ unset_links) links → IsLinked wheel links) }
@@ -65,7 +65,7 @@ impl Wheel {
         })
     }
 
-    /// Makes a slot due at that moment, and at no other.
+    /// Makes a slot due at the time `due` (centiseconds), and at no other.
     pub fn set<S: Slots>(&mut self, slots: &mut S, slot: usize, due: u64)
         requires linked { IsLinked self.old (S.all slots.old) }
         requires within { slot < length (S.all slots.old) }
@@ -78,7 +78,7 @@ impl Wheel {
         self.link(slots, slot, due);
     }
 
-    /// Makes a slot due at no moment.
+    /// Unsets a slot, which then is never due.
     pub fn clear<S: Slots>(&mut self, slots: &mut S, slot: usize)
         requires linked { IsLinked self.old (S.all slots.old) }
         requires within { slot < length (S.all slots.old) }
@@ -93,8 +93,8 @@ impl Wheel {
         }
     }
 
-    /// Appends the slots whose moment is at most `now`, in any order, and clears them. Makes room
-    /// for all slots that are set, and visits no chain twice.
+    /// Appends the numbers of the slots that are due at `now` or before, in any order, and unsets these slots. The call
+    /// reserves capacity for all slots that are set, and visits no chain twice.
     pub fn due<S: Slots>(
         &mut self,
         slots: &mut S,
@@ -110,7 +110,7 @@ impl Wheel {
             ≡ map (cleared now) (moments (S.all slots.old))) }
         ensures rest { S.rest slots.new ≡ S.rest slots.old }
 
-        // An error changes nothing, and comes only where room for the set slots was asked for and refused.
+        // An error changes nothing, and comes only where there is no memory for as many numbers as slots are set.
         ensures err_wheel { OnErr result (self.new ≡ self.old) }
         ensures err_slots { OnErr result (S.all slots.new ≡ S.all slots.old) }
         ensures err_list { OnErr result (out.new.items ≡ out.old.items) }
@@ -121,7 +121,7 @@ impl Wheel {
         ensures exact { OnOk result (vec_capacity out.new ≡ max (vec_capacity out.old)
             (vec_len out.old + set_count (moments (S.all slots.old)))) }
 
-        // A later call visits no chain before that of this moment again.
+        // A later call doesn't visit the chains before that of `now` again.
         ensures turns { OnOk result (turns_of self.new ≡ max (turns_of self.old) (now / 1024)) }
     {
         reserve_exact(out, self.count)?;
@@ -154,7 +154,7 @@ impl Wheel {
         self.count += 1;
     }
 
-    /// Takes a slot that is due at that moment out of its chain, and leaves it unset.
+    /// Removes a slot that is due at the time `due` from its chain, and leaves it unset.
     fn unlink<S: Slots>(&mut self, slots: &mut S, slot: usize, due: u64)
         requires linked { IsLinked self.old (S.all slots.old) }
         requires within { slot < length (S.all slots.old) }
@@ -179,7 +179,7 @@ impl Wheel {
         self.count -= 1;
     }
 
-    /// Clears a slot and appends it, where it is due. Gives the slot after it.
+    /// Unsets a slot and appends its number, where it is due, and returns the next slot of the chain.
     fn pass_slot<S: Slots>(
         &mut self,
         slots: &mut S,
@@ -213,7 +213,7 @@ impl Wheel {
         links.next
     }
 
-    /// Clears the due slots of a chain, and appends them.
+    /// Unsets the due slots of a chain, and appends their numbers.
     fn pass_chain<S: Slots>(&mut self, slots: &mut S, chain: usize, now: u64, out: &mut Vec<usize>)
         requires linked { IsLinked self.old (S.all slots.old) }
         requires within { chain < 1024 }
@@ -233,8 +233,8 @@ impl Wheel {
         }
     }
 
-    /// Clears all due slots, and appends them. They are in the chains from the wheel's present one
-    /// to that of `now`.
+    /// Unsets all due slots, and appends their numbers. The due slots are in the chains from the wheel's present one to
+    /// that of `now`.
     fn pass_chains<S: Slots>(&mut self, slots: &mut S, now: u64, out: &mut Vec<usize>)
         requires linked { IsLinked self.old (S.all slots.old) }
         requires room { vec_len out.old + self.old.count ≤ vec_capacity out.old }

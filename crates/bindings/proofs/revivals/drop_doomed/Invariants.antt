@@ -6,7 +6,7 @@ use Rattle.bindings.specs.Revivals.{lives_of_pairs}
 use Rattle.bindings.proofs.Walks.{behind}
 use Rattle.bindings.proofs.revivals.drop_doomed.Given as goal
 
--- the pairs and their lives stay, and no Doomed entry is left that isn't behind the last one seen
+-- the pairs and their lives stay, and each Doomed entry that is left is after the last entry seen
 abbrev pub invariant-loop-entry : goal.invariant-loop-entry
 invariant-loop-entry l = record {
   same : AreAlike l.fn.ports.tcp.lowest l.fn.ports.tcp.highest l.ports;

@@ -4,7 +4,7 @@ use Rattle.bindings.proofs.Walks.{behind}
 use Rattle.bindings.proofs.Renewed.{lives_behind}
 use Rattle.bindings.proofs.revivals.renew_all.Given as goal
 
--- those that are left begin anew, and then all have
+-- the lives that are left will begin anew, and then all have
 abbrev pub invariant-loop-entry : goal.invariant-loop-entry
 invariant-loop-entry l = record {
   renewed : lives_behind (life_renewed l.now) l.last l.store.entries l.store.lives ≡ map (life_renewed l.now) l.fn.store.lives;

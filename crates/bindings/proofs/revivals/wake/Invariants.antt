@@ -3,7 +3,7 @@ use Rattle.bindings.specs.Revivals.{woken_entry}
 use Rattle.bindings.proofs.Walks.{behind, woken_behind}
 use Rattle.bindings.proofs.revivals.wake.Given as goal
 
--- those that are left wake up, and then all have
+-- the entries that are left will wake up, and then all have
 abbrev pub invariant-loop-entry : goal.invariant-loop-entry
 invariant-loop-entry l = record {
   woken : woken_behind l.last l.store.entries ≡ map woken_entry l.fn.store.entries;

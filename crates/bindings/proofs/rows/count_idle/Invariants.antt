@@ -3,7 +3,7 @@ use Rattle.std.specs.List.{count_by}
 use Rattle.bindings.specs.Dues.{is_idle_key}
 use Rattle.bindings.proofs.rows.count_idle.Given as goal
 
--- those so far, and what is left
+-- the count is that of the idle keys so far, and those that are left are added
 abbrev pub invariant-loop-key : goal.invariant-loop-key
 invariant-loop-key l = record {
   so_far : l.count + count_by (is_idle_key l.lone l.now l.store.entries l.store.lives) (drop l.key-index l.keys) ≡ count_by (is_idle_key l.lone l.now l.store.entries l.store.lives) l.keys;

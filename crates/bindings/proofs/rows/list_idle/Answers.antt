@@ -7,14 +7,14 @@ use Rattle.bindings.specs.Dues.{is_idle_key}
 use Rattle.bindings.proofs.rows.list_idle.Goals.{then-is_idle_entry, else-is_idle_entry}
 use Rattle.bindings.proofs.rows.list_idle.Goals as goal
 
--- the next of those that are left passes, or doesn't
+-- the first of the keys that are left passes the test and comes first, or fails and is skipped
 next : (p : Key → Bool) (keys : List Key) (i : ℕ) (d : Key) → i < length keys → p (get_or keys i d) ≡ true → filter p (drop i keys) ≡ get_or keys i d ∷ filter p (drop (i + 1) keys)
 next p keys i d lt passes = ap (filter p) (drop_more keys i d lt) ∙ rw passes refl
 
 none : (p : Key → Bool) (keys : List Key) (i : ℕ) (d : Key) → i < length keys → p (get_or keys i d) ≡ false → filter p (drop i keys) ≡ filter p (drop (i + 1) keys)
 none p keys i d lt fails = ap (filter p) (drop_more keys i d lt) ∙ rw fails refl
 
--- there is room for those that are left
+-- there is capacity for the keys that are left
 room : (p : Key → Bool) (all rest : List Key) (more len new places : ℕ) → length (filter p all) ≡ more + length (filter p rest) → new ≡ len + more → len + count_by p all ≤ places → new + count_by p rest ≤ places
 room p all rest more len new places longer added fits =
     let a = length-filter p all in

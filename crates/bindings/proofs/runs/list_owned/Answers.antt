@@ -6,14 +6,14 @@ use Rattle.bindings.proofs.Unbroken.{from-skip, from-take, all-owned, none-owned
 use Rattle.bindings.proofs.runs.list_owned.Goals as goal
 use Rattle.bindings.proofs.runs.list_owned.Goals.{else-loop-port-test, then-loop-port-test+else-port-port-end, then-owns+in_ok-push, else-owns}
 
--- one more owned port, pushed
+-- the list and the ports left stay the same together after an owned port is pushed
 pushed : (r : Range) (q : ℕ) (out more : List Port) → IsRange r → is_listed q r.owned ≡ Rattle.std.proofs.Common.true → more ≡ out ++ (port_at q ∷ []) → more ++ map port_at (ports_from_on (q + 1) r.owned) ≡ out ++ map port_at (ports_from_on q r.owned)
 pushed r q out more is there pushed_is =
     ap (λ ps. ps ++ map port_at (ports_from_on (q + 1) r.owned)) pushed_is
     ∙ append_assoc out (port_at q ∷ []) (map port_at (ports_from_on (q + 1) r.owned))
     ∙ ap (λ qs. out ++ map port_at qs) (sym (from-take 0 q r.owned is.rising there))
 
--- and a port that isn't owned
+-- the list and the ports left stay the same together after a port that isn't owned is skipped
 passed : (r : Range) (q : ℕ) (out : List Port) → is_listed q r.owned ≡ Rattle.std.proofs.Common.false → out ++ map port_at (ports_from_on (q + 1) r.owned) ≡ out ++ map port_at (ports_from_on q r.owned)
 passed r q out other = ap (λ qs. out ++ map port_at qs) (sym (from-skip q r.owned other))
 

@@ -6,7 +6,7 @@ use Rattle.slots.specs.Dues.{times}
 use Rattle.bindings.specs.Dues.{key_times}
 use Rattle.bindings.proofs.store.list_keys.Given as goal
 
--- the keys so far, and those of the slots that are left
+-- the list has the keys of the slots so far, and those of the slots that are left come after them
 abbrev pub invariant-loop-number : goal.invariant-loop-number
 invariant-loop-number l = record {
   listed : (key : Key) (n : SlotNumber) → number_of l.slots.rows key ≡ Some n → key_times key l.keys.items + times n.0 l.dues.found ≡ times n.0 l.fn.dues.found;

@@ -5,7 +5,7 @@ use Rattle.bindings.proofs.Timed.{keys_of}
 use Rattle.bindings.proofs.Walks.{behind}
 use Rattle.bindings.proofs.store.set_all.Given as goal
 
--- all but those that are left are due in time
+-- all keys but those that are left are looked at in time
 abbrev pub invariant-loop-key : goal.invariant-loop-key
 invariant-loop-key l = record {
   timed : AreTimedBut true (keys_of (behind l.last (entries_of l.slots.rows))) l.dues.moments l.slots.rows;

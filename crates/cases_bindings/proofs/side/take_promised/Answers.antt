@@ -6,7 +6,7 @@ use Rattle.spec_binding.specs.Rows.{answered}
 use Rattle.bind_core.specs.Cores.{book_of, ledger_of}
 use Rattle.cases_bindings.proofs.side.take_promised.Goals as goal
 
--- an answer leaves what is promised
+-- an answer leaves the promised records as they are
 answer-leaves : (e : Link) (o : Option Record) → (answered e o).promised ≡ e.promised
 answer-leaves e None = refl
 answer-leaves e (Some r) = refl

@@ -17,7 +17,7 @@ if-err : (r : Result Reading Reason) (K : Reason → Type 0) → ((x : Reason) �
 if-err (Ok x) K known = tt
 if-err (Err reason) K known = known reason refl
 
--- an error of this reason
+-- a result whose error is a reason that is TtlOver is the error TtlOver
 err-same : (r : Result Reading Reason) (x : Reason) → r ≡ Err x → x ≡ TtlOver → r ≡ Err TtlOver
 err-same r x is same = cc
 

@@ -4,7 +4,7 @@ use Rattle.port_range.specs.Marks.{open_word}
 use Rattle.port_range.proofs.Writing.{AreWritten}
 use Rattle.port_range.proofs.marks.sum_up_between.Given as goal
 
--- the summary is right of the words so far
+-- the summary is right for the words so far
 abbrev pub invariant-loop-index : goal.invariant-loop-index
 invariant-loop-index l = record {
   size : length l.summary ≡ 16;

@@ -4,7 +4,7 @@ use Rattle.timers.specs.Steps.{AreTaken}
 use Rattle.timers.proofs.Walking.{IsPassing, walk}
 use Rattle.timers.proofs.wheel.Wheel.pass_chain.Given as goal
 
--- the chain so far is without due slots
+-- the slots of the chain so far aren't due
 abbrev pub invariant-loop-at : goal.invariant-loop-at
 invariant-loop-at g l = record {
   passing : IsPassing l.now l.chain l.self (g.S.Slots.all l.slots) l.at;
@@ -15,6 +15,6 @@ invariant-loop-at g l = record {
   rest : g.S.Slots.rest l.slots ≡ g.S.Slots.rest l.fn.slots;
 }
 
--- the slots that are left of it
+-- the number of slots of the chain that are left
 abbrev pub decreases-loop-at : goal.decreases-loop-at
 decreases-loop-at g l = length (walk (length (g.S.Slots.all l.slots)) (g.S.Slots.all l.slots) l.at)

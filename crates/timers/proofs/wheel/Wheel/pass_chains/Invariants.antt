@@ -4,7 +4,7 @@ use Rattle.timers.specs.Linked.{IsLinked}
 use Rattle.timers.specs.Steps.{AreTaken, HasNoneDue}
 use Rattle.timers.proofs.wheel.Wheel.pass_chains.Given as goal
 
--- the chains so far are without due slots
+-- the chains so far have no due slots
 abbrev pub invariant-loop-passed : goal.invariant-loop-passed
 invariant-loop-passed g l = record {
   linked : IsLinked l.self (g.S.Slots.all l.slots);
