@@ -1,4 +1,4 @@
-//! Why a start has no boot number.
+//! The refusals of a start.
 ghost use Rattle.std.specs.Prelude.{◌≡◌};
 ghost use Rattle.boot_store.specs.declared.faults.BootFault.TheVariants.{Device};
 
