@@ -41,7 +41,7 @@ sent (side ∷ sides) (bytes ∷ strings) =
 abbrev pub no_room : Room
 no_room = record { frames = 0; datagrams = 0; notes = 0 }
 
--- room is no more than more, of anything
+-- one capacity is within another: no more frames, datagrams or notes
 pub record IsWithin (room more : Room) : Type 0 where
   pub frames : room.frames ≤ more.frames
   pub datagrams : room.datagrams ≤ more.datagrams

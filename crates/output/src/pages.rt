@@ -92,8 +92,8 @@ impl OutputBuffer {
         }
     }
 
-    /// Makes the capacity that is left at least this large. Fails where there isn't enough memory;
-    /// output and capacity are then as before.
+    /// Sets the capacity that is left to this one, and takes the memory for it. Fails where there
+    /// isn't enough; output and capacity are then as before.
     #[inline(always)]
     pub fn ready(&mut self, room: Room) -> Result<(), AllocError>
         requires few_frames { room.frames ≤ 4096 }
