@@ -57,7 +57,7 @@ module _ (t : Moment) (a b : Option ℕ) (steady : left_by_crash (bytes_of t) �
       synced-written (next_place a b) (slot_bytes n) t steady
       ∙ ap₂ (λ x y. left_by_crash (put (next_place x y) (slot_bytes n) (bytes_of t))) first_slot second_slot
 
-  -- an answered number is above what a crash could leave before, and then a crash leaves it
+  -- an answered number is above what each crash before leaves at least, and then each crash leaves at least that number
   pub rises_to : (found : Bool) (boot : ℕ) → boot < 2 ^ 64 → boot_answer found (greater a b) ≡ Ok boot → (m : ℕ) → LeavesAtLeast m t
       → (m < boot) × LeavesAtLeast boot (synced (written (next_place a b) (slot_bytes boot) t))
   rises_to found boot fits is m leaves =

@@ -11,7 +11,7 @@ each_with change [] moment = moment
 each_with change (byte ∷ any) [] = []
 each_with change (byte ∷ any) (cell ∷ moment) = change byte cell ∷ each_with change any moment
 
--- what a crash leaves of a byte, where `any` may stand in its place
+-- the byte that a crash leaves, where `any` may replace it
 abbrev pub crashed_byte : Hold → ℕ → ℕ → ℕ
 crashed_byte Kept any byte = byte
 crashed_byte Loose any byte = any

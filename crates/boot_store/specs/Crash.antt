@@ -30,7 +30,7 @@ abbrev pub Keeps : Moment → Moment → List Moment → Type 0
 Keeps start end since = (m : ℕ)
     → LeavesAtLeast m start → AllByRecursion (LeavesAtLeast m) since × LeavesAtLeast m end
 
--- an answered number is greater than each that a crash at the start could leave, and a crash at the end leaves at least the answered one
+-- an answered number is greater than any that each crash at the start leaves at least, and each crash at the end leaves at least the answered one
 abbrev pub Rises : Moment → Moment → Result ℕ BootFault → Type 0
 Rises start end answer = (m : ℕ)
     → LeavesAtLeast m start → IfOk answer (λ n. (m < n) × LeavesAtLeast n end)

@@ -16,13 +16,13 @@ pub enum Trouble {
     /// One call fails. A sync that fails loses what was written since the last one: later syncs
     /// succeed and don't write it.
     FailsOnce,
-    /// The disk stops before a call, and fails all later ones.
+    /// The disk stops before a call: that call and all later ones fail.
     StopsBefore,
-    /// The disk stops within a call, and fails all later ones.
+    /// The disk stops within a call: that call and all later ones fail.
     StopsWithin,
 }
 
-/// The outcome of a call: done, partly done, or not begun.
+/// The outcome of a call: done; failed, with what it leaves by the kind of call; or without effect.
 #[derive(Clone, Copy, Debug, PartialEq, Eq)]
 enum Fate {
     Done,
@@ -104,7 +104,8 @@ impl ModelDisk {
         self.trouble = Trouble::None;
     }
 
-    /// Returns the file's 32 bytes as a read without faults would show them.
+    /// Returns the file's 32 bytes as they are now. Bytes that are lost are still the old ones, since
+    /// nothing is read.
     pub fn bytes(&self) -> [u8; 32]
         ensures { result ≡ bytes_of (⟦<ModelDisk as Disk>⟧.now self.now) }
     {
