@@ -27,7 +27,7 @@ counts-length kept =
 pub length-most : (kept : List HeldPacket) → IsKept kept → length kept ≤ 128
 length-most kept is = omega (arith, counts-length kept, is.pairs, is.hops)
 
--- ---- room for one more
+-- ---- a place for one more
 
 -- ---- the list without the first packet that waits for a next hop
 pass-of : (b : Bool) → not b ≡ false → b ≡ true
@@ -102,7 +102,7 @@ none-left p (w ∷ ws) none = by (is_for_pair w.wait) (or-parts (p w) (list_any 
     by true parts rest = rw parts.0 (rest parts.1)
     by false parts rest = parts.1
 
--- the list in which room is made has the invariant, and fewer than 64 next hops
+-- the list in which a place is made has the invariant, and fewer than 64 next hops
 hop-room : (b : Bool) (kept : List HeldPacket) → nat_lt (hop_count kept) 64 ≡ b → IsKept kept → IsKept (cond b kept (without_first_hop kept)) × (hop_count (cond b kept (without_first_hop kept)) < 64)
 hop-room true kept few is = (is, ltb-true _ _ few)
 hop-room false kept many is = (
