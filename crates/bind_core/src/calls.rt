@@ -252,8 +252,8 @@ impl Core {
         }
     }
 
-    /// Makes the table ready for new pairs of these endpoints, until the next call. Fails where
-    /// there isn't enough memory; the core is then as before.
+    /// Makes the table ready for as many new pairs as there are endpoints, whichever these are,
+    /// until the next call. Fails where there isn't enough memory; the core is then as before.
     pub fn ready(&mut self, endpoints: &[Endpoint]) -> Result<(), AllocError>
         ensures ok { OnOk result (self.new ≡ record self.old {
           table = record self.old.table {
