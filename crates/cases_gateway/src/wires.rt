@@ -44,16 +44,16 @@ pub(crate) struct Limit {
 pub(crate) struct MemoryWire {
     pub(crate) alloc: Global,
     pub(crate) coming: Vec<Datagram>,
-    /// How many datagrams of `coming` have come.
+    /// The number of datagrams of `coming` that have come.
     pub(crate) come: usize,
     /// The places that fail in the next rounds.
     pub(crate) outages: Vec<Outage>,
-    /// How often no datagram was left, which is once a round.
+    /// The number of times that no datagram was left, which is once a round.
     round: u32,
     /// The place that takes less than it is sent, if there is one; `losses` counts what it lost.
     pub(crate) limit: Option<Limit>,
     losses: Losses,
-    /// How many calls are left up to the one that fails, a send or a receive; 0 where none fails.
+    /// The number of calls up to the one that fails, a send or a receive; 0 where none fails.
     left: u64,
     /// Whether the client of the last word waits for its answer. Until the answer no other client is heard.
     awaits: bool,
