@@ -104,8 +104,8 @@ impl ModelDisk {
         self.trouble = Trouble::None;
     }
 
-    /// Returns the file's 32 bytes as they are now. Bytes that are lost are still the old ones, since
-    /// nothing is read.
+    /// Returns the file's 32 bytes as they are now. Bytes that are lost are still the old ones,
+    /// since nothing is read.
     pub fn bytes(&self) -> [u8; 32]
         ensures { result ≡ bytes_of (⟦<ModelDisk as Disk>⟧.now self.now) }
     {
