@@ -213,7 +213,7 @@ begun_by s Stop = s
 begun_by s (PeerOff n) = s
 begun_by s (SideIs side up) = s
 
--- the turn with which a tick begins
+-- coming back changes none of these
 returned-stays : (g : Shown) (up : Bool) → is_up g ≡ up → Stays g (returned g)
 returned-stays g true is = rw is (record { moment = refl; capacity = refl; zero = refl; one = refl; networks = refl; inside = refl; outside = refl })
 returned-stays g false is = rw is (record { moment = refl; capacity = refl; zero = refl; one = refl; networks = refl; inside = refl; outside = refl })

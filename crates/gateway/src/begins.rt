@@ -41,7 +41,8 @@ fn recall_ranges(settings: &Settings)
     recall_port(settings.ports.one.highest);
 }
 
-/// Reminds the prover that a gateway's addresses lie where they belong; it does nothing when it runs.
+/// Reminds the prover that a gateway's addresses lie where they belong; it does nothing when it
+/// runs.
 fn recall_places(settings: &Settings, id: GatewayId)
     ensures { IsPlaced (networks_of settings.now id) }
 {
