@@ -1,4 +1,6 @@
 //! The rows of the record table for one entry: the effect of a record, a wish, a tick or a packet.
+//! A row is a `Transition`: the change of the table, the answer on the link, the note, and the
+//! endpoint whose packets needn't wait any more.
 ghost use Rattle.std.specs.Prelude.{◌≡◌, true};
 ghost use Rattle.nat_types.specs.declared.pairs.EntryState.TheVariants.{Held, Live};
 ghost use Rattle.spec_binding.specs.Books.{is_synced as is_synced_at, is_lone as is_lone_at};
