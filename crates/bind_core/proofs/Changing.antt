@@ -1,4 +1,4 @@
--- What a change needs of a table, and what it makes of the lives.
+-- The conditions of a change on a table, and its effect on the lives.
 use Rattle.std.proofs.Common.{◌≡◌, ℕ, ◌-◌, Bool, true, false, cond, Option, Some, None, List, refl, sym, ap, subst, ◌∙◌}
 use Rattle.std.specs.Option.{option_map}
 use Rattle.std.specs.List.{insert}
@@ -19,12 +19,12 @@ use Rattle.bindings.specs.Table.{Table, IsTable, IsPast, AreInRanges, with_entry
 use Rattle.spec_binding.proofs.Offered.{turned-place}
 use Rattle.bindings.proofs.Offered.{slot-with_state, either_slot, restated, no-past, has-room, refusal-none, entry-serves, found-slot, keys-map}
 
--- a new entry in the ranges is refused for no reason
+-- a new entry in the ranges is never refused
 pub welcomed : (t : Table) (e : Entry) → IsTable t → AreInRanges t → in_either t.zero t.one e.pair.key.port.0 ≡ true → slot_of t.entries e.pair.key ≡ None → entry_of t.entries e.pair.endpoint ≡ None → refusal_of t.capacity t.entries e ≡ None
 welcomed t e is ranges within key endpoint =
     refusal-none t.capacity t.entries e (has-room t is ranges e.pair.key within key) key (λ pair. endpoint)
 
--- another key's past stays where an entry comes in
+-- another key's past stays when an entry is added
 pub stays-added : (k : Key) (t t2 : Table) → slot_of t.entries k ≡ None → KeepsOthers k t.entries t.lives t2.entries t2.lives → (q : Key) (past : History) → IsPast t q past → IsPast t2 q past
 stays-added k t t2 free others q past has = at (same_key k q) refl
   where
@@ -59,7 +59,7 @@ yielded-free es q k x found free = slot-with_state q Doomed es x k found ∙ at 
     at true same = let bad : slot_of es k ≡ Some x = ap (slot_of es) (sym (key-eq q k same)) ∙ found in cc
     at false same = free
 
--- where the own proposal is given up, its endpoint has no pair
+-- once the own proposal is given up, its endpoint has no pair
 pub yielded-new : (es : List Entry) (q : Key) (x : Entry) (e : Endpoint) → IsOneToOne es → HasDistinctKeys (with_state q Doomed es) → slot_of es q ≡ Some x → is_pair x.state ≡ true → x.pair.endpoint ≡ e → entry_of (with_state q Doomed es) e ≡ None
 yielded-new es q x e one keys found pair same = at (entry_of (with_state q Doomed es) e) refl
   where
@@ -86,7 +86,7 @@ yielded-distinct es q keys = keys-map (λ x. cond (has_key q x) (entry_in Doomed
     at x true = refl
     at x false = refl
 
--- so a pair that a proposal gives way to has its life where it would have had it before
+-- a pair to which a proposal gives way has its life where it would have had it before
 pub turned-life : (p : Pair) (q : Key) (s : EntryState) (t t1 t2 : Table) (l : Activity) → t1 ≡ with_entry_state t q s → t2.lives ≡ insert t1.lives (place_in p t1.entries) l → t2.lives ≡ insert t.lives (place_in p t.entries) l
 turned-life p q s t t1 t2 l made is =
     is ∙ ap (λ (u : Table). insert u.lives (place_in p u.entries) l) made ∙ ap (λ (n : ℕ). insert t.lives n l) (turned-place p q s t.entries)
@@ -98,7 +98,7 @@ made-table t t2 {es} {ls} same entries lives =
     same ∙ ap (λ (z : List Entry). let u : Table = record t { entries = z; lives = t2.lives } in u) entries
     ∙ ap (λ (z : List Activity). let u : Table = record t { entries = es; lives = z } in u) lives
 
--- and one place less is ready
+-- a table to which an entry was added is ready for one less
 pub added-table : (t t2 : Table) {es : List Entry} {ls : List Activity} → t2 ≡ record t { entries = t2.entries; lives = t2.lives; ready = t.ready - 1 } → t2.entries ≡ es → t2.lives ≡ ls → t2 ≡ record t { entries = es; lives = ls; ready = t.ready - 1 }
 added-table t t2 {es} {ls} same entries lives =
     same ∙ ap (λ (z : List Entry). let u : Table = record t { entries = z; lives = t2.lives; ready = t.ready - 1 } in u) entries

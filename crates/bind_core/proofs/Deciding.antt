@@ -1,4 +1,4 @@
--- What the rows of wishes and of idle pairs ask of a core.
+-- The conditions of the rows of wishes and of idle pairs on a core.
 use Rattle.std.proofs.Common.{◌≡◌, ℕ, ◌<◌, Bool, true, false, cond, not, ◌&&◌, is_some, Option, Some, None, refl, sym, ap, subst, ◌∙◌, arith}
 use Rattle.std.proofs.lemmas.Bool.{and_parts, ltb-false}
 use Rattle.addresses.specs.declared.transport.Port.{Port}
@@ -65,7 +65,7 @@ wish-steady b full e is promised = at (is_synced b.stage) (entry_of b.entries e)
     at true None = unknown (is_at_limit b e.address)
     at false o = tt
 
--- ---- where the link is full nothing is pushed
+-- ---- nothing is pushed where the link is full
 
 known-mute : (p : Pair) (s : EntryState) → (known_wish p s).row.answer ≡ None
 known-mute p state.Pending = refl
@@ -105,7 +105,7 @@ wish-mute b e = at (is_synced b.stage)
     at true = by-mute b e (entry_of b.entries e)
     at false = refl
 
--- elsewhere there is a place
+-- a wish that is answered has a place on the link
 pub wish-places : (b : Book) (l : Link) (e : Endpoint) → is_some (wish_of b (is_full l) e).row.answer ≡ true → 0 < free_places l
 wish-places b l e = at (is_full l) refl
   where
@@ -115,7 +115,7 @@ wish-places b l e = at (is_full l) refl
 
 -- ---- idle pairs
 
--- a lone row drops; another one turns what was Live
+-- at a gateway that isn't lone, the row of an idle pair is steady
 released-steady : (b : Book) (ask : Bool) (x : Entry) (s : EntryState) → x.state ≡ s → slot_of b.entries x.pair.key ≡ Some x → IsSteady b (released_row false ask x.pair s).change
 released-steady b ask x state.Pending at found = tt
 released-steady b ask x state.Doomed at found = tt
@@ -151,7 +151,7 @@ idle-adds b ask k = at (is_synced b.stage) (slot_of b.entries k)
     at true None = refl
     at true (Some x) = released-adds (is_lone b.stage) ask x.pair x.state
 
--- so it needs no room in the table
+-- the row of an idle key needs no place in the table
 pub idle-ready : (b : Book) (ask : Bool) (k : Key) (ready : ℕ) → adds (idle_row b ask k).change ≡ true → 0 < ready
 idle-ready b ask k ready h = let no = idle-adds b ask k in cc
 
@@ -186,11 +186,11 @@ idle-places b now e k h =
 
 -- ---- a record at a synced gateway
 
--- while its batch is promised, it changes nothing
+-- while a batch is promised, the row of a record is steady
 pub row-steady : (b : Book) (rests : Bool) (r : Record) → is_promised b ≡ true → IsSteady b (row_of b rests r).change
 row-steady b rests r promised = subst (λ (t : Bool). IsSteady b (let x : Transition = cond t quiet (synced_row b rests r) in x).change) (sym promised) tt
 
--- there is a place for its answer, where there is one for a record that needs an answer
+-- a record's answer has a place, where there is one for each record that needs an answer
 pub row-places : (b : Book) (rests : Bool) (r : Record) (places : ℕ) → (needs_answer r ≡ false → taken_answer b rests r ≡ None) → is_synced b.stage ≡ true → (needs_answer r ≡ true → 0 < places)
     → is_some (row_of b rests r).answer ≡ true → 0 < places
 row-places b rests r places mute synced room answers = at (needs_answer r) refl

@@ -17,7 +17,7 @@ pub not-yet : (a n q : ℕ) → a + n ≤ q → is_listed q (range_with_len a n)
 not-yet a zero q h = refl
 not-yet a (suc n) q h = or_from (a == q) (is_listed q (range_with_len (a + 1) n)) (ne_eqb a q (λ e. absurd (omega (arith, h, e)))) (not-yet (a + 1) n q (omega (arith, h)))
 
--- one more
+-- one more port is owned
 pub owned-next : (t t0 t2 : Table) (a p : ℕ) → a ≤ p → t ≡ record t0 { owned = range_with_len a (p - a) } → t2.owned ≡ own_in p t.owned → t2 ≡ record t { owned = t2.owned } → t2 ≡ record t0 { owned = range_with_len a (p + 1 - a) }
 owned-next t t0 t2 a p h was is same =
     let e : p ≡ a + (p - a) = omega (arith, h) in

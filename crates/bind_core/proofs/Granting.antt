@@ -7,12 +7,12 @@ use Rattle.nat_types.specs.Granted.{Granted}
 use Rattle.port_range.specs.Searches.{IsLastBelow}
 use Rattle.spec_binding.specs.Rows.{falling, as_ports, share}
 
--- ---- those that pass a test, from one on and below an end, in falling order
+-- ---- the numbers that pass a test, from one on and below an end, in falling order
 
 abbrev pub those_between : (ℕ → Bool) → ℕ → ℕ → List ℕ
 those_between f low end = filter f (falling (end - 1) (end - low))
 
--- where none passes there is none
+-- where no number passes the test, there is none
 none-falling : (f : ℕ → Bool) (low high count : ℕ) → (0 < count → high + 1 ≡ low + count) → ((q : ℕ) → low ≤ q → q < low + count → f q ≡ false) → filter f (falling high count) ≡ []
 none-falling f low high zero is none = refl
 none-falling f low high (suc count) is none =
@@ -20,7 +20,7 @@ none-falling f low high (suc count) is none =
     cond-false (f high) (high ∷ filter f (falling (high - 1) count)) (filter f (falling (high - 1) count)) (none high (omega (arith, top)) (omega (arith, top)))
     ∙ none-falling f low (high - 1) count (λ some. omega (arith, top, some)) (λ q from below. none q from (omega (arith, below)))
 
--- the greatest that passes comes first
+-- the greatest number that passes comes first
 first-falling : (f : ℕ → Bool) (low high count p : ℕ) → high + 1 ≡ low + count → f p ≡ true → low ≤ p → p < low + count → ((q : ℕ) → p < q → q < low + count → f q ≡ false)
     → filter f (falling high count) ≡ p ∷ filter f (falling (p - 1) (p - low))
 first-falling f low high zero p is passes from below none = absurd (omega (arith, from, below))
@@ -44,23 +44,23 @@ first-between f low end p from is =
     let below = is.below in
     first-falling f low (end - 1) (end - low) p (omega (arith, from, below)) is.passes from (omega (arith, from, below)) (λ q above under. is.last q above (omega (arith, from, below, under)))
 
--- where the last that passes lies below, there is none
+-- where the last number that passes lies below, there is none
 pub none-above : (f : ℕ → Bool) (low end p : ℕ) → p < low → IsLastBelow f end p → those_between f low end ≡ []
 none-above f low end p below is = none-between f low end (λ q from under. is.last q (omega (arith, below, from)) under)
 
 -- ---- the count
 
--- one more is counted
+-- one more port is counted
 pub counted-next : (whole count p : ℕ) (xs ys : List ℕ) → xs ≡ p ∷ ys → whole ≡ count + length xs → whole ≡ count + 1 + length ys
 counted-next whole count p xs ys is was = let one = ap length is in omega (arith, was, one)
 
--- the count ends where none is left
+-- the count is exact once none is left
 pub counted-all : (whole count : ℕ) (xs : List ℕ) → count < 32 → xs ≡ [] → whole ≡ count + length xs → count ≡ min 32 whole
 counted-all whole count xs below none was = let left = ap length none in omega (arith, was, left, below)
 
 -- ---- the choice
 
--- one more is chosen
+-- one more port is chosen
 pub chosen-next : (many rest : ℕ) (p : Port) (whole ports next : List Port) (xs ys : List ℕ) → many ≡ suc rest → xs ≡ p.0 ∷ ys → next ≡ ports ++ p ∷ []
     → whole ≡ ports ++ (as_ports (take many xs)).ports → whole ≡ next ++ (as_ports (take rest ys)).ports
 chosen-next many rest p whole ports next xs ys more is pushed was =
@@ -77,15 +77,15 @@ take-none (suc n) = refl
 finished : (whole ports : List Port) (left : List ℕ) → left ≡ [] → whole ≡ ports ++ (as_ports left).ports → ports ≡ whole
 finished whole ports left none was = sym (was ∙ ap (λ (zs : List ℕ). ports ++ (as_ports zs).ports) none ∙ append-nil ports)
 
--- the choice ends where none is left
+-- the choice is whole once none is left
 pub chosen-all : (many : ℕ) (whole ports : List Port) (xs : List ℕ) → xs ≡ [] → whole ≡ ports ++ (as_ports (take many xs)).ports → ports ≡ whole
 chosen-all many whole ports xs none was = finished whole ports (take many xs) (ap (take many) none ∙ take-none many) was
 
--- and where enough are chosen
+-- the choice is whole once enough are chosen
 pub chosen-enough : (many : ℕ) (whole ports : List Port) (xs : List ℕ) → many ≡ 0 → whole ≡ ports ++ (as_ports (take many xs)).ports → ports ≡ whole
 chosen-enough many whole ports xs none was = finished whole ports (take many xs) (ap (λ (n : ℕ). take n xs) none) was
 
--- a share is the same of more than twice the most
+-- counting up to 32 spare ports is enough for the share
 halved : (n : ℕ) → share (min 32 n) ≡ share n
 halved n = omega arith
 

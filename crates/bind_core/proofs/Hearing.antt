@@ -1,4 +1,4 @@
--- The link's word for a peer that was heard lately, and the protocol's, are one.
+-- The link and the protocol agree on whether the peer was heard lately.
 use Rattle.std.proofs.Common.{◌≡◌, ℕ, Option, Some, None, refl}
 use Rattle.link.specs.Hearing as link
 use Rattle.spec_binding.specs.Ledgers.{is_heard}

@@ -1,4 +1,4 @@
--- What carrying out a row makes of a core.
+-- The effect of carrying out a row on a core.
 use Rattle.std.proofs.Common.{◌≡◌, ℕ, ◌+◌, ◌*◌, ◌≤◌, Bool, List, refl, sym, ap, subst, ◌∙◌, arith}
 use Rattle.nat_types.specs.declared.records.Record.{Record}
 use Rattle.bindings.specs.Entries.{HasDistinctKeys}
@@ -57,7 +57,7 @@ use Rattle.bind_core.specs.View.{core_of}
 use Rattle.bind_core.specs.declared.cores.Core.TheInside.{Inside}
 use Rattle.bind_core.proofs.Porting.{gained-rest}
 
--- what is gained hangs on the ranges, the entries and the owned ports alone
+-- which ports are gained depends on the ranges, the entries and the owned ports alone
 gained-alike : (b : Book) (t : Table) (xs : List ℕ) → record b { owned = (with_gained (table_book t) xs).owned } ≡ record b { owned = (with_gained (record b { zero = t.zero; one = t.one; entries = t.entries; owned = t.owned }) xs).owned }
 gained-alike b t [] = refl
 gained-alike b t (x ∷ xs) = at (is_gained (table_book t) x) (gained-alike b (record t { owned = own_in x t.owned }) xs) (gained-alike b t xs)
@@ -72,7 +72,7 @@ gained-alike b t (x ∷ xs) = at (is_gained (table_book t) x) (gained-alike b (r
 gained-owned : (b : Book) (t : Table) (xs : List ℕ) → (with_gained (table_book t) xs).owned ≡ (with_gained (record b { zero = t.zero; one = t.one; entries = t.entries; owned = t.owned }) xs).owned
 gained-owned b t xs = ap (λ (z : Book). z.owned) (gained-alike b t xs)
 
--- the book then is the one that the row makes
+-- the book after a row is the one that the row makes
 pub book-after : (now : ℕ) (c : Core) (r : Transition) → book_of (core_after now c r) ≡ after (book_of c) r
 book-after now c r = at r.change
   where
@@ -90,11 +90,11 @@ book-after now c r = at r.change
         ∙ ap (λ (z : List ℕ). let b : Book = record (book_of c) { owned = z; wants = false } in b) (gained-owned (book_of c) c.table (numbers_of g))
         ∙ ap (λ (z : Book). let b : Book = record z { wants = false } in b) (sym (gained-rest (book_of c) (numbers_of g)))
 
--- and the lives those of the change
+-- the lives after a row are those of its change
 ledger-after : (now : ℕ) (c : Core) (r : Transition) → ledger_of (core_after now c r) ≡ ledger_after now r.change (ledger_of c)
 ledger-after now c r = ap (λ (b : Book). let l : Ledger = record { book = b; lives = lives_after now r.change c.table.entries c.table.lives; hashers = c.table.hashers } in l) (book-after now c r)
 
--- the ledger then, of a row that is worked out elsewhere
+-- the ledger after a row that is worked out elsewhere
 pub ledger-then : (now : ℕ) (c c2 : Core) (r r2 : Transition) → c2 ≡ core_after now c r → r ≡ r2 → ledger_of c2 ≡ ledger_after now r2.change (ledger_of c)
 ledger-then now c c2 r r2 made is = ap ledger_of made ∙ ledger-after now c r ∙ ap (λ (x : Transition). ledger_after now x.change (ledger_of c)) is
 
@@ -109,7 +109,7 @@ ready-near Want n = omega arith
 ready-near (Give g) n = omega arith
 ready-near (Gain g) n = omega arith
 
--- the table is ready for at most one pair less
+-- after a row, the table is ready for at most one pair less
 pub ready-then : (now : ℕ) (c c2 : Core) (r : Transition) → c2 ≡ core_after now c r → c.table.ready ≤ c2.table.ready + 1
 ready-then now c c2 r made = subst (λ (k : Core). c.table.ready ≤ k.table.ready + 1) (sym made) (ready-near r.change c.table.ready)
 
@@ -124,7 +124,7 @@ ready-same Want n h = refl
 ready-same (Give g) n h = refl
 ready-same (Gain g) n h = refl
 
--- and for as many where no entry comes
+-- after a row that adds no entry, the table is ready for as many pairs
 pub ready-kept : (now : ℕ) (c c2 : Core) (r : Transition) → adds r.change ≡ false → c2 ≡ core_after now c r → c2.table.ready ≡ c.table.ready
 ready-kept now c c2 r h made = ap (λ (k : Core). k.table.ready) made ∙ ready-same r.change c.table.ready h
 
@@ -137,7 +137,7 @@ made-after now c r t2 w cs table wants comes =
     ∙ ap (λ (z : Bool). let k : Core = record c { table = table_after now r.change c.table; wants = z; coming = cs } in k) wants
     ∙ ap (λ (z : List Record). let k : Core = record (core_after now c r) { coming = z } in k) comes
 
--- what is fit for the book is fit for the table alone
+-- a change that is steady for the book is steady for the table alone
 steady-table : (c : Core) (ch : Change) → IsSteady (book_of c) ch → IsSteady (table_book c.table) ch
 steady-table c Keep is = is
 steady-table c (Add e) is = is
@@ -176,7 +176,7 @@ same-book c cursor t t2 same is = subst (λ (u : Table). IsBook (book_of (record
 pub works-as : (now : ℕ) (letters : List Letter) (words : List ℕ) (b : Book) (e : Link) (n : ℕ) (b2 b3 : Book) (e2 e3 : Link) (n2 : ℕ) (ns : List Note) (h : List Record) → b3 ≡ b2 → e3 ≡ e2 → Works now letters words b e n b2 e2 n2 ns h → Works now letters words b e n b3 e3 n2 ns h
 works-as now letters words b e n b2 b3 e2 e3 n2 ns h book link works = rw (book, link) works
 
--- ---- a record, wherever it comes
+-- ---- a record at any gateway
 
 pub taken-book : (b : Book) (rests : Bool) (r : Record) → is_synced b.stage ≡ true → taken_book b rests r ≡ after b (row_of b rests r)
 taken-book b rests r h = ap (λ (t : Bool). let x : Book = cond t (after b (row_of b rests r)) (unsynced_after b r) in x) h
@@ -202,7 +202,7 @@ loaded-book b rests r h = ap (λ (t : Bool). let x : Book = cond t (after b (row
 pub loaded-answer : (b : Book) (rests : Bool) (r : Record) → is_synced b.stage ≡ false → taken_answer b rests r ≡ None
 loaded-answer b rests r h = ap (λ (t : Bool). let x : Option Record = cond t (row_of b rests r).answer None in x) h
 
--- a ledger whose parts are these
+-- a ledger from its parts
 ledger-parts : (c : Core) (b : Book) (ls : List Activity) (hs : Hashers) → book_of c ≡ b → c.table.lives ≡ ls → c.table.hashers ≡ hs → ledger_of c ≡ record { book = b; lives = ls; hashers = hs }
 ledger-parts c b ls hs book lives hashers =
     ap (λ (x : Book). let l : Ledger = record { book = x; lives = c.table.lives; hashers = c.table.hashers } in l) book
@@ -273,7 +273,7 @@ load-comes c cursor t2 h is are = none-coming cursor c.table t2 (λ any. unpaire
 pub load-kept : (b : Book) (r : Record) → is_synced b.stage ≡ false → IsBook (taken_book b false r) → IsBook (unsynced_after b r)
 load-kept b r h is = subst IsBook (loaded-book b false r h) is
 
--- what is noted of a record in its place
+-- the note on a record in its place
 load-what : (r : Record) (l : Load) → what_loaded r ≡ load_what r (Some l)
 load-what (rec.Install p) l = refl
 load-what (rec.Accept k) l = refl
@@ -358,7 +358,7 @@ revived-book c t2 stage cursor same entries =
     ap (λ (t : Table). book_of (record c { table = t; stage = stage; wants = false; coming = coming cursor t })) same
     ∙ ap (λ (es : List Entry). let b : Book = record (revived (book_of c)) { entries = es; stage = stage; coming = to_come cursor c.table.owned es } in b) entries
 
--- alone, with each pair's life begun anew
+-- a core that is put alone, with each pair's life begun anew
 pub put_alone_is : (now : ℕ) (c c1 c2 : Core) → book_of c1 ≡ revived_with Lone Over c → c1.table.lives ≡ lives_of_pairs c.table.entries c.table.lives → c1.table.hashers ≡ c.table.hashers → c2 ≡ record c1 { table = record c1.table { lives = map (life_renewed now) c1.table.lives } }
     → ledger_of c2 ≡ alone_ledger now (ledger_of c)
 put_alone_is now c c1 c2 book lives hashers is =
@@ -412,7 +412,7 @@ carry-quiet b e k = at (is_synced b.stage) (slot_of b.entries k)
 pub same-carried : (c : Core) (t2 : Table) (cursor : Cursor) → t2 ≡ record c.table { lives = t2.lives } → book_of (record c { table = t2; coming = coming cursor t2 }) ≡ book_of (record c { coming = coming cursor c.table })
 same-carried c t2 cursor same = ap (λ (t : Table). book_of (record c { table = t; coming = coming cursor t })) same
 
--- the batch of a table whose pairs are revived has room in twice its keys, and two more
+-- the batch of a table whose pairs are revived has at most 2 * capacity + 2 records
 pub revived-few : (t : Table) → IsTable t → length (batch_of t.owned (revived_entries t.entries)) ≤ 2 * t.capacity + 2
 revived-few t is =
     let woken : length (revived_entries t.entries) ≡ length (filter (λ (e : Entry). is_pair e.state) t.entries) = length-map (filter (λ (e : Entry). is_pair e.state) t.entries) woken_entry in

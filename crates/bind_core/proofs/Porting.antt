@@ -20,7 +20,7 @@ map-append : (xs ys : List Port) → map (λ (p : Port). p.0) (xs ++ ys) ≡ map
 map-append [] ys = refl
 map-append (x ∷ xs) ys = ap (λ (z : List ℕ). x.0 ∷ z) (map-append xs ys)
 
--- one port more of the first ones
+-- the numbers of the first i + 1 ports are those of the first i and the next
 pub one-more : (ports : List Port) (i : ℕ) (d : Port) → i < length ports → map (λ (p : Port). p.0) (take (i + 1) ports) ≡ map (λ (p : Port). p.0) (take i ports) ++ (get_or ports i d).0 ∷ []
 one-more ports i d h = ap (map (λ (p : Port). p.0)) (take_more ports i d h) ∙ map-append (take i ports) (get_or ports i d ∷ [])
 
@@ -99,7 +99,7 @@ gained-more ports i d b h = ap (with_gained b) (one-more ports i d h) ∙ gained
 gained-step : (ports items : List Port) (i : ℕ) (d : Port) (b : Book) → items ≡ ports → i < length items → with_gained b (map (λ (p : Port). p.0) (take (i + 1) ports)) ≡ with_gained (with_gained b (map (λ (p : Port). p.0) (take i ports))) ((get_or items i d).0 ∷ [])
 gained-step ports items i d b same h = subst (λ (z : List Port). with_gained b (map (λ (p : Port). p.0) (take (i + 1) z)) ≡ with_gained (with_gained b (map (λ (p : Port). p.0) (take i z))) ((get_or items i d).0 ∷ [])) same (gained-more items i d b h)
 
--- only the ports change
+-- gaining ports changes the owned ports alone
 pub gained-rest : (b : Book) (xs : List ℕ) → with_gained b xs ≡ record b { owned = (with_gained b xs).owned }
 gained-rest b [] = refl
 gained-rest b (x ∷ xs) = at (is_gained b x) (gained-rest (record b { owned = own_in x b.owned }) xs) (gained-rest b xs)

@@ -20,7 +20,7 @@ use Rattle.bindings.specs.declared.entries.Entry.{Entry}
 use Rattle.bindings.specs.Entries.{slot_of}
 use Rattle.bindings.specs.Lives.{idle_keys_in, is_idle_row}
 
--- no more keys are idle than there are entries
+-- no more keys are idle than the table has entries
 pub few-idle : (lone : Bool) (now : ℕ) (es : List Entry) (ls : List Activity) → length (idle_keys_in lone now es ls) ≤ length es
 few-idle lone now [] ls = omega arith
 few-idle lone now (e ∷ es) [] = omega arith
@@ -30,13 +30,13 @@ few-idle lone now (e ∷ es) (l ∷ ls) = at (is_idle_row lone now e l) (few-idl
     at true h = omega arith
     at false h = omega arith
 
--- one key's row is carried out
+-- the row of one key is carried out
 pub record IsReleased (now : ℕ) (k : Key) (l : Ledger) (e : Link) (ns : List Note) (l2 : Ledger) (e2 : Link) (ns2 : List Note) : Type 0 where
   pub ledger : l2 ≡ ledger_after now (idle_row l.book (may_ask now e) k).change l
   pub link : e2 ≡ answered e (idle_row l.book (may_ask now e) k).answer
   pub notes : ns2 ≡ ns ++ noted_by l.book.id now (idle_row l.book (may_ask now e) k).what
 
--- one key more
+-- releasing the keys from i on is releasing one and then those from i + 1 on
 pub record IsOneMore (now : ℕ) (i : ℕ) (keys : List Key) (l : Ledger) (e : Link) (ns : List Note) (l2 : Ledger) (e2 : Link) (ns2 : List Note) : Type 0 where
   pub ledger : (let_go now (drop i keys) l e).ledger ≡ (let_go now (drop (i + 1) keys) l2 e2).ledger
   pub link : (let_go now (drop i keys) l e).link ≡ (let_go now (drop (i + 1) keys) l2 e2).link
@@ -67,7 +67,7 @@ all-done (suc i) [] h = refl
 all-done zero (k ∷ ks) h = absurd (omega (arith, h))
 all-done (suc i) (k ∷ ks) h = all-done i ks (omega (arith, h))
 
--- behind the last key
+-- after the last key, nothing is released
 pub gone : (now i : ℕ) (keys : List Key) (l : Ledger) (e : Link) → length keys ≤ i → let_go now (drop i keys) l e ≡ record { ledger = l; link = e; notes = [] }
 gone now i keys l e past = ap (λ (ks : List Key). let_go now ks l e) (all-done i keys past)
 
@@ -75,7 +75,7 @@ pub one-more-at : (now : ℕ) (i : ℕ) (keys : List Key) (k : Key) (l : Ledger)
 one-more-at now i keys k l e ns l2 e2 ns2 h is =
     one-more now i keys k l e ns l2 e2 ns2 (slice_get_within keys i k h) (subst (λ (z : Key). IsReleased now z l e ns l2 e2 ns2) (sym (get_or_from_slice_get keys i k k h)) is)
 
--- ---- where none may be let go
+-- ---- where no pair may be released
 
 released-quiet : (p : Pair) (s : EntryState) → released_row false false p s ≡ quiet
 released-quiet p Pending = refl
@@ -94,7 +94,7 @@ idle-quiet b ask k = at (is_synced b.stage) (is_lone b.stage) ask (slot_of b.ent
     at true false false None h g = refl
     at true false false (Some x) h g = released-quiet x.pair x.state
 
--- a gateway that isn't lone, and may not ask, lets none go
+-- a gateway that isn't lone, and may not ask, releases none
 none-from : (now : ℕ) (ks : List Key) (l : Ledger) (e : Link) → is_lone l.book.stage ≡ false → may_ask now e ≡ false → let_go now ks l e ≡ record { ledger = l; link = e; notes = [] }
 none-from now [] l e lone mute = refl
 none-from now (k ∷ ks) l e lone mute =

@@ -1,4 +1,4 @@
--- What of a promised batch is still to come, while rows are carried out.
+-- Which records of a promised batch are still to come, while rows are carried out.
 use Rattle.std.proofs.Common.{◌≡◌, ℕ, true, false, List, [], ◌∷◌, ◌++◌, Some, refl}
 use Rattle.nat_types.specs.declared.records.Record.{Record}
 use Rattle.nat_types.specs.declared.records.Record.TheVariants.{Done}
@@ -18,7 +18,7 @@ use Rattle.spec_binding.specs.declared.changes.Change.TheVariants.{Keep, Add, Tu
 use Rattle.spec_binding.specs.Books.{is_any}
 use Rattle.bind_core.specs.Changes.{IsSteady, table_book, table_after}
 
--- what resync's law of a steady batch says
+-- the clauses of resync's steady_batch_law
 pub record SteadyLaws : Type 0 where
   pub proposed : (c : Cursor) (owned : List ℕ) (es : List Entry) (e : Entry) → is_settled e.state ≡ false → to_come c owned (put_in e es) ≡ to_come c owned es
   pub turned : (c : Cursor) (owned : List ℕ) (es : List Entry) (key : Key) (s : EntryState) → HasDistinctKeys es → is_settled s ≡ true → ((x : Entry) → slot_of es key ≡ Some x → is_settled x.state ≡ true) → to_come c owned (with_state key s es) ≡ to_come c owned es
@@ -31,7 +31,7 @@ any-behind : (xs ys : List Record) → is_any ys ≡ true → is_any (xs ++ ys) 
 any-behind [] ys h = h
 any-behind (x ∷ xs) ys h = refl
 
--- a change that is steady
+-- a steady change leaves what is to come
 steadily : (laws : SteadyLaws) (c : Cursor) (now : ℕ) (ch : Change) (t : Table) → HasDistinctKeys t.entries → IsSteady (table_book t) ch → coming c (table_after now ch t) ≡ coming c t
 steadily laws c now Keep t keys is = refl
 steadily laws c now (Add e) t keys is = laws.proposed c t.owned t.entries e is
@@ -43,7 +43,7 @@ steadily laws c now Want t keys is = refl
 steadily laws c now (Give g) t keys is = absurd is
 steadily laws c now (Gain g) t keys is = absurd is
 
--- a change, where it is steady while anything is still to come
+-- a change leaves what is to come, if it is steady while anything is still to come
 pub still-coming : (laws : SteadyLaws) (c : Cursor) (now : ℕ) (ch : Change) (t : Table) → HasDistinctKeys t.entries → (is_any (coming c t) ≡ true → IsSteady (table_book t) ch) → coming c (table_after now ch t) ≡ coming c t
 still-coming laws place.Begin now ch t keys is = steadily laws place.Begin now ch t keys (is refl)
 still-coming laws (place.Owners from) now ch t keys is =
@@ -51,7 +51,7 @@ still-coming laws (place.Owners from) now ch t keys is =
 still-coming laws (place.Puts last) now ch t keys is = steadily laws (place.Puts last) now ch t keys (is (any-last (puts_behind last t.entries) Done))
 still-coming laws place.Over now ch t keys is = refl
 
--- where nothing is to come, nothing is, whatever the table
+-- where no record is to come, none is, whatever the table
 pub none-coming : (c : Cursor) (t t2 : Table) → (is_any (coming c t) ≡ true → ⊥) → coming c t2 ≡ coming c t
 none-coming place.Begin t t2 none = absurd (none refl)
 none-coming (place.Owners from) t t2 none = absurd (none (any-behind (owners_of (runs_from from t.owned)) (puts_of t.entries ++ Done ∷ []) (any-last (puts_of t.entries) Done)))

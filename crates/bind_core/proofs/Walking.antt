@@ -16,11 +16,11 @@ use Rattle.bindings.specs.Revivals.{comes_back}
 use Rattle.spec_binding.specs.Resets.{back_in, retaken}
 use Rattle.resync.proofs.Offered.{IsStrict}
 
--- the entries behind a key
+-- the entries after a key
 abbrev pub behind : Option Key → List Entry → List Entry
 behind last es = filter (stands_behind last) es
 
--- behind a place all stand
+-- all entries from a place on are after a key below it
 all-behind : (k : Key) (low : ℕ) (es : List Entry) → key_place k < low → IsStrict low es → behind (Some k) es ≡ es
 all-behind k low [] h s = refl
 all-behind k low (x ∷ xs) h s =
@@ -32,7 +32,7 @@ pub none-all : (es : List Entry) → behind None es ≡ es
 none-all [] = refl
 none-all (x ∷ xs) = ap (λ (z : List Entry). x ∷ z) (none-all xs)
 
--- once one stands behind it, all of them do
+-- once one entry is after a key, all that follow are
 rest-behind : (last : Option Key) (x : Entry) (xs : List Entry) → IsStrict (suc (place_of x.pair)) xs → stands_behind last x ≡ true → behind last xs ≡ xs
 rest-behind None x xs s h = none-all xs
 rest-behind (Some k) x xs s h = let before = ltb-true (key_place k) (place_of x.pair) h in all-behind k (suc (place_of x.pair)) xs (omega (arith, before)) s
@@ -46,7 +46,7 @@ above low (x ∷ xs) e last s h =
       | inr w ↦ (let more = above (suc (place_of x.pair)) xs e last s.1 w.1 in omega (arith, from, more))
     ]
 
--- the first behind a key, and then those behind it
+-- the entries after a key are the next one and those after that
 pub behind-next : (last : Option Key) (low : ℕ) (es : List Entry) (e : Entry) → IsStrict low es → after_key last es ≡ Some e → behind last es ≡ e ∷ behind (Some e.pair.key) es
 behind-next last low [] e s h = cc
 behind-next last low (x ∷ xs) e s h =

@@ -1,4 +1,4 @@
--- What a change makes of a table, and of what its pairs carried.
+-- The effect of a change on a table, and on what its pairs carried.
 use Rattle.std.specs.Prelude.{◌≡◌, ℕ, ◌-◌, Bool, true, false, [], None, Some, if◌then◌else◌}
 use Rattle.nat_types.specs.Same.{same_key}
 use Rattle.nat_types.specs.declared.gateways.GatewayId.TheVariants.{Zero}
@@ -32,12 +32,12 @@ table_book t = record {
   coming = [];
 }
 
--- the table's ranges are these
+-- the table's ranges are these bounds
 pub record IsBetween (t : Table) (bounds : Bounds) : Type 0 where
   pub zero : t.zero ≡ bounds.zero
   pub one : t.one ≡ bounds.one
 
--- whether a Want is open then
+-- whether a Want is open after the change
 abbrev pub wants_after : Change → Bool → Bool
 wants_after Keep wants = wants
 wants_after (Add e) wants = wants
@@ -49,7 +49,7 @@ wants_after Want wants = true
 wants_after (Give g) wants = wants
 wants_after (Gain g) wants = false
 
--- an entry comes with the change
+-- whether the change adds an entry
 abbrev pub adds : Change → Bool
 adds Keep = false
 adds (Add e) = true
@@ -63,7 +63,7 @@ adds (Gain g) = false
 
 -- ---- lives
 
--- the key's entry leaves
+-- whether the change removes the key's entry
 abbrev pub leaves : Change → Key → Bool
 leaves Keep q = false
 leaves (Add e) q = false
@@ -75,7 +75,7 @@ leaves Want q = false
 leaves (Give g) q = false
 leaves (Gain g) q = false
 
--- for how many more entries the table is ready then
+-- for how many more entries the table is ready after the change
 abbrev pub ready_after : Change → ℕ → ℕ
 ready_after Keep n = n
 ready_after (Add e) n = n - 1
@@ -87,13 +87,13 @@ ready_after Want n = n
 ready_after (Give g) n = n
 ready_after (Gain g) n = n
 
--- the table then
+-- the table after the change
 abbrev pub table_after : ℕ → Change → Table → Table
 table_after now change t =
     let b = changed change (table_book t) in
     record t { entries = b.entries; owned = b.owned; lives = lives_after now change t.entries t.lives; ready = ready_after change t.ready }
 
--- what becomes of a past that a key's entry agrees with: only a No begins it anew
+-- the past of a key's entry after the change: only a No begins it anew
 abbrev pub past_after : ℕ → Change → Key → History → History
 past_after now Keep q past = past
 past_after now (Add e) q past = past
@@ -105,7 +105,7 @@ past_after now Want q past = past
 past_after now (Give g) q past = past
 past_after now (Gain g) q past = past
 
--- the life of the entry that comes begins now
+-- the life of the entry that the change adds begins now
 abbrev pub Begins : ℕ → Change → Table → Type 0
 Begins now Keep t = Unit {0}
 Begins now (Add e) t = IsPast t e.pair.key (came (is_held e.state) now)
@@ -117,14 +117,14 @@ Begins now Want t = Unit {0}
 Begins now (Give g) t = Unit {0}
 Begins now (Gain g) t = Unit {0}
 
--- what the pairs carried, through a change
+-- what the pairs carried goes on through a change
 pub record LivesOn (now : ℕ) (change : Change) (t t2 : Table) : Type 0 where
   pub stays : (q : Key) (past : History) → leaves change q ≡ false → IsPast t q past → IsPast t2 q (past_after now change q past)
   pub begins : Begins now change t2
 
 -- ---- a promised batch
 
--- what of a batch is still to be drawn stays so
+-- the change leaves what is still to be drawn of a batch as it is
 abbrev pub IsSteady : Book → Change → Type 0
 IsSteady b Keep = Unit {0}
 IsSteady b (Add e) = is_settled e.state ≡ false

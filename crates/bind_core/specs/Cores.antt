@@ -23,8 +23,8 @@ use Rattle.spec_binding.specs.Books.{Book, is_synced}
 use Rattle.spec_binding.specs.Ledgers.{Ledger}
 use Rattle.bind_core.specs.Changes.{table_after, wants_after}
 
--- Who it is, its table, the most pairs that one inside address may have, how far it is, whether Begin was taken and not yet Done, the last port that an Owner named,
--- whether a Want of its is open, and what of a promised batch is still to be handed in.
+-- The core: its gateway, its table, the most pairs that one inside address may have, its stage, whether Begin was taken and not yet Done, the last port that an Owner named,
+-- whether its Want is open, and which records of a promised batch are still to be drawn.
 pub record Core : Type 0 where
   pub id : GatewayId
   pub table : Table
@@ -34,9 +34,9 @@ pub record Core : Type 0 where
   pub named : ℕ
   pub wants : Bool
   pub coming : List Record
-  pub idle : List Key  -- what the last tick that looked found idle
+  pub idle : List Key  -- the keys that the last tick that looked found idle
 
--- what the protocol knows of it
+-- the core's book: what the protocol knows of a gateway
 abbrev pub book_of : Core → Book
 book_of c = record {
   id = c.id;
@@ -52,28 +52,28 @@ book_of c = record {
   coming = c.coming;
 }
 
--- and what its pairs carried, and by what its table hashes
+-- the core's ledger: its book, what its pairs carried, and the hashers of its table
 abbrev pub ledger_of : Core → Ledger
 ledger_of c = record { book = book_of c; lives = c.table.lives; hashers = c.table.hashers }
 
--- once a row is carried out
+-- the core once a row is carried out
 abbrev pub core_after : ℕ → Core → Transition → Core
 core_after now c r = record c { table = table_after now r.change c.table; wants = wants_after r.change c.wants }
 
 -- ---- packets
 
--- an entry is that pair's, and translates
+-- whether an entry has this pair and translates
 abbrev pub is_carried : Option Entry → Pair → Bool
 is_carried None p = false
 is_carried (Some x) p = translates x.state && same_pair x.pair p
 
--- the pair's key has that very pair, and it translates
+-- whether the pair's key has exactly this pair, and it translates
 abbrev pub carries_pair : Book → Pair → Bool
 carries_pair b p = is_carried (slot_of b.entries p.key) p
 
 -- ---- loading
 
--- the record ends a loading
+-- whether the record ends a loading
 abbrev pub is_whole : Record → Bool
 is_whole (Install p) = false
 is_whole (Accept k) = false
@@ -88,7 +88,7 @@ is_whole Want = false
 is_whole (Grant g) = false
 is_whole (Owner first last) = false
 
--- what is noted of a record in its place
+-- the note on a record in its place
 abbrev pub what_loaded : Record → Option NoteKind
 what_loaded (Install p) = None
 what_loaded (Accept k) = None
@@ -109,6 +109,6 @@ owned_of c = (if is_synced c.stage then map port_at c.table.owned else [])
 
 -- ---- resets
 
--- the pairs are revived, and a batch is to come from there
+-- the book whose pairs are revived, with a batch to come from the cursor on
 abbrev pub revived_with : Stage → Cursor → Core → Book
 revived_with stage cursor c = record (revived (book_of c)) { stage = stage; coming = to_come cursor c.table.owned (revived_entries c.table.entries) }

@@ -1,4 +1,4 @@
--- What a core's fields are to its callers, and what they keep.
+-- The model of a core from its fields, and what each core keeps.
 use Rattle.std.specs.Prelude.{◌≡◌, ◌≤◌, vec_capacity}
 use Rattle.resync.specs.Cursor.{coming}
 use Rattle.bind_core.specs.declared.cores.Core.TheInside.{Inside}

@@ -1,4 +1,4 @@
-//! What a gateway asks of its core: rows carried out.
+//! The calls of a gateway on its core: each works out rows and carries them out.
 ghost use Rattle.std.specs.Prelude.{◌≡◌, ◌+◌, ◌<◌, ◌≤◌, ◌++◌, ◌∷◌, ◌||◌, [], ℕ, List, true, false, suc};
 ghost use Rattle.std.specs.Prelude.{length, vec_len, vec_capacity, IsOk, OnOk, OnErr};
 ghost use Rattle.link.specs.Grammar.{IsWellFormedRecord};
@@ -34,7 +34,9 @@ use spec_binding::{
 use std::alloc::AllocError;
 
 impl Core {
-    /// What a packet of an endpoint, for which there may be no pair yet, has to do.
+    /// Returns what a packet of an endpoint has to do: go out by its pair's port, wait, or be
+    /// dropped for now. Where the endpoint has no pair, a new one may be made or proposed, or ports
+    /// asked for of the peer.
     pub fn want(
         &mut self,
         endpoint: Endpoint,
@@ -97,14 +99,14 @@ impl Core {
         self.perform(link, notes, now, row);
     }
 
-    /// Whether any pair may be let go: it is alone, or the end of one may be asked for.
+    /// Whether any pair may be released: the gateway is lone, or may ask the peer for a pair's end.
     fn may_release(&self, link: &Link, now: u64) -> bool
         ensures { result ≡ (is_lone_at self.now.stage || may_ask_at now link.now) }
     {
         self.is_lone() || may_ask(link, now)
     }
 
-    /// The idle pairs that may be let go, one after the other.
+    /// Carries out the rows of all idle pairs, in the table's order.
     fn release_idle(&mut self, link: &mut Link, now: u64, notes: &mut Vec<Note>)
         requires reserved { vec_len notes.old + length self.old.table.entries
             < vec_capacity notes.old }
@@ -133,9 +135,9 @@ impl Core {
         }
     }
 
-    /// The idle pairs of a tick, one after the other: a lone gateway drops each, another one asks for the end of each
-    /// Live one, where the peer was heard at most 300 cs ago and the link isn't full then. Where none may be let go, no
-    /// pair is looked at.
+    /// Releases idle pairs, one after the other. A lone gateway drops each. Another one asks the
+    /// peer for the end of each Live one, where the peer was heard at most 300 cs ago and the link
+    /// isn't full then. Where no pair may be released, no pair is looked at.
     pub fn tick(&mut self, link: &mut Link, now: u64, notes: &mut Vec<Note>)
         requires reserved { vec_len notes.old + length self.old.table.entries
             < vec_capacity notes.old }
@@ -160,7 +162,8 @@ impl Core {
         }
     }
 
-    /// Takes a record at a synced gateway.
+    /// Takes a record at a gateway that is synced, and returns the endpoint whose packets needn't
+    /// wait any more.
     fn take_synced(
         &mut self,
         entry: Record,
@@ -202,7 +205,8 @@ impl Core {
         ended
     }
 
-    /// Takes a record of the peer's. The answer is the endpoint whose packets needn't wait for the peer any more.
+    /// Takes a record of the peer's. Returns the endpoint whose packets needn't wait for the peer
+    /// any more, or None.
     pub fn take(
         &mut self,
         entry: Record,
@@ -229,7 +233,8 @@ impl Core {
             ++ noted_by self.old.id now (taken_what (book_of self.old) rests entry) }
         ensures len { vec_len notes.new ≤ vec_len notes.old + 1 }
         ensures capacity { vec_capacity notes.new ≡ vec_capacity notes.old }
-        // Of the letter in which the record stands next; a lone gateway has none to take.
+        // The record is the next one of its letter (a datagram in flight); a lone gateway has none
+        // to take.
         ensures works { (h : List Rec) (n : ℕ) (l : Letter) (offset : ℕ)
             → is_lone_at self.old.stage ≡ false → Stands (book_of self.old) link.old h
             → IsTurn link.old n l offset entry
@@ -247,7 +252,8 @@ impl Core {
         }
     }
 
-    /// Makes the table ready for so many new pairs, until the next call.
+    /// Makes the table ready for as many new pairs as there are endpoints, whichever these are,
+    /// until the next call. Fails where there isn't enough memory; the core is then as before.
     pub fn ready(&mut self, endpoints: &[Endpoint]) -> Result<(), AllocError>
         ensures ok { OnOk result (self.new ≡ record self.old {
           table = record self.old.table {
@@ -262,9 +268,9 @@ impl Core {
         self.make_ready(endpoints)
     }
 
-    /// The operator's word that the peer is off: the link's session was closed just before. Each pair that it waited for
-    /// translates again, the life of each pair begins anew, since the peer may have carried it until then, and from then
-    /// on nobody's consent is needed.
+    /// Goes on alone, on the operator's word that the peer is off. The caller has closed the link's
+    /// session before. Each pair that waited for the peer translates again. The life of each pair
+    /// begins anew, since the peer may have carried it until now. From now on no consent is needed.
     pub fn peer_off(&mut self, link: &Link, now: u64, notes: &mut Vec<Note>)
         requires synced { is_synced_at self.old.stage ≡ true }
         requires closed { link.now.closed ≡ true }
@@ -276,7 +282,7 @@ impl Core {
             (back_in self.old.table.entries) }
         ensures len { vec_len notes.new ≤ vec_len notes.old + length self.old.table.entries }
         ensures capacity { vec_capacity notes.new ≡ vec_capacity notes.old }
-        // Of the end as it was before the word of this number closed it.
+        // The end e is the link's as it was before this word closed it.
         ensures works { (e : End) (h : List Rec) (n number : ℕ) → Agrees [] [] link.now
             → e.boot ≡ link.now.boot → link.now.known ≡ number
             → Works now [] (number ∷ []) (book_of self.old) e n (book_of self.new) link.now 0
@@ -289,8 +295,9 @@ impl Core {
         let _ = link;
     }
 
-    /// The peer began anew: the link was reset just before, and has counted what came with the news. A synced gateway
-    /// promises its table, and needs consent from then on; another one begins its loading anew.
+    /// Answers a restart of the peer. The link has begun its new session, and has counted the
+    /// records of the datagram that began it. A synced gateway promises its table, and needs
+    /// consent from now on; another one begins its loading anew.
     pub fn peer_restarted(&mut self, link: &mut Link, now: u64, notes: &mut Vec<Note>)
         requires begins { occupied link.old ≡ 0 }
         requires room { length (restart_batch (book_of self.old)) ≤ free_places link.old }
@@ -303,7 +310,8 @@ impl Core {
             ≡ notes.old.items ++ restart_notes (book_of self.old) now }
         ensures len { vec_len notes.new ≤ vec_len notes.old + length self.old.table.entries }
         ensures capacity { vec_capacity notes.new ≡ vec_capacity notes.old }
-        // Of the end as it was before it took the datagram, and with none of the new session's records taken.
+        // The end e is the link's as it was before it took the datagram; none of the new session's
+        // records is taken.
         ensures works { (e : End) (h : List Rec) (n : ℕ) (l : Letter) → Agrees [] [] link.old
             → e.boot ≡ link.old.boot → e.known < link.old.known → l.boot ≡ link.old.known
             → Works now (l ∷ []) [] (book_of self.old) e n (book_of self.new) link.new 0

@@ -1,4 +1,5 @@
-//! One gateway's table, and how far it is.
+//! The core of a gateway: its table, its stage, and what a promised batch and a loading have
+//! reached.
 ghost use Rattle.std.specs.Prelude.{◌≡◌, ◌+◌, ◌-◌, ◌*◌, ◌<◌, ◌≤◌, ◌++◌, ◌&&◌, not};
 ghost use Rattle.std.specs.Prelude.{ℕ, Bool, [], true};
 ghost use Rattle.std.specs.Prelude.{IsTrue, IsOk, IfOk, IfSome, is_some, length, vec_len, vec_capacity};
@@ -68,22 +69,22 @@ use spec_binding::{
 use std::alloc::{AllocError, Global};
 use std::marker::Model;
 
-/// One gateway's side of the binding protocol. Moments are in centiseconds.
+/// One gateway's side of the binding protocol. Times (`now`) are in centiseconds.
 #[derive(Drop)]
 pub struct Core {
     id: GatewayId,
     bounds: Bounds,
     table: Table,
-    /// The most pairs that one inside address may have.
+    /// The most pairs that one inside address may have; None where there is no limit.
     limit: Option<u16>,
     stage: Stage,
-    /// How far a loading is.
+    /// The progress of loading the table from the peer's batch.
     loading: Loading,
-    /// Whether a Want of its is open.
+    /// Whether the gateway asked for ports (Want) and no Grant came yet.
     wants: bool,
-    /// What of a promised batch is still to be handed in.
+    /// The place in the promised batch up to which records are drawn.
     cursor: Cursor,
-    /// What a tick finds idle.
+    /// The keys that the last tick found idle; kept so that a tick takes no memory.
     idle: Vec<Key>,
 }
 
@@ -104,36 +105,38 @@ impl Core {
         ensures book { IsBook (book_of self.now) }
         ensures capacity { self.now.table.capacity
             ≡ key_count self.now.table.zero self.now.table.one }
-        // What it would promise a peer that began anew.
+        // The batch that the gateway would promise a peer that began anew.
         ensures batch { length (restart_batch (book_of self.now))
             ≤ 2 * self.now.table.capacity + 2 }
     {
         self.table.recall();
     }
 
-    /// Whether its table is loaded.
+    /// Whether the gateway's table is loaded.
     pub fn is_synced(&self) -> bool
         ensures { result ≡ is_synced_at self.now.stage }
     {
         is_synced(self.stage)
     }
 
-    /// Whether it needs nobody's consent: no boot of the peer was heard since the founding, or since the operator's word.
+    /// Whether the gateway needs no consent: no boot of the peer was heard since the founding, or
+    /// since the operator's word.
     pub fn is_lone(&self) -> bool
         ensures { result ≡ is_lone_at self.now.stage }
     {
         is_lone(self.stage)
     }
 
-    /// Its table, lent.
+    /// Returns the gateway's table.
     pub fn table(&self) -> &Table
         ensures { result.now ≡ self.now.table }
     {
         &self.table
     }
 
-    /// Whether the table has that very pair, Live or Held: asked by the pair's key alone. `want` changes nothing for the
-    /// endpoint of such a pair, and a gateway that is synced answers its port.
+    /// Whether the table has exactly this pair, Live or Held. Looks at the pair's key alone. `want`
+    /// changes nothing for the endpoint of such a pair, and answers its port at a gateway that is
+    /// synced.
     #[inline(always)]
     pub fn carries(&self, pair: Pair) -> bool
         ensures exact { result ≡ carries_pair (book_of self.now) pair }
@@ -206,7 +209,7 @@ impl Core {
         row(Change::Give(granted), Some(Record::Grant(granted)), None)
     }
 
-    /// What a record makes of a synced gateway.
+    /// Returns the row of a record at a gateway that is synced and has no batch to draw.
     fn synced_row_of(&self, entry: Record, rests: bool) -> Transition
         ensures { result ≡ synced_row (book_of self.now) rests entry }
     {
@@ -223,7 +226,8 @@ impl Core {
         }
     }
 
-    /// Whether an Ask's pair is idle, or came by Install and carried nothing since.
+    /// Whether the record is an Ask of a pair that is idle, or came by Install and carried nothing
+    /// since.
     fn rests(&self, entry: &Record, now: u64) -> bool
         ensures { result ≡ rests_for now (ledger_of self.now) entry.now }
     {
@@ -233,7 +237,8 @@ impl Core {
         }
     }
 
-    /// What a record makes of a synced gateway; while its batch is promised, nothing.
+    /// Returns the row of a record at a gateway that is synced; nothing changes while its batch is
+    /// being drawn.
     pub(crate) fn row_for(&self, entry: Record, now: u64) -> Transition
         ensures { let rests = rests_for now (ledger_of self.now) entry
             in result ≡ row_of (book_of self.now) rests entry }
@@ -300,7 +305,7 @@ impl Core {
         }
     }
 
-    /// What a packet of an endpoint without a pair has to do.
+    /// Returns the answer and the row for an endpoint without a pair.
     fn unknown_wish_for(&self, full: bool, endpoint: Endpoint) -> PortRequest
         ensures { result ≡ unknown_wish (book_of self.now) full endpoint }
     {
@@ -325,7 +330,7 @@ impl Core {
         }
     }
 
-    /// What `want` would answer; nothing changes.
+    /// Returns what `want` would answer, and changes nothing.
     #[inline(always)]
     pub fn look(&self, link: &Link, endpoint: Endpoint) -> Want
         ensures { result ≡ (wish_of (book_of self.now) (is_full link.now) endpoint).answer }
@@ -374,7 +379,8 @@ impl Core {
         }
     }
 
-    /// The pair of a key carried a packet, to or from a remote host: it is used. A pair that doesn't translate carries none.
+    /// Adds a packet to or from a remote host to what the pair of a key carried, and notes that the
+    /// pair is used. Nothing changes where the pair doesn't translate.
     pub fn carried(
         &mut self,
         key: Key,
@@ -412,7 +418,7 @@ impl Core {
             (carry_row (book_of self.old) key).what }
         ensures len { vec_len notes.new ≤ vec_len notes.old + 1 }
         ensures capacity { vec_capacity notes.new ≡ vec_capacity notes.old }
-        // Whatever the end of the link: nothing is pushed.
+        // For any end of the link: nothing is pushed.
         ensures works { (e : End) (h : List Rec) (n : ℕ) → Stands (book_of self.old) e h
             → Works now [] [] (book_of self.old) e n (book_of self.new) e n
             (noted_by self.old.id now (carry_row (book_of self.old) key).what) h }
@@ -482,7 +488,7 @@ impl Core {
         self.table.ready(endpoints)
     }
 
-    /// Takes a record at a gateway that isn't synced.
+    /// Takes a record at a gateway that isn't synced. A record out of its place changes nothing.
     pub(crate) fn load(&mut self, entry: Record, now: u64, notes: &mut Vec<Note>)
         requires unsynced { is_synced_at self.old.stage ≡ false }
         requires formed { IsWellFormedRecord entry }
@@ -512,7 +518,8 @@ impl Core {
 
     // ---- a promised batch
 
-    /// Hands in what the link wants of a promised batch. Afterwards it wants none.
+    /// Passes those records of the promised batch to the link that it needs for its next datagram.
+    /// Afterwards the link needs none.
     #[inline(always)]
     pub fn hand_in(&mut self, link: &mut Link)
         requires promised { length self.old.coming ≡ link.old.promised }
@@ -532,8 +539,8 @@ impl Core {
         }
     }
 
-    /// Draws what the link wants of a promised batch, and hands it in. Its room is cleared for each call, so that it is
-    /// only called where some is wanted.
+    /// Draws as many records of the promised batch as the link needs, and passes them to it. The
+    /// buffer is cleared in each call, so callers leave the call out where none is needed.
     fn draw_for(&mut self, link: &mut Link)
         requires promised { length self.old.coming ≡ link.old.promised }
         ensures core { self.new ≡ record self.old {
@@ -552,10 +559,11 @@ impl Core {
         link.feed(records.as_slice());
     }
 
-    /// The ports that it owns, rising; none where it isn't synced.
+    /// Returns the ports that the gateway owns, rising; none where it isn't synced. Fails where
+    /// there isn't enough memory.
     pub fn owned(&self) -> Result<Vec<Port>, AllocError>
         ensures ports { IfOk result (λ v. v.items ≡ owned_of self.now) }
-        // Where there is none to list, no memory is taken.
+        // Where there is no port to list, no memory is taken.
         ensures none { is_synced_at self.now.stage ≡ false → IsOk result }
         ensures refused { OnErr result (WasRefused 1) }
     {
@@ -568,7 +576,8 @@ impl Core {
 
     // ---- resets
 
-    /// What was proposed or asked to be closed translates again, and is noted.
+    /// Makes all pairs that were proposed or asked to be closed translate again, notes them, and
+    /// sets the stage and the place in the batch.
     pub(crate) fn revive(&mut self, stage: Stage, cursor: Cursor, now: u64, notes: &mut Vec<Note>)
         requires kept { IsBook (revived_with stage cursor self.old) }
         requires reserved { vec_len notes.old + length self.old.table.entries
@@ -590,8 +599,8 @@ impl Core {
         self.cursor = cursor;
     }
 
-    /// It is alone: what was proposed or asked to be closed translates again, and is noted, and the life of each pair
-    /// begins anew.
+    /// Makes the gateway lone: all pairs that were proposed or asked to be closed translate again,
+    /// and are noted, and the life of each pair begins anew.
     #[tactic(auto, using(crate::proofs::Performing::put_alone_is))]
     pub(crate) fn put_alone(&mut self, now: u64, notes: &mut Vec<Note>)
         requires kept { IsBook (put_alone_book (book_of self.old)) }
@@ -618,7 +627,7 @@ impl Core {
         self.table.renew_all(now);
     }
 
-    /// The table is empty, and nothing is loaded.
+    /// Empties the table; the gateway isn't synced then, and has loaded nothing.
     pub(crate) fn forget(&mut self)
         requires kept { let b = book_of self.old in IsBook (empty_book b.id b.zero b.one b.limit) }
         ensures book { let b = book_of self.old
@@ -634,7 +643,7 @@ impl Core {
         self.cursor = Cursor::Over;
     }
 
-    /// Promises the table's batch, where no pair waits for its answer.
+    /// Promises the table's batch to the link. No pair may wait for its answer.
     pub(crate) fn promise(&self, link: &mut Link)
         requires settled { HasNoPending self.now.table.entries }
         requires begins { occupied link.old ≡ 0 }
@@ -649,8 +658,10 @@ impl Core {
 
     // ---- beginnings
 
-    /// A gateway that begins without a table, with the ranges of gateway 0 and of gateway 1, and the most pairs that one
-    /// inside address may have: any number where there is no limit.
+    /// Returns the core of a gateway without a table. `zero` and `one` are the ranges of gateway 0
+    /// and gateway 1; `limit` is the most pairs that one inside address may have, None for any
+    /// number. Takes all the memory of the core but that of `ready` and `owned`; fails where there
+    /// isn't enough.
     pub fn unsynced(
         alloc: Global,
         id: GatewayId,
@@ -687,7 +698,8 @@ impl Core {
         })
     }
 
-    /// Gateway 0, founded alone, with the ports of its range; the limit is as of `unsynced`.
+    /// Returns the core of gateway 0, founded alone, which owns the ports of its range. The limit
+    /// and the Err are those of `unsynced`.
     pub fn founder(
         alloc: Global,
         zero: PortBounds,

@@ -1,4 +1,4 @@
-//! What a row does to a table, and what of it is pushed and noted.
+//! The parts of a row, carried out: its change of the table, its answer on the link, its note.
 ghost use Rattle.std.specs.Prelude.{◌≡◌, ℕ, ◌+◌, ◌-◌, ◌<◌, ◌≤◌, ◌^◌, ◌++◌, ◌∷◌, [], length, true};
 ghost use Rattle.std.specs.Prelude.{None, IsTrue, IfSome, if◌then◌else◌, is_some, vec_len, vec_capacity};
 ghost use Rattle.nat_types.specs.declared.pairs.EntryState.TheVariants.{Doomed, Held, Live};
@@ -145,7 +145,7 @@ pub(crate) fn recall_port(port: Port)
     let _ = port.0;
 }
 
-/// How many keys both ranges have.
+/// Returns how many keys both ranges have: three for each port.
 pub(crate) fn count_keys(zero: PortBounds, one: PortBounds) -> usize
     requires zero { zero.lowest.0 ≤ zero.highest.0 }
     requires one { one.lowest.0 ≤ one.highest.0 }
@@ -154,14 +154,14 @@ pub(crate) fn count_keys(zero: PortBounds, one: PortBounds) -> usize
     3 * (count_ports(zero) + count_ports(one))
 }
 
-/// The ports of gateway 0 and of gateway 1.
+/// The port ranges of gateway 0 and of gateway 1.
 #[derive(Clone, Copy)]
 pub(crate) struct Bounds {
     pub zero: PortBounds,
     pub one: PortBounds,
 }
 
-/// The table owns the ports of a range, and no others.
+/// Makes the table own the ports of a range. It may own no others before.
 pub(crate) fn own_range(table: &mut Table, range: PortBounds)
     requires order { range.lowest.0 ≤ range.highest.0 }
     requires within { (p : ℕ) → in_bounds range p ≡ true
@@ -211,7 +211,7 @@ fn gain_ports(table: &mut Table, bounds: Bounds, granted: Granted)
     }
 }
 
-/// Carries a change out on the table. Whether a Want is open isn't the table's.
+/// Carries a change out on the table. Whether a Want is open is no part of the table.
 pub(crate) fn change_table(table: &mut Table, bounds: Bounds, change: Change, now: u64)
     requires bounds { IsBetween table.old bounds }
     requires ranges { AreInRanges table.old }
@@ -268,7 +268,7 @@ pub(crate) fn note(notes: &mut Vec<Note>, by: GatewayId, at: u64, what: Option<N
     }
 }
 
-/// Pushes what is answered, and notes what happens.
+/// Pushes the row's answer, and notes what the row says.
 pub(crate) fn tell(link: &mut Link, notes: &mut Vec<Note>, by: GatewayId, now: u64, row: Transition)
     requires places { IsTrue (is_some row.answer) → 0 < free_places link.old }
     requires formed { IfSome row.answer IsWellFormedRecord }
@@ -282,7 +282,7 @@ pub(crate) fn tell(link: &mut Link, notes: &mut Vec<Note>, by: GatewayId, now: u
     note(notes, by, now, row.what);
 }
 
-/// A packet is carried, where the pair is used.
+/// Adds a packet to what the key's pair carried, where the pair is used.
 #[inline(always)]
 pub(crate) fn carry_by(table: &mut Table, is_used: bool, key: Key, packet: Packet)
     ensures same { table.new ≡ record table.old { lives = table.new.lives } }
@@ -299,7 +299,8 @@ pub(crate) fn carry_by(table: &mut Table, is_used: bool, key: Key, packet: Packe
     }
 }
 
-/// Whether fewer than 65 places are free: with a record more, the answers to a whole datagram might find none.
+/// Whether fewer than 65 places are free: with one record more, the answers to a whole datagram
+/// might find none.
 pub(crate) fn is_link_full(link: &Link) -> bool
     ensures { result ≡ is_full link.now }
 {
@@ -313,7 +314,7 @@ fn is_same_pair(a: Pair, b: Pair) -> bool
     a == b
 }
 
-/// Whether an entry is that pair's, and translates.
+/// Whether an entry has this pair and translates.
 pub(crate) fn is_carried(entry: Option<Entry>, pair: Pair) -> bool
     ensures { result ≡ is_carried_by entry pair }
 {
@@ -326,7 +327,8 @@ pub(crate) fn is_carried(entry: Option<Entry>, pair: Pair) -> bool
     }
 }
 
-/// Whether an idle pair's end may be asked for.
+/// Whether the peer may be asked for an idle pair's end: it was heard at most 300 cs ago, and the
+/// link isn't full.
 #[tactic(auto, using(crate::proofs::Hearing::same_heard))]
 pub(crate) fn may_ask(link: &Link, now: u64) -> bool
     ensures { result ≡ may_ask_at now link.now }

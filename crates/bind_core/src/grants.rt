@@ -1,4 +1,4 @@
-//! Which ports a gateway grants.
+//! The choice of ports that a gateway grants to its peer.
 ghost use Rattle.std.specs.Prelude.{◌≡◌, ◌+◌, ◌-◌, ◌<◌, ◌≤◌, ◌∷◌, [], length, min, take};
 ghost use Rattle.std.specs.Prelude.{IfSome, IfNone, if◌then◌else◌, nat_lt};
 ghost use Rattle.std.specs.List.{filter};
@@ -10,7 +10,7 @@ use addresses::Port;
 use bindings::Table;
 use nat_types::Granted;
 
-/// How many of so many spare ports are granted.
+/// Returns how many ports are granted where `spare` ports are spare: half of them, at most 16.
 fn share(spare: usize) -> usize
     ensures exact { result ≡ share_of spare }
     ensures most { result ≤ 16 }
@@ -18,7 +18,7 @@ fn share(spare: usize) -> usize
     (spare / 2).min(16)
 }
 
-/// The greatest spare port from one on and below a number.
+/// Returns the greatest spare port from `lowest` on and below `end`, or None.
 fn spare_between(table: &Table, lowest: Port, end: usize) -> Option<Port>
     requires { end ≤ 65536 }
     ensures first { IfSome result (λ p. spares_between table.now.entries table.now.owned lowest.0
@@ -31,7 +31,8 @@ fn spare_between(table: &Table, lowest: Port, end: usize) -> Option<Port>
     if lowest.0 <= port.0 { Some(port) } else { None }
 }
 
-/// How many ports from one on and below a number are spare: so many as matter for a share, which are twice the most.
+/// Returns how many ports from `lowest` on and below `end` are spare, but at most 32: more don't
+/// change the share.
 fn count_spare(table: &Table, lowest: Port, end: usize) -> usize
     requires { end ≤ 65536 }
     ensures { result ≡ min 32 (length (spares_between table.now.entries table.now.owned lowest.0
@@ -47,7 +48,7 @@ fn count_spare(table: &Table, lowest: Port, end: usize) -> usize
     32
 }
 
-/// The greatest spare ports from one on and below a number, at most so many.
+/// Returns the greatest spare ports from `lowest` on and below `end`, at most `most`.
 fn greatest(table: &Table, lowest: Port, end: usize, most: usize) -> Granted
     requires low { 0 < lowest.0 }
     requires end { end ≤ 65536 }
@@ -69,8 +70,8 @@ fn greatest(table: &Table, lowest: Port, end: usize, most: usize) -> Granted
     granted
 }
 
-/// The ports that are granted of those from one to another: the greatest spare ones, at most 16,
-/// and at most half of them.
+/// Returns the ports to grant of those from `lowest` to `highest`: the greatest spare ones, at most
+/// 16, and at most half of them.
 pub(crate) fn choose_granted(table: &Table, lowest: Port, highest: Port) -> Granted
     requires low { 0 < lowest.0 }
     requires order { lowest.0 ≤ highest.0 }
@@ -83,14 +84,14 @@ pub(crate) fn choose_granted(table: &Table, lowest: Port, highest: Port) -> Gran
     greatest(table, lowest, end, most)
 }
 
-/// The lower of two ports.
+/// Returns the lower of two ports.
 pub(crate) fn lower(a: Port, b: Port) -> Port
     ensures { result ≡ (if nat_lt a.0 b.0 then a else b) }
 {
     if a.0 < b.0 { a } else { b }
 }
 
-/// The higher of two ports.
+/// Returns the higher of two ports.
 pub(crate) fn higher(a: Port, b: Port) -> Port
     ensures { result ≡ (if nat_lt a.0 b.0 then b else a) }
 {

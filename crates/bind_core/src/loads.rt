@@ -1,4 +1,4 @@
-//! What a record in its place says of a loading.
+//! The effect of a record on a loading, where it is in its place.
 ghost use Rattle.std.specs.Prelude.{◌≡◌, Some, if◌then◌else◌};
 ghost use Rattle.spec_binding.specs.declared.setups.Stage.TheVariants.{Paired};
 ghost use Rattle.bind_core.specs.Cores.{is_whole, what_loaded};
@@ -6,14 +6,14 @@ ghost use Rattle.bind_core.specs.Cores.{is_whole, what_loaded};
 use nat_types::{NoteKind, Record};
 use spec_binding::Stage;
 
-/// Whether the table is whole, and what is noted.
+/// The effect of a record: whether the table is whole, and what is noted.
 #[derive(Clone, Copy)]
 pub(crate) struct Loads {
     pub is_whole: bool,
     pub what: Option<NoteKind>,
 }
 
-/// What a record does where it is in its place.
+/// Returns the effect of a record that is in its place.
 pub(crate) fn loading_of(entry: &Record) -> Loads
     ensures whole { result.is_whole ≡ is_whole entry.now }
     ensures what { result.what ≡ what_loaded entry.now }
@@ -34,7 +34,8 @@ pub(crate) fn loading_of(entry: &Record) -> Loads
     }
 }
 
-/// With a whole table it is synced, and the peer has to agree to new pairs.
+/// Returns the stage after a record: Paired once the table is whole, so that the peer has to agree
+/// to new pairs.
 pub(crate) fn stage_after(stage: Stage, is_whole: bool) -> Stage
     ensures { result ≡ (if is_whole then Paired else stage) }
 {

@@ -1,4 +1,4 @@
-//! What is noted as the peer begins anew, or is said to be off.
+//! The notes on pairs that translate again as the peer begins anew or is said to be off.
 ghost use Rattle.std.specs.Prelude.{◌≡◌, ◌+◌, ◌<◌, ◌≤◌, ◌++◌, ◌∷◌, [], length, vec_len};
 ghost use Rattle.std.specs.Prelude.{vec_capacity};
 ghost use Rattle.bindings.specs.Revivals.{comes_back};
@@ -35,7 +35,7 @@ fn key_of(entry: &Entry) -> Key
     entry.pair.key
 }
 
-/// Notes the pairs that come back, by protocol (icmp first) and port.
+/// Notes the pairs that were Pending or Closing, by protocol (icmp first) and port.
 pub(crate) fn note_back(table: &Table, notes: &mut Vec<Note>, by: GatewayId, at: u64)
     requires sent { CanBeSent table.now }
     requires reserved { vec_len notes.old + length table.now.entries ≤ vec_capacity notes.old }

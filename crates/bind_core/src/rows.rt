@@ -1,4 +1,6 @@
-//! What a record, a wish, a tick or a packet makes of one entry.
+//! The rows of the record table for one entry: the effect of a record, a wish, a tick or a packet.
+//! A row is a `Transition`: the change of the table, the answer on the link, the note, and the
+//! endpoint whose packets needn't wait any more.
 ghost use Rattle.std.specs.Prelude.{◌≡◌, true};
 ghost use Rattle.nat_types.specs.declared.pairs.EntryState.TheVariants.{Held, Live};
 ghost use Rattle.spec_binding.specs.Books.{is_synced as is_synced_at, is_lone as is_lone_at};
@@ -14,7 +16,7 @@ use bindings::Entry;
 use nat_types::{Endpoint, EntryState, GatewayId, Key, NoteKind, Pair, Record};
 use spec_binding::{Change, PortRequest, Stage, Transition, Want};
 
-/// Whether the table is loaded.
+/// Whether a gateway in this stage has its table loaded.
 pub(crate) fn is_synced(stage: Stage) -> bool
     ensures { result ≡ is_synced_at stage }
 {
@@ -24,7 +26,7 @@ pub(crate) fn is_synced(stage: Stage) -> bool
     }
 }
 
-/// Whether nobody's consent is needed.
+/// Whether a gateway in this stage needs no consent.
 pub(crate) fn is_lone(stage: Stage) -> bool
     ensures { result ≡ is_lone_at stage }
 {
@@ -34,7 +36,7 @@ pub(crate) fn is_lone(stage: Stage) -> bool
     }
 }
 
-/// A change that is answered and noted, and by which no wait ends.
+/// Returns the row of a change that is answered and noted, and ends no wait.
 pub(crate) fn row(change: Change, answer: Option<Record>, what: Option<NoteKind>) -> Transition
     ensures { result ≡ row_with change answer what }
 {
@@ -46,21 +48,21 @@ pub(crate) fn row(change: Change, answer: Option<Record>, what: Option<NoteKind>
     }
 }
 
-/// Nothing changes.
+/// Returns the row that changes, answers and notes nothing.
 pub(crate) fn quiet() -> Transition
     ensures { result ≡ quiet_row }
 {
     row(Change::Keep, None, None)
 }
 
-/// Nothing changes, and this is answered.
+/// Returns the row that changes and notes nothing, and answers this record.
 pub(crate) fn answering(answer: Record) -> Transition
     ensures { result ≡ answering_row answer }
 {
     row(Change::Keep, Some(answer), None)
 }
 
-/// The row, by which the packets of an endpoint needn't wait any more.
+/// Returns the row with the endpoint whose packets needn't wait any more.
 pub(crate) fn ending(endpoint: Endpoint, row: Transition) -> Transition
     ensures { result ≡ ending_row endpoint row }
 {
@@ -72,7 +74,7 @@ pub(crate) fn ending(endpoint: Endpoint, row: Transition) -> Transition
     }
 }
 
-/// What a packet has to do, and what comes of its wish.
+/// Returns the request of an answer to a packet and the row of its wish.
 pub(crate) fn wish(answer: Want, row: Transition) -> PortRequest
     ensures { result ≡ wish_with answer row }
 {
@@ -102,7 +104,7 @@ fn accepted(pair: Pair, state: EntryState) -> Transition
     }
 }
 
-/// The peer agrees to the pair of a key; `entry` is the key's.
+/// Returns the row of an Accept: the peer agrees to the pair of a key. `entry` is the key's.
 pub(crate) fn accept(entry: Option<Entry>) -> Transition
     ensures { result ≡ accept_row entry }
 {
@@ -122,7 +124,7 @@ fn refused(pair: Pair, state: EntryState) -> Transition
     }
 }
 
-/// The peer refuses the pair of a key; `entry` is the key's.
+/// Returns the row of a Refuse: the peer refuses the pair of a key. `entry` is the key's.
 pub(crate) fn refuse(entry: Option<Entry>) -> Transition
     ensures { result ≡ refuse_row entry }
 {
@@ -157,8 +159,8 @@ fn asked(pair: Pair, rests: bool, state: EntryState) -> Transition
     }
 }
 
-/// The peer asks whether the pair of a key may go: `rests` says that it is idle, or came by Install and was never used
-/// here since; `entry` is the key's.
+/// Returns the row of an Ask: the peer asks whether the pair of a key may be released. `rests` says
+/// that the pair is idle, or came by Install and was never used here since. `entry` is the key's.
 pub(crate) fn ask(key: Key, rests: bool, entry: Option<Entry>) -> Transition
     ensures { result ≡ ask_row key rests entry }
 {
@@ -177,7 +179,7 @@ fn left(pair: Pair, state: EntryState) -> Transition
     }
 }
 
-/// The peer has let the pair of a key go; `entry` is the key's.
+/// Returns the row of a Yes: the peer has released the pair of a key. `entry` is the key's.
 pub(crate) fn yes(entry: Option<Entry>) -> Transition
     ensures { result ≡ yes_row entry }
 {
@@ -196,7 +198,7 @@ fn stayed(pair: Pair, state: EntryState) -> Transition
     }
 }
 
-/// The peer keeps the pair of a key; `entry` is the key's.
+/// Returns the row of a No: the peer keeps the pair of a key. `entry` is the key's.
 pub(crate) fn no(entry: Option<Entry>) -> Transition
     ensures { result ≡ no_row entry }
 {
@@ -206,7 +208,7 @@ pub(crate) fn no(entry: Option<Entry>) -> Transition
     }
 }
 
-/// What a packet of an endpoint has to do whose pair has an entry.
+/// Returns the request of a packet whose endpoint has an entry.
 pub(crate) fn known(pair: Pair, state: EntryState) -> PortRequest
     ensures { result ≡ known_wish pair state }
 {
@@ -251,7 +253,8 @@ fn released(is_lone: bool, may_ask: bool, pair: Pair, state: EntryState) -> Tran
     }
 }
 
-/// What a tick makes of an idle key.
+/// Returns the row of an idle key on a tick. `may_ask` says whether the peer may be asked for a
+/// pair's end.
 pub(crate) fn release(is_lone: bool, may_ask: bool, entry: Option<Entry>) -> Transition
     ensures { result ≡ release_row is_lone may_ask entry }
 {
@@ -272,7 +275,7 @@ fn used(pair: Pair, state: EntryState) -> Transition
     }
 }
 
-/// What a translated packet makes of its pair.
+/// Returns the row of a translated packet, which uses its pair.
 pub(crate) fn carry(entry: Option<Entry>) -> Transition
     ensures { result ≡ use_row entry }
 {

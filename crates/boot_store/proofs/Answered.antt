@@ -1,4 +1,4 @@
--- From the bytes that were read to the answer.
+-- The answer of a start, from the bytes that were read.
 use Rattle.std.proofs.Common.{◌≡◌, inl, inr, ⊎_elim, ℕ, ◌+◌, ◌<◌, ◌≤◌, ◌^◌, Bool, true, false, ◌&&◌, not, ◌==◌, if◌then◌else◌, List, length, take, drop, [], ◌∷◌, ◌++◌, Option, Some, None, Result, Ok, Err, refl, sym, ◌∙◌, ap, arith, append_assoc}
 use Rattle.std.proofs.Math.Path.{ap₂}
 use Rattle.std.proofs.lemmas.List.{take-take, drop-take, length-map}
@@ -38,7 +38,7 @@ module _ (t : Moment) (a b : Option ℕ) (steady : left_by_crash (bytes_of t) �
   pub number_read : number_of (bytes_of t) ≡ greater a b
   number_read = number_is (bytes_of t) long ∙ sym (ap₂ greater first_slot second_slot)
 
-  -- the disk is ready for the next one
+  -- the disk is ready for the next number
   pub is_ready : (n : ℕ) → greater a b ≡ Some n → IsReady (next_place a b) t
   is_ready n is =
       let number : number_of (bytes_of t) ≡ Some n = number_read ∙ is in
@@ -51,13 +51,13 @@ module _ (t : Moment) (a b : Option ℕ) (steady : left_by_crash (bytes_of t) �
             (kept_slot a b n is);
       }
 
-  -- and then the file has it
+  -- once the number is written and synced, the file has it
   pub file_with : (n : ℕ) → synced (written (next_place a b) (slot_bytes n) t) ≡ left_by_crash (with_number n (bytes_of t))
   file_with n =
       synced-written (next_place a b) (slot_bytes n) t steady
       ∙ ap₂ (λ x y. left_by_crash (put (next_place x y) (slot_bytes n) (bytes_of t))) first_slot second_slot
 
-  -- an answered number is above what a crash could leave before, and then a crash leaves it
+  -- an answered number is above what each crash before leaves at least, and then each crash leaves at least that number
   pub rises_to : (found : Bool) (boot : ℕ) → boot < 2 ^ 64 → boot_answer found (greater a b) ≡ Ok boot → (m : ℕ) → LeavesAtLeast m t
       → (m < boot) × LeavesAtLeast boot (synced (written (next_place a b) (slot_bytes boot) t))
   rises_to found boot fits is m leaves =
@@ -69,7 +69,7 @@ module _ (t : Moment) (a b : Option ℕ) (steady : left_by_crash (bytes_of t) �
       some_same : (x y : ℕ) → Some x ≡ Some y → x ≡ y
       some_same x y e = cc
 
-  -- it is written over one slot, once
+  -- the number is written over one slot, once
   pub writes_once : (start : Moment) (p q r : List Moment) (n : ℕ) → MayShow start (bytes_of t)
       → q ≡ p ++ looked start → r ≡ q ++ t ∷ within_write (next_place a b) 16 t ∷ written (next_place a b) (slot_bytes n) t ∷ []
       → Since p r (WritesOnce start (synced (written (next_place a b) (slot_bytes n) t)) n)
@@ -82,12 +82,12 @@ module _ (t : Moment) (a b : Option ℕ) (steady : left_by_crash (bytes_of t) �
         (bytes_of t, shows, ap (λ (s : Moment). calls s a b) (sym steady) ∙ slots, file_with n),
       )
 
-  -- or the write fails
+  -- where the write fails, the end is as after a failure
   pub write_failed : (start end : Moment) → MayShow start (bytes_of t) → AfterWrite (next_place a b) t end → AfterFailure start end
   write_failed start end shows after =
       inr (bytes_of t, shows, rw (← first_slot, ← second_slot, steady) after)
 
-  -- and the start ends at it
+  -- a start whose write fails makes no call after it
   pub start_stopped : (found : Bool) (boot : ℕ) (start end : Moment) (p q r : List Moment)
       → MayShow start (bytes_of t) → boot_answer found (greater a b) ≡ Ok boot
       → q ≡ p ++ looked start → Since q r (WriteStopped (next_place a b) (slot_bytes boot) t end)

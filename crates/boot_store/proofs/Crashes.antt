@@ -1,4 +1,4 @@
--- A modelled disk's crash, failed sync and read do what a disk's may.
+-- A modelled disk's crash, failed sync and read do what the clauses of Disk allow.
 use Rattle.std.proofs.Common.{◌≡◌, ◌≢◌, ℕ, suc, List, [], ◌∷◌, length, refl, sym, ap, arith}
 use Rattle.std.proofs.Math.Path.{ap₂}
 use Rattle.boot_store.specs.declared.disk.Cell.{Cell}
@@ -22,14 +22,14 @@ picked Kept b byte may = sym (may refl)
 picked Loose b byte may = refl
 picked Lost b byte may = refl
 
--- and each outcome can be picked
+-- each outcome of a crash can be picked
 pub crashed_picked : (any : List ℕ) (s : Moment) → MayLeave s any → bytes_of (crashed any s) ≡ any
 crashed_picked [] [] may = refl
 crashed_picked [] (cell ∷ s) may = absurd may
 crashed_picked (b ∷ any) [] may = absurd may
 crashed_picked (b ∷ any) (cell ∷ s) may = ap₂ (λ (x : ℕ) (xs : List ℕ). x ∷ xs) (picked cell.hold b cell.byte may.0) (crashed_picked any s may.1)
 
--- then all is kept
+-- after a crash all is kept
 pub crashed_kept : (any : List ℕ) (s : Moment) → length s ≡ length any → crashed any s ≡ left_by_crash (bytes_of (crashed any s))
 crashed_kept [] [] e = refl
 crashed_kept [] (cell ∷ s) e = cc
@@ -60,7 +60,7 @@ shown_kept Kept any cell is = cc
 shown_kept Loose any cell is = cc
 shown_kept Lost any cell is = refl
 
--- a read finds what it may
+-- a read shows what it may
 pub shown_may : (any : List ℕ) (s : Moment) → length s ≡ length any → AfterRead s (read_once any s)
 shown_may [] [] e = tt
 shown_may [] (cell ∷ s) e = cc

@@ -1,4 +1,4 @@
--- What a crash may leave, in part and as a whole.
+-- The bytes that a crash may leave, in part and as a whole.
 use Rattle.std.proofs.Common.{◌≡◌, ◌≢◌, ℕ, zero, suc, ◌+◌, ◌≤◌, List, [], ◌∷◌, ◌++◌, length, take, drop, map, refl, sym, ◌∙◌, ap, subst, arith, append_assoc, length-append, length-drop}
 use Rattle.std.proofs.Math.Path.{ap₂}
 use Rattle.std.proofs.lemmas.List.{drop-map, take-map, length-map, length-take, map-append, take_at, drop_at}
@@ -31,7 +31,7 @@ leaves_drop (suc n) [] (b ∷ c) l = absurd l
 leaves_drop (suc n) (cell ∷ s) [] l = absurd l
 leaves_drop (suc n) (cell ∷ s) (b ∷ c) l = leaves_drop n s c l.1
 
--- what is kept in front stays there
+-- a crash leaves the bytes that are kept in front
 pub leaves_front : (x : List ℕ) (t : Moment) (c : List ℕ) → MayLeave (left_by_crash x ++ t) c → (rest : List ℕ) × (c ≡ x ++ rest)
 leaves_front [] t c l = (c, refl)
 leaves_front (b ∷ x) t [] l = absurd l
@@ -60,7 +60,7 @@ synced_leaves [] c l = l
 synced_leaves (cell ∷ s) [] l = absurd l
 synced_leaves (cell ∷ s) (b ∷ c) l = (synced_cell_leaves cell.hold b cell.byte l.0, synced_leaves s c l.1)
 
--- nor after a call that left what was kept
+-- after a call that left what was kept, a crash leaves nothing that it couldn't leave before
 pub still_leaves : (s t : Moment) (c : List ℕ) → StillKept s t → MayLeave t c → MayLeave s c
 still_leaves [] [] c k l = l
 still_leaves [] (after ∷ t) c k l = absurd k
@@ -81,7 +81,7 @@ read_keeps [] (after ∷ t) r = absurd r
 read_keeps (cell ∷ s) [] r = absurd r
 read_keeps (cell ∷ s) (after ∷ t) r = (read_still cell.hold cell after r.0, read_keeps s t r.2)
 
--- a cell that was synced and then read
+-- a cell after a sync and then a read shows what it may
 settled_cell : (h : Hold) (byte : ℕ) (after : Cell) → (synced_hold h ≢ Lost → after ≡ record { byte = byte; hold = synced_hold h }) → (synced_hold h ≡ Lost → after.hold ≡ Kept)
     → (h ≢ Lost → after.byte ≡ byte) × (kept_cell after.byte ≡ after)
 settled_cell Kept byte after same lost =
@@ -107,7 +107,7 @@ settled_kept (cell ∷ s) [] r = absurd r
 settled_kept (cell ∷ s) (after ∷ t) r =
     ap₂ (λ (y : Cell) (ys : Moment). y ∷ ys) (settled_cell cell.hold cell.byte after r.0 r.1).1 (settled_kept s t r.2)
 
--- the bytes that are kept
+-- the bytes of kept cells
 pub bytes-kept : (file : List ℕ) → bytes_of (left_by_crash file) ≡ file
 bytes-kept [] = refl
 bytes-kept (b ∷ file) = ap (λ (ys : List ℕ). b ∷ ys) (bytes-kept file)
@@ -128,7 +128,7 @@ pub synced-kept : (file : List ℕ) → synced (left_by_crash file) ≡ left_by_
 synced-kept [] = refl
 synced-kept (x ∷ file) = ap (λ (ys : Moment). kept_cell x ∷ ys) (synced-kept file)
 
--- a change of each item, and a write
+-- mapping commutes with a write
 pub map-put : {X Y : Type 0} (f : X → Y) (at : ℕ) (xs old : List X) → map f (put at xs old) ≡ put at (map f xs) (map f old)
 map-put f at xs old =
     map-append f (take at old ++ xs) (drop (at + length xs) old)
@@ -152,19 +152,19 @@ length-put at xs old h =
     let b = length-append (take at old) xs in
     omega (arith, a, b, length-take at old, length-drop (at + length xs) old)
 
--- behind the place of a write
+-- after the bytes of a write, the old ones remain
 pub drop-put : {X : Type 0} (at : ℕ) (xs old : List X) (n : ℕ) → at + length xs ≤ length old → n ≡ at + length xs → drop n (put at xs old) ≡ drop n old
 drop-put at xs old n h e =
     let size : length (take at old ++ xs) ≡ n = omega (arith, length-append (take at old) xs, length-take at old) in
     drop_at (take at old ++ xs) (drop (at + length xs) old) n size ∙ ap (λ k. drop k old) (sym e)
 
--- and before it
+-- before the bytes of a write, the old ones remain
 pub take-put : {X : Type 0} (at : ℕ) (xs old : List X) → at ≤ length old → take at (put at xs old) ≡ take at old
 take-put at xs old h =
     let size : length (take at old) ≡ at = omega (arith, length-take at old) in
     ap (take at) (append_assoc (take at old) xs (drop (at + length xs) old)) ∙ take_at (take at old) (xs ++ drop (at + length xs) old) at size
 
--- a call that left what was kept, after a sync
+-- a call that left what was kept, after a sync, leaves what was kept before it
 synced_cell_still : (h : Hold) (byte : ℕ) (after : Cell) → (synced_hold h ≡ Kept → after ≡ record { byte = byte; hold = synced_hold h }) → h ≡ Kept → after ≡ record { byte = byte; hold = h }
 synced_cell_still Kept byte after same is = same refl
 synced_cell_still Loose byte after same is = cc
@@ -183,7 +183,7 @@ drop_still (suc n) [] (after ∷ t) k = absurd k
 drop_still (suc n) (cell ∷ s) [] k = absurd k
 drop_still (suc n) (cell ∷ s) (after ∷ t) k = drop_still n s t k.1
 
--- behind a write at the beginning
+-- after a write at the beginning, the rest is as before
 pub drop-written : (xs : List ℕ) (s : Moment) (n : ℕ) → length xs ≡ n → drop n (written 0 xs s) ≡ drop n s
 drop-written xs s n size =
     let same : length (map loose_cell xs) ≡ n = length-map xs loose_cell ∙ size in

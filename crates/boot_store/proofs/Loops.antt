@@ -6,7 +6,7 @@ use Rattle.boot_store.specs.Moment.{Moment, bytes_of, loose_cell, put, written, 
 use Rattle.boot_store.proofs.Leaves.{synced-loose}
 use Rattle.boot_store.specs.Cells.{each_with}
 
--- the item behind a front
+-- setting the item after a front
 pub set_behind : {X : Type 0} (front rest : List X) (old new : X) → set (front ++ old ∷ rest) (length front) new ≡ front ++ new ∷ rest
 set_behind [] rest old new = refl
 set_behind (x ∷ front) rest old new = ap (λ l. x ∷ l) (set_behind front rest old new)
@@ -30,13 +30,13 @@ write_more at i bytes s d within more =
     put_more at (at + i) (map loose_cell (take i bytes)) s (loose_cell (get_or bytes i d)) (loose_cell 0) (omega (arith, size)) (omega (arith, size))
     ∙ ap (λ l. put at l s) (sym (map-append loose_cell (take i bytes) (get_or bytes i d ∷ [])) ∙ ap (map loose_cell) (sym (take_more bytes i d more)))
 
--- each cell changed
+-- one more cell is changed
 pub map_more : (f : Cell → Cell) (s : Moment) (i : ℕ) (d : Cell) → i < length s → set (map f (take i s) ++ drop i s) i (f (get_or (map f (take i s) ++ drop i s) i d)) ≡ map f (take (suc i) s) ++ drop (suc i) s
 map_more f [] i d h = absurd (omega arith)
 map_more f (cell ∷ s) zero d h = refl
 map_more f (cell ∷ s) (suc i) d h = ap (λ (l : Moment). f cell ∷ l) (map_more f s i d (omega arith))
 
--- each cell changed with the byte at its place
+-- one more cell is changed with the byte at its place
 pub each_more : (f : ℕ → Cell → Cell) (any : List ℕ) (s : Moment) (i n : ℕ) (d : Cell) → i < length s → i < length any → set (each_with f (take i any) s) i (f (get_or any i n) (get_or (each_with f (take i any) s) i d)) ≡ each_with f (take (suc i) any) s
 each_more f [] s i n d h k = absurd (omega arith)
 each_more f (b ∷ any) [] i n d h k = absurd (omega arith)
@@ -49,7 +49,7 @@ read_more (cell ∷ s) [] i d h e = absurd (omega arith)
 read_more (cell ∷ s) (b ∷ room) zero d h e = refl
 read_more (cell ∷ s) (b ∷ room) (suc i) d h e = ap (λ (l : List ℕ). cell.byte ∷ l) (read_more s room i d (omega arith) (omega arith))
 
--- a file that was written whole and synced
+-- a file that was written whole and synced is kept
 pub synced_whole : (file : List ℕ) (s : Moment) → length s ≡ length file → synced (written 0 file s) ≡ left_by_crash file
 synced_whole file s same =
     let rest : drop (0 + length (map loose_cell file)) s ≡ [] = drop_all (0 + length (map loose_cell file)) s (omega (arith, same, length-map file loose_cell)) in

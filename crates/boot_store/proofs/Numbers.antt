@@ -1,4 +1,4 @@
--- Numbers of slots and of files.
+-- The numbers of slots and of files.
 use Rattle.std.proofs.Common.{◌≡◌, ◌⊎◌, inl, inr, ℕ, ◌+◌, ◌-◌, ◌^◌, ◌<◌, ◌≤◌, max, cond, ◌==◌, if◌then◌else◌, List, ◌++◌, length, drop, Option, Some, None, refl, sym, ◌∙◌, ap, arith, append_assoc, length-append}
 use Rattle.std.proofs.lemmas.Bool.{cases_lt, le-ltb}
 use Rattle.std.proofs.lemmas.Bool.Decides.{nat_tests}
@@ -8,7 +8,7 @@ use Rattle.byteorder.specs.Numbers.{big_number-reads_back, length-bytes_high_fir
 use Rattle.boot_store.specs.BootFile.{slot_number, slot_at, greater, number_of, next_place, slot_bytes}
 use Rattle.boot_store.specs.Crash.{HasAtLeast}
 
--- a file that is long enough has the greater of its slots
+-- the number of a file of at least 32 bytes is the greater of its slots' numbers
 pub number_is : (file : List ℕ) → 32 ≤ length file → number_of file ≡ greater (slot_at 0 file) (slot_at 16 file)
 number_is file long = ap (λ b. cond b None (greater (slot_at 0 file) (slot_at 16 file))) (le-ltb (length file) 32 long)
 
@@ -20,7 +20,7 @@ greater_second : (m n : ℕ) (a : Option ℕ) → m ≤ n → (k : ℕ) × (grea
 greater_second m n None h = (n, refl, h)
 greater_second m n (Some a) h = (max a n, refl, omega arith)
 
--- a valid slot is enough
+-- a file with one valid slot of a number has at least that number
 pub has_first : (m n : ℕ) (file : List ℕ) → 32 ≤ length file → slot_at 0 file ≡ Some n → m ≤ n → HasAtLeast m file
 has_first m n file long is h =
     let k = greater_first m n (slot_at 16 file) h in

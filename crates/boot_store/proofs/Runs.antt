@@ -1,4 +1,4 @@
--- Over every run the answered numbers rise.
+-- The answered numbers rise over every run.
 use Rattle.std.proofs.Common.{⊎_elim, ℕ, List, [], ◌∷◌, ◌++◌, Ok, Err, sym, subst, arith}
 use Rattle.std.specs.List.{AllByRecursion}
 use Rattle.boot_store.specs.Moment.{Moment, MayLeave, left_by_crash}
@@ -8,7 +8,7 @@ use Rattle.boot_store.proofs.Joins.{all_append}
 use Rattle.boot_store.proofs.Leaves.{kept_leaves}
 use Rattle.boot_store.proofs.Stored.{keeps_still}
 
--- what a crash left has what it may leave
+-- a crash leaves what it may, so at least m is left after it
 after_crash : (m : ℕ) (s : Moment) (file : List ℕ) → LeavesAtLeast m s → MayLeave s file → LeavesAtLeast m (left_by_crash file)
 after_crash m s file leaves left c l = subst (HasAtLeast m) (sym (kept_leaves file c l)) (leaves file left)
 

@@ -8,11 +8,11 @@ use Rattle.boot_store.specs.Crash.{LeavesAtLeast, LeavesFirst, LeavesNumber, IsR
 use Rattle.boot_store.proofs.Leaves.{as_read, leaves_length, leaves_take, leaves_drop, leaves_front, kept_leaves, synced_leaves, still_leaves, read_keeps, steady_leaves, synced-loose, synced-written, map-put, length-put, drop-put, take-put}
 use Rattle.boot_store.proofs.Numbers.{number_is, has_first, has_second, length-slot, slot_reads}
 
--- what a sync keeps
+-- a sync keeps what a crash leaves at least
 pub keeps_synced : (s : Moment) (m : ℕ) → LeavesAtLeast m s → LeavesAtLeast m (synced s)
 keeps_synced s m leaves c l = leaves c (synced_leaves s c l)
 
--- and what a call that failed, or a read
+-- a call that failed, or a read, keeps what a crash leaves at least
 pub keeps_still : (s t : Moment) → StillKept s t → (m : ℕ) → LeavesAtLeast m s → LeavesAtLeast m t
 keeps_still s t still m leaves c l = leaves c (still_leaves s t c still l)
 
@@ -38,7 +38,7 @@ module _ (x : List ℕ) (s : Moment) (size : length x ≡ 16) (steady : left_by_
       let is : drop 16 c ≡ drop 16 (bytes_of s) = steady_leaves (drop 16 s) (drop 16 c) still rest ∙ sym (drop-map (λ cell. cell.byte) 16 s) in
       ap (λ (f : List ℕ). slot_number (take 16 f)) is
 
-  -- and the other way round
+  -- a write over the second slot leaves the first
   high_leaves : (c : List ℕ) → MayLeave (written 16 x s) c → slot_at 0 c ≡ slot_at 0 (bytes_of s)
   high_leaves c l =
       let kept = take-put 16 (map loose_cell x) s (omega arith) in
@@ -91,7 +91,7 @@ new_number place n s fits ready c l =
         let front : length (take 16 file) ≡ 16 = omega (arith, length-take 16 file) in
         ap (λ (f : List ℕ). slot_number (take 16 f)) (ap (λ (f : List ℕ). drop 16 f) (append_assoc (take 16 file) (slot_bytes n) rest) ∙ drop_at (take 16 file) (slot_bytes n ++ rest) 16 front) ∙ cut_reads n rest fits
 
--- a new file, written over whatever there was
+-- a new file's write, synced, leaves its bytes in front
 zero_left : (s : Moment) (c : List ℕ) → MayLeave (synced (written 0 zero_file s)) c → (rest : List ℕ) × (c ≡ zero_file ++ rest)
 zero_left s c l =
     let front : synced (written 0 zero_file s) ≡ left_by_crash zero_file ++ _ =
@@ -124,7 +124,7 @@ zero_number s c l =
     cut_zero : (rest : List ℕ) → slot_number (take 16 (slot_bytes 0 ++ rest)) ≡ Some 0
     cut_zero rest = ap slot_number (take_at (slot_bytes 0) rest 16 (length-slot 0) ∙ sym (append-nil (slot_bytes 0))) ∙ slot_reads 0 [] (omega arith)
 
--- and so it does within it
+-- within a write over the other slot, the file's number is left
 pub keeps_within : (place n : ℕ) (s : Moment) → n ≡ 16 → IsReady place s → (m : ℕ) → LeavesAtLeast m s → LeavesAtLeast m (within_write place n s)
 keeps_within place n s size ready m leaves =
     let short : place ≤ 16 = ⊎_elim (λ low. omega (arith, low.0)) (λ high. omega (arith, high.0)) ready.beside in

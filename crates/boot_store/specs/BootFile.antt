@@ -16,7 +16,7 @@ slot_number slot =
 abbrev pub slot_at : ℕ → List ℕ → Option ℕ
 slot_at place file = slot_number (take 16 (drop place file))
 
--- the greater of the two, where there are two
+-- the greater of two numbers, or the one that there is
 abbrev pub greater : Option ℕ → Option ℕ → Option ℕ
 greater None b = b
 greater (Some a) None = Some a
@@ -27,21 +27,20 @@ abbrev pub number_of : List ℕ → Option ℕ
 number_of file =
     if nat_lt (length file) 32 then None else greater (slot_at 0 file) (slot_at 16 file)
 
--- what a start answers at a file of this number, where no device call fails
+-- the answer of a start at a file of this number, where no device call fails
 abbrev pub boot_answer : Bool → Option ℕ → Result ℕ BootFault
 boot_answer found None = Err Damaged
 boot_answer found (Some n) =
     if found && not (n == 0) then Err FoundTwice
     else (if n == 18446744073709551615 then Err BootsUsedUp else Ok (n + 1))
 
--- where the next number goes: over the invalid slot, else over the lower one; over the first when equal or when only it
--- is invalid
+-- the offset of the next number: that of the invalid slot, else of the lower number; 0 where both are equal or both are invalid
 abbrev pub next_place : Option ℕ → Option ℕ → ℕ
 next_place None b = 0
 next_place (Some a) None = 16
 next_place (Some a) (Some b) = if nat_lt b a then 16 else 0
 
--- a valid slot
+-- the bytes of a valid slot
 unfoldable pub slot_bytes : ℕ → List ℕ
 slot_bytes n = big_bytes 8 n ++ big_bytes 8 (18446744073709551615 - n)
 

@@ -1,22 +1,22 @@
--- What a disk was asked for, call by call.
+-- What a disk says of its calls beyond the clauses of Disk.
 use Rattle.std.specs.Prelude.{ℕ, ◌⊎◌, List, Result, Ok, Err}
 use Rattle.boot_store.specs.declared.disk.DeviceFault.{DeviceFault}
 use Rattle.boot_store.specs.declared.faults.BootFault.{BootFault}
 use Rattle.boot_store.specs.BootFile.{zero_file}
 
--- a read, by what the disk was, what it answered, the room that it left, and what it is then
+-- of a read: the disk before, the answer, the buffer afterwards, and the disk afterwards
 abbrev pub Reads : Type 0 → Type 1
 Reads D = D → Result ℕ DeviceFault → List ℕ → D → Type 0
 
--- a write of these bytes there
+-- of a write: the disk before, the offset, the bytes, the answer, and the disk afterwards
 abbrev pub Writes : Type 0 → Type 1
 Writes D = D → ℕ → List ℕ → Result (Unit {0}) DeviceFault → D → Type 0
 
--- a sync
+-- of a sync: the disk before, the answer, and the disk afterwards
 abbrev pub Syncs : Type 0 → Type 1
 Syncs D = D → Result (Unit {0}) DeviceFault → D → Type 0
 
--- it was to write the bytes of a new file, and then to be synced, and did both; or it refused one of them, and was asked for nothing else
+-- the calls of init on any disk: a write of a new file's bytes and then a sync, both Ok; or one of them failed, and no call followed
 abbrev pub IsInited : {D : Type 0} → Writes D → Syncs D → D → Result (Unit {0}) BootFault → D → Type 0
 IsInited {D = D} writes syncs before (Ok done) after =
     (between : D) × (writes before 0 zero_file (Ok tt) between × syncs between (Ok tt) after)

@@ -1,17 +1,17 @@
--- What a modelled disk does to its cells.
+-- The effects of calls and crashes on the cells of a modelled disk.
 use Rattle.std.specs.Prelude.{ℕ, List, [], ◌∷◌, map}
 use Rattle.boot_store.specs.declared.disk.Cell.{Cell}
 use Rattle.boot_store.specs.declared.disk.Hold.{Hold}
 use Rattle.boot_store.specs.declared.disk.Hold.TheVariants.{Kept, Loose, Lost}
 use Rattle.boot_store.specs.Moment.{Moment, kept_cell}
 
--- each cell with the byte that stands at its place
+-- each cell, changed with the byte at its place
 abbrev pub each_with : (ℕ → Cell → Cell) → List ℕ → Moment → Moment
 each_with change [] moment = moment
 each_with change (byte ∷ any) [] = []
 each_with change (byte ∷ any) (cell ∷ moment) = change byte cell ∷ each_with change any moment
 
--- what a crash leaves of a byte, where `any` may stand in its place
+-- the byte that a crash leaves, where `any` may replace it
 abbrev pub crashed_byte : Hold → ℕ → ℕ → ℕ
 crashed_byte Kept any byte = byte
 crashed_byte Loose any byte = any
@@ -20,11 +20,11 @@ crashed_byte Lost any byte = any
 abbrev pub crashed_cell : ℕ → Cell → Cell
 crashed_cell any cell = kept_cell (crashed_byte cell.hold any cell.byte)
 
--- after a crash, where the bytes of `any` stand for those that it may change
+-- the cells after a crash, where the bytes of `any` replace those that it may change
 abbrev pub crashed : List ℕ → Moment → Moment
 crashed any moment = each_with crashed_cell any moment
 
--- what a read makes of a cell, where the device has `any` in place of a lost byte
+-- a cell after a read, where the device has `any` in place of a lost byte
 abbrev pub shown : Hold → ℕ → Cell → Cell
 shown Kept any cell = cell
 shown Loose any cell = cell
@@ -33,11 +33,11 @@ shown Lost any cell = kept_cell any
 abbrev pub shown_cell : ℕ → Cell → Cell
 shown_cell any cell = shown cell.hold any cell
 
--- after a read, where the device has the bytes of `any` in place of those that are lost
+-- the cells after a read, where the device has the bytes of `any` in place of those that are lost
 abbrev pub read_once : List ℕ → Moment → Moment
 read_once any moment = each_with shown_cell any moment
 
--- a sync that fails loses what was written since the last one
+-- the durability of a byte after a sync that failed: what was written since the last sync is lost
 abbrev pub lost_hold : Hold → Hold
 lost_hold Kept = Kept
 lost_hold Loose = Lost
@@ -46,6 +46,6 @@ lost_hold Lost = Lost
 abbrev pub lost_cell : Cell → Cell
 lost_cell cell = record { byte = cell.byte; hold = lost_hold cell.hold }
 
--- after a sync that failed
+-- the cells after a sync that failed
 abbrev pub lost : Moment → Moment
 lost moment = map lost_cell moment

@@ -1,4 +1,4 @@
--- What crashes leave of a boot file's number.
+-- The numbers that crashes leave in a boot file.
 use Rattle.std.specs.Prelude.{◌≡◌, ◌⊎◌, ◌≤◌, ◌<◌, ℕ, List, [], ◌∷◌, Bool, ◌++◌, length, Option, Some, None, take, Result, Ok, Err, IfOk}
 use Rattle.std.specs.List.{AllByRecursion}
 use Rattle.boot_store.specs.declared.faults.BootFault.{BootFault}
@@ -9,19 +9,19 @@ use Rattle.boot_store.specs.BootFile.{number_of, slot_at, boot_answer, next_plac
 abbrev pub HasAtLeast : ℕ → List ℕ → Type 0
 HasAtLeast m file = (n : ℕ) × (number_of file ≡ Some n) × (m ≤ n)
 
--- a crash at that moment leaves a number of at least m
+-- each crash at that moment leaves a number of at least m
 abbrev pub LeavesAtLeast : ℕ → Moment → Type 0
 LeavesAtLeast m moment = (file : List ℕ) → MayLeave moment file → HasAtLeast m file
 
--- a crash at that moment leaves this number
+-- each crash at that moment leaves this number
 abbrev pub LeavesNumber : ℕ → Moment → Type 0
 LeavesNumber n moment = (file : List ℕ) → MayLeave moment file → number_of file ≡ Some n
 
--- a crash at that moment leaves a file that begins with these bytes
+-- each crash at that moment leaves a file that begins with these bytes
 abbrev pub LeavesFirst : List ℕ → Moment → Type 0
 LeavesFirst bytes moment = (file : List ℕ) → MayLeave moment file → take (length bytes) file ≡ bytes
 
--- the moments that have passed from one past to a later one
+-- P holds of the moments that have passed from one past to a later one
 abbrev pub Since : List Moment → List Moment → (List Moment → Type 0) → Type 0
 Since before after P = (since : List Moment) × (after ≡ before ++ since) × P since
 
@@ -30,17 +30,17 @@ abbrev pub Keeps : Moment → Moment → List Moment → Type 0
 Keeps start end since = (m : ℕ)
     → LeavesAtLeast m start → AllByRecursion (LeavesAtLeast m) since × LeavesAtLeast m end
 
--- an answered number is greater than that, and a crash at the end leaves at least the answered one
+-- an answered number is greater than any that each crash at the start leaves at least, and each crash at the end leaves at least the answered one
 abbrev pub Rises : Moment → Moment → Result ℕ BootFault → Type 0
 Rises start end answer = (m : ℕ)
     → LeavesAtLeast m start → IfOk answer (λ n. (m < n) × LeavesAtLeast n end)
 
--- the file once a start has settled this answer on it: an answered number is written, a refusal writes nothing
+-- the file after a start with this answer: an answered number is written, a refusal writes nothing
 abbrev pub answered_file : Result ℕ BootFault → List ℕ → List ℕ
 answered_file (Ok n) file = with_number n file
 answered_file (Err fault) file = file
 
--- what a start does where no device call fails: the bytes that it reads decide, and then all is kept
+-- the effect of a start where no device call fails: the bytes that it reads decide, and then all is kept
 abbrev pub Decides : Bool → Moment → Moment → Result ℕ BootFault → Type 0
 Decides found start end answer =
     (file : List ℕ) × MayShow start file × (answer ≡ boot_answer found (number_of file)) × (end ≡ left_by_crash (answered_file answer file))

@@ -4,29 +4,29 @@ use Rattle.boot_store.specs.declared.disk.Cell.{Cell}
 use Rattle.boot_store.specs.declared.disk.Hold.{Hold}
 use Rattle.boot_store.specs.declared.disk.Hold.TheVariants.{Kept, Loose, Lost}
 
--- each byte of the file, and how it is held
+-- a moment: each byte of the file, and its durability
 abbrev pub Moment : Type 0
 Moment = List Cell
 
--- the bytes as they stand
+-- the bytes of a moment
 abbrev pub bytes_of : Moment → List ℕ
 bytes_of moment = map (λ cell. cell.byte) moment
 
--- what a crash at that moment may leave: any byte where one was written since the last sync that succeeded, all others as before
+-- what a crash at that moment may leave: any byte where one isn't kept, all others as they are
 abbrev pub MayLeave : Moment → List ℕ → Type 0
 MayLeave [] [] = Unit {0}
 MayLeave [] (byte ∷ file) = ⊥
 MayLeave (cell ∷ moment) [] = ⊥
 MayLeave (cell ∷ moment) (byte ∷ file) = (cell.hold ≡ Kept → byte ≡ cell.byte) × MayLeave moment file
 
--- what a read at that moment may show: any byte where a sync has failed, all others as they stand
+-- what a read at that moment may show: any byte where a sync has failed, all others as they are
 abbrev pub MayShow : Moment → List ℕ → Type 0
 MayShow [] [] = Unit {0}
 MayShow [] (byte ∷ file) = ⊥
 MayShow (cell ∷ moment) [] = ⊥
 MayShow (cell ∷ moment) (byte ∷ file) = (cell.hold ≢ Lost → byte ≡ cell.byte) × MayShow moment file
 
--- these items in the place of those from `at` on
+-- old with these items in place of those from `at` on
 abbrev pub put : {X : Type 0} → ℕ → List X → List X → List X
 put at items old = take at old ++ items ++ drop (at + length items) old
 
@@ -38,44 +38,44 @@ kept_cell byte = record { byte = byte; hold = Kept }
 abbrev pub loose_cell : ℕ → Cell
 loose_cell byte = record { byte = byte; hold = Loose }
 
--- after a crash that left these bytes
+-- the moment after a crash that left these bytes
 abbrev pub left_by_crash : List ℕ → Moment
 left_by_crash file = map kept_cell file
 
--- after a write that put these bytes there
+-- the moment after a write that put these bytes there
 abbrev pub written : ℕ → List ℕ → Moment → Moment
 written at bytes moment = put at (map loose_cell bytes) moment
 
--- within a write of n bytes there: they count as written already
+-- the moment within a write of n bytes there: they count as written already
 abbrev pub within_write : ℕ → ℕ → Moment → Moment
 within_write at n moment = written at (take n (drop at (bytes_of moment))) moment
 
--- after a write of n bytes there that failed: it had not begun, or they are any
+-- the moments after a write of n bytes there that failed: none of them is written, or they are any bytes
 abbrev pub FailedWrite : ℕ → ℕ → Moment → Moment → Type 0
 FailedWrite at n old new = (new ≡ old) ⊎ ((bytes : List ℕ) × (length bytes ≡ n) × (new ≡ written at bytes old))
 
--- a sync that succeeds keeps what was written since the last sync; what that one lost, where it failed, stays lost
+-- durability after a sync that succeeded: what was written since the last sync is kept; what an earlier sync lost stays lost
 abbrev pub synced_hold : Hold → Hold
 synced_hold Kept = Kept
 synced_hold Loose = Kept
 synced_hold Lost = Lost
 
--- a cell after it
+-- a cell after a sync that succeeded
 abbrev pub synced_cell : Cell → Cell
 synced_cell cell = record { byte = cell.byte; hold = synced_hold cell.hold }
 
--- after a sync that succeeded
+-- the moment after a sync that succeeded
 abbrev pub synced : Moment → Moment
 synced moment = map synced_cell moment
 
--- after a sync or a read that failed: what was kept still is, and the rest may be any
+-- the moments after a sync or a read that failed: what was kept still is, and the rest may be any bytes
 abbrev pub StillKept : Moment → Moment → Type 0
 StillKept [] [] = Unit {0}
 StillKept [] (after ∷ new) = ⊥
 StillKept (cell ∷ old) [] = ⊥
 StillKept (cell ∷ old) (after ∷ new) = (cell.hold ≡ Kept → after ≡ cell) × StillKept old new
 
--- after a read that succeeded: a lost byte is now what the device has of it, all others are as before
+-- the moments after a read that succeeded: a lost byte is now what the device has of it, all others are as before
 abbrev pub AfterRead : Moment → Moment → Type 0
 AfterRead [] [] = Unit {0}
 AfterRead [] (after ∷ new) = ⊥

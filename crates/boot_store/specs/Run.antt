@@ -14,12 +14,12 @@ pub data BootEvent : Type 0 where
   -- the file was opened again, with no crash; what was not kept may read as any bytes
   Opened : (found : Moment) → BootEvent
 
--- the moment is one of these
+-- the moment is one of these moments
 abbrev pub IsAmong : Moment → List Moment → Type 0
 IsAmong moment [] = ⊥
 IsAmong moment (first ∷ moments) = (moment ≡ first) ⊎ IsAmong moment moments
 
--- each start keeps what it has to, and each crash leaves what it may
+-- a run of events: each start keeps what it has to, and each crash leaves what it may
 abbrev pub IsRun : Moment → List BootEvent → Type 0
 IsRun now [] = Unit {0}
 IsRun now (Answered since end answer ∷ events) =
@@ -39,7 +39,7 @@ numbers_of (CutShort since end crashed left ∷ events) = numbers_of events
 numbers_of (Crashed left ∷ events) = numbers_of events
 numbers_of (Opened found ∷ events) = numbers_of events
 
--- each is greater than the one before it, the first greater than m
+-- each number is greater than the one before it, the first greater than m
 abbrev pub RiseFrom : ℕ → List ℕ → Type 0
 RiseFrom m [] = Unit {0}
 RiseFrom m (n ∷ numbers) = (m < n) × RiseFrom n numbers

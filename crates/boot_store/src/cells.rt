@@ -5,7 +5,7 @@ ghost use Rattle.boot_store.specs.Cells.{crashed, crashed_cell, lost, lost_cell,
 
 use crate::{Cell, Hold};
 
-/// Writes bytes from a place on.
+/// Overwrites cells from index `at` on with these bytes, which the next sync keeps.
 pub fn write_cells(cells: &mut [Cell], at: usize, bytes: &[u8])
     requires { at + length bytes.now ≤ length cells.old }
     ensures { cells.new ≡ written at bytes.now cells.old }
@@ -66,7 +66,7 @@ fn shown_cell(any: u8, cell: Cell) -> Cell
     }
 }
 
-/// A sync that succeeds.
+/// Changes the cells as a sync that succeeds does.
 pub fn sync_cells(cells: &mut [Cell])
     ensures { cells.new ≡ synced cells.old }
 {
@@ -75,7 +75,7 @@ pub fn sync_cells(cells: &mut [Cell])
     }
 }
 
-/// A sync that fails.
+/// Changes the cells as a sync that fails does.
 pub fn lose_cells(cells: &mut [Cell])
     ensures { cells.new ≡ lost cells.old }
 {
@@ -84,7 +84,7 @@ pub fn lose_cells(cells: &mut [Cell])
     }
 }
 
-/// A crash, which leaves the bytes of `any` where it may change one.
+/// Changes the cells as a crash does. A byte that isn't kept becomes the one at its place in `any`.
 pub fn crash_cells(cells: &mut [Cell], any: &[u8])
     requires { length cells.old ≡ length any.now }
     ensures { cells.new ≡ crashed any.now cells.old }
@@ -94,7 +94,8 @@ pub fn crash_cells(cells: &mut [Cell], any: &[u8])
     }
 }
 
-/// What is lost is found to be as in `any`.
+/// Changes the cells as a read does: a byte that is lost becomes the one at its place in `any`, and
+/// is kept.
 pub fn show_cells(cells: &mut [Cell], any: &[u8])
     requires { length cells.old ≡ length any.now }
     ensures { cells.new ≡ read_once any.now cells.old }
@@ -104,7 +105,7 @@ pub fn show_cells(cells: &mut [Cell], any: &[u8])
     }
 }
 
-/// Reads the bytes.
+/// Copies the cells' bytes into the buffer.
 pub fn read_cells(cells: &[Cell], room: &mut [u8])
     requires { length room.old ≡ length cells.now }
     ensures { room.new ≡ bytes_of cells.now }

@@ -1,68 +1,70 @@
-// A boot file's disk: what a read shows, what a crash may leave, and how often it failed.
+// The disk of a boot file: what a read shows, what a crash may leave, and how often a call failed.
 ghost use Rattle.std.specs.Prelude.{◌≡◌, ◌+◌, ◌≤◌, ◌↔◌, ℕ, List, [], ◌∷◌, ◌++◌, length, take, OnErr, OnOk, IfOk, ⊤};
 ghost use Rattle.boot_store.specs.Calls.{Reads, Syncs, Writes};
 ghost use Rattle.boot_store.specs.Moment.{Moment, bytes_of, written, within_write, FailedWrite, synced, StillKept, AfterRead};
 
-/// How a byte of a file is held.
+/// The durability of a byte of a file.
 #[derive(Clone, Copy, Debug, PartialEq, Eq)]
 pub enum Hold {
-    /// It outlasts a crash.
+    /// The byte outlasts a crash.
     Kept,
-    /// It was written since the last sync: a crash may leave any byte in its place, the next sync
-    /// keeps it.
+    /// The byte was written since the last sync: a crash may leave any byte in its place, and the
+    /// next sync keeps it.
     Loose,
-    /// It was written before a sync that failed. No later sync keeps it, though it succeeds: a
-    /// crash, and the next read of the device, may find any byte in its place.
+    /// The byte was written before a sync that failed. No later sync keeps it, even one that
+    /// succeeds: a crash, and the next read of the device, may find any byte in its place.
     Lost,
 }
 
-/// A byte of a file.
+/// A byte of a file, and its durability.
 #[derive(Clone, Copy, Debug, PartialEq, Eq)]
 pub struct Cell {
     pub byte: u8,
     pub hold: Hold,
 }
 
-/// A device call failed.
+/// The failure of a device call, without a cause.
 #[derive(Clone, Copy, Debug, PartialEq, Eq)]
 pub struct DeviceFault;
 
-/// The disk of a boot file of 32 bytes.
+/// A disk with a boot file of 32 bytes.
 ///
-/// What is said of its bytes, of crashes and of why a call fails is said of an honest disk alone; a
-/// disk may claim that it isn't one.
+/// The clauses on its bytes, on crashes and on why a call fails hold for an honest disk alone. A
+/// disk need not claim to be honest.
 pub trait Disk {
-    /// The file at this moment.
+    /// The file now: each byte and its durability.
     ghost now: { Self → Moment };
 
-    /// The moments that have passed, in order. Within a read or a sync, until it has returned, the
-    /// disk stands as before it.
+    /// The moments that have passed, in order: the states of the file in which a crash could have
+    /// come. Until a read or a sync has returned, the file is as before it.
     ghost past: { Self → List Moment };
 
-    /// How often a call has failed.
+    /// The number of calls that have failed.
     ghost failures: { Self → ℕ };
 
-    /// How often the device itself has refused a call, or done less of it than it was asked for.
+    /// The number of times that the device itself has refused a call, or done less of it than it
+    /// was asked for.
     ghost refusals: { Self → ℕ };
 
-    /// Its name outlasts a crash.
+    /// Whether the file's name outlasts a crash.
     ghost named: { Self → Type 0 };
 
-    /// Whether it does what the clauses say of an honest disk.
+    /// Whether the disk does what the clauses say of an honest disk.
     ghost honest: { Self → Type 0 };
 
-    /// A read, by what the disk was, what it answered, the room that it left, and what it is then.
-    /// Of most disks no more is known.
+    /// More about a read than the clauses below say: of the disk before, the answer, the buffer
+    /// afterwards, and the disk afterwards. Most disks say nothing more.
     ghost reads: { Reads Self } = { λ _ _ _ _. ⊤ };
 
-    /// A write of bytes at a place.
+    /// More about a write of bytes at an offset.
     ghost writes: { Writes Self } = { λ _ _ _ _ _. ⊤ };
 
-    /// A sync.
+    /// More about a sync.
     ghost syncs: { Syncs Self } = { λ _ _ _. ⊤ };
 
-    /// Fills the room with the first 32 bytes, and says how many of them are there. They are the
-    /// device's: what a cache holds since a sync failed isn't read.
+    /// Fills the buffer with the first 32 bytes of the file, and returns how many of them there
+    /// are. The bytes are read from the device: what a cache has held since a sync failed isn't
+    /// read.
     fn read(&mut self, room: &mut [u8; 32]) -> Result<usize, DeviceFault>
         ensures count { IfOk result (λ n. n ≤ 32) }
         ensures filled { honest self.old
@@ -81,7 +83,7 @@ pub trait Disk {
         ensures refused { honest self.old
             → OnErr result (refusals self.new ≡ refusals self.old + 1) };
 
-    /// Writes bytes from a place on. Where it fails, any bytes may stand there.
+    /// Writes bytes from an offset on. After an Err any bytes may be there.
     fn write_at(&mut self, at: usize, bytes: &[u8]) -> Result<(), DeviceFault>
         requires within { at + length bytes.now ≤ 32 }
         requires no_hole { honest self.old → at ≤ length (now self.old) }
@@ -100,8 +102,8 @@ pub trait Disk {
         ensures refused { honest self.old
             → OnErr result (refusals self.new ≡ refusals self.old + 1) };
 
-    /// Makes the bytes written since the last sync outlast a crash, and the file's name. Where it
-    /// fails they may be lost.
+    /// Makes the file's name, and the bytes written since the last sync, outlast a crash. After an
+    /// Err these bytes may be lost.
     fn sync(&mut self) -> Result<(), DeviceFault>
         ensures synced { honest self.old → OnOk result (now self.new ≡ synced (now self.old)) }
         ensures named { honest self.old → OnOk result (named self.new) }

@@ -1,12 +1,11 @@
-// How often a device has failed. Clauses read the count; it takes no bytes, so that it can rise
-// without bound.
+// The count of a device's failures. Clauses read the count; it takes no bytes in the program, so it
+// can rise without bound.
 ghost use Rattle.std.specs.Prelude.{◌≡◌, ◌+◌};
 
 use std::marker::Model;
 use std::snapshot::Snapshot;
 
-/// How often a call has failed: the count for which [`Disk`](crate::Disk) asks, for any device that
-/// can fail.
+/// A count of failed calls, for the `failures` of a [`Disk`](crate::Disk) or of any other device.
 #[derive(Drop)]
 pub struct Failures {
     before: Option<Snapshot<Failures>>,
@@ -25,14 +24,14 @@ impl Model for Failures {
 }
 
 impl Failures {
-    /// Never.
+    /// Returns a count of 0.
     pub fn none() -> Self
         ensures { result ≡ 0 }
     {
         Failures { before: None }
     }
 
-    /// Counts one more.
+    /// Adds one to the count.
     pub fn count(&mut self)
         ensures { self.new ≡ self.old + 1 }
     {

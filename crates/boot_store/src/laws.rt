@@ -1,10 +1,10 @@
-//! What follows of a boot file from the clauses of `init` and `next_boot` alone.
+//! A law of the boot file, from the clauses of `init` and `next_boot` alone.
 ghost use Rattle.std.specs.Prelude.{ℕ, List};
 ghost use Rattle.boot_store.specs.Moment.{Moment};
 ghost use Rattle.boot_store.specs.Crash.{LeavesAtLeast, LeavesNumber};
 ghost use Rattle.boot_store.specs.Run.{BootEvent, IsRun, numbers_of, RiseFrom};
 
-/// Over every run of starts, crashes and openings the answered numbers rise.
+/// The answered numbers rise over every run of starts, crashes and openings.
 pub fn boot_numbers_rise()
     ensures over_any { (m : ℕ) (start : Moment) (events : List BootEvent)
         → LeavesAtLeast m start

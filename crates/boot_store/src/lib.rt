@@ -1,4 +1,5 @@
-//! A gateway's boot numbers: a file of two slots, whose number rises over every crash.
+//! A gateway's boot numbers: a file of two slots, whose number rises even where crashes come
+//! between or within starts.
 #![tactic(auto)]
 
 mod cells;

@@ -1,4 +1,4 @@
-//! A disk in memory, which stops, tears writes and fails as it is told.
+//! A disk in memory for tests and laws, which stops, tears writes and fails as it is set to.
 ghost use Rattle.std.specs.Prelude.{◌≡◌, ◌≤◌, ◌+◌, [], length};
 ghost use Rattle.boot_store.specs.Moment.{MayLeave, bytes_of, left_by_crash};
 ghost use Rattle.boot_store.specs.Plans.{IsRead, IsSync, IsWrite, any_of, good_calls_of, trouble_of};
@@ -8,21 +8,21 @@ use crate::cells::{crash_cells, lose_cells, read_cells, show_cells, sync_cells, 
 use crate::pasts::Past;
 use crate::{Cell, DeviceFault, Disk, Failures, Hold};
 
-/// What goes wrong with a modelled disk, once its good calls are used up.
+/// The fault of a modelled disk that comes once its good calls are used up.
 #[derive(Clone, Copy, Debug, PartialEq, Eq)]
 pub enum Trouble {
-    /// Nothing.
+    /// Nothing goes wrong.
     None,
     /// One call fails. A sync that fails loses what was written since the last one: later syncs
     /// succeed and don't write it.
     FailsOnce,
-    /// The disk stops before a call.
+    /// The disk stops before a call: that call and all later ones fail.
     StopsBefore,
-    /// The disk stops within a call.
+    /// The disk stops within a call: that call and all later ones fail.
     StopsWithin,
 }
 
-/// What becomes of a call.
+/// The outcome of a call: done; failed, with what it leaves by the kind of call; or without effect.
 #[derive(Clone, Copy, Debug, PartialEq, Eq)]
 enum Fate {
     Done,
@@ -42,8 +42,8 @@ pub struct ModelDisk {
 }
 
 impl ModelDisk {
-    /// A disk with these bytes, all of them kept, with which nothing goes wrong. No call was made
-    /// of it yet, and none has failed.
+    /// Returns a disk with these bytes, all of them kept, with which nothing goes wrong. No call of
+    /// the disk has been made or has failed.
     pub fn new(file: &[u8; 32]) -> Self
         ensures now { ⟦<ModelDisk as Disk>⟧.now result ≡ left_by_crash file.now }
         ensures past { ⟦<ModelDisk as Disk>⟧.past result ≡ [] }
@@ -66,9 +66,9 @@ impl ModelDisk {
         }
     }
 
-    /// After so many good calls there is trouble. A write that fails, or in which the disk stops,
-    /// leaves the bytes that stand at its place in `any`. So does a sync that fails, once the disk
-    /// is read or has crashed.
+    /// Sets the fault that comes after `good_calls` good calls. A write that fails, or in which the
+    /// disk stops, leaves those bytes of `any` that have its offsets. A sync that fails does the
+    /// same once the disk is read or has crashed.
     pub fn set_trouble(&mut self, good_calls: u64, trouble: Trouble, any: &[u8; 32])
         ensures now { ⟦<ModelDisk as Disk>⟧.now self.new
             ≡ ⟦<ModelDisk as Disk>⟧.now self.old }
@@ -85,8 +85,8 @@ impl ModelDisk {
         self.any = *any;
     }
 
-    /// A crash, after which nothing goes wrong. Where a byte isn't kept, the one in `any` is left.
-    /// It is no call, and none that failed.
+    /// Changes the bytes as a crash does, after which nothing goes wrong. A byte that isn't kept
+    /// becomes the one at its place in `any`. A crash counts neither as a call nor as a failure.
     pub fn crash(&mut self, any: &[u8; 32])
         ensures may { MayLeave (⟦<ModelDisk as Disk>⟧.now self.old)
             (bytes_of (⟦<ModelDisk as Disk>⟧.now self.new)) }
@@ -104,7 +104,8 @@ impl ModelDisk {
         self.trouble = Trouble::None;
     }
 
-    /// The bytes as they stand.
+    /// Returns the file's 32 bytes as they are now. Bytes that are lost are still the old ones,
+    /// since nothing is read.
     pub fn bytes(&self) -> [u8; 32]
         ensures { result ≡ bytes_of (⟦<ModelDisk as Disk>⟧.now self.now) }
     {
@@ -113,7 +114,7 @@ impl ModelDisk {
         file
     }
 
-    /// What becomes of the next call.
+    /// Returns the outcome of the next call, and counts the call.
     fn fate(&mut self) -> Fate
         ensures fate { result ≡ fate_of self.old.good_calls self.old.trouble }
         ensures left { self.new.trouble ≡ trouble_left self.old.good_calls self.old.trouble }
@@ -130,7 +131,7 @@ impl ModelDisk {
         fate
     }
 
-    /// What becomes of a write, which is done as far as that.
+    /// Carries a write out as far as the disk's fault lets it, and returns the outcome.
     fn write(&mut self, at: usize, bytes: &[u8]) -> Fate
         requires within { at + length bytes.now ≤ 32 }
         ensures fate { result ≡ fate_of self.old.good_calls self.old.trouble }
@@ -155,7 +156,7 @@ impl ModelDisk {
         fate
     }
 
-    /// A call failed.
+    /// Counts a call that failed.
     fn failed(&mut self) -> DeviceFault
         ensures cells { self.new.cells ≡ self.old.cells }
         ensures good_calls { self.new.good_calls ≡ self.old.good_calls }
@@ -169,7 +170,7 @@ impl ModelDisk {
     }
 }
 
-/// What becomes of the next call, and the good calls and the trouble that are left.
+/// Returns the outcome of the next call, and the good calls and the fault that are left after it.
 fn next_fate(good_calls: u64, trouble: Trouble) -> (Fate, u64, Trouble)
     ensures fate { result.0 ≡ fate_of good_calls trouble }
     ensures left { result.2 ≡ trouble_left good_calls trouble }

@@ -1,11 +1,11 @@
-// A modelled disk's past. Clauses read it; it takes no bytes.
+// A modelled disk's past. Clauses read the past; it takes no bytes in the program.
 ghost use Rattle.std.specs.Prelude.{◌≡◌, [], ◌∷◌, ◌++◌};
 
 use crate::Cell;
 use std::marker::Model;
 use std::snapshot::Snapshot;
 
-/// The moments that have passed, in order.
+/// The moments of a disk that have passed, in order.
 #[derive(Drop)]
 pub struct Past {
     last: Option<(Snapshot<[Cell; 32]>, Snapshot<Past>)>,
@@ -25,14 +25,14 @@ impl Model for Past {
 }
 
 impl Past {
-    /// None has passed.
+    /// Returns an empty past.
     pub fn none() -> Self
         ensures { result ≡ [] }
     {
         Past { last: None }
     }
 
-    /// The cells as they are now count as passed.
+    /// Appends the present cells as a moment that has passed.
     pub fn keep(&mut self, cells: &[Cell; 32])
         ensures { self.new ≡ self.old ++ cells.now ∷ [] }
     {

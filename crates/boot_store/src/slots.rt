@@ -5,7 +5,8 @@ ghost use Rattle.boot_store.specs.BootFile.{slot_number, greater, boot_answer, n
 use crate::BootFault;
 use byteorder::{BigEndian, ByteOrder};
 
-/// The number of a valid slot.
+/// Returns the number of a slot, or None where the slot is invalid: its last 8 bytes aren't the
+/// complement of its first 8.
 #[tactic(auto, unfolding(crate::specs::BootFile::slot_number))]
 pub fn slot_number(slot: &[u8]) -> Option<u64>
     requires { 16 ≤ length slot.now }
@@ -20,7 +21,7 @@ pub fn slot_number(slot: &[u8]) -> Option<u64>
     }
 }
 
-/// The greater of two slots' numbers.
+/// Returns the greater of two slots' numbers, or the one that there is, or None.
 fn greater(first: Option<u64>, second: Option<u64>) -> Option<u64>
     ensures { result ≡ greater first second }
 {
@@ -31,7 +32,9 @@ fn greater(first: Option<u64>, second: Option<u64>) -> Option<u64>
     }
 }
 
-/// The next boot number over the numbers of the two slots.
+/// Returns the number after the greater one of the two slots, above 0. The Err is `Damaged` where
+/// no slot is valid, `FoundTwice` where a founding finds a number other than 0, and `BootsUsedUp`
+/// where no number is left.
 pub fn next_number(first: Option<u64>, second: Option<u64>, found: bool) -> Result<u64, BootFault>
     ensures answer { result ≡ boot_answer found (greater first second) }
     ensures fits { IfOk result (λ n. n < 2 ^ 64) }
@@ -49,7 +52,8 @@ pub fn next_number(first: Option<u64>, second: Option<u64>, found: bool) -> Resu
     }
 }
 
-/// Where the next number goes: over the invalid slot, else over the one with the lower number.
+/// Returns the offset at which the next number is written, 0 or 16: that of an invalid slot, else
+/// of the one with the lower number.
 pub fn next_place(first: Option<u64>, second: Option<u64>) -> usize
     ensures { result ≡ next_place first second }
 {
@@ -60,7 +64,7 @@ pub fn next_place(first: Option<u64>, second: Option<u64>) -> usize
     }
 }
 
-/// A valid slot of this number.
+/// Returns the bytes of a valid slot with this number.
 #[tactic(auto, unfolding(crate::specs::BootFile::slot_bytes))]
 pub fn slot_of(number: u64) -> [u8; 16]
     ensures { result ≡ slot_bytes number }

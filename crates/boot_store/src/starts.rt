@@ -1,4 +1,5 @@
-// A start reads the boot file and writes the next number, so that a crash at any moment leaves one.
+// Starts: each reads the boot file and writes the next number, so that a crash at any time leaves a
+// valid one.
 ghost use Rattle.std.specs.Prelude.{◌≡◌, ◌≢◌, ◌≤◌, ◌<◌, ◌+◌, ◌↔◌, ◌++◌, [], ◌∷◌, take, drop, OnOk, OnErr, IfOk, IfErr, IsErrOf};
 ghost use Rattle.boot_store.specs.Moment.{MayShow, StillKept, bytes_of, written, within_write, synced};
 ghost use Rattle.boot_store.specs.BootFile.{slot_bytes, zero_file};
@@ -8,9 +9,9 @@ ghost use Rattle.boot_store.specs.Crash.{LeavesNumber, LeavesFirst, Since, Keeps
 use crate::slots::{next_number, next_place, slot_number, slot_of};
 use crate::{BootFault, DeviceFault, Disk};
 
-/// Writes a boot file on which a gateway can be founded: both slots have the number 0, and once it
-/// is answered a crash leaves them so. After Device any bytes may stand in their place, and the call
-/// that failed was the last.
+/// Writes a boot file on which a gateway can be founded: both slots have the number 0, and after Ok
+/// a crash leaves them so. After the Err `Device` any bytes may be in their place; no call was made
+/// after the one that failed.
 pub fn init<D: Disk>(disk: &mut D) -> Result<(), BootFault>
     ensures only_device { OnErr result (IsErrOf result BootFault.Device) }
     ensures bytes { D.honest disk.old
@@ -36,7 +37,8 @@ pub fn init<D: Disk>(disk: &mut D) -> Result<(), BootFault>
     Ok(())
 }
 
-/// The 32 bytes of a boot file on which a gateway can be founded: both slots of number 0.
+/// Returns the 32 bytes of a boot file on which a gateway can be founded: both slots have the
+/// number 0.
 #[tactic(auto, unfolding(crate::specs::BootFile::slot_bytes))]
 pub fn zero_file() -> [u8; 32]
     ensures { result ≡ zero_file }
@@ -48,7 +50,8 @@ pub fn zero_file() -> [u8; 32]
     file
 }
 
-/// What was written before, and not synced, is lost or outlasts a crash.
+/// Syncs, so that each byte that was written before, and not synced, is either lost or outlasts a
+/// crash.
 fn settle<D: Disk>(disk: &mut D) -> Result<(), DeviceFault>
     ensures synced { D.honest disk.old
         → OnOk result (D.now disk.new ≡ synced (D.now disk.old)) }
@@ -63,7 +66,8 @@ fn settle<D: Disk>(disk: &mut D) -> Result<(), DeviceFault>
     disk.sync() // a call that failed may have left its bytes loose
 }
 
-/// The file as the device has it and a crash from now on leaves it, where it has 32 bytes.
+/// Returns the file's 32 bytes, as the device has them and a crash from now on leaves them, or None
+/// where the file is shorter.
 fn settled_file<D: Disk>(disk: &mut D) -> Result<Option<[u8; 32]>, DeviceFault>
     ensures any_moment { D.honest disk.old
         → Since (D.past disk.old) (D.past disk.new) (Keeps (D.now disk.old) (D.now disk.new)) }
@@ -89,7 +93,7 @@ fn settled_file<D: Disk>(disk: &mut D) -> Result<Option<[u8; 32]>, DeviceFault>
     Ok(Some(file))
 }
 
-/// Writes a slot, and syncs.
+/// Writes a slot with this number at an offset, and syncs.
 fn store<D: Disk>(disk: &mut D, place: usize, boot: u64) -> Result<(), DeviceFault>
     requires place { place + 16 ≤ 32 }
     requires ready { D.honest disk.old → IsReady place (D.now disk.old) }
@@ -114,15 +118,15 @@ fn store<D: Disk>(disk: &mut D, place: usize, boot: u64) -> Result<(), DeviceFau
     Ok(())
 }
 
-/// The next boot number, once it is on the disk: above 0, and greater than each that was answered
-/// before. `found` is the founding of a pair, which wants a file of number 0.
+/// Returns the next boot number, once it is on the disk: above 0, and greater than each that was
+/// returned before. `found` says that a pair is founded, which requires a file of number 0.
 ///
 /// # Errors
-/// After Damaged, BootsUsedUp or FoundTwice the file has been synced and read, and none of it was
-/// written: what was kept stands as before, and what had been written and not synced is kept now.
-/// After Device the file may have been synced too, and any bytes may stand in the place of the slot
-/// over which the next number goes; the other slot stands as it was. The call that failed was the
-/// last.
+/// After `Damaged`, `BootsUsedUp` or `FoundTwice` the file has been synced and read, and none of it
+/// was written: what was kept is as before, and what had been written and not synced is kept now.
+/// After `Device` the file may have been synced too, and any bytes may be in the slot over which
+/// the next number is written; the other slot is as it was. No call was made after the one that
+/// failed.
 pub fn next_boot<D: Disk>(disk: &mut D, found: bool) -> Result<u64, BootFault>
     ensures rises { D.honest disk.old → Rises (D.now disk.old) (D.now disk.new) result }
     ensures any_moment { D.honest disk.old

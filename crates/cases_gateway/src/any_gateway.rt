@@ -1,4 +1,4 @@
-//! A gateway, as far as a case has to do with it.
+//! The trait by which the cases use a gateway.
 
 use crate::lines::{EndAfter, Lines};
 use crate::managers::CountingManager;
@@ -16,10 +16,11 @@ use settings::Settings;
 use sockets::Wire;
 use std::alloc::Global;
 
-/// What is done with a gateway, and said of it. Nothing is known of either: a function that knew the gateway's type
-/// would have to show of each of its parts where it lies.
+/// A gateway as the cases use it. The trait has no clauses, so a function that is generic over it needs no proof about
+/// a gateway's parts.
 pub(crate) trait AnyGateway: Sized {
-    /// A gateway of that number in that boot; none where there is no such gateway.
+    /// Returns a gateway of that number in that boot, or None where there can't be such a gateway or there is no
+    /// memory.
     fn begun(
         alloc: Global,
         settings: &Settings,
@@ -29,34 +30,35 @@ pub(crate) trait AnyGateway: Sized {
         found: bool,
     ) -> Option<Self>;
 
-    /// One step, by a cleared `Out`. Where memory is refused the line is wrong.
+    /// Takes one step with a cleared `Out`, and returns the outcome. Without memory the case's line counts as wrong.
     fn step(&mut self, event: Event<'_>, out: &mut Out, case: &mut Case) -> Outcome;
 
-    /// One step, that may be refused.
+    /// Takes one step, which fails where there isn't enough memory.
     fn once(&mut self, event: Event<'_>, out: &mut Out) -> Result<Outcome, NoMemory>;
 
-    /// What shows now of it, and of what it told.
+    /// Returns what the gateway shows now, and what `out` holds.
     fn shown(&self, alloc: Global, out: &Out) -> Result<Shown>;
 
-    /// How many pairs it has, which are listed for it.
+    /// Returns how many pairs the gateway has. Lists them for it, so it takes memory.
     fn pair_count(&self) -> Result<usize, NoMemory>;
 
-    /// Prints how far it is, what it knows of the other, its pairs, and the runs of ports that it owns.
+    /// Prints whether the gateway is synced, which boot of the other it knows, its pairs, and the runs of ports that it
+    /// owns.
     fn table(&self, case: &mut Case);
 
-    /// The sides as they are seen first.
+    /// Returns the sides as they are seen first.
     fn sides(&self) -> Sides;
 
-    /// The sides are seen again.
+    /// Brings the sides up to date.
     fn update(&self, sides: &mut Sides);
 
-    /// What a report says of it.
+    /// Returns the gateway's part of a report, or None.
     fn report(&self) -> Option<GatewayReport>;
 
-    /// The page behind a key.
+    /// Returns the page of entries after a key.
     fn page_behind(&self, last: Option<Key>) -> Page;
 
-    /// It runs to its end, or has its rounds alone.
+    /// Runs the gateway's rounds on a wire, to its end where `orders` says so.
     fn run<W: Wire>(
         &mut self,
         alloc: Global,
@@ -68,16 +70,16 @@ pub(crate) trait AnyGateway: Sized {
         options: &Options,
     );
 
-    /// Gives its memory back.
+    /// Drops the gateway, and frees its memory.
     fn end(self);
 }
 
-/// How a box ends.
+/// The way in which a box ends.
 #[derive(Clone, Copy)]
 pub(crate) struct Orders {
-    /// After how many rounds it is told to end.
+    /// After how many rounds the end signal comes, if it does.
     pub(crate) told: Option<u32>,
-    /// Whether its gateway is stopped behind its rounds.
+    /// Whether the gateway is stopped after its rounds.
     pub(crate) stops: bool,
 }
 

@@ -1,4 +1,4 @@
-//! The two boxes, whose links lead to each other.
+//! The two boxes, whose links are connected.
 
 use crate::any_gateway::AnyGateway;
 use crate::failures;
@@ -8,7 +8,7 @@ use nat_types::GatewayId;
 use settings::Settings;
 use std::mem;
 
-/// The boxes that are there, and the settings of both. They go by `end` alone.
+/// The boxes that there are, and the settings of both. They are dropped by `end` alone.
 pub(crate) struct Boxes<G> {
     settings: Settings,
     zero: Option<TestBox<G>>,
@@ -24,7 +24,7 @@ impl<G: AnyGateway> Boxes<G> {
         }
     }
 
-    /// Ends both, and gives their memory back.
+    /// Drops both boxes, and frees their memory.
     pub(crate) fn end(self) {
         let Boxes {
             settings,
@@ -43,14 +43,14 @@ impl<G: AnyGateway> Boxes<G> {
         }
     }
 
-    /// What happens to a box.
+    /// Does to a box what a line says.
     ///
-    /// - `box N`, `box N found`: it starts in that boot, at moment 0
-    /// - `off`: it isn't there any more
-    /// - `rounds N M`, `rounds N M untracked`: it runs N rounds, at each of which M centiseconds more have passed; it
-    ///   tracks the carriers of its interfaces, or doesn't
-    /// - `serves N M`, `serves - M`, with `told K` behind: it has N such rounds, or any number of them, until it is
-    ///   told, as it is after K; then it ends
+    /// - `box N`, `box N found`: the box starts in boot N, at time 0
+    /// - `off`: the box is removed
+    /// - `rounds N M`, `rounds N M untracked`: the box runs N rounds, M centiseconds apart, and tracks the carriers of
+    ///   its interfaces, or doesn't
+    /// - `serves N M`, `serves - M`, with `told K` after it: the box runs N such rounds, or any number of them, until
+    ///   the end signal comes after K; then it ends
     /// - all else prepares the next rounds (`TestBox::prepare`)
     fn happen(&mut self, id: GatewayId, case: &mut Case) {
         match case.word() {
@@ -64,7 +64,7 @@ impl<G: AnyGateway> Boxes<G> {
         }
     }
 
-    /// What is there takes the place of what was there.
+    /// Replaces a box, and drops the one that was there.
     fn put(&mut self, id: GatewayId, new: Option<TestBox<G>>) {
         end_if_there(mem::replace(self.at(id), new));
     }
@@ -79,7 +79,7 @@ impl<G: AnyGateway> Boxes<G> {
         self.put(id, new);
     }
 
-    /// A box runs as the line says; what it sends on the link comes to the other, if that is there.
+    /// Runs a box as the line says, and brings what it sends on the link to the other box, if there is one.
     fn run(&mut self, id: GatewayId, case: &mut Case) {
         case.back();
         match id {
@@ -92,7 +92,7 @@ impl<G: AnyGateway> Boxes<G> {
 impl<G: AnyGateway> Actor for Boxes<G> {
     /// Does what a line says.
     ///
-    /// - `I ..`: what happens to box I (`happen`)
+    /// - `I ..`: something happens to box I (`happen`)
     /// - `fail ..`: a box founded anew runs, and something fails (`failures::run`)
     fn act(&mut self, case: &mut Case) {
         case.title("", "\n");
@@ -106,7 +106,7 @@ impl<G: AnyGateway> Actor for Boxes<G> {
     }
 }
 
-/// A box runs; what it sends on the link comes to the other, if that is there.
+/// Runs a box, and brings what it sends on the link to the other box, if there is one.
 fn run<G: AnyGateway>(
     own: &mut Option<TestBox<G>>,
     other: &mut Option<TestBox<G>>,
@@ -121,7 +121,7 @@ fn run<G: AnyGateway>(
     }
 }
 
-/// Ends a box, if it is there.
+/// Drops a box, if there is one.
 fn end_if_there<G: AnyGateway>(ended: Option<TestBox<G>>) {
     if let Some(ended) = ended {
         ended.end();

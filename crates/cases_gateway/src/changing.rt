@@ -6,11 +6,11 @@ use cases_words::Case;
 use gateway::{Event, Out, Outcome};
 use nat_types::Side;
 
-/// What came of so many frames of a side.
+/// The counts of frames tried on a side: all, those that were sent on, those whose step noted something.
 #[derive(Drop)]
 pub(crate) struct Trial {
     side: Side,
-    /// The moment of the next frame in centiseconds, where each comes in a second of its own. Else the clock stands.
+    /// The time of the next frame in centiseconds, where each comes in a second of its own; None where the clock stays.
     next: Option<u64>,
     all: u32,
     sent: u32,
@@ -18,7 +18,7 @@ pub(crate) struct Trial {
 }
 
 impl Trial {
-    /// No frame has come.
+    /// Returns the counts before any frame.
     pub(crate) fn new(side: Side, next: Option<u64>) -> Trial {
         Trial {
             side,
@@ -36,7 +36,7 @@ impl Trial {
         case.end();
     }
 
-    /// The clock goes on, and a frame comes.
+    /// Moves the clock, where it goes on, and tries a frame.
     pub(crate) fn try_frame<G: AnyGateway>(
         &mut self,
         gateway: &mut G,
@@ -58,7 +58,8 @@ impl Trial {
     }
 }
 
-/// The frame with one byte changed, each to each other value; and at which bytes a changed frame is sent.
+/// Tries the frame with one byte changed, each to each other value, and prints at which bytes a changed frame is sent
+/// on.
 pub(crate) fn change<G: AnyGateway>(
     trial: &mut Trial,
     gateway: &mut G,
@@ -78,7 +79,7 @@ pub(crate) fn change<G: AnyGateway>(
     }
 }
 
-/// The frame with this byte changed to each other value. Afterwards it is as it was.
+/// Tries the frame with this byte changed to each other value. Afterwards the frame is as before.
 fn change_at<G: AnyGateway>(
     trial: &mut Trial,
     gateway: &mut G,
@@ -94,7 +95,7 @@ fn change_at<G: AnyGateway>(
     turn(frame, at);
 }
 
-/// A byte becomes the next value.
+/// Increases a byte by one, wrapping around.
 fn turn(frame: &mut [u8], at: usize) {
     if let Some(byte) = frame.get_mut(at) {
         *byte = byte.wrapping_add(1);

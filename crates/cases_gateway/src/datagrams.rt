@@ -1,4 +1,4 @@
-//! Datagrams in words.
+//! Link datagrams written in words.
 
 use crate::test_gateway::after;
 use addresses::Port;
@@ -9,9 +9,9 @@ use nat_types::{GatewayId, Key, Pair, Record};
 
 type Records = ArrayVec<Record, 64>;
 
-/// The bytes of a datagram of this sender, as `boot 1 to 1 took 3 first 4: ask udp 20000, want`:
-/// the sender's boot, the receiver's boot as it knows it, how many records it took, and the number
-/// of the first of its own records, which stand behind the colon.
+/// Returns the bytes of a datagram of this sender, from words such as `boot 1 to 1 took 3 first 4: ask udp 20000,
+/// want`: the sender's boot, the receiver's boot as the sender knows it, how many records it took, the number of its
+/// first record, and, after the colon, its records.
 pub(crate) fn spelled(sender: GatewayId, case: &mut Case) -> Vec<u8> {
     let text = case.rest();
     let (head, list) = text.split_once(": ").unwrap_or((text.as_str(), ""));
@@ -31,7 +31,7 @@ pub(crate) fn spelled(sender: GatewayId, case: &mut Case) -> Vec<u8> {
     bytes
 }
 
-/// Records with commas between them.
+/// Reads records with commas between them.
 fn records(list: &str, case: &mut Case) -> Records {
     let mut records = ArrayVec::new();
     for text in list.split(", ") {
@@ -43,7 +43,7 @@ fn records(list: &str, case: &mut Case) -> Records {
     records
 }
 
-/// A record; `rising 3 ask udp 20000` stands for three, with each port of a record one above that of the one before.
+/// Reads a record; `rising 3 ask udp 20000` gives three, each with its port one above that of the one before.
 fn add_item(records: &mut Records, case: &mut Case) {
     if case.word() == "rising" {
         let count = case.within(1, 64) as u16;
@@ -70,7 +70,7 @@ fn add(records: &mut Records, item: &Record, case: &mut Case) {
     }
 }
 
-/// The record with each port so many above.
+/// Returns the record with each port raised by `more`.
 fn risen(item: &Record, more: u16, case: &mut Case) -> Record {
     match *item {
         Record::Ask(key) => Record::Ask(risen_key(key, more, case)),

@@ -1,4 +1,4 @@
-//! Rounds of which something fails: a call of the wire, a line, or what is written at the end.
+//! Rounds in which something fails: a call of the wire, a line of the log, or the output at the end.
 
 use crate::any_gateway::{AnyGateway, Orders};
 use crate::lines::Lines;
@@ -17,19 +17,19 @@ const OUT: [u8; 44] = [
     0x64, 0x07, 0x13, 0x88, 0x00, 0x35, 0x00, 0x0a, 0x97, 0xc6, 0x68, 0x69,
 ];
 
-/// Its reply, to port 20000.
+/// The reply to that packet, to port 20000.
 const BACK: [u8; 44] = [
     0x00, 0x00, 0x5e, 0x00, 0x01, 0x0a, 0x02, 0x00, 0x00, 0x00, 0x00, 0xfe, 0x08, 0x00, 0x45, 0x00,
     0x00, 0x1e, 0x00, 0x02, 0x00, 0x00, 0x3c, 0x11, 0x92, 0x91, 0xc6, 0x33, 0x64, 0x07, 0xc0, 0x00,
     0x02, 0x01, 0x00, 0x35, 0x4e, 0x20, 0x00, 0x0a, 0x55, 0xdd, 0x6f, 0x6b,
 ];
 
-/// A frame of no host's, which is dropped.
+/// A frame that is too short, which is dropped.
 const SHORT: [u8; 1] = [0];
 
-/// Rounds of gateway 0 as it is founded, once both its sides are Active and three frames have come.
+/// Runs gateway 0 as it is founded, once both its sides are Active and three frames have come, and lets something fail.
 ///
-/// - `errors`: no line for the operator can be written
+/// - `errors`: no line of the log can be written
 /// - `output`: `end` can't be written
 /// - a number: the call of the wire with that number fails
 pub(crate) fn run<G: AnyGateway>(settings: &Settings, case: &mut Case) {
@@ -54,7 +54,7 @@ fn fail<G: AnyGateway>(found: &mut TestBox<G>, case: &mut Case) {
     }
 }
 
-/// A first round, after which both sides are Active. Then three frames come.
+/// Runs a first round, after which both sides are Active, and lets three frames come.
 fn make_ready<G: AnyGateway>(found: &mut TestBox<G>, case: &mut Case) {
     let lines = RefCell::new(Vec::new(case.alloc));
     found.go_on(1, 360, true, &lines);
@@ -63,8 +63,8 @@ fn make_ready<G: AnyGateway>(found: &mut TestBox<G>, case: &mut Case) {
     found.bring(Place::Side(Side::Inside), &SHORT, case);
 }
 
-/// Four rounds, 360 centiseconds apart, and the end. A send that fails is a datagram less; where to receive fails, what
-/// is there comes later.
+/// Four rounds, 360 centiseconds apart, and the end. Where a send fails, a datagram is missing; where a receive fails,
+/// the input comes later.
 const RUN: Run = Run {
     rounds: Some(4),
     pace: 360,
@@ -75,7 +75,7 @@ const RUN: Run = Run {
     },
 };
 
-/// A writer that takes nothing.
+/// A writer that fails always.
 #[derive(Drop)]
 struct Full;
 
@@ -89,7 +89,7 @@ impl Write for Full {
     }
 }
 
-/// The rounds, where a call of the wire fails.
+/// Runs the rounds, with one call of the wire that fails.
 fn run_failing<G: AnyGateway>(found: &mut TestBox<G>, case: &mut Case) {
     let lines = RefCell::new(Vec::new(case.alloc));
     let mut output = Vec::new(case.alloc);
@@ -100,7 +100,7 @@ fn run_failing<G: AnyGateway>(found: &mut TestBox<G>, case: &mut Case) {
     case.text(output.as_slice());
 }
 
-/// The rounds, where no line for the operator can be written. It is left out.
+/// Runs the rounds, where no line of the log can be written; all lines are left out.
 fn run_without_lines<G: AnyGateway>(found: &mut TestBox<G>, case: &mut Case) {
     let text = RefCell::new(Vec::new(case.alloc));
     let mut output = Vec::new(case.alloc);
@@ -114,7 +114,7 @@ fn run_without_lines<G: AnyGateway>(found: &mut TestBox<G>, case: &mut Case) {
     case.text(output.as_slice());
 }
 
-/// The rounds, where `end` can't be written. All else is done before.
+/// Runs the rounds, where `end` can't be written; all else is done before.
 fn run_without_end<G: AnyGateway>(found: &mut TestBox<G>, case: &mut Case) {
     let lines = RefCell::new(Vec::new(case.alloc));
     let ended = found.serve(RUN, 0, open(&lines), &mut Full);

@@ -1,4 +1,4 @@
-//! The lines of a box in memory, and what tells it to end.
+//! The log of a box in memory, and its end signal.
 
 use journal::LineWriter;
 use rounds::EndSignal;
@@ -6,7 +6,7 @@ use std::cell::RefCell;
 use std::fmt::Display;
 use std::io::Write;
 
-/// Keeps the lines that it is given; or takes none.
+/// A log that keeps its lines, or, where `is_closed`, fails to write any.
 #[derive(Drop)]
 pub(crate) struct Lines<'a> {
     pub(crate) text: &'a RefCell<Vec<u8>>,
@@ -25,7 +25,7 @@ impl<'a> LineWriter for Lines<'a> {
     }
 }
 
-/// Tells a box to end once it was asked so often; or never.
+/// An end signal that comes at the call after so many, or never.
 #[derive(Drop)]
 pub(crate) struct EndAfter(pub(crate) Option<u32>);
 

@@ -1,7 +1,7 @@
-//! One gateway at a time. Its report and its pages, and what is written of them; then datagrams that the other gateway
-//! never sent, and frames that were cut or changed. Then two boxes whose wires lie in memory. It does what the lines of
-//! its cases say, and prints what comes of each. At last steps whose memory is refused; with the word `refusals` these
-//! alone.
+//! The cases of one gateway, and of two boxes. First a gateway's report and pages, and their texts; then datagrams that
+//! the other gateway never sent, and frames that were cut or changed; then two boxes whose wires are in memory. The
+//! program does what the lines of its cases say, and prints what comes of each. At last steps for which there is no
+//! memory; with an argument, such as `refusals`, these alone.
 #![tactic(auto)]
 
 mod any_gateway;
@@ -34,7 +34,7 @@ use std::{env, io};
 use values::Reports;
 use watched::Watched;
 
-/// The files of datagrams and frames.
+/// The files of cases with datagrams and frames.
 const FORGED: [&str; 8] = [
     "records.cases",
     "sessions.cases",
@@ -92,12 +92,12 @@ fn try_others(rt: &HostRuntime) -> Result<()> {
     tried
 }
 
-/// Whether the program has a word.
+/// Whether the program has an argument.
 fn has_word(rt: &HostRuntime) -> io::Result<bool> {
     Ok(env::args(rt)?.nth(1).is_some())
 }
 
-/// The same, asked for once more where memory is refused.
+/// Whether the program has an argument; asks once more where memory is refused.
 fn wants_refusals(rt: &HostRuntime) -> io::Result<bool> {
     match has_word(rt) {
         Ok(has) => Ok(has),

@@ -1,9 +1,9 @@
-//! What a box tells of its run.
+//! The manager of a box, which counts its calls.
 
 use cases_words::Case;
 use rounds::Manager;
 
-/// Counts what it is told.
+/// A manager that counts how often the box goes on, and how often it ends.
 #[derive(Drop)]
 pub(crate) struct CountingManager {
     alive: u64,
@@ -18,13 +18,13 @@ impl CountingManager {
         }
     }
 
-    /// Nothing was told yet.
+    /// Resets the counts.
     pub(crate) fn begin(&mut self) {
         self.alive = 0;
         self.ending = 0;
     }
 
-    /// Prints how often it was told that the box goes on, and that it ends.
+    /// Prints both counts.
     pub(crate) fn show(&self, case: &mut Case) {
         case.say("  alive ", self.alive);
         case.say(" ending ", self.ending);

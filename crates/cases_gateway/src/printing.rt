@@ -1,11 +1,11 @@
-//! What is printed of a step, and of a table.
+//! Printing of a step's results, and of a table.
 
 use addresses::Port;
 use cases_words::Case;
 use gateway::{Out, Outcome};
 use nat_types::Pair;
 
-/// What came of a step and how many frames were sent; then the notes; then the datagram.
+/// Prints the outcome of a step and how many frames were sent; then the notes; then the datagrams.
 pub(crate) fn print_step(outcome: Outcome, out: &Out, case: &mut Case) {
     print_outcome(outcome, case);
     let count = frame_count(out);
@@ -44,7 +44,7 @@ fn print_outcome(outcome: Outcome, case: &mut Case) {
     }
 }
 
-/// The pairs, a line each, and whether they translate.
+/// Prints the pairs, a line each, and whether they translate.
 pub(crate) fn print_pairs<E: Drop>(
     pairs: Result<Vec<Pair>, E>,
     translating: &[Pair],
@@ -66,7 +66,7 @@ pub(crate) fn print_pairs<E: Drop>(
     }
 }
 
-/// The unbroken runs of rising ports, a line each.
+/// Prints the unbroken runs of rising ports, a line each.
 pub(crate) fn print_owned(ports: &[Port], case: &mut Case) {
     let Some((first, others)) = ports.split_first() else {
         return;

@@ -1,5 +1,5 @@
-//! Steps whose growth is refused: a gateway takes what the lines of each file say; where memory is
-//! refused, nothing may have changed, and the step has to go when it is asked for again.
+//! Steps for which there is no memory. A gateway takes what the lines of each file say; where memory is refused,
+//! nothing may have changed, and the step has to succeed when it is tried again.
 
 use crate::any_gateway::AnyGateway;
 use crate::retries::Retrier;
@@ -13,7 +13,7 @@ use std::rt::Files;
 
 const FILES: [&str; 3] = ["word.cases", "accepts.cases", "pairs.cases"];
 
-/// Prints at once what comes of each file's lines, at gateways whose hashers are drawn.
+/// Plays each file, with hashers drawn from the system, and prints at once what comes of its lines.
 pub(crate) fn try_all(rt: &HostRuntime) -> Result<()> {
     let mut output = io::writer(rt);
     let mut draws = SystemDraws(rt);
@@ -26,7 +26,7 @@ pub(crate) fn try_all(rt: &HostRuntime) -> Result<()> {
     Ok(())
 }
 
-/// What the lines of a file say, at a gateway of its own.
+/// Plays the lines of a file at a gateway of its own.
 fn play_file<R: Files + AllocGlobal, O: Write>(
     rt: &R,
     name: &str,
@@ -39,7 +39,7 @@ fn play_file<R: Files + AllocGlobal, O: Write>(
     played
 }
 
-/// The text of a file, asked for once more where memory is refused.
+/// Returns the text of a file; asks once more where memory is refused.
 fn text_of<R: Files + AllocGlobal>(rt: &R, name: &str) -> Result<String> {
     match fs::read_to_string(rt, name) {
         Ok(text) => Ok(text),
@@ -47,7 +47,7 @@ fn text_of<R: Files + AllocGlobal>(rt: &R, name: &str) -> Result<String> {
     }
 }
 
-/// What the lines of a text say, at a founded gateway, behind the text's name.
+/// Plays the lines of a text at a founded gateway, and prints the text's name before them.
 fn play<O: Write>(
     alloc: Global,
     hashers: Hashers,
@@ -62,7 +62,7 @@ fn play<O: Write>(
     played
 }
 
-/// Does what each line says. A line is empty, begins with `#`, or is one of `Retrier::act`.
+/// Does what each line says. A line is empty, begins with `#`, or is one of those of `Retrier::act`.
 fn play_lines<G: AnyGateway, O: Write>(
     retrier: &mut Retrier<G>,
     text: &str,

@@ -1,4 +1,4 @@
-//! What a box replies to a word.
+//! Printing of a box's replies to words at its control socket.
 
 use addresses::Protocol;
 use cases_words::Case;
@@ -9,7 +9,7 @@ use packet_rules::Reason;
 use reports::{Count, Counters, GatewayReport, Page, PairCounts, Report, SideReport};
 use std::fmt::Display;
 
-/// Prints a reply: that the word is taken, or why it isn't; or how the box stands, or which pairs it has.
+/// Prints a reply: that the word is taken, or why it isn't; or the box's report, or a page of its pairs.
 pub(crate) fn show_reply(bytes: &[u8], case: &mut Case) {
     match Reply::read(bytes) {
         Some(Reply::Heard) => case.tell("answer heard"),
@@ -23,7 +23,7 @@ pub(crate) fn show_reply(bytes: &[u8], case: &mut Case) {
     }
 }
 
-/// Prints why something is refused.
+/// Prints why a word or a reply is refused.
 fn tell_refused<D: Display + Drop>(case: &mut Case, fault: D) {
     case.say("  answer ", fault);
     case.end();
@@ -43,7 +43,7 @@ fn show_page_of(bytes: &[u8], case: &mut Case) {
     }
 }
 
-/// How a box stands, in six lines and more.
+/// Prints a report: the box, its sides, pairs, ports, packets that wait and counts.
 fn show_report(report: &Report, case: &mut Case) {
     case.say("  answer box ", report.id);
     case.say(" boot ", report.boot);
@@ -81,7 +81,7 @@ fn show_ports(gateway: &GatewayReport, case: &mut Case) {
     case.end();
 }
 
-/// The role of a side, and whether its cable is in; each with the timestamp since when.
+/// Prints a side's role, and whether its cable is in, each with the time since when.
 fn show_side(name: &str, side: &SideReport, case: &mut Case) {
     case.say("    ", name);
     case.show(" ", side.role);
@@ -91,7 +91,7 @@ fn show_side(name: &str, side: &SideReport, case: &mut Case) {
     case.end();
 }
 
-/// How many entries of a protocol have each state.
+/// Prints how many entries of a protocol have each state.
 fn show_pairs(pairs: &PairCounts, protocol: Protocol, case: &mut Case) {
     case.say("    ", protocol);
     case.say(" pending ", pairs.of(protocol, EntryState::Pending));
@@ -102,7 +102,8 @@ fn show_pairs(pairs: &PairCounts, protocol: Protocol, case: &mut Case) {
     case.end();
 }
 
-/// What came, was sent, failed and was too long; and what was dropped for the reasons 1 and 16.
+/// Prints how many frames and datagrams came, were sent, failed and were too long, and how many were dropped for the
+/// reasons 1 and 16.
 fn show_counts(report: &Report, case: &mut Case) {
     show_count("inside", &report.counters, Origin::Inside, case);
     show_count("outside", &report.counters, Origin::Outside, case);
@@ -123,7 +124,7 @@ fn show_count(name: &str, counters: &Counters, origin: Origin, case: &mut Case) 
     case.end();
 }
 
-/// Each entry of a page, and whether others follow.
+/// Prints each entry of a page, and whether others follow.
 fn show_page(page: &Page, case: &mut Case) {
     case.tell("answer page");
     for entry in page.entries.as_slice().iter().flatten() {

@@ -1,4 +1,4 @@
-//! A gateway whose steps are asked for again where memory is refused.
+//! A gateway whose steps are tried again where memory is refused.
 
 use crate::any_gateway::AnyGateway;
 use crate::shown::{Shown, observe};
@@ -13,13 +13,13 @@ use std::io::{self, Write};
 const PACKET: &str =
     "00005e00010b02000000000a08004500001e0001000040118ee1c0a8010ac633640727100035000a00006869";
 
-/// Where its source port stands in the frame.
+/// The offset of the source port in that frame.
 const SOURCE_PORT: usize = 34;
 
-/// The first source port of `pairs`.
+/// The first source port of the line `pairs`.
 const FIRST_PORT: u16 = 10_000;
 
-/// A gateway, and what it told. It goes by `end`.
+/// A gateway, and its output. They are dropped by `end`.
 pub(crate) struct Retrier<G> {
     alloc: Global,
     gateway: G,
@@ -27,7 +27,7 @@ pub(crate) struct Retrier<G> {
 }
 
 impl<G: AnyGateway> Retrier<G> {
-    /// Gateway 0 of the sample settings, founded in its first boot.
+    /// Returns gateway 0 of the sample settings, founded in boot 1.
     pub(crate) fn new(alloc: Global, hashers: Hashers) -> Result<Retrier<G>> {
         let settings = sample(alloc)?;
         let started = started(alloc, &settings, hashers);
@@ -39,7 +39,7 @@ impl<G: AnyGateway> Retrier<G> {
         })
     }
 
-    /// Ends its gateway, and gives its memory back.
+    /// Drops the gateway, and frees its memory.
     pub(crate) fn end(self) {
         let Retrier {
             alloc: _,
@@ -53,10 +53,10 @@ impl<G: AnyGateway> Retrier<G> {
     /// Does what a line says, and prints what comes of a step.
     ///
     /// - `tick MOMENT`, `frame SIDE HEX`, `datagram HEX`, `peer-off BOOT`: a step
-    /// - `plain SIDE HEX`: a frame, with nothing kept before it
-    /// - `pairs COUNT`: a packet from each of so many ports of one host; prints how many pairs there are
-    /// - `page`: what was told is forgotten, with all memory for more
-    /// - `frames`: prints the frames that were told
+    /// - `plain SIDE HEX`: a frame, without a comparison of what shows before and after
+    /// - `pairs COUNT`: a packet from each of COUNT ports of one host; prints how many pairs there are
+    /// - `page`: the output is dropped, with its memory
+    /// - `frames`: prints the frames of the output
     pub(crate) fn act<O: Write>(&mut self, line: &str, output: &mut O) -> Result<()> {
         let (verb, rest) = line.split_once(' ').unwrap_or((line, ""));
         match verb {
@@ -116,7 +116,7 @@ impl<G: AnyGateway> Retrier<G> {
         Ok(())
     }
 
-    /// The frame comes from each of so many ports.
+    /// Lets the frame come from each of `count` ports.
     fn open(&mut self, frame: &mut [u8], count: u16) -> Result<(), NoMemory> {
         for number in 0..count {
             set_source_port(frame, FIRST_PORT.wrapping_add(number));
@@ -148,14 +148,14 @@ fn side_named(word: &str) -> Result<Side> {
     }
 }
 
-/// As `inside 00005e..`: a side, and a frame of it.
+/// Reads a side and a frame, as in `inside 00005e..`.
 fn frame_in(alloc: Global, rest: &str) -> Result<(Side, Vec<u8>)> {
     let (side, digits) = rest.split_once(' ').context("no side")?;
     let side = side_named(side)?;
     Ok((side, bytes_of(alloc, digits)?))
 }
 
-/// The bytes of hexadecimal digits, asked for once more where memory is refused.
+/// Returns the bytes of hexadecimal digits; asks once more where memory is refused.
 fn bytes_of(alloc: Global, digits: &str) -> Result<Vec<u8>> {
     match hex::decode(alloc, digits) {
         Ok(bytes) => Ok(bytes),
@@ -163,7 +163,7 @@ fn bytes_of(alloc: Global, digits: &str) -> Result<Vec<u8>> {
     }
 }
 
-/// The sample settings, asked for once more where memory is refused.
+/// Returns the sample settings; asks once more where memory is refused.
 fn sample(alloc: Global) -> Result<Settings> {
     match Settings::sample(alloc) {
         Ok(settings) => Ok(settings),
@@ -171,7 +171,7 @@ fn sample(alloc: Global) -> Result<Settings> {
     }
 }
 
-/// A gateway as it begins, asked for once more where memory is refused.
+/// Returns a founded gateway; asks once more where memory is refused.
 fn started<G: AnyGateway>(alloc: Global, settings: &Settings, hashers: Hashers) -> Option<G> {
     match G::begun(alloc, settings, hashers, GatewayId::Zero, 1, true) {
         Some(gateway) => Some(gateway),
@@ -179,7 +179,7 @@ fn started<G: AnyGateway>(alloc: Global, settings: &Settings, hashers: Hashers) 
     }
 }
 
-/// One step, asked for once more where memory is refused.
+/// Takes one step; tries once more where memory is refused.
 fn again<G: AnyGateway>(
     gateway: &mut G,
     event: Event<'_>,
@@ -191,7 +191,8 @@ fn again<G: AnyGateway>(
     }
 }
 
-/// Takes an event; where a growth is refused nothing has changed, and it takes the event then.
+/// Takes an event, and prints the outcome. Where memory is refused, prints `refused`, checks that nothing has changed,
+/// and tries again.
 fn step<G: AnyGateway, O: Write>(
     alloc: Global,
     gateway: &mut G,
@@ -205,7 +206,7 @@ fn step<G: AnyGateway, O: Write>(
     stepped
 }
 
-/// The same, from what shows before.
+/// Takes an event as `step` does, given what shows before.
 fn step_from<G: AnyGateway, O: Write>(
     before: &Shown,
     alloc: Global,

@@ -1,4 +1,4 @@
-//! What the lines of a file set up: the settings, and a gateway.
+//! The settings and the gateway that the lines of a file set up.
 
 use crate::any_gateway::AnyGateway;
 use crate::test_gateway::TestGateway;
@@ -7,7 +7,7 @@ use cases_words::{Actor, Case};
 use settings::Settings;
 use std::{fs, mem};
 
-/// What the lines so far have set up. It goes by `end`.
+/// The settings and the gateway of the lines so far. They are dropped by `end`.
 pub(crate) struct Setup<G> {
     rt: HostRuntime,
     settings: Option<Settings>,
@@ -40,7 +40,7 @@ impl<G: AnyGateway> Setup<G> {
         }
     }
 
-    /// A gateway starts, by the settings of the line `settings` before, in place of the one before.
+    /// Starts a gateway, by the settings of the last line `settings`, in place of the one before.
     fn start(&mut self, case: &mut Case) {
         match self.settings.as_ref() {
             Some(settings) => {
@@ -55,7 +55,7 @@ impl<G: AnyGateway> Setup<G> {
 impl<G: AnyGateway> Actor for Setup<G> {
     /// Does what a line says.
     ///
-    /// - `settings FILE`: how the gateways below are set up
+    /// - `settings FILE`: the settings of the gateways that follow
     /// - `gateway I boot N`, `gateway 0 boot N founded`: a gateway starts, in place of the one before
     /// - all else happens to the gateway (`TestGateway::happen`)
     fn act(&mut self, case: &mut Case) {
@@ -71,14 +71,14 @@ impl<G: AnyGateway> Actor for Setup<G> {
     }
 }
 
-/// Ends a gateway, if it is there.
+/// Drops a gateway, if there is one.
 fn end_if_there<G: AnyGateway>(gateway: Option<TestGateway<G>>) {
     if let Some(gateway) = gateway {
         gateway.end();
     }
 }
 
-/// The settings of a file.
+/// Returns the settings of a file.
 pub(crate) fn read_settings(rt: &HostRuntime, name: &str) -> Result<Settings> {
     let text = fs::read_to_string(rt, name)?;
     Ok(settings_file::read(rt.alloc(), text.as_str())?)

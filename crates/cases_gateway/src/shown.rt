@@ -1,4 +1,4 @@
-//! What shows of a gateway, and of what it told.
+//! Everything that a gateway and its output show, to be compared.
 
 use crate::any_gateway::AnyGateway;
 use addresses::Port;
@@ -8,10 +8,10 @@ use nat_types::{Note, Pair, Side};
 use std::alloc::Global;
 use std::io::{self, Write};
 
-/// Capacity for what is told, so that copying it asks for memory once.
+/// The capacity for a copy of the output, so that copying takes memory once.
 const CAPACITY: usize = 4096;
 
-/// What a gateway knows beside its table.
+/// The state that a gateway shows beside its table.
 #[derive(Clone, Copy, PartialEq, Eq)]
 struct Standing {
     moment: u64,
@@ -23,8 +23,8 @@ struct Standing {
     hears_peer: bool,
 }
 
-/// All that shows: what a gateway knows, its pairs, those that translate, the ports that it owns;
-/// and the frames, the datagrams and the notes that were told.
+/// Everything that shows: a gateway's state, its pairs, those that translate, the ports that it owns; and the frames,
+/// the datagrams and the notes of the output.
 #[derive(Drop)]
 pub(crate) struct Shown {
     standing: Standing,
@@ -45,7 +45,7 @@ impl Shown {
             && self.notes.as_slice() == other.notes.as_slice()
     }
 
-    /// Lists all but what the gateway knows.
+    /// Fills in all but the gateway's state.
     fn fill(&mut self, alloc: Global, gateway: &Gateway, out: &Out) -> Result<()> {
         self.pairs = gateway.pairs()?;
         self.translating = gateway.translating()?;
@@ -56,7 +56,7 @@ impl Shown {
     }
 }
 
-/// What shows now, asked for once more where memory is refused.
+/// Returns everything that shows; asks once more where memory is refused.
 pub(crate) fn observe<G: AnyGateway>(alloc: Global, gateway: &G, out: &Out) -> Result<Shown> {
     match gateway.shown(alloc, out) {
         Ok(seen) => Ok(seen),
@@ -64,7 +64,7 @@ pub(crate) fn observe<G: AnyGateway>(alloc: Global, gateway: &G, out: &Out) -> R
     }
 }
 
-/// What shows now.
+/// Returns everything that shows, or an Err where there isn't enough memory.
 pub(crate) fn observe_once(alloc: Global, gateway: &Gateway, out: &Out) -> Result<Shown> {
     let mut shown = Shown {
         standing: standing_of(gateway),
@@ -92,7 +92,7 @@ fn standing_of(gateway: &Gateway) -> Standing {
     }
 }
 
-/// The frames, each behind its side and length, and the datagrams, each behind its length.
+/// Returns the frames, each after its side and length, and the datagrams, each after its length, as bytes.
 fn sent_by(alloc: Global, out: &Out) -> Result<Vec<u8>> {
     let mut list = Vec::with_capacity(alloc, CAPACITY)?;
     copy_frames(&mut list, out)?;

@@ -1,4 +1,4 @@
-//! A box whose wire lies in memory.
+//! A box whose wire is in memory.
 
 use crate::any_gateway::{AnyGateway, Orders};
 use crate::lines::Lines;
@@ -14,10 +14,10 @@ use std::alloc::Global;
 use std::cell::RefCell;
 use std::io::{self, Write};
 
-/// The digest of the settings, as far as a box in memory is asked.
+/// The digest of the settings that a box in memory reports.
 const DIGEST: u64 = 7;
 
-/// A gateway with its wire, its clock and its manager. It goes by `end` alone.
+/// A gateway with its wire, its clock and its manager. It is dropped by `end` alone.
 pub(crate) struct TestBox<G> {
     gateway: G,
     identity: Identity,
@@ -26,19 +26,20 @@ pub(crate) struct TestBox<G> {
     manager: CountingManager,
 }
 
-/// How a box is run.
+/// The way in which a box is run.
 #[derive(Clone, Copy)]
 pub(crate) struct Run {
-    /// How many rounds it has at most.
+    /// The most rounds; None for any number.
     pub(crate) rounds: Option<u32>,
-    /// How many centiseconds pass from one to the next.
+    /// The time from one round to the next, in centiseconds.
     pub(crate) pace: u64,
     pub(crate) track: bool,
     pub(crate) orders: Orders,
 }
 
 impl<G: AnyGateway> TestBox<G> {
-    /// A gateway of that number in that boot, at moment 0; none where there is no such gateway.
+    /// Returns a box with a gateway of that number in that boot, at time 0, or None where there can't be such a gateway
+    /// or there is no memory.
     pub(crate) fn new(
         alloc: Global,
         settings: &Settings,
@@ -57,7 +58,7 @@ impl<G: AnyGateway> TestBox<G> {
         })
     }
 
-    /// Ends its gateway, and gives its memory back.
+    /// Drops the gateway, and frees its memory.
     pub(crate) fn end(self) {
         let TestBox {
             gateway,
@@ -112,16 +113,16 @@ impl<G: AnyGateway> TestBox<G> {
         });
     }
 
-    /// A datagram comes.
+    /// Adds a datagram to those that are to come.
     pub(crate) fn bring(&mut self, place: Place, bytes: &[u8], case: &mut Case) {
         let copied = Vec::from_slice(case.alloc, bytes);
         let bytes = case.or_none(copied);
         case.keep(self.wire.coming.push(Datagram { place, bytes }));
     }
 
-    /// Runs as the next words say, and prints what comes of it.
+    /// Runs the box as the next words say, and prints what comes of it.
     ///
-    /// - `rounds N M`, `rounds N M untracked`: rounds, and no end
+    /// - `rounds N M`, `rounds N M untracked`: rounds without an end
     /// - `serves ..`: the box runs to its end (`run_in`)
     pub(crate) fn run(&mut self, case: &mut Case) {
         if case.is_first("rounds", "serves") {
@@ -140,7 +141,7 @@ impl<G: AnyGateway> TestBox<G> {
         case.text(lines.into_inner().as_slice());
     }
 
-    /// Has so many rounds, at each of which so many centiseconds more have passed.
+    /// Runs so many rounds, `pace` centiseconds apart.
     pub(crate) fn go_on(&mut self, rounds: u32, pace: u64, track: bool, lines: &RefCell<Vec<u8>>) {
         let orders = Orders {
             told: None,
@@ -168,7 +169,7 @@ impl<G: AnyGateway> TestBox<G> {
         self.manager.show(case);
     }
 
-    /// Runs the box to its end, and writes `end`. The call of its wire with that number fails; at 0 none does.
+    /// Runs the box to its end, and writes `end`. The call of its wire with the number `failing` fails; at 0 none does.
     pub(crate) fn serve<O: Write>(
         &mut self,
         run: Run,
@@ -202,7 +203,7 @@ impl<G: AnyGateway> TestBox<G> {
     }
 }
 
-/// Lines that are kept.
+/// Returns a log that keeps its lines.
 pub(crate) fn open(text: &RefCell<Vec<u8>>) -> Lines<'_> {
     Lines {
         text,
@@ -210,7 +211,8 @@ pub(crate) fn open(text: &RefCell<Vec<u8>>) -> Lines<'_> {
     }
 }
 
-/// As `4 360`, or `- 360 told 3`: how many rounds, how many centiseconds apart, and after how many it is told to end.
+/// Reads how many rounds, how many centiseconds apart, and after how many the end signal comes, as in `4 360` or
+/// `- 360 told 3`.
 fn run_in(case: &mut Case) -> Run {
     let rounds = rounds_in(case);
     let pace = case.number();
@@ -226,7 +228,7 @@ fn run_in(case: &mut Case) -> Run {
     }
 }
 
-/// A number of rounds, or any for `-`.
+/// Reads a number of rounds, or `-` for any.
 fn rounds_in(case: &mut Case) -> Option<u32> {
     if case.word() == "-" {
         return None;
@@ -245,7 +247,7 @@ fn told_in(case: &mut Case) -> Option<u32> {
     Some(case.times())
 }
 
-/// What a place is called.
+/// The names of the places.
 const PLACES: [(&str, Place); 4] = [
     ("link", Place::Link),
     ("inside", Place::Side(Side::Inside)),
@@ -253,7 +255,7 @@ const PLACES: [(&str, Place); 4] = [
     ("operator", Place::Operator),
 ];
 
-/// The place that the next word names.
+/// Reads the name of a place.
 fn place_in(case: &mut Case) -> Place {
     case.pick(&PLACES, Place::Link)
 }

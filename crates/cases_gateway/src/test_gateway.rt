@@ -1,4 +1,4 @@
-//! The gateway of a case.
+//! The gateway of a case, and the lines that happen to it.
 
 use crate::any_gateway::AnyGateway;
 use crate::changing::{Trial, change};
@@ -9,7 +9,7 @@ use gateway::{Event, Hashers, Out, Outcome, Reason};
 use nat_types::GatewayId;
 use settings::Settings;
 
-/// A gateway, and the datagram that came to it last. It goes by `end`.
+/// A gateway, and the last datagram that came to it. They are dropped by `end`.
 pub(crate) struct TestGateway<G> {
     id: GatewayId,
     gateway: G,
@@ -18,7 +18,8 @@ pub(crate) struct TestGateway<G> {
 }
 
 impl<G: AnyGateway> TestGateway<G> {
-    /// As `0 boot 1 founded`: a gateway of that number in that boot; none where there is no such gateway.
+    /// Starts a gateway of that number in that boot, as in `0 boot 1 founded`; None where there can't be such a
+    /// gateway.
     pub(crate) fn new(settings: &Settings, case: &mut Case) -> Option<TestGateway<G>> {
         let id = case.gateway();
         let boot = after("boot", case);
@@ -37,7 +38,7 @@ impl<G: AnyGateway> TestGateway<G> {
         }
     }
 
-    /// Ends its gateway, and gives its memory back.
+    /// Drops the gateway, and frees its memory.
     pub(crate) fn end(self) {
         let TestGateway {
             id: _,
@@ -50,7 +51,7 @@ impl<G: AnyGateway> TestGateway<G> {
         drop(out);
     }
 
-    /// What happens to the gateway of a case.
+    /// Does to the gateway what a line says.
     ///
     /// - `tick MOMENT`, `frame SIDE HEX`: the clock goes on; a frame comes
     /// - `letter ..`: a datagram comes, in words (`datagrams::spelled`)
@@ -59,8 +60,8 @@ impl<G: AnyGateway> TestGateway<G> {
     /// - `frame-cuts SIDE HEX`, `frame-changes SIDE HEX`: a frame comes cut at every length; with every byte changed to
     ///   every other value
     /// - `frame-cuts SIDE HEX from MOMENT`, `frame-changes SIDE HEX from MOMENT`: the same, each frame in a second of
-    ///   its own, the first one at that moment
-    /// - `table`: how the gateway stands
+    ///   its own, the first one at that time
+    /// - `table`: prints the gateway's state and table
     pub(crate) fn happen(&mut self, case: &mut Case) {
         case.back();
         match case.word() {
@@ -77,7 +78,7 @@ impl<G: AnyGateway> TestGateway<G> {
         }
     }
 
-    /// One step; prints what comes of it, and what is told.
+    /// Takes one step, and prints its outcome and output.
     fn step(&mut self, event: Event<'_>, case: &mut Case) {
         let outcome = self.gateway.step(event, &mut self.out, case);
         print_step(outcome, &self.out, case);
@@ -89,27 +90,27 @@ impl<G: AnyGateway> TestGateway<G> {
         self.step(Event::Frame(side, bytes.as_slice()), case);
     }
 
-    /// A datagram in words comes, as the other gateway's.
+    /// Lets a datagram of the other gateway come, given in words.
     fn datagram(&mut self, case: &mut Case) {
         self.last = spelled(self.id.other(), case);
         self.again(case);
     }
 
-    /// A datagram of any bytes comes.
+    /// Lets a datagram of any bytes come.
     fn bytes(&mut self, case: &mut Case) {
         self.last = case.bytes();
         self.again(case);
     }
 
-    /// The last datagram comes once more.
+    /// Lets the last datagram come once more.
     fn again(&mut self, case: &mut Case) {
         let event = Event::Datagram(self.last.as_slice());
         let outcome = self.gateway.step(event, &mut self.out, case);
         print_step(outcome, &self.out, case);
     }
 
-    /// A datagram is cut at every length below its own; prints how many of these are dropped with reason 16, with
-    /// nothing told.
+    /// Lets a datagram come cut at every length below its own, and prints how many of these are dropped with reason 16
+    /// and without output.
     fn cuts(&mut self, case: &mut Case) {
         let bytes = case.bytes();
         let mut dropped = 0u32;
@@ -123,14 +124,14 @@ impl<G: AnyGateway> TestGateway<G> {
         case.end();
     }
 
-    /// Whether a datagram is dropped as a wrong one, with nothing told.
+    /// Whether a datagram is dropped as a wrong one, without output.
     fn drops(&mut self, bytes: &[u8], case: &mut Case) -> bool {
         let event = Event::Datagram(bytes);
         let outcome = self.gateway.step(event, &mut self.out, case);
         outcome == Outcome::Dropped(Reason::BadDatagram) && has_told_nothing(&self.out)
     }
 
-    /// A frame comes in cut at every length below its own, from no byte on.
+    /// Lets a frame come cut at every length below its own, from 0 on.
     fn frame_cuts(&mut self, case: &mut Case) {
         let side = case.side();
         let bytes = case.bytes();
@@ -142,7 +143,7 @@ impl<G: AnyGateway> TestGateway<G> {
         trial.tell(case);
     }
 
-    /// A frame comes in with every byte changed to every other value.
+    /// Lets a frame come with every byte changed to every other value.
     fn frame_changes(&mut self, case: &mut Case) {
         let side = case.side();
         let mut frame = case.bytes();
@@ -158,7 +159,7 @@ impl<G: AnyGateway> TestGateway<G> {
     }
 }
 
-/// The number behind a word.
+/// Reads this word and the number after it.
 pub(crate) fn after(word: &str, case: &mut Case) -> u64 {
     if case.word() != word {
         case.fault();
@@ -166,7 +167,7 @@ pub(crate) fn after(word: &str, case: &mut Case) -> u64 {
     case.number()
 }
 
-/// The moment of the first frame, where each comes in a second of its own; none where all come at once.
+/// Reads the time of the first frame, where each comes in a second of its own; None where all come at once.
 fn pace_in(case: &mut Case) -> Option<u64> {
     if case.left() == 0 {
         return None;

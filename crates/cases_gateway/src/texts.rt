@@ -1,14 +1,14 @@
-//! A report's texts; and its bytes, whole, cut or changed, and what they are read as.
+//! The texts of a report; and its bytes, whole, cut or changed, and how they are read.
 
 use cases_words::Case;
 use reports::{JsonText, MetricsText, PlainText, ReadFault, Report};
 
-/// A report of bytes, of which nothing is said.
+/// Reads a report. The function has no clauses, so callers learn nothing of the result.
 fn read_of(bytes: &[u8]) -> Result<Report, ReadFault> {
     Report::read(bytes)
 }
 
-/// Which text of a report is wanted.
+/// The kind of a report's text.
 #[derive(Clone, Copy)]
 pub(crate) enum Kind {
     People,
@@ -16,7 +16,7 @@ pub(crate) enum Kind {
     Metrics,
 }
 
-/// The text of a report, once it was written as bytes and read back.
+/// Prints a text of the report, once it was written as bytes and read back.
 pub(crate) fn tell_text(report: &Report, kind: Kind, case: &mut Case) {
     match read_of(report.bytes().as_slice()) {
         Ok(report) => put_text(&report, kind, case),
@@ -32,7 +32,7 @@ fn put_text(report: &Report, kind: Kind, case: &mut Case) {
     }
 }
 
-/// How many bytes it has, and some of them.
+/// Prints how many bytes the report has, and some of them.
 pub(crate) fn tell_bytes(report: &Report, case: &mut Case) {
     let (from, count) = (case.count(), case.count());
     let bytes = report.bytes();
@@ -42,19 +42,19 @@ pub(crate) fn tell_bytes(report: &Report, case: &mut Case) {
     case.end();
 }
 
-/// So many bytes from a place on, or as many as there are.
+/// Returns `count` bytes from an offset on, or as many as there are.
 fn part_of(bytes: &[u8], from: usize, count: usize) -> &[u8] {
     let behind = bytes.get(from..).unwrap_or(&[]);
     behind.get(..count).unwrap_or(behind)
 }
 
-/// A copy of a report's bytes.
+/// Returns a copy of a report's bytes.
 fn bytes_of(report: &Report, case: &mut Case) -> Vec<u8> {
     let copied = Vec::from_slice(case.alloc, report.bytes().as_slice());
     case.or_none(copied)
 }
 
-/// How many of the shorter lengths are refused, and whether one more byte is.
+/// Prints how many of the shorter lengths are refused, and whether one byte more is.
 pub(crate) fn tell_cuts(report: &Report, case: &mut Case) {
     let mut bytes = bytes_of(report, case);
     case.say("refused: ", count_refused(bytes.as_slice()));
@@ -74,7 +74,7 @@ fn count_refused(bytes: &[u8]) -> u32 {
     refused
 }
 
-/// What bytes are read as of which one is another.
+/// Prints how the report's bytes are read once one of them is changed.
 pub(crate) fn tell_changed(report: &Report, case: &mut Case) {
     let mut bytes = bytes_of(report, case);
     let at = case.count();

@@ -1,4 +1,4 @@
-//! A report's value, field by field.
+//! A report's value, set field by field.
 
 use crate::texts::{Kind, tell_bytes, tell_changed, tell_cuts, tell_text};
 use crate::words::{origin, role, what};
@@ -10,7 +10,7 @@ use reports::{
 };
 use vrrp_states::State;
 
-/// A box that has just begun, and has counted nothing.
+/// Returns the report of a box that has just begun, and has counted nothing.
 pub(crate) fn blank() -> Report {
     let side = SideReport::new(State::Initialize, true);
     Report {
@@ -60,12 +60,12 @@ impl Reports {
 }
 
 impl Actor for Reports {
-    /// What a line says of the report: `set`'s lines, and
+    /// Does what a line says of the report: a line of `set`, or
     ///
-    /// - `people`, `json`, `metrics`: its text, once it was written as bytes and read back
-    /// - `bytes FROM COUNT`: how many bytes it has, and some of them
-    /// - `cuts`: its bytes are cut at each length, and made longer by one
-    /// - `change AT BYTE`: one of its bytes is another
+    /// - `people`, `json`, `metrics`: prints a text, once the report was written as bytes and read back
+    /// - `bytes FROM COUNT`: prints how many bytes the report has, and some of them
+    /// - `cuts`: cuts the bytes at each length, and makes them longer by one
+    /// - `change AT BYTE`: changes one byte
     fn act(&mut self, case: &mut Case) {
         case.title("> ", "\n");
         match case.word() {
@@ -83,10 +83,10 @@ impl Actor for Reports {
 /// Sets what a line says.
 ///
 /// - `new ID BOOT DIGEST`: a blank report of a box
-/// - `look SIDE ROLE up|down MOMENT`: the side is seen so then
-/// - `count ORIGIN WHAT COUNT`: so many more
-/// - `lines COUNT`
-/// - one of `set_gateway`
+/// - `look SIDE ROLE up|down MOMENT`: the side is seen so at that time
+/// - `count ORIGIN WHAT COUNT`: adds to a count
+/// - `lines COUNT`: how many lines of the log were left out
+/// - a line of `set_gateway`
 fn set(report: &mut Report, case: &mut Case) {
     case.back();
     match case.word() {
@@ -119,11 +119,11 @@ fn count(counters: &mut Counters, case: &mut Case) {
     counters.add(origin, what, case.number());
 }
 
-/// Sets a part of what the gateway shows.
+/// Sets a part of the gateway's state.
 ///
 /// - `clock MOMENT`, `table synced|unsynced`, `turn away|here`
 /// - `peer BOOT serves|idle`, `heard CENTISECONDS`: how long ago
-/// - `pairs PROTOCOL STATE COUNT`: so many more entries
+/// - `pairs PROTOCOL STATE COUNT`: adds so many entries
 /// - `ports OWNED ICMP TCP UDP`, `waiting PAIR HOP`
 fn set_gateway(state: &mut GatewayReport, case: &mut Case) {
     case.back();

@@ -1,4 +1,4 @@
-//! A gateway whose report and pages are taken.
+//! A gateway whose report and pages are printed.
 
 use crate::any_gateway::AnyGateway;
 use crate::values::blank;
@@ -10,28 +10,28 @@ use reports::{GatewayReport, Page, PairFilter, PairLines, PlainText, Sides};
 use settings::Settings;
 use std::alloc::Global;
 
-/// A packet of 192.168.1.10 to 198.51.100.7 port 53, `hi`; its source port stands at 34.
+/// A packet from 192.168.1.10 to 198.51.100.7 port 53, `hi`; its source port is at offset 34.
 const FRAME: [u8; 44] = [
     0x00, 0x00, 0x5e, 0x00, 0x01, 0x0b, 0x02, 0x00, 0x00, 0x00, 0x00, 0x0a, 0x08, 0x00, 0x45, 0x00,
     0x00, 0x1e, 0x00, 0x01, 0x00, 0x00, 0x40, 0x11, 0x8e, 0xe1, 0xc0, 0xa8, 0x01, 0x0a, 0xc6, 0x33,
     0x64, 0x07, 0x00, 0x00, 0x00, 0x35, 0x00, 0x0a, 0x00, 0x00, 0x68, 0x69,
 ];
 
-/// Gateway 0 of the sample settings, founded in boot 1, and its sides as they were seen. It goes by `end`.
+/// Gateway 0 of the sample settings, founded in boot 1, and its sides as they were seen. They are dropped by `end`.
 pub(crate) struct Watched<G> {
     sides: Sides,
     out: Out,
     gateway: G,
 }
 
-/// The page behind a key, once it was written as bytes and read back.
+/// Returns the page after a key, once it was written as bytes and read back.
 fn page_behind<G: AnyGateway>(gateway: &G, last: Option<Key>) -> Option<Page> {
     let bytes = gateway.page_behind(last).bytes();
     Page::read(bytes.as_slice()).ok()
 }
 
 impl<G: AnyGateway> Watched<G> {
-    /// None where there is no memory.
+    /// Returns such a gateway, or None where there is no memory.
     pub(crate) fn new(alloc: Global) -> Option<Watched<G>> {
         let settings = Settings::sample(alloc).ok()?;
         let begun = G::begun(alloc, &settings, Hashers::fixed(), GatewayId::Zero, 1, true);
@@ -44,7 +44,7 @@ impl<G: AnyGateway> Watched<G> {
         })
     }
 
-    /// Ends its gateway, and gives its memory back.
+    /// Drops the gateway, and frees its memory.
     pub(crate) fn end(self) {
         let Watched {
             sides: _,
@@ -93,7 +93,7 @@ impl<G: AnyGateway> Watched<G> {
         case.put(PlainText(&report));
     }
 
-    /// Reads all pages, each once it was written as bytes.
+    /// Reads all pages, each once it was written as bytes, and prints the entries that are wanted.
     fn list(&self, case: &mut Case) {
         let filter = filter_of(case);
         let mut last = None;
@@ -113,10 +113,10 @@ impl<G: AnyGateway> Watched<G> {
 impl<G: AnyGateway> Actor for Watched<G> {
     /// Does what a line says.
     ///
-    /// - `tick MOMENT`, `side SIDE up|down`, `datagram HEX`: a step, and the sides are looked at
-    /// - `udp PORT COUNT`: packets of 192.168.1.10 from that port, and the next ones
-    /// - `people`: the report's text
-    /// - `list PROTOCOL ADDRESS PORT STATE`: all pages, and the lines of the entries that are wanted; `any` wants all
+    /// - `tick MOMENT`, `side SIDE up|down`, `datagram HEX`: a step, after which the sides are looked at
+    /// - `udp PORT COUNT`: COUNT packets of 192.168.1.10, from PORT and the ports after it
+    /// - `people`: prints the report's text
+    /// - `list PROTOCOL ADDRESS PORT STATE`: reads all pages, and prints the entries that are wanted; `any` wants all
     fn act(&mut self, case: &mut Case) {
         case.title("> ", "\n");
         match case.word() {
@@ -131,7 +131,7 @@ impl<G: AnyGateway> Actor for Watched<G> {
     }
 }
 
-/// The packet from a port.
+/// Returns the packet from a port.
 fn frame_from(port: u16) -> [u8; 44] {
     let mut frame = FRAME;
     let [high, low] = port.to_be_bytes();
@@ -147,7 +147,7 @@ fn tell_page(page: &Page, filter: &PairFilter, case: &mut Case) {
     case.put(PairLines(page, filter));
 }
 
-/// Whether the next word is `any`; another is read once more.
+/// Whether the next word is `any`. Any other word is read again.
 fn is_any(case: &mut Case) -> bool {
     let is_any = case.word() == "any";
     if !is_any {
@@ -156,7 +156,7 @@ fn is_any(case: &mut Case) -> bool {
     is_any
 }
 
-/// Which entries are wanted: a protocol, an address, a port and a state, each of them or `any`.
+/// Reads which entries are wanted: a protocol, an address, a port and a state, each of them or `any`.
 fn filter_of(case: &mut Case) -> PairFilter {
     let mut filter = PairFilter::ALL;
     if !is_any(case) {

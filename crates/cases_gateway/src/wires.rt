@@ -1,4 +1,4 @@
-//! A wire in memory, and a clock that goes by steps.
+//! A wire in memory, and a clock that goes on by steps.
 ghost use Rattle.std.specs.Prelude.{◌≤◌, IfSome};
 ghost use Rattle.sockets.specs.Wires.{AnyWay};
 
@@ -11,14 +11,14 @@ use sockets::{LONGEST, Losses, Place, SendFault, Wire, WireFault};
 use std::alloc::Global;
 use std::time::Duration;
 
-/// A datagram, and where it came from or went to.
+/// A datagram, and the place from which it came or to which it went.
 #[derive(Drop)]
 pub(crate) struct Datagram {
     pub(crate) place: Place,
     pub(crate) bytes: Vec<u8>,
 }
 
-/// A place fails in some of the next rounds, of which the first has the number 1.
+/// A place that fails in the rounds from `first` to `last`; the first of the next rounds has the number 1.
 #[derive(Clone, Copy)]
 pub(crate) struct Outage {
     pub(crate) place: Place,
@@ -32,30 +32,30 @@ impl Outage {
     }
 }
 
-/// A place takes no more bytes than these at once.
+/// A place that takes at most so many bytes at once.
 #[derive(Clone, Copy)]
 pub(crate) struct Limit {
     pub(crate) place: Place,
     pub(crate) most: usize,
 }
 
-/// What is to come by a wire, and what was sent by it.
+/// A wire in memory: the datagrams that are to come, and those that were sent.
 #[derive(Drop)]
 pub(crate) struct MemoryWire {
     pub(crate) alloc: Global,
     pub(crate) coming: Vec<Datagram>,
-    /// How many of them have come.
+    /// The number of datagrams of `coming` that have come.
     pub(crate) come: usize,
     /// The places that fail in the next rounds.
     pub(crate) outages: Vec<Outage>,
-    /// How often nothing more was there, which is once a round.
+    /// The number of times that no datagram was left, which is once a round.
     round: u32,
-    /// The place that takes less than it is sent, if one does, and how much it lost.
+    /// The place that takes less than it is sent, if there is one; `losses` counts what it lost.
     pub(crate) limit: Option<Limit>,
     losses: Losses,
-    /// How many calls are left up to the one that fails, which is a send or a receive; 0: none fails.
+    /// The number of calls up to the one that fails, a send or a receive; 0 where none fails.
     left: u64,
-    /// Whether the client that said the last word waits for its answer. Before that no other is heard.
+    /// Whether the client of the last word waits for its answer. Until the answer no other client is heard.
     awaits: bool,
     pub(crate) sent: Vec<Datagram>,
 }
@@ -76,21 +76,21 @@ impl MemoryWire {
         }
     }
 
-    /// The next rounds begin: nothing was sent in them. The call with that number fails; at 0 none does.
+    /// Begins the next rounds, in which nothing was sent yet. The call with the number `failing` fails; at 0 none does.
     pub(crate) fn begin(&mut self, failing: u64) {
         self.sent.clear();
         self.round = 0;
         self.left = failing;
     }
 
-    /// Counts a call, and says whether it is the one that fails.
+    /// Counts a call, and returns whether it is the one that fails.
     fn fails(&mut self) -> bool {
         let fails = self.left == 1;
         self.left = self.left.saturating_sub(1);
         fails
     }
 
-    /// The next datagram that is to come, if one is.
+    /// Returns the next datagram that is to come, if there is one.
     fn next(&mut self, buffer: &mut [u8; LONGEST]) -> Option<(Place, usize)>
         ensures within { IfSome result (λ datagram. datagram.1 ≤ 4096) }
     {
@@ -105,7 +105,7 @@ impl MemoryWire {
         Some((datagram.place, count))
     }
 
-    /// Keeps what is sent, where its place takes as much.
+    /// Keeps what is sent, where its place takes as many bytes.
     fn keep(&mut self, to: Place, bytes: &[u8]) -> Result<(), SendFault> {
         if let Some(limit) = self.limit
             && limit.place == to
@@ -118,7 +118,7 @@ impl MemoryWire {
         self.sent.push(datagram).map_err(|_| SendFault::Failed)
     }
 
-    /// What another wire sent on the link comes, after what is to come already.
+    /// Adds what another wire sent on the link to what is to come.
     pub(crate) fn bring_from(&mut self, other: &MemoryWire, case: &mut Case) {
         for datagram in &other.sent {
             if datagram.place == Place::Link {
@@ -141,7 +141,7 @@ impl MemoryWire {
         }
     }
 
-    /// Prints where what was sent went to, in order, and how many datagrams have come.
+    /// Prints to which places the datagrams went, in order, and how many datagrams have come.
     pub(crate) fn count(&self, case: &mut Case) {
         case.put("  sent");
         for datagram in &self.sent {
@@ -216,7 +216,7 @@ impl Wire for MemoryWire {
     }
 }
 
-/// Copies bytes as far as the buffer goes, and gives how many.
+/// Copies bytes into the buffer, as far as it goes, and returns how many.
 fn copied(bytes: &[u8], buffer: &mut [u8; LONGEST]) -> usize
     ensures { result ≤ 4096 }
 {
@@ -225,7 +225,7 @@ fn copied(bytes: &[u8], buffer: &mut [u8; LONGEST]) -> usize
     count
 }
 
-/// A clock that goes on by as much at each reading, in centiseconds.
+/// A clock that goes on by `pace` centiseconds at each reading.
 #[derive(Drop)]
 pub(crate) struct StepClock {
     pub(crate) now: u64,

@@ -1,4 +1,4 @@
-//! The words of a line.
+//! The words of a line of cases.
 
 use cases_words::Case;
 use journal::{Cause, Origin};
@@ -35,12 +35,12 @@ pub(crate) fn origin(case: &mut Case) -> Origin {
     case.pick(&ORIGINS, Origin::Own)
 }
 
-/// A state by its name.
+/// Reads a state by its name.
 pub(crate) fn state_of(case: &mut Case) -> EntryState {
     case.pick(&STATES, EntryState::Pending)
 }
 
-/// What is counted: by its name, or of what was dropped by the reason's number.
+/// Reads what is counted: by its name, or by the number of the reason of a drop.
 pub(crate) fn what(case: &mut Case) -> Count {
     let read = count_named(case.word());
     case.or(read, Count::Received)

@@ -1,4 +1,4 @@
--- What a plan holds of the gateway that it was made for.
+-- Properties of plans that hold of the gateway for which they were made.
 use Rattle.std.proofs.Common.{◌≡◌, ℕ, Bool, true, false, cond, Option, Some, None, Result, Ok, Err, refl, sym, ap, subst, ◌∙◌}
 use Rattle.addresses.specs.declared.ethernet.Mac.{Mac}
 use Rattle.addresses.specs.declared.internet.Ip.{Ip}
@@ -41,8 +41,8 @@ plan-waits g to by hop place is none at =
     ∙ ap (λ (b : Bool). let r : Result Plan Reason = cond b (Ok (Ask by hop)) (Ok (AskAgain by hop)) in r) at
     )
 
--- what is planned to wait has a place, and waits for the packet's own pair, or for its next hop; what leaves the inside does so
--- by its own pair
+-- a packet that is planned to wait has a place, and waits for its own pair or for its next hop; a packet that leaves the inside
+-- does so by its own pair
 abbrev pub Holds : Shown → Flow → Result Plan Reason → Type 0
 Holds g flow (Ok (Send by next)) = IsOwn flow by
 Holds g flow (Ok (Ask by hop)) = IsOwn flow by × (has_place g.kept (wait.Hop (exit_by by) hop) ≡ true)
@@ -82,7 +82,7 @@ on-holds g flow way.Hairpin = at (target_pair g flow)
     at (Ok p) = from-holds g flow (λ own. Hairpin own p) (look_for g flow) (λ own is. is)
     at (Err reason) = tt
 
--- a packet that is too long is refused, and holds nothing
+-- the refusal of a packet that is too long has the properties of a plan
 fits-holds : (g : Shown) (flow : Flow) (fits : Bool) (r : Result Plan Reason) → Holds g flow r → Holds g flow (and_then r (if_fits fits))
 fits-holds g flow true (Ok (Send by next)) held = held
 fits-holds g flow true (Ok (Ask by hop)) held = held
@@ -101,13 +101,13 @@ holds g side flow length = at (direction_of g.networks side flow.protocol flow.s
     at (Ok w) = fits-holds g flow (fits_at g (exit_of w) length) (plan_on g flow w) (on-holds g flow w)
     at (Err reason) = tt
 
--- of a plan that was made for this gateway
+-- a plan that was made for this gateway has the properties
 pub plan-holds : (g : Shown) (side : Side) (flow : Flow) (length : ℕ) (plan : Result Plan Reason) → plan ≡ plan_of g side flow length → Holds g flow plan
 plan-holds g side flow length plan is = subst (λ (p : Result Plan Reason). Holds g flow p) (sym is) (holds g side flow length)
 
 -- ---- an error
 
--- what is planned to wait has a place; and none waits for a pair
+-- an error that is planned to wait has a place, and none waits for a pair
 abbrev pub HoldsError : Shown → Result Plan Reason → Type 0
 HoldsError g (Ok (Send by next)) = Unit {0}
 HoldsError g (Ok (Ask by hop)) = has_place g.kept (wait.Hop (exit_by by) hop) ≡ true
@@ -123,7 +123,7 @@ to-error g by hop None = at (has_place g.kept (wait.Hop (exit_by by) hop)) refl
     at true is = is
     at false is = tt
 
--- by a pair that is found, or not
+-- the plan of an error has the properties, whether its pair is found or not
 found-error : (g : Shown) (flow : ErrorFlow) (by : Pair → Translation) (r : Result Pair Reason) → HoldsError g (and_then r (λ p. error_by g flow (by p)))
 found-error g flow by (Ok p) = to-error g (by p) _ _
 found-error g flow by (Err reason) = tt
@@ -155,13 +155,13 @@ error-holds g side flow length = at (error_direction g.networks side flow)
     at (Ok w) = fits-error g (fits_at g (exit_of w) length) (error_on g flow w) (on-error g flow w)
     at (Err reason) = tt
 
--- of a plan that was made for this gateway
+-- the plan of an error that was made for this gateway has the properties
 pub error-plan-holds : (g : Shown) (side : Side) (flow : ErrorFlow) (length : ℕ) (plan : Result Plan Reason) → plan ≡ error_plan g side flow length → HoldsError g plan
 error-plan-holds g side flow length plan is = subst (λ (p : Result Plan Reason). HoldsError g p) (sym is) (error-holds g side flow length)
 
 -- ---- an Echo to the gateway
 
--- an answer that is planned at once may be sent in this second; what is planned to wait has a place
+-- an answer that is planned at once may be sent in this second; an Echo that is planned to wait has a place
 abbrev pub HoldsReply : Shown → Side → Result Reply Reason → Type 0
 HoldsReply g side (Ok (reply.Send next)) = may_reply g.moment (station_on g side).said ≡ true
 HoldsReply g side (Ok (reply.Ask hop)) = has_place g.kept (wait.Hop side hop) ≡ true
@@ -211,6 +211,6 @@ reply-holds g side echo = may-be (may_answer g.networks side echo.source.0)
     may-be true = counted (may_reply g.moment (station_on g side).said) refl
     may-be false = tt
 
--- of a plan that was made for this gateway
+-- the plan of an Echo's answer that was made for this gateway has the properties
 pub reply-plan-holds : (g : Shown) (side : Side) (echo : Echo) (plan : Result Reply Reason) → plan ≡ reply_to g side echo → HoldsReply g side plan
 reply-plan-holds g side echo plan is = subst (λ (p : Result Reply Reason). HoldsReply g side p) (sym is) (reply-holds g side echo)

@@ -23,7 +23,7 @@ use Rattle.packet_rules.specs.Networks.{is_virtual}
 use Rattle.packet_rules.specs.Queries.{kind_entering, kind_leaving}
 use Rattle.packet_rules.specs.Steps.{about_refusal, advert_reading, arp_reading, body_reading, destination_refusal, error_reading, error_refusal, header_refusal, icmp_reading, ipv4_reading, is_vrrp, other_reading, packet_reading, query_reading, query_refusal, reading_of, reason_of, reason_of_icmp, size_refusal, transport_reading, transport_refusal, ttl_refusal, unless, up_refusal, virtual_refusal}
 
--- a reading that doesn't refuse a packet as too long, and a step that doesn't
+-- a reading that isn't the Err TooLong, and a step that isn't
 abbrev Fits : Result Reading Reason → Type 0
 Fits r = r ≢ Err TooLong
 

@@ -1,4 +1,4 @@
--- One packet that is taken, and what was read of a kept one.
+-- Packets that are taken, and what was read of kept ones.
 use Rattle.std.proofs.Common.{◌≡◌, ℕ, ◌<◌, ◌≤◌, ◌+◌, min, arith, List, Result, Ok, inl, inr, sym, ap, subst, ◌∙◌}
 use Rattle.addresses.specs.declared.ethernet.Mac.{Mac}
 use Rattle.addresses.specs.declared.internet.Ip.{Ip}
@@ -42,14 +42,14 @@ source-above bytes is = above (frame_of bytes).body is.translatable
     above body (inr (inl echo)) = rw echo.protocol echo.query.identifier
     above body (inr (inr reply)) = rw reply.protocol reply.query.identifier
 
--- what was found of a plan is what was made
+-- the plan that was found is the one that was made
 pub plan-made : {made wanted : Result Plan Reason} {found plan : Plan} → made ≡ Ok found → found ≡ plan → made ≡ wanted → wanted ≡ Ok plan
 plan-made is field made = sym made ∙ is ∙ ap (λ (p : Plan). let r : Result Plan Reason = Ok p in r) field
 
 pub reply-made : {made wanted : Result Reply Reason} {found plan : Reply} → made ≡ Ok found → found ≡ plan → made ≡ wanted → wanted ≡ Ok plan
 reply-made is field made = sym made ∙ is ∙ ap (λ (p : Reply). let r : Result Reply Reason = Ok p in r) field
 
--- a plan that is done is the one that was made
+-- the outcome of a packet is that of its plan
 pub taken-as : (s : GatewayAndOutput) (side : Side) (bytes : List ℕ) (packet : Packet) (plan : Result Plan Reason) → packet ≡ packet_in bytes → plan ≡ plan_of s.shown side packet.flow packet.length
     → by_verdict s side bytes packet.flow plan ≡ flow_taken s side bytes packet.flow
 taken-as s side bytes packet plan read is = ap (by_verdict s side bytes packet.flow) (is ∙ ap (λ (p : Packet). plan_of s.shown side packet.flow p.length) read)
@@ -84,7 +84,7 @@ echo-again-as s w side bytes echo plan from copied is =
     ∙ ap (λ (bs : List ℕ). by_reply_verdict s w.side bs echo.source plan) copied
     ∙ echo-taken-as s w.side w.bytes echo plan (is ∙ ap (λ (x : Side). reply_to s.shown x echo) from)
 
--- what is known of a reading
+-- what holds of a reading holds of an equal one
 pub carries-as : (side : Side) {bytes copied : List ℕ} {found reading : Reading} → Carries side bytes found → found ≡ reading → bytes ≡ copied → Carries side copied reading
 carries-as side {bytes} {copied} {found} {reading} carries field same = subst (λ (bs : List ℕ). Carries side bs reading) same (subst (λ (r : Reading). Carries side bytes r) field carries)
 
@@ -133,7 +133,7 @@ sent-as f f1 f2 f3 p p1 p2 p3 p4 side bytes packet by next exit hop read wanted 
         carried ∙ ap (λ (s : GatewayAndOutput). carried_all s packet.flow packet.flags by) sent
         ∙ ap (λ (x : Packet). carried_all told packet.flow x.flags by) read
 
--- ---- what is spent of the room
+-- ---- what is used of the capacity
 
 spends-more : (needs more : Needs) (f f2 : Forwarder) (p p2 : Paged) → needs.frames ≤ more.frames → needs.notes ≤ more.notes → needs.pairs ≤ more.pairs → Spends needs f p f2 p2 → Spends more f p f2 p2
 spends-more needs more f f2 p p2 frames notes pairs is =
@@ -157,7 +157,7 @@ frames-spend f f2 p p2 = spends-more (frames_alone 2) a_packet f f2 p p2 (omega 
 pub again-spends : (f f2 : Forwarder) (p p2 : Paged) → Spends (frames_alone 1) f p f2 p2 → Spends (frames_alone 2) f p f2 p2
 again-spends f f2 p p2 = spends-more (frames_alone 1) (frames_alone 2) f f2 p p2 (omega arith) (omega arith) (omega arith)
 
--- a wish, a frame, the use of two pairs and a request
+-- the need of a packet that goes on: a wish, a frame, the use of two pairs and a request
 pub sent-spends : (f f1 f2 f3 : Forwarder) (p p1 p2 p3 p4 : Paged) → Spends a_wish f p f1 p1 → p1.room ≡ record p2.room { frames = p2.room.frames + 1 } → Spends (notes_alone 2) f1 p2 f2 p3 → Spends (frames_alone 1) f2 p3 f3 p4
     → Spends a_packet f p f3 p4
 sent-spends f f1 f2 f3 p p1 p2 p3 p4 wished framed carried asked =
@@ -170,10 +170,10 @@ sent-spends f f1 f2 f3 p p1 p2 p3 p4 wished framed carried asked =
       pairs = omega arith;
     }
 
--- nothing more is pushed
+-- where nothing more is pushed, the places are still left free
 pub kept-places : (f f1 f2 : Forwarder) → f2.link ≡ f1.link → LeavesPlaces f f1 → LeavesPlaces f f2
 kept-places f f1 f2 same places = subst (λ (e : Link). min 64 (free_places f.link) ≤ free_places e) (sym same) places
 
--- nothing is pushed
+-- where nothing is pushed, the places are left free
 pub same-places : (f f2 : Forwarder) → f2.link ≡ f.link → LeavesPlaces f f2
 same-places f f2 same = subst (λ (e : Link). min 64 (free_places f.link) ≤ free_places e) (sym same) (omega arith)

@@ -1,4 +1,4 @@
--- A wish for a port leaves 64 places of the link free, where they were; and one that changes nothing.
+-- A wish for a port leaves 64 places of the link free, where so many were; and a wish that changes nothing.
 use Rattle.std.proofs.Common.{◌≡◌, ◌≤◌, ◌+◌, ◌&&◌, Bool, true, false, cond, not, Option, Some, None, [], ◌∷◌, List, min, refl, ap, ◌∙◌, arith, length-append}
 use Rattle.std.proofs.lemmas.Bool.{ltb-false}
 use Rattle.std.proofs.lemmas.List.{append-nil}
@@ -23,7 +23,7 @@ use Rattle.spec_binding.specs.Rows.{answered, is_at_limit, is_full, known_wish, 
 use Rattle.spec_step.specs.Parts.{by_row, wanted_by}
 use Rattle.spec_step.specs.Shown.{GatewayAndOutput, scene}
 
--- ---- where the link is full nothing is pushed
+-- ---- nothing is pushed where the link is full
 
 known-mute : (p : Pair) (s : EntryState) → (known_wish p s).row.answer ≡ None
 known-mute p state.Pending = refl
@@ -63,7 +63,7 @@ wish-mute b e = at (is_synced b.stage)
     at true = by-mute b e (entry_of b.entries e)
     at false = refl
 
--- ---- what is pushed elsewhere takes one of 65 places
+-- ---- elsewhere a push takes one of 65 places or more
 
 free-pushed : (e : Link) (r : Record) → free_places e ≤ free_places (with_pushed e r) + 1
 free-pushed e r = let longer = length-append e.waiting (r ∷ []) in omega (arith, longer)

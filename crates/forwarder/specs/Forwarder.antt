@@ -1,10 +1,10 @@
--- What a forwarder shows of a gateway.
+-- The view of a forwarder that contracts use.
 use Rattle.bind_core.specs.Cores.{ledger_of}
 use Rattle.output.specs.Output.{Paged}
 use Rattle.spec_step.specs.Shown.{GatewayAndOutput, Shown, scene}
 use Rattle.forwarder.specs.declared.forwarders.Forwarder.{Forwarder}
 
--- a gateway as it shows itself: its core as the book with what the pairs carried
+-- the gateway that a forwarder shows: its core as the book, with what the pairs carried
 abbrev pub shown_of : Forwarder → Shown
 shown_of f = record {
   networks = f.networks;
@@ -18,6 +18,6 @@ shown_of f = record {
   kept = f.kept;
 }
 
--- and what it told on a page
+-- the gateway, and its output on a page
 abbrev pub scene_on : Forwarder → Paged → GatewayAndOutput
 scene_on f page = scene (shown_of f) page.told

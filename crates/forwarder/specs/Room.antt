@@ -1,16 +1,16 @@
--- For how much there is to be room, and what a call uses of it.
+-- The capacity that calls need on a page and in the table, and how much of it they use.
 use Rattle.std.specs.Prelude.{◌≡◌, ◌≤◌, ◌+◌, ◌*◌, ℕ, min}
 use Rattle.link.specs.Link.{free_places}
 use Rattle.output.specs.Output.{Paged}
 use Rattle.forwarder.specs.declared.forwarders.Forwarder.{Forwarder}
 
--- so many frames and notes on the page, and so many new pairs in the table
+-- a need: so many frames and notes on the page, and so many new pairs in the table
 pub record Needs : Type 0 where
   pub frames : ℕ
   pub notes : ℕ
   pub pairs : ℕ
 
--- there is room for that much
+-- the page and the table have capacity for this need
 abbrev pub HasRoomFor : Needs → Forwarder → Paged → Type 0
 HasRoomFor needs f page = record {
   frames : needs.frames ≤ page.room.frames;
@@ -18,7 +18,7 @@ HasRoomFor needs f page = record {
   pairs : needs.pairs ≤ f.core.table.ready;
 }
 
--- no more than that is used, and no room for datagrams
+-- a call uses no more than this need, and no capacity for datagrams
 abbrev pub Spends : Needs → Forwarder → Paged → Forwarder → Paged → Type 0
 Spends needs f page f2 page2 = record {
   frames : page.room.frames ≤ page2.room.frames + needs.frames;
@@ -35,23 +35,23 @@ frames_alone count = record { frames = count; notes = 0; pairs = 0 }
 abbrev pub notes_alone : ℕ → Needs
 notes_alone count = record { frames = 0; notes = count; pairs = 0 }
 
--- a wish: a pair that may be made, and its note
+-- the need of a wish: a pair that may be made, and its note
 abbrev pub a_wish : Needs
 a_wish = record { frames = 0; notes = 1; pairs = 1 }
 
--- a packet whose next hop is asked for: its wish, and the request
+-- the need of a packet whose next hop is asked for: its wish, and the request
 abbrev pub an_ask : Needs
 an_ask = record { frames = 1; notes = 1; pairs = 1 }
 
--- a packet: its own frame and a request behind it; its wish, and the use of two pairs
+-- the need of a packet: its own frame and a request after it; its wish, and the use of two pairs
 abbrev pub a_packet : Needs
 a_packet = record { frames = 2; notes = 3; pairs = 1 }
 
--- an ARP packet: an answer, and the packet that waited for its sender
+-- the need of an ARP packet: an answer, and the packet that waited for its sender
 abbrev pub an_arp_packet : Needs
 an_arp_packet = record { frames = 3; notes = 3; pairs = 1 }
 
--- how many packets may wait for pairs; and all of them, each taken again
+-- how many packets may wait for pairs; and the need of all of them, each taken again
 abbrev pub places_for_pairs : ℕ
 places_for_pairs = 64
 
@@ -64,7 +64,7 @@ all_for_pairs = record {
 
 -- ---- places of the link
 
--- so many stay free, where they were: for the answers to a datagram's records
+-- how many places of the link a call leaves free, if so many were: those for the answers to a datagram's records
 abbrev pub places_for_answers : ℕ
 places_for_answers = 64
 

@@ -1,4 +1,4 @@
-//! Echos to the gateway itself (RFC 1122, section 3.2.2.6): what one is to do, and what it does.
+//! Echos to the gateway itself (RFC 1122, section 3.2.2.6): the plan of an answer, and the answer.
 ghost use Rattle.std.specs.Prelude.{◌≡◌, ◌≤◌, ◌+◌, true, IfOk, OnErr, OnOk, Ok, length};
 ghost use Rattle.frames.specs.Frame.{frame_of};
 ghost use Rattle.interfaces.specs.Stations.{with_reply};
@@ -29,7 +29,8 @@ use spec_step::{Outcome, Reply};
 use std::alloc::Global;
 use waiting::{HeldPacket, WaitsFor};
 
-/// What would be answered or wait, where the answer isn't too long for its side.
+/// Returns the reply, or the Err `TooLong` where an answer that would be sent or wait is too long
+/// for its side.
 fn if_reply_fits(fits: bool, reply: Reply) -> Result<Reply, Reason>
     ensures { result ≡ if_reply_fits fits reply }
 {
@@ -46,7 +47,7 @@ fn if_reply_fits(fits: bool, reply: Reply) -> Result<Reply, Reason>
 }
 
 impl Forwarder {
-    /// What an Echo is to do, or why it is dropped; nothing changes.
+    /// Returns the plan of an Echo's answer, or why the Echo is dropped. Nothing changes.
     fn plan_reply(&self, side: Side, echo: Asked) -> Result<Reply, Reason>
         ensures { result ≡ reply_to (shown_of self.now) side echo }
     {
@@ -60,8 +61,7 @@ impl Forwarder {
         }
     }
 
-    /// What an Echo of this source is to do that may be answered: it is, or waits for the next hop of
-    /// the answer.
+    /// Returns the plan of an answer to this source: to be sent, or to wait for its next hop.
     fn reply_via(&self, side: Side, source: Ip) -> Reply
         ensures { let g = shown_of self.now in
             Ok result ≡ reply_via g side (hop_back g side source) (next_back g side source) }
@@ -101,7 +101,7 @@ impl Forwarder {
         }
     }
 
-    /// The frame that answers an Echo.
+    /// Appends the frame that answers an Echo to the page.
     fn answer_frame(&self, page: &mut OutputBuffer, side: Side, bytes: &[u8], next: Mac)
         requires askable { IsAskable bytes.now }
         requires frames { 1 ≤ page.old.room.frames }
@@ -119,7 +119,7 @@ impl Forwarder {
         page.make_frame(side, &frame);
     }
 
-    /// Such a frame is sent and counted.
+    /// Appends the frame that answers an Echo to the page, and counts it.
     fn send_answer(&mut self, page: &mut OutputBuffer, side: Side, bytes: &[u8], next: Mac)
         requires askable { IsAskable bytes.now }
         requires may { may_reply self.old.moment (station_on (shown_of self.old) side).said
@@ -136,7 +136,8 @@ impl Forwarder {
         self.count_reply(side);
     }
 
-    /// An Echo is answered at once. It needs room for two frames: its answer, and a request behind it.
+    /// Answers an Echo at once. Needs capacity for two frames on the page: the answer, and an ARP
+    /// request after it.
     fn reply(&mut self, page: &mut OutputBuffer, side: Side, bytes: &[u8], source: Ip, next: Mac)
         requires askable { IsAskable bytes.now }
         requires may { may_reply self.old.moment (station_on (shown_of self.old) side).said
@@ -152,7 +153,7 @@ impl Forwarder {
         self.ask_behind(page, side, hop);
     }
 
-    /// An Echo waits for the next hop of its answer, which is asked for.
+    /// Keeps an Echo until the next hop of its answer is known, and sends the ARP request for it.
     fn ask_for_reply(&mut self, page: &mut OutputBuffer, side: Side, hop: Ip, copy: HeldPacket)
         requires place { has_place self.old.kept copy.wait ≡ true }
         requires side { copy.side ≡ side }
@@ -169,9 +170,9 @@ impl Forwarder {
         self.send_request(page, side, hop);
     }
 
-    /// Takes an Echo to the gateway itself: it is answered, waits for the next hop of its answer, or is
-    /// dropped. One that has to wait is copied. An `Err` stands for a refused copy: it comes only where
-    /// the Echo has to wait, and nothing has changed then.
+    /// Takes an Echo to the gateway itself: it is answered, waits for the next hop of its answer,
+    /// or is dropped. An Echo that has to wait is copied. The Err `NoMemory` comes only where there
+    /// is no memory for the copy; nothing has changed then.
     #[cold]
     pub fn take_echo(
         &mut self,

@@ -1,4 +1,5 @@
-//! What is said of a packet that is dropped (RFC 792; RFC 1812, sections 4.3.2 and 5.3.1).
+//! ICMP errors of the gateway's own, to the source of a packet that is dropped (RFC 792; RFC 1812,
+//! sections 4.3.2 and 5.3.1).
 ghost use Rattle.std.specs.Prelude.{◌≡◌, ◌≢◌, ◌≤◌, ◌+◌, true, length};
 ghost use Rattle.frames.specs.Frame.{frame_of};
 ghost use Rattle.interfaces.specs.Stations.{with_complaint};
@@ -21,7 +22,7 @@ use nat_types::Side;
 use output::OutputBuffer;
 use packet_rules::{Complaint, Reason, complaint_of, next_hop_back};
 
-/// What stands behind a frame's header.
+/// Returns the bytes after a frame's Ethernet header.
 fn body_of(bytes: &[u8]) -> &[u8]
     requires { 14 ≤ length bytes.now }
     ensures { result.now ≡ (frame_of bytes.now).body }
@@ -29,7 +30,7 @@ fn body_of(bytes: &[u8]) -> &[u8]
     &bytes[14..]
 }
 
-/// Who sent the packet of a frame of which it is known that it has one.
+/// Returns the source address of the packet in a frame that is known to have one.
 fn sender_of(bytes: &[u8]) -> Ip
     requires { IsWhole bytes.now }
     ensures { result ≡ sender_in bytes.now }
@@ -64,7 +65,7 @@ impl Forwarder {
         }
     }
 
-    /// The frame that says why a packet is dropped.
+    /// Appends the frame of the error about a dropped packet to the page.
     fn complaint_frame(
         &self,
         page: &mut OutputBuffer,
@@ -89,7 +90,7 @@ impl Forwarder {
         page.make_frame(side, &frame);
     }
 
-    /// Such a frame is sent and counted.
+    /// Appends the frame of the error about a dropped packet to the page, and counts it.
     fn send_complaint(
         &mut self,
         page: &mut OutputBuffer,
@@ -113,8 +114,9 @@ impl Forwarder {
         self.count_complaint(side);
     }
 
-    /// What is said of a packet goes out where its next hop is known, and not too much was said in this
-    /// second. It needs room for two frames: its own, and a request behind it.
+    /// Sends the error about a dropped packet, where its next hop is known and not too many were
+    /// sent in this second. Needs capacity for two frames on the page: the error, and an ARP
+    /// request after it.
     fn complain(&mut self, page: &mut OutputBuffer, side: Side, bytes: &[u8], complaint: Complaint)
         requires whole { IsWhole bytes.now }
         requires room { HasRoomFor (frames_alone 2) self.old page.old }
@@ -136,8 +138,8 @@ impl Forwarder {
         }
     }
 
-    /// A packet is dropped that would have left at `exit`: its source is told, where that is to be said
-    /// at all.
+    /// Drops a packet that would have left at `exit`. Its source gets an ICMP error where the
+    /// reason is one for which the gateway sends errors.
     #[cold]
     pub fn refuse_whole(
         &mut self,
@@ -165,7 +167,8 @@ impl Forwarder {
         }
     }
 
-    /// A frame isn't read any further; where its packet's time to live is over, its source may be told.
+    /// Drops a frame that can't be read further. The source of its packet may get an error where
+    /// the time to live is over.
     pub(crate) fn refuse_unread(
         &mut self,
         page: &mut OutputBuffer,

@@ -1,4 +1,5 @@
-//! ICMP errors about translated packets (RFC 5508, section 4): what one is to do, and what it does.
+//! ICMP errors about translated packets (RFC 5508, section 4): the plan of an error, and its way
+//! on.
 ghost use Rattle.std.specs.Prelude.{◌≡◌, ◌≤◌, ◌+◌, true, IfOk, OnErr, OnOk, length};
 ghost use Rattle.waiting.specs.declared.waits.WaitsFor.TheVariants.{Hop};
 ghost use Rattle.nat_types.specs.declared.gateways.Side.{Side as OnSide};
@@ -30,7 +31,7 @@ use std::alloc::Global;
 use waiting::{HeldPacket, WaitsFor};
 
 impl Forwarder {
-    /// What an error is to do, or why it is dropped; nothing changes.
+    /// Returns the plan of an error, or why it is dropped. Nothing changes.
     fn plan_error(&self, side: Side, packet: ErrorPacket) -> Result<Plan, Reason>
         ensures { result ≡ error_plan (shown_of self.now) side packet.flow packet.length }
     {
@@ -65,21 +66,21 @@ impl Forwarder {
         }
     }
 
-    /// The pair by which the packet inside went out.
+    /// Returns the pair by which the packet inside the error went out.
     fn pair_out(&self, flow: ErrorFlow) -> Result<Pair, Reason>
         ensures { result ≡ pair_out (shown_of self.now) flow }
     {
         pair_of(self.core.table().pair_of_port(key_inside(flow)))
     }
 
-    /// The pair by which the packet inside came in.
+    /// Returns the pair by which the packet inside the error came in.
     fn pair_in(&self, flow: ErrorFlow) -> Result<Pair, Reason>
         ensures { result ≡ pair_in_of (shown_of self.now) flow }
     {
         pair_of(self.core.table().port_of(endpoint_inside(flow)))
     }
 
-    /// The frame by which an error is passed on.
+    /// Appends the frame by which an error is passed on to the page.
     fn pass_frame(
         &self,
         page: &mut OutputBuffer,
@@ -108,7 +109,8 @@ impl Forwarder {
         page.make_frame(by.direction().exit(), &frame);
     }
 
-    /// An error goes on at once. It needs room for two frames: its own, and a request behind it.
+    /// Passes an error on at once. Needs capacity for two frames on the page: the error, and an ARP
+    /// request after it.
     fn pass(
         &mut self,
         page: &mut OutputBuffer,
@@ -131,7 +133,7 @@ impl Forwarder {
         self.ask_behind(page, by.direction().exit(), hop);
     }
 
-    /// An error waits for its next hop, which is asked for.
+    /// Keeps an error until its next hop is known, and sends the ARP request for it.
     fn ask_for_error(
         &mut self,
         page: &mut OutputBuffer,
@@ -154,9 +156,9 @@ impl Forwarder {
         self.send_request(page, by.direction().exit(), hop);
     }
 
-    /// Takes an error: it goes on, waits for its next hop, or is dropped. One that has to wait is
-    /// copied. An `Err` stands for a refused copy: it comes only where the error has to wait, and
-    /// nothing has changed then.
+    /// Takes an error: it is passed on, waits for its next hop, or is dropped. An error that has to
+    /// wait is copied. The Err `NoMemory` comes only where there is no memory for the copy; nothing
+    /// has changed then.
     #[cold]
     pub fn take_error(
         &mut self,

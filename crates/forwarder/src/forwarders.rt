@@ -1,4 +1,4 @@
-//! A gateway as far as packets need it.
+//! The part of a gateway that handles packets, and what it shows.
 ghost use Rattle.std.specs.Prelude.{◌≡◌, ◌≢◌, IfErr, IfOk};
 ghost use Rattle.packet_rules.specs.Asked.{IsWhole};
 ghost use Rattle.packet_rules.specs.declared.reasons.Reason.TheVariants.{TooLong, TtlOver};
@@ -17,15 +17,15 @@ use spec_step::Turn;
 use waiting::WaitingPackets;
 
 /// A gateway: its two networks, clock and interfaces, its side of the binding protocol, its end of
-/// the link, and the packets that wait. Moments are in centiseconds.
+/// the link, and the packets that wait. Times are in centiseconds.
 #[derive(Drop)]
 pub struct Forwarder {
     pub networks: Networks,
-    /// The clock's moment.
+    /// The time of the gateway's clock, in centiseconds.
     pub moment: u64,
     /// Whether both routers were stopped for good.
     pub stopped: bool,
-    /// Whether it gave way to the other gateway: then both routers stand in Initialize.
+    /// Whether the gateway gave way to the other one; then both routers are in Initialize.
     pub away: bool,
     pub core: Core,
     pub link: Link,
@@ -35,7 +35,7 @@ pub struct Forwarder {
 }
 
 impl Forwarder {
-    /// The interface on a side.
+    /// Returns the interface on a side.
     pub fn station(&self, side: Side) -> &Interface
         ensures { result.now ≡ station_on (shown_of self.now) side }
     {
@@ -45,14 +45,14 @@ impl Forwarder {
         }
     }
 
-    /// Whether it takes frames: it is synced, and wasn't stopped.
+    /// Whether the gateway takes frames: it is synced, and wasn't stopped.
     pub fn is_up(&self) -> bool
         ensures { result ≡ is_up (shown_of self.now) }
     {
         self.core.is_synced() && !self.stopped
     }
 
-    /// Whether its routers run: it is up, and not away.
+    /// Whether the gateway's routers run: it is up, and not away.
     pub fn is_running(&self) -> bool
         ensures { result ≡ is_running (shown_of self.now) }
     {
@@ -66,7 +66,7 @@ impl Forwarder {
         self.inside.is_whole(self.moment) && self.outside.is_whole(self.moment)
     }
 
-    /// Whether it could serve on both sides; its datagrams say so.
+    /// Whether the gateway serves: it is synced, and both sides are whole. Its datagrams say so.
     pub fn serves(&self) -> bool
         ensures { result ≡ serves (shown_of self.now) }
     {
@@ -80,7 +80,7 @@ impl Forwarder {
         !(self.inside.is_in() && self.outside.is_in())
     }
 
-    /// The turn that a tick takes as it begins.
+    /// Returns the turn of the next tick: give way, come back, or stay.
     pub fn turn(&self) -> Turn
         ensures { result ≡ turn_of (shown_of self.now) }
     {
@@ -98,7 +98,8 @@ impl Forwarder {
         }
     }
 
-    /// Reads a frame that came in on a side; or gives the reason of the first step that refuses it.
+    /// Reads a frame that came in on a side, or returns the reason of the first step that refuses
+    /// it.
     #[inline(always)]
     pub fn read_frame(&self, side: Side, bytes: &[u8]) -> Result<Reading, Reason>
         ensures reading { result ≡ reading_on (shown_of self.now) side bytes.now }

@@ -1,4 +1,4 @@
-//! What a packet does that has to wait, or is dropped.
+//! Packets that have to wait, or are dropped.
 ghost use Rattle.std.specs.Prelude.{◌≡◌, ◌≤◌, ◌+◌, true};
 ghost use Rattle.waiting.specs.declared.waits.WaitsFor.TheVariants.{Hop, Pair};
 ghost use Rattle.waiting.specs.Packets.{has_place};
@@ -24,7 +24,7 @@ use packet_rules::{Reason, Translation, exit_for, source_endpoint};
 use waiting::{HeldPacket, WaitsFor};
 
 impl Forwarder {
-    /// Asks everyone on a side for an address.
+    /// Appends the ARP request for an address to the page, as a broadcast.
     pub(crate) fn send_request(&self, page: &mut OutputBuffer, exit: Side, hop: Ip)
         requires frames { 1 ≤ page.old.room.frames }
         ensures scene { scene_on self.now page.new
@@ -40,7 +40,8 @@ impl Forwarder {
         page.make_frame(exit, &request);
     }
 
-    /// A packet waits for its next hop, which is asked for.
+    /// Keeps a packet until its next hop is known, asks for a port for its source (`wish_for`), and
+    /// sends the ARP request for the next hop.
     #[cold]
     pub(crate) fn ask(
         &mut self,
@@ -67,8 +68,8 @@ impl Forwarder {
         self.send_request(page, by.direction().exit(), hop);
     }
 
-    /// A packet is dropped because another one waits for its next hop, which is asked for again
-    /// where it wasn't just now.
+    /// Drops a packet since another one waits for the same next hop. The ARP request is sent again
+    /// where the last one is 100 cs old or older.
     #[cold]
     pub(crate) fn ask_again(&mut self, page: &mut OutputBuffer, exit: Side, hop: Ip)
         requires room { HasRoomFor (frames_alone 1) self.old page.old }
@@ -82,7 +83,7 @@ impl Forwarder {
         }
     }
 
-    /// A packet waits for the answer to the proposal of its endpoint's pair.
+    /// Keeps a packet until the proposal of its endpoint's pair is answered.
     #[cold]
     pub(crate) fn wait(&mut self, page: &mut OutputBuffer, flow: Flow, copy: HeldPacket)
         requires formed { IsWellFormedEndpoint (source_of flow) }
@@ -101,8 +102,8 @@ impl Forwarder {
         self.kept.keep(copy);
     }
 
-    /// A packet is dropped; where no port was free, ports may be asked for, and where it is too long
-    /// its source may be told.
+    /// Drops a packet. Where no port was free, ports may be asked for of the peer. Where the packet
+    /// is too long, or its time to live is over, its source may get an error.
     #[cold]
     pub(crate) fn refuse(
         &mut self,

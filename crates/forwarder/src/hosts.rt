@@ -1,4 +1,4 @@
-//! What is done with ARP packets (RFC 826).
+//! ARP packets that came in (RFC 826).
 ghost use Rattle.std.specs.Prelude.{◌≡◌};
 ghost use Rattle.packet_rules.specs.Arping.{is_learnable};
 ghost use Rattle.interfaces.specs.Stations.{after_arp};
@@ -16,8 +16,8 @@ use output::OutputBuffer;
 use waiting::WaitsFor;
 
 impl Forwarder {
-    /// An interface learns the sender of a packet, if it is one that is learnt, and says whether it
-    /// is.
+    /// Learns the sender of a packet, where it is one that the interface learns, and returns
+    /// whether it is.
     fn hear(&mut self, side: Side, packet: &ArpPacket) -> bool
         ensures learnt { result
             ≡ is_learnable (station_on (shown_of self.old) side).network packet.now }
@@ -33,7 +33,8 @@ impl Forwarder {
         }
     }
 
-    /// A packet is answered, where there is a hardware address to answer with.
+    /// Appends the answer to a request to the page, where there is a hardware address to answer
+    /// with.
     fn answer(&self, page: &mut OutputBuffer, side: Side, packet: &ArpPacket, mac: Option<Mac>)
         requires room { HasRoomFor (frames_alone 1) self.now page.old }
         ensures scene { scene_on self.now page.new
@@ -55,7 +56,7 @@ impl Forwarder {
     }
 
     /// Takes an ARP packet: its sender may be learnt, a request is answered, and the packet that
-    /// waited for that host is taken again.
+    /// waited for the sender's hardware address is taken again.
     #[cold]
     pub fn take_arp(&mut self, page: &mut OutputBuffer, side: Side, packet: &ArpPacket)
         requires room { HasRoomFor an_arp_packet self.old page.old }

@@ -1,4 +1,5 @@
-//! What takes packets: a gateway but for its clock, its routers and the other gateway's datagrams.
+//! The forwarding of a gateway: frames in and out, translation, waiting packets. The clock, the
+//! routers and the other gateway's datagrams are in `gateway`.
 #![tactic(auto)]
 
 mod answers;

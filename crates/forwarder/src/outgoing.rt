@@ -1,4 +1,4 @@
-//! The frames that are made where they are to lie.
+//! The frames that a gateway sends, each of which writes its bytes directly to the page.
 ghost use Rattle.std.specs.Prelude.{◌≡◌, length, ⊤};
 ghost use Rattle.arp.specs.declared.packets.TheConstants.{ARP_FRAME};
 ghost use Rattle.packet_rules.specs.declared.complaints.TheConstants.{COMPLAINT_FRAME};
@@ -20,15 +20,15 @@ use packet_rules::{
     append_passed, append_request, append_sent,
 };
 
-/// The frame by which a packet is sent on.
+/// A packet's frame, translated and sent on.
 #[derive(Drop)]
 pub(crate) struct SentFrame<'a> {
     pub networks: &'a Networks,
     pub by: &'a Translation,
     pub next: Mac,
-    /// The frame that came.
+    /// The bytes of the frame that came in.
     pub bytes: &'a [u8],
-    /// What was read of it.
+    /// The packet that was read from these bytes.
     pub packet: &'a Packet,
 }
 
@@ -52,15 +52,15 @@ impl WriteBytes for SentFrame<'_> {
     }
 }
 
-/// The frame by which an error is passed on.
+/// An ICMP error's frame, translated and passed on.
 #[derive(Drop)]
 pub(crate) struct PassedFrame<'a> {
     pub networks: &'a Networks,
     pub by: &'a Translation,
     pub next: Mac,
-    /// The frame that came.
+    /// The bytes of the frame that came in.
     pub bytes: &'a [u8],
-    /// What was read of it.
+    /// The error that was read from these bytes.
     pub packet: &'a ErrorPacket,
 }
 
@@ -88,7 +88,7 @@ impl WriteBytes for PassedFrame<'_> {
 pub(crate) struct OwnAnswer<'a> {
     pub network: Network,
     pub next: Mac,
-    /// The frame that came.
+    /// The bytes of the Echo's frame.
     pub bytes: &'a [u8],
 }
 
@@ -104,13 +104,13 @@ impl WriteBytes for OwnAnswer<'_> {
     }
 }
 
-/// The frame that says why a packet is dropped.
+/// The frame of an ICMP error about a packet that is dropped.
 #[derive(Drop)]
 pub(crate) struct OwnComplaint<'a> {
     pub network: Network,
     pub complaint: Complaint,
     pub next: Mac,
-    /// The frame that came.
+    /// The bytes of the frame that is dropped.
     pub bytes: &'a [u8],
 }
 
@@ -126,7 +126,7 @@ impl WriteBytes for OwnComplaint<'_> {
     }
 }
 
-/// The frame that asks everyone for an address.
+/// The frame of an ARP request for an address, a broadcast.
 #[derive(Drop)]
 pub(crate) struct Request {
     pub network: Network,
@@ -145,7 +145,7 @@ impl WriteBytes for Request {
     }
 }
 
-/// The frame that answers a request.
+/// The frame that answers an ARP request.
 #[derive(Drop)]
 pub(crate) struct ArpReply<'a> {
     pub network: Network,

@@ -1,4 +1,4 @@
-//! What a packet is to do, before anything changes.
+//! The plan of a packet: what is to happen to it, found before anything changes.
 ghost use Rattle.std.specs.Prelude.{◌≡◌};
 ghost use Rattle.spec_binding.specs.Rows.{new_pair};
 ghost use Rattle.packet_rules.specs.Flows.{source_of};
@@ -20,7 +20,7 @@ use spec_binding::Want;
 use spec_step::Plan;
 use waiting::WaitsFor;
 
-/// The pair that a packet's endpoint has, or is to have, with this outside port.
+/// Returns the pair that a packet's endpoint has, or is to have, with this outside port.
 fn own_pair(flow: Flow, port: Port) -> Pair
     ensures { result ≡ new_pair (source_of flow) port }
 {
@@ -31,7 +31,8 @@ fn own_pair(flow: Flow, port: Port) -> Pair
     Pair::new(key, flow.source, flow.source_port)
 }
 
-/// The pair of an entry, where there is one and it translates.
+/// Returns the pair of an entry that translates. The Err is `NoBinding` where there is no entry or
+/// its proposal was given up, and `CannotWait` where the pair isn't agreed or is being closed.
 #[inline(always)]
 pub(crate) fn pair_of(entry: Option<Entry>) -> Result<Pair, Reason>
     ensures { result ≡ pair_at entry }
@@ -46,7 +47,8 @@ pub(crate) fn pair_of(entry: Option<Entry>) -> Result<Pair, Reason>
     }
 }
 
-/// How a packet of the inside leaves: by its own pair, and of a hairpin to the other one's endpoint.
+/// Returns how a packet from the inside leaves: by its own pair, and of a hairpin to the endpoint
+/// of the other pair.
 fn leaving(own: Pair, other: Option<Pair>) -> Translation
     ensures { result ≡ leaving_by other own }
 {
@@ -56,7 +58,8 @@ fn leaving(own: Pair, other: Option<Pair>) -> Translation
     }
 }
 
-/// What would go on or wait, where it isn't too long for the side at which it leaves.
+/// Returns the plan, or the Err `TooLong` where a packet that would go on or wait is too long for
+/// the side at which it leaves.
 #[inline(always)]
 pub(crate) fn if_fits(fits: bool, plan: Plan) -> Result<Plan, Reason>
     ensures { result ≡ if_fits fits plan }
@@ -70,7 +73,7 @@ pub(crate) fn if_fits(fits: bool, plan: Plan) -> Result<Plan, Reason>
 }
 
 impl Forwarder {
-    /// What a packet is to do, or why it is dropped; nothing changes.
+    /// Returns the plan of a packet, or why it is dropped. Nothing changes.
     #[inline(always)]
     pub(crate) fn plan(&self, side: Side, packet: Packet) -> Result<Plan, Reason>
         ensures { result ≡ plan_of (shown_of self.now) side packet.flow packet.length }
@@ -84,7 +87,7 @@ impl Forwarder {
         }
     }
 
-    /// Which way a packet goes that came in on a side.
+    /// Returns the direction of a packet that came in on a side, or why it is dropped.
     #[inline(always)]
     pub(crate) fn way_of(&self, side: Side, flow: Flow) -> Result<Direction, Reason>
         ensures { result ≡ direction_of self.now.networks side flow.protocol flow.source.0
@@ -99,7 +102,7 @@ impl Forwarder {
         )
     }
 
-    /// Whether a packet of so many bytes isn't too long for the side at which it leaves.
+    /// Whether a packet of `length` bytes isn't too long for the side at which it leaves.
     #[inline(always)]
     pub(crate) fn fits_at(&self, exit: Side, length: usize) -> bool
         ensures { result ≡ fits_at (shown_of self.now) exit length }
@@ -124,7 +127,7 @@ impl Forwarder {
         }
     }
 
-    /// What the endpoint of a packet's source is given.
+    /// Returns what the endpoint of a packet's source would be given; nothing changes.
     #[inline(always)]
     fn look_for(&self, flow: Flow) -> Want
         ensures { result ≡ look_for (shown_of self.now) flow }
@@ -132,7 +135,7 @@ impl Forwarder {
         self.core.look(&self.link, source_endpoint(flow))
     }
 
-    /// The pair of the outside port to which a packet goes.
+    /// Returns the pair of the outside port to which a packet goes, or why there is none.
     #[inline(always)]
     fn target_pair(&self, flow: Flow) -> Result<Pair, Reason>
         ensures { result ≡ target_pair (shown_of self.now) flow }
@@ -140,7 +143,7 @@ impl Forwarder {
         pair_of(self.core.table().pair_of_port(target_key(flow)))
     }
 
-    /// What a packet of the inside is to do, by what its endpoint is given.
+    /// Returns the plan of a packet from the inside, by what its endpoint would be given.
     #[inline(always)]
     fn plan_from(&self, flow: Flow, other: Option<Pair>, given: Want) -> Result<Plan, Reason>
         ensures { result ≡ plan_from (shown_of self.now) flow (leaving_by other) given }
@@ -164,8 +167,8 @@ impl Forwarder {
         }
     }
 
-    /// What a packet to this address whose pairs are known is to do: it goes on, or waits for its next
-    /// hop.
+    /// Returns the plan of a packet to this address whose pairs are known: to go on, or to wait for
+    /// its next hop.
     #[inline(always)]
     pub(crate) fn plan_to(&self, to: Ip, by: Translation) -> Result<Plan, Reason>
         ensures { result ≡ plan_via (shown_of self.now) by to }

@@ -1,4 +1,4 @@
-//! What a packet does that goes on at once.
+//! Packets that go on at once.
 ghost use Rattle.std.specs.Prelude.{◌≡◌, ◌≤◌, ◌+◌, if◌then◌else◌};
 ghost use Rattle.activity.specs.declared.packets.Packet.{Packet as Carried};
 ghost use Rattle.spec_binding.specs.WellFormed.{IsWellFormedEndpoint};
@@ -34,7 +34,8 @@ fn remote_at(address: Ip, port: Port) -> Remote
 }
 
 impl Forwarder {
-    /// An endpoint wants a port: its pair is made or proposed, or ports are asked for.
+    /// Asks for a port for an endpoint: its pair is made or proposed, or ports are asked for of the
+    /// peer.
     #[cold]
     pub(crate) fn wish(&mut self, page: &mut OutputBuffer, endpoint: Endpoint)
         requires formed { IsWellFormedEndpoint endpoint }
@@ -53,8 +54,8 @@ impl Forwarder {
         page.put_notes(notes);
     }
 
-    /// The endpoint of a pair wants a port. Where the table has that very pair nothing changes, and the
-    /// endpoint isn't looked up.
+    /// Asks for a port for the endpoint of a pair. Where the table has exactly this pair nothing
+    /// changes, and the endpoint isn't looked up.
     #[inline(always)]
     fn wish_by(&mut self, page: &mut OutputBuffer, own: Pair)
         requires formed { IsWellFormedEndpoint own.endpoint }
@@ -71,7 +72,7 @@ impl Forwarder {
         }
     }
 
-    /// A packet of the inside has its endpoint's pair made, or proposed, or a port wanted for it.
+    /// Asks for a port for the source of a packet from the inside; a packet inward needs none.
     #[inline(always)]
     pub(crate) fn wish_for(&mut self, page: &mut OutputBuffer, flow: Flow, by: &Translation)
         requires formed { IsWellFormedEndpoint (source_of flow) }
@@ -90,7 +91,7 @@ impl Forwarder {
         }
     }
 
-    /// The pair of a key carries a packet.
+    /// Notes that the pair of a key carries a packet.
     #[inline(always)]
     fn carry(
         &mut self,
@@ -117,7 +118,7 @@ impl Forwarder {
         page.put_notes(notes);
     }
 
-    /// The packet as the sessions of its pairs see it: of a hairpin the sender's pair first.
+    /// Notes the packet with each pair that carries it; of a hairpin with the sender's pair first.
     #[inline(always)]
     fn carry_all(&mut self, page: &mut OutputBuffer, flow: Flow, flags: TcpFlags, by: &Translation)
         requires room { HasRoomFor (notes_alone 2) self.old page.old }
@@ -145,7 +146,7 @@ impl Forwarder {
         }
     }
 
-    /// The frame by which a packet is sent on.
+    /// Appends the frame by which a packet is sent on to the page.
     #[inline(always)]
     fn send_frame(
         &self,
@@ -175,7 +176,7 @@ impl Forwarder {
         page.make_frame(by.direction().exit(), &frame);
     }
 
-    /// Whether a neighbour on a side is to be asked for; where it is, it counts as asked for now.
+    /// Whether a neighbour on a side is to be asked for; if so, it counts as asked for now.
     #[inline(always)]
     fn ask_neighbour(&mut self, exit: Side, hop: Ip) -> bool
         ensures asks { result ≡ asks_at hop.0 self.old.moment
@@ -192,7 +193,7 @@ impl Forwarder {
         }
     }
 
-    /// Behind a packet that was sent to a neighbour, asks for it, where it is to be asked for.
+    /// Sends an ARP request for a neighbour to which a packet was just sent, where one is due.
     #[inline(always)]
     pub(crate) fn ask_behind(&mut self, page: &mut OutputBuffer, exit: Side, hop: Ip)
         requires room { HasRoomFor (frames_alone 1) self.old page.old }
@@ -206,7 +207,8 @@ impl Forwarder {
         }
     }
 
-    /// A packet goes on at once. It needs room for two frames: its own, and a request behind it.
+    /// Sends a packet on at once. Needs capacity for two frames on the page: the packet, and an ARP
+    /// request after it.
     #[inline(always)]
     pub(crate) fn send(
         &mut self,

@@ -1,4 +1,4 @@
-//! Packets that are taken, and those whose wait is over.
+//! Packets that came in, and kept packets whose wait is over.
 ghost use Rattle.std.specs.Prelude.{◌≡◌, ◌≤◌, [], IfOk, OnErr, OnOk, length, vec_capacity};
 ghost use Rattle.waiting.specs.declared.waits.Ended.TheVariants.{One, AllPairs};
 ghost use Rattle.waiting.specs.Memory.{LacksCopy};
@@ -31,7 +31,7 @@ fn recall_source(bytes: &[u8], packet: Packet)
     let _ = packet.flow.source_port.0;
 }
 
-/// Where a kept packet came in.
+/// Returns the side on which a kept packet came in.
 #[inline(always)]
 pub(crate) fn side_of(packet: &HeldPacket) -> Side
     ensures { result ≡ packet.now.side }
@@ -39,7 +39,7 @@ pub(crate) fn side_of(packet: &HeldPacket) -> Side
     packet.side
 }
 
-/// The frame of a kept packet, as it came.
+/// Returns the frame of a kept packet, as it came.
 #[inline(always)]
 pub(crate) fn bytes_of(packet: &HeldPacket) -> &[u8]
     ensures { result.now ≡ packet.now.bytes }
@@ -48,8 +48,8 @@ pub(crate) fn bytes_of(packet: &HeldPacket) -> &[u8]
 }
 
 impl Forwarder {
-    /// Takes a packet: it goes on, waits, or is dropped. One that has to wait is copied. An `Err`
-    /// stands for a refused copy of such a one; nothing has changed then.
+    /// Takes a packet: it goes on, waits, or is dropped. A packet that has to wait is copied. The
+    /// Err `NoMemory` comes only where there is no memory for the copy; nothing has changed then.
     #[inline(always)]
     pub fn take_packet(
         &mut self,
@@ -136,7 +136,7 @@ impl Forwarder {
         }
     }
 
-    /// Takes a kept packet, which is read again from the first step on.
+    /// Takes a kept packet as if it came in now: its frame is read again from the first step on.
     fn take_again(&mut self, page: &mut OutputBuffer, packet: HeldPacket)
         requires room { HasRoomFor a_packet self.old page.old }
         ensures scene { scene_on self.new page.new
@@ -156,7 +156,7 @@ impl Forwarder {
         }
     }
 
-    /// The packet that waited for this, if one did, waits no more, and is taken again.
+    /// Ends the wait of the packet that waited for this, if one did, and takes it again.
     pub fn release_one(&mut self, page: &mut OutputBuffer, wait: WaitsFor)
         requires room { HasRoomFor a_packet self.old page.old }
         ensures scene { scene_on self.new page.new
@@ -170,8 +170,8 @@ impl Forwarder {
         }
     }
 
-    /// The packets that waited for pairs wait no more, and are taken again in the order of keeping.
-    /// `list` is an empty list with room for all packets that wait.
+    /// Ends the waits of the packets that waited for pairs, and takes these again, in the order in
+    /// which they were kept. `list` is an empty list with capacity for all packets that wait.
     pub fn release_all(&mut self, page: &mut OutputBuffer, list: Vec<HeldPacket>)
         requires empty { list.items ≡ [] }
         requires list { length self.old.kept ≤ vec_capacity list }

@@ -1,4 +1,4 @@
--- What holds of a gateway as it begins.
+-- The invariant of a gateway as it begins.
 use Rattle.std.proofs.Common.{◌≡◌, ℕ, Bool, true, false, [], refl, sym, subst, arith}
 use Rattle.std.specs.Prelude.{if◌then◌else◌}
 use Rattle.nat_types.specs.declared.gateways.GatewayId.{GatewayId}
@@ -41,7 +41,7 @@ founded-is settings boot stands settled placed = record {
   settled = settled;
 }
 
--- whatever its table hashes by
+-- the invariant doesn't depend on the hashers
 hashing-is : (hashers : Hashers) (g : Shown) → IsGateway g → IsGateway (hashing hashers g)
 hashing-is hashers g is = record {
   book = is.book;
@@ -55,7 +55,7 @@ hashing-is hashers g is = record {
   settled = record { running = is.settled.running; idle = is.settled.idle; answered = is.settled.answered; places = is.settled.places };
 }
 
--- founded or not
+-- a gateway that begins has the invariant, founded or not
 pub beginning-is : (settings : Settings) (id : GatewayId) (boot : ℕ) (found : Bool) (hashers : Hashers) (g : Shown) → IsStanding (begun settings id boot) [] → IsStanding (founded settings boot) []
     → IsSettled (begun settings id boot) → IsSettled (founded settings boot)
     → IsPlaced (networks_of settings id) → IsPlaced (networks_of settings Zero)

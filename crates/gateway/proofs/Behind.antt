@@ -1,4 +1,4 @@
--- What stands behind a key in the order of a table: the next entry, and what stands behind it.
+-- The entries after a key: the next entry, and the entries after it.
 use Rattle.std.proofs.Common.{◌≡◌, ℕ, suc, ◌<◌, ◌≤◌, Bool, true, false, cond, nat_lt, Option, Some, None, List, [], ◌∷◌, refl, sym, ap, ◌∙◌, arith}
 use Rattle.std.proofs.lemmas.Bool.{cond-true, cond-false, lt-ltb, le-ltb, ltb-true}
 use Rattle.std.specs.Prelude.{IfNone, IfSome}
@@ -10,7 +10,7 @@ use Rattle.bindings.proofs.Offered.{find-none}
 use Rattle.resync.proofs.Offered.{IsStrict}
 use Rattle.gateway.specs.Entries.{behind}
 
--- it stands behind the key, or there is none
+-- an entry is after a key, or there is no key
 is-behind : (last : Option Key) (x : Entry) → ((key : Key) → last ≡ Some key → key_place key < place_of x.pair) → stands_behind last x ≡ true
 is-behind None x h = refl
 is-behind (Some key) x h = lt-ltb (key_place key) (place_of x.pair) (h key refl)
@@ -55,7 +55,7 @@ pub none-behind : (last : Option Key) (es : List Entry) → after_key last es �
 none-behind last [] h = refl
 none-behind last (x ∷ xs) h = (let n = find-none (stands_behind last) x xs h in cond-false (stands_behind last x) (x ∷ behind last xs) (behind last xs) n.0 ∙ none-behind last xs n.1)
 
--- the same of what a call found
+-- the next entry that a call found
 pub next-of : (last : Option Key) (es : List Entry) (found : Option Entry) → IsStrict 0 es → found ≡ after_key last es → IfSome found (λ e. behind last es ≡ e ∷ behind (Some e.pair.key) es)
 next-of last es None r h = tt
 next-of last es (Some e) r h = next-behind 0 last es e r (sym h)

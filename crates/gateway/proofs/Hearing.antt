@@ -1,4 +1,4 @@
--- A datagram that is dropped, and one that restarts nothing; and whether the other gateway was heard lately.
+-- A datagram that is dropped, and one that begins no session; and whether the other gateway was heard lately.
 use Rattle.std.proofs.Common.{◌≡◌, ℕ, Bool, false, List, Option, Some, None, Result, Ok, Err, refl, sym, ap, ◌∙◌}
 use Rattle.std.proofs.lemmas.Bool.{cond-false}
 use Rattle.nat_types.specs.declared.records.Record.{Record}
@@ -15,12 +15,12 @@ unless-is : (s : GatewayAndOutput) (d : Datagram) (o : Option LinkFault) (f : Li
 unless-is s d None f is = absurd (cc)
 unless-is s d (Some g) f is = refl
 
--- what is refused changes nothing
+-- a datagram that is refused changes nothing
 pub unheard-is : (s : GatewayAndOutput) (r : Result Datagram LinkFault) (f : LinkFault) → taking s.shown.link r ≡ Err f → datagram_read s r ≡ s
 unheard-is s (Ok d) f is = unless-is s d (refusal s.shown.link d) f is
 unheard-is s (Err g) f is = refl
 
--- one that restarts nothing has its records taken, and nothing else
+-- a datagram that begins no session has its records taken, and nothing else
 pub further-is : (s : GatewayAndOutput) (bytes : List ℕ) (e2 : Link) (restarted : Bool) (rs : List Record) (d : Datagram) → IsTaken bytes s.shown.link s.shown.moment (taken_with restarted rs) e2 d
     → is_restart s.shown.link d ≡ false → datagram_taken s bytes ≡ records_done (with_link s e2) rs
 further-is s bytes e2 restarted rs d taken further =
@@ -33,7 +33,7 @@ further-is s bytes e2 restarted rs d taken further =
     ∙ ap (λ (x : Link). records_done (with_link s x) (records_taken e d)) (sym taken.after)
     ∙ ap (λ (x : List Record). records_done (with_link s e2) x) (sym all)
 
--- the link's word for a peer that was heard lately, and the protocol's, are one
+-- the link and the protocol agree on whether the peer was heard lately
 pub same_heard : (heard : Option ℕ) (now : ℕ) → link.is_heard heard now ≡ is_heard heard now
 same_heard None now = refl
 same_heard (Some last) now = refl

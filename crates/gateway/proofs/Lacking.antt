@@ -1,4 +1,4 @@
--- What a gateway lacks that doesn't begin, and what an event that isn't taken.
+-- The memory that a gateway lacks that doesn't begin, and that an event lacks that isn't taken.
 use Rattle.std.specs.Prelude.{◌≡◌, Result, Ok, Err, OnErr}
 use Rattle.std.proofs.Common.{inl, inr, refl, subst}
 use Rattle.settings.specs.declared.whole.Settings.{Settings}
@@ -11,17 +11,17 @@ use Rattle.forwarder.specs.declared.forwarders.Forwarder.{Forwarder}
 use Rattle.forwarder.specs.Forwarder.{shown_of}
 use Rattle.gateway.specs.Lacks.{Lacks, LacksGateway, LacksMemory, LacksParts}
 
--- memory that these lack is memory that a gateway lacks that shows itself so, with this page
+-- what a forwarder lacks is what a gateway with this view and page lacks
 pub lacks-memory : {T E : Type 0} → (r : Result T E) (event : Event) (f : Forwarder) (page : Paged) → Lacks event f page → OnErr r (LacksMemory (shown_of f) page event)
 lacks-memory (Ok x) event f page lacks = tt
 lacks-memory (Err e) event f page lacks = (f, refl, lacks)
 
--- its parts are lacking
+-- a gateway lacks its parts
 pub lacks-parts : {T E : Type 0} → (r : Result T E) (settings : Settings) → LacksParts settings → OnErr r (LacksGateway settings)
 lacks-parts (Ok x) settings lacks = tt
 lacks-parts (Err e) settings lacks = inl lacks
 
--- its core is, for just its ranges
+-- a gateway lacks its core, with exactly its ranges
 pub lacks-core : {T E : Type 0} → (r : Result T E) (settings : Settings) (low high : PortBounds) → low ≡ bounds_of settings.ports.zero → high ≡ bounds_of settings.ports.one → LacksCore low high → OnErr r (LacksGateway settings)
 lacks-core (Ok x) settings low high a b lacks = tt
 lacks-core (Err e) settings low high a b lacks =

@@ -1,4 +1,4 @@
--- What no step changes: the ranges of ports, for how much the link has room, and the networks. And the clock goes on within its bounds.
+-- What no step changes: the ranges of ports, the link's capacity, and the networks. And the clock goes on within its bounds.
 use Rattle.std.proofs.Common.{◌≡◌, ℕ, Bool, true, false, List, [], ◌∷◌, Option, Some, None, Result, Ok, Err, refl, sym, ap, subst, ◌∙◌, arith, cond, ◌&&◌}
 use Rattle.nat_types.specs.declared.gateways.Side.{Side}
 use Rattle.nat_types.specs.declared.gateways.Side.TheVariants.{Inside, Outside}
@@ -40,7 +40,7 @@ use Rattle.spec_step.specs.Steps.{Does, FrameDoes, ended_on, stopped, ticked, wo
 use Rattle.spec_step.specs.Verdict.{reading_on}
 use Rattle.gateway.proofs.Staying.{IsAsOn, Stays, answered-capacity, flow-stays, released-stays, row-stays, station-stays, stays-here, stays-then, echo-stays, error-stays, refused-stays}
 
--- an equal scene
+-- an equal pair of gateway and output
 stays-as : (g : Shown) (s s2 : GatewayAndOutput) → s2 ≡ s → Stays g s.shown → Stays g s2.shown
 stays-as g s s2 e x = subst (λ (y : GatewayAndOutput). Stays g y.shown) (sym e) x
 
@@ -97,7 +97,7 @@ frame-stays s side bytes (Err reason) s2 does = stays-as s.shown _ s2 does (refu
 
 -- ---- datagrams
 
--- both ranges
+-- both ranges of ports are the same
 record SameRanges (b b2 : Book) : Type 0 where
   zero : b2.zero ≡ b.zero
   one : b2.one ≡ b.one
@@ -186,7 +186,7 @@ read-stays : (s : GatewayAndOutput) (r : Result Datagram LinkFault) → Stays s.
 read-stays s (Ok d) = unless-stays s d (refusal s.shown.link d)
 read-stays s (Err fault) = stays-here s.shown
 
--- ---- the operator's word, and a tick's own parts
+-- ---- the operator's word, and the parts of a tick
 
 word-stays : (s : GatewayAndOutput) (n : ℕ) (o : Option Reason) → Stays s.shown (word_by s n o).shown
 word-stays s n None =
@@ -204,7 +204,7 @@ idle-stays s (k ∷ ks) =
 
 -- ---- a whole step
 
--- where the event's own parts begin: a tick moves the clock first
+-- where an event's handling begins: a tick moves the clock first
 abbrev pub begun_by : GatewayAndOutput → Event → GatewayAndOutput
 begun_by s (Frame side bytes) = s
 begun_by s (Comes bytes) = s
@@ -213,7 +213,7 @@ begun_by s Stop = s
 begun_by s (PeerOff n) = s
 begun_by s (SideIs side up) = s
 
--- the turn with which a tick begins
+-- coming back changes none of these
 returned-stays : (g : Shown) (up : Bool) → is_up g ≡ up → Stays g (returned g)
 returned-stays g true is = rw is (record { moment = refl; capacity = refl; zero = refl; one = refl; networks = refl; inside = refl; outside = refl })
 returned-stays g false is = rw is (record { moment = refl; capacity = refl; zero = refl; one = refl; networks = refl; inside = refl; outside = refl })
@@ -261,7 +261,7 @@ ended-event Stop done = answer-stays done
 ended-event (PeerOff n) done = answer-stays done
 ended-event (SideIs side up) done = stays-here done.shown
 
--- a step's clock, and what it leaves
+-- the clock of a step, and what the step leaves as it was
 pub record Lasts (g g2 : Shown) : Type 0 where
   pub moment : IsMoment g2.moment
   pub capacity : g2.link.capacity ≡ g.link.capacity

@@ -1,11 +1,11 @@
--- The places of the link that are free.
+-- The free places of the link.
 use Rattle.std.proofs.Common.{◌≡◌, ◌≤◌, ◌+◌, ◌∷◌, [], Bool, true, false, Option, Some, None, refl, arith, length-append}
 use Rattle.nat_types.specs.declared.records.Record.{Record}
 use Rattle.link.specs.Link.{Link, free_places, needs_answer, with_pushed}
 use Rattle.spec_binding.specs.Rows.{answered}
 use Rattle.gateway.specs.Rooms.{answers_to}
 
--- a record takes one
+-- a record takes one place
 free-pushed : (e : Link) (r : Record) → free_places e ≤ free_places (with_pushed e r) + 1
 free-pushed e r = let longer = length-append e.waiting (r ∷ []) in omega (arith, longer)
 
@@ -14,6 +14,6 @@ free-by e None r needs is mute = omega arith
 free-by e (Some x) r true is mute = rw is (free-pushed e x)
 free-by e (Some x) r false is mute = let never = mute refl in absurd (cc)
 
--- an answer takes no more than its record needs
+-- an answer takes no more places than its record needs
 pub free-answered : (e : Link) (a : Option Record) (r : Record) → (needs_answer r ≡ false → a ≡ None) → free_places e ≤ free_places (answered e a) + answers_to r
 free-answered e a r mute = free-by e a r (needs_answer r) refl mute

@@ -1,4 +1,4 @@
--- What no part of a step changes: the clock's moment, the ranges of ports, for how much the link has room, and the networks.
+-- What no part of a step changes: the clock's time, the ranges of ports, the link's capacity, and the networks.
 use Rattle.std.proofs.Common.{◌≡◌, ℕ, Bool, true, false, cond, List, [], ◌∷◌, Option, Some, None, Result, Ok, Err, refl, ◌∙◌}
 use Rattle.addresses.specs.declared.ethernet.Mac.{Mac}
 use Rattle.addresses.specs.declared.internet.Ip.{Ip}
@@ -65,7 +65,7 @@ stays-then g g2 g3 x y = record {
   outside = y.outside ∙ x.outside;
 }
 
--- an answer is pushed, or none
+-- pushing an answer, or none, leaves the link's capacity
 pub answered-capacity : (e : Link) (a : Option Record) → (answered e a).capacity ≡ e.capacity
 answered-capacity e None = refl
 answered-capacity e (Some r) = refl
@@ -91,7 +91,7 @@ wanted-for-stays s flow (Outward p) = wanted-stays s (source_of flow)
 wanted-for-stays s flow (Inward p) = stays-here s.shown
 wanted-for-stays s flow (Hairpin own other) = wanted-stays s (source_of flow)
 
--- a neighbour is asked for, or a next hop again
+-- asking for a neighbour, or for a next hop again, changes none of these
 neighbour-stays : (g : Shown) (exit : Side) (hop : Ip) → Stays g (neighbour_asked g exit hop)
 neighbour-stays g Inside hop = record { moment = refl; capacity = refl; zero = refl; one = refl; networks = refl; inside = refl; outside = refl }
 neighbour-stays g Outside hop = record { moment = refl; capacity = refl; zero = refl; one = refl; networks = refl; inside = refl; outside = refl }
@@ -126,9 +126,9 @@ plan-stays s side bytes flow (WaitFor endpoint) =
     let wanted = wanted-stays s endpoint in
     record { moment = wanted.moment; capacity = wanted.capacity; zero = wanted.zero; one = wanted.one; networks = wanted.networks; inside = wanted.inside; outside = wanted.outside }
 
--- ---- what is said of the gateway's own
+-- ---- the gateway's own answers and errors
 
--- an interface stands in the same network as that of its side
+-- an interface has the same network as that of its side
 abbrev pub IsAsOn : Shown → Side → Interface → Type 0
 IsAsOn g side station = station.network ≡ (station_on g side).network
 
@@ -136,7 +136,7 @@ pub station-stays : (g : Shown) (side : Side) (station : Interface) → IsAsOn g
 station-stays g Inside station same = record { moment = refl; capacity = refl; zero = refl; one = refl; networks = refl; inside = same; outside = refl }
 station-stays g Outside station same = record { moment = refl; capacity = refl; zero = refl; one = refl; networks = refl; inside = refl; outside = same }
 
--- something is sent and counted, and its next hop may be asked for
+-- sending and counting a frame of its own, and asking for its next hop, changes none of these
 said-stays : (s : GatewayAndOutput) (side : Side) (frame : List ℕ) (station : Interface) (hop : Ip) → IsAsOn s.shown side station → Stays s.shown (renewed_behind (counted (framed s side frame) side station) side hop).shown
 said-stays s side frame station hop same =
     let said = counted (framed s side frame) side station in
@@ -209,7 +209,7 @@ verdict-stays s side bytes flow (Err reason) = refusal-stays s side bytes flow r
 pub flow-stays : (s : GatewayAndOutput) (side : Side) (bytes : List ℕ) (flow : Flow) → Stays s.shown (flow_taken s side bytes flow).shown
 flow-stays s side bytes flow = verdict-stays s side bytes flow (plan_of s.shown side flow (length_in bytes))
 
--- an error
+-- an ICMP error changes none of these
 error-plan-stays : (s : GatewayAndOutput) (side : Side) (bytes : List ℕ) (flow : ErrorFlow) (plan : Plan) → Stays s.shown (by_error_plan s side bytes flow plan).shown
 error-plan-stays s side bytes flow (Send by next) = renewed-stays (framed s (exit_by by) (passed_frame s.shown.networks by next bytes)) (exit_by by) (error_hop s.shown by flow)
 error-plan-stays s side bytes flow (Ask by hop) = record { moment = refl; capacity = refl; zero = refl; one = refl; networks = refl; inside = refl; outside = refl }
@@ -223,7 +223,7 @@ error-stays s side bytes flow = at (error_plan s.shown side flow (length_in byte
     at (Ok plan) = error-plan-stays s side bytes flow plan
     at (Err reason) = stays-here s.shown
 
--- an Echo to the gateway
+-- an Echo to the gateway changes none of these
 reply-stays : (s : GatewayAndOutput) (side : Side) (bytes : List ℕ) (source : Ip) (plan : Reply) → Stays s.shown (by_reply s side bytes source plan).shown
 reply-stays s side bytes source (reply.Send next) =
     said-stays s side (own_answer (network_of s.shown.networks side) next bytes) (with_reply (station_on s.shown side) s.shown.moment) (hop_back s.shown side source) refl

@@ -1,4 +1,4 @@
--- The records of a datagram, one after another.
+-- The records of a datagram, in order.
 use Rattle.std.proofs.Common.{◌≡◌, ◌≤◌, ◌<◌, ◌+◌, ◌∷◌, [], ℕ, suc, Bool, true, false, List, length, drop, slice_index_or, refl, sym, ap, ◌∙◌, arith, add-one, drop-cons}
 use Rattle.nat_types.specs.declared.records.Record.{Record}
 use Rattle.link.specs.Link.{answers_count, needs_answer}
@@ -19,7 +19,7 @@ to-most : (r : Record) (needs : Bool) → needs_answer r ≡ needs → answers_t
 to-most r true is = rw is (omega arith)
 to-most r false is = rw is (omega arith)
 
--- no more answers than records
+-- there are no more answers than records
 pub count-most : (rs : List Record) → answers_count rs ≤ length rs
 count-most [] = omega arith
 count-most (r ∷ rs) =
@@ -28,7 +28,7 @@ count-most (r ∷ rs) =
     let rest = count-most rs in
     omega (arith, more, most, rest)
 
--- a record that needs an answer has a place
+-- the first record, where it needs an answer, has a place
 pub first-place : (r : Record) (rs : List Record) (free : ℕ) → answers_count (r ∷ rs) ≤ free → needs_answer r ≡ true → 0 < free
 first-place r rs free room needs =
     let more = count-more r rs in

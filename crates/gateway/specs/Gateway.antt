@@ -1,4 +1,4 @@
--- What each gateway keeps.
+-- The invariant of a gateway.
 use Rattle.std.specs.Prelude.{◌≡◌, List}
 use Rattle.nat_types.specs.declared.records.Record.{Record}
 use Rattle.spec_binding.specs.Books.{IsBook}
@@ -14,12 +14,12 @@ pub record IsGateway (g : Shown) : Type 0 where
   pub alone : IsAlone g
   pub bytes : KeepsBytes g
   pub moment : IsMoment g.moment
-  -- some list of records is the one that it pushed or promised in the session
+  -- some list of records is that of all records pushed or promised in the session
   pub history : List Record
   pub pushed : HasPushed g history
-  -- a whole batch finds room in the link, and 64 answers beside it
+  -- the link has places for a whole batch, and for 64 answers
   pub places : g.link.capacity ≡ link_places g.ledger.book.zero g.ledger.book.one
-  -- its addresses lie where they belong, and its interfaces stand in its networks
+  -- the addresses lie where they belong, and the interfaces are those of the networks
   pub house : IsHouse g.networks g.inside.network g.outside.network
-  -- idle routers where it isn't up, no datagram due, kept packets in their limits
+  -- the routers are idle where the gateway isn't up, no datagram is due, and the kept packets are within their limits
   pub settled : IsSettled g

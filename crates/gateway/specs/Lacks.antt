@@ -1,4 +1,4 @@
--- For want of which memory a gateway doesn't begin, or doesn't take an event.
+-- The memory whose refusal keeps a gateway from beginning, or from taking an event.
 use Rattle.std.specs.Prelude.{◌≡◌, ◌≤◌, ◌⊎◌, ℕ, Bool, true, false, Result, Ok, Err, List, length}
 use Rattle.memory.specs.Memory.{WasRefused}
 use Rattle.nat_types.specs.declared.gateways.Side.{Side}
@@ -27,65 +27,65 @@ use Rattle.forwarder.specs.Forwarder.{shown_of}
 use Rattle.forwarder.specs.Room.{Needs, an_arp_packet, frames_alone}
 use Rattle.gateway.specs.Rooms.{both_routers, records_need, restart_needs, room_for, tick_needs, waiting_needs}
 
--- ---- of a gateway that begins
+-- ---- a gateway that begins
 
--- its link: a place for each record of a whole batch, and for the answers beside it
+-- no memory for its link: a place for each record of a whole batch, and for the answers to a datagram
 abbrev pub LacksLink : Settings → Type 0
 LacksLink settings = WasRefused (link_places (bounds_of settings.ports.zero) (bounds_of settings.ports.one))
 
--- an interface: that of the inside, or that of the outside
+-- no memory for an interface: that of the inside, or that of the outside
 abbrev pub LacksStations : Settings → Type 0
 LacksStations settings = LacksInterface settings Inside ⊎ LacksInterface settings Outside
 
--- what it has beside its table: its link, an interface, or the lists of packets that wait
+-- no memory for what it has beside its table: its link, an interface, or the lists of packets that wait
 abbrev pub LacksParts : Settings → Type 0
 LacksParts settings = LacksLink settings ⊎ (LacksStations settings ⊎ LacksPackets)
 
--- one with these settings: those, or the core with its table
+-- no memory for a gateway with these settings: for those parts, or for the core with its table
 abbrev pub LacksGateway : Settings → Type 0
 LacksGateway settings = LacksParts settings ⊎ LacksCore (bounds_of settings.ports.zero) (bounds_of settings.ports.one)
 
--- ---- of what an event asks for
+-- ---- the requests of an event
 
--- A page was to be made ready for so much, or a core for so many new pairs, and more memory was refused. This, and those below it, are names too: who asks
--- for it has one of them, and nobody else.
+-- a page was not made ready for this capacity, or a core for so many new pairs, since memory was refused. This definition and the two after it can't be
+-- unfolded by default: only the function that takes the memory unfolds them, so no other can prove them.
 unfoldable pub WasUnready : Room → ℕ → Forwarder → Paged → Type 0
 WasUnready room pairs f page = Unit {0} × (LacksPage room ⊎ WasRefused pairs)
 
--- there was to be a list for all packets that wait
+-- no memory for a list of all packets that wait
 unfoldable pub WasUnlisted : Forwarder → Type 0
 WasUnlisted f = Unit {0} × WasRefused (length f.kept)
 
--- a frame that came in on that side was to be copied
+-- no memory for the copy of a frame that came in on that side
 unfoldable pub WasUncopied : Shown → Side → List ℕ → Type 0
 WasUncopied g side bytes = Unit {0} × LacksCopy (length bytes)
 
--- ---- of an event
+-- ---- an event
 
--- the page or the core had less room than this, and more was refused
+-- the page or the core had less capacity than this, and more was refused
 abbrev pub LacksRoom : Needs → Forwarder → Paged → Type 0
 LacksRoom needs f page = record {
   short : IsWithin (room_for needs) page.room → needs.pairs ≤ f.core.table.ready → ⊥;
   refused : WasUnready (room_for needs) needs.pairs f page;
 }
 
--- a frame that is dropped as it is read: a complaint where its time to live is over, and the request behind it
+-- the need of a frame that is dropped as it is read: where its time to live is over an error, and the request after it
 abbrev pub dropped_needs : Reason → Needs
 dropped_needs TtlOver = frames_alone 2
 dropped_needs reason = frames_alone 0
 
--- a frame, as it is read: room, or the copy of a packet that has to wait
+-- what a frame lacks, by how it is read: capacity, or the copy of a packet that has to wait
 abbrev pub LacksForFrame : Side → List ℕ → Result Reading Reason → Forwarder → Paged → Type 0
 LacksForFrame side bytes (Ok reading) f page =
     LacksRoom an_arp_packet f page ⊎ ((outcome_read (shown_of f) side (Ok reading) ≡ Waiting) × WasUncopied (shown_of f) side bytes)
 LacksForFrame side bytes (Err reason) f page = LacksRoom (dropped_needs reason) f page
 
--- a datagram: whether its header names a greater boot of the other gateway than is known
+-- what a datagram lacks, by whether its header names a greater boot of the other gateway than is known
 abbrev pub LacksForDatagram : Bool → Forwarder → Paged → Type 0
 LacksForDatagram true f page = WasUnlisted f ⊎ LacksRoom (restart_needs f) f page
 LacksForDatagram false f page = LacksRoom (records_need RECORDS_IN_A_DATAGRAM) f page
 
--- an event, by its kind; the word of a side lacks nothing
+-- what an event lacks, by its kind; an event of a side lacks nothing
 abbrev pub Lacks : Event → Forwarder → Paged → Type 0
 Lacks (Frame side bytes) f page = LacksForFrame side bytes.now (reading_on (shown_of f) side bytes.now) f page
 Lacks (Datagram bytes) f page = LacksForDatagram (may_restart f.link (header_at bytes.now)) f page
@@ -94,6 +94,6 @@ Lacks Stop f page = LacksRoom both_routers f page
 Lacks (PeerOff boot) f page = WasUnlisted f ⊎ LacksRoom (waiting_needs f) f page
 Lacks (Cable side up) f page = ⊥
 
--- a gateway that shows itself so, with this page
+-- what an event lacks at a gateway with this view and this page
 abbrev pub LacksMemory : Shown → Paged → Event → Type 0
 LacksMemory g page event = (f : Forwarder) × (shown_of f ≡ g) × Lacks event f page

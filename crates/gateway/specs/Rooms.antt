@@ -1,4 +1,4 @@
--- For how much there is to be room.
+-- The capacity that each event needs.
 use Rattle.std.specs.Prelude.{ℕ, ◌+◌, ◌*◌, Bool, true, false, length, if◌then◌else◌}
 use Rattle.nat_types.specs.declared.records.Record.{Record}
 use Rattle.link.specs.declared.datagrams.TheConstants.{RECORDS_IN_A_DATAGRAM}
@@ -13,7 +13,7 @@ use Rattle.forwarder.specs.Room.{Needs, all_for_pairs, frames_alone, notes_alone
 abbrev pub answers_to : Record → ℕ
 answers_to r = if needs_answer r then 1 else 0
 
--- the word that the cable of a side is in or out: it takes no memory
+-- whether an event is one of a side, whose cable is in or out: such events take no memory
 abbrev pub is_of_side : Event → Bool
 is_of_side (Frame side bytes) = false
 is_of_side (Datagram bytes) = false
@@ -31,30 +31,30 @@ most_datagrams Stop = 1
 most_datagrams (PeerOff boot) = 1
 most_datagrams (Side side up) = 0
 
--- a router that is told something: an advertisement, and where it becomes Active the frame that tells its address
+-- the need of one router for a cue: an advertisement, and where it becomes Active a gratuitous ARP frame
 abbrev pub a_router : Needs
 a_router = frames_alone 2
 
 abbrev pub both_routers : Needs
 both_routers = frames_alone (2 * a_router.frames)
 
--- the idle pairs: a note of each entry, and one more
+-- the need of the idle pairs: a note of each entry, and one more
 abbrev pub idle_needs : Forwarder → Needs
 idle_needs f = notes_alone (length f.core.table.entries + 1)
 
--- a tick: the stop of both routers, and their tick; and the idle pairs
+-- the need of a tick: the stop of both routers, and their tick; and the idle pairs
 abbrev pub tick_needs : Forwarder → Needs
 tick_needs f = record (idle_needs f) { frames = 2 * both_routers.frames }
 
--- so many records: of each a note, a pair, and the packet whose wait it may end
+-- the need of so many records: for each a note, a pair, and the packet whose wait it may end
 abbrev pub records_need : ℕ → Needs
 records_need count = record { frames = 2 * count; notes = 4 * count; pairs = 2 * count }
 
--- the other gateway began anew, or is off: a note of each entry, and the packets that waited for pairs
+-- the need where the other gateway began anew, or is off: a note of each entry, and the packets that waited for pairs
 abbrev pub waiting_needs : Forwarder → Needs
 waiting_needs f = record all_for_pairs { notes = length f.core.table.entries + all_for_pairs.notes }
 
--- a datagram whose header names a greater boot: the other gateway may have begun anew, and each record is taken; any other needs its records alone
+-- the need of a datagram whose header names a greater boot: that of a restart, and that of its records; any other datagram needs its records alone
 abbrev pub restart_needs : Forwarder → Needs
 restart_needs f = record {
   frames = (waiting_needs f).frames + (records_need RECORDS_IN_A_DATAGRAM).frames;
@@ -62,17 +62,17 @@ restart_needs f = record {
   pairs = (waiting_needs f).pairs + (records_need RECORDS_IN_A_DATAGRAM).pairs;
 }
 
--- for so many new pairs a core is made ready at most, and a page for so many frames and datagrams
+-- the most new pairs for which a core is made ready, and the most frames or datagrams for which a page is
 abbrev pub most_pairs : ℕ
 most_pairs = all_for_pairs.pairs + (records_need RECORDS_IN_A_DATAGRAM).pairs
 
 abbrev pub most_on_a_page : ℕ
 most_on_a_page = 4096
 
--- no table has more entries
+-- the most entries that a table has
 abbrev pub most_entries : ℕ
 most_entries = 1000000
 
--- room on a page for that much, and for the datagram at the end
+-- the capacity of a page for this need, and for the datagram at the end
 abbrev pub room_for : Needs → Room
 room_for needs = record { frames = needs.frames; datagrams = 1; notes = needs.notes }

@@ -1,4 +1,4 @@
-//! A frame that came in.
+//! Frames that came in.
 ghost use Rattle.std.specs.Prelude.{◌≡◌, IfOk, Ok, OnErr, OnOk};
 ghost use Rattle.vrrp_states.specs.Table.{IsMoment};
 ghost use Rattle.packet_rules.specs.Steps.{Carries};
@@ -18,8 +18,9 @@ use packet_rules::Reading;
 use spec_step::Outcome;
 use std::alloc::Global;
 
-/// Does what a frame that was read asks for. An `Err` stands for a refused copy of one that has to
-/// wait; nothing has changed then. It alone has the name for it.
+/// Takes a frame that was read. The Err `NoMemory` comes only where the packet has to wait and
+/// there is no memory for its copy; nothing has changed then. No other function unfolds
+/// `WasUncopied`.
 #[inline(always)]
 #[tactic(auto, unfolding(crate::specs::Lacks::WasUncopied))]
 pub(crate) fn take_reading(

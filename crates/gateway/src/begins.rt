@@ -1,4 +1,4 @@
-//! A gateway as it begins.
+//! The beginning of a gateway.
 ghost use Rattle.std.specs.Prelude.{◌≡◌, ◌<◌, ◌≤◌, ◌^◌, IfOk, OnErr, IsTrue, false, [], if◌then◌else◌};
 ghost use Rattle.nat_types.specs.declared.gateways.GatewayId.TheVariants.{Zero};
 ghost use Rattle.nat_types.specs.declared.gateways.Side.TheVariants.{Inside, Outside};
@@ -41,7 +41,8 @@ fn recall_ranges(settings: &Settings)
     recall_port(settings.ports.one.highest);
 }
 
-/// Reminds the prover that a gateway's addresses lie where they belong; it does nothing when it runs.
+/// Reminds the prover that a gateway's addresses lie where they belong; it does nothing when it
+/// runs.
 fn recall_places(settings: &Settings, id: GatewayId)
     ensures { IsPlaced (networks_of settings.now id) }
 {
@@ -57,14 +58,14 @@ fn bounds_of(range: PortRange) -> PortBounds
     }
 }
 
-/// The records of a batch for each port: of each of the three protocols an Owner and a Put.
+/// The records of a batch for each port: an Owner and a Put for each of the three protocols.
 const RECORDS_OF_A_PORT: usize = 6;
 
-/// The records of a batch that are of no port: Begin and Done.
+/// The records of a batch that belong to no port: Begin and Done.
 const RECORDS_OF_NO_PORT: usize = 2;
 
-/// For how many records the link has room: a whole table's batch, and the answers to a datagram beside
-/// it.
+/// Returns how many records the link has places for: a whole table's batch, and the answers to one
+/// datagram.
 fn link_places(zero: PortBounds, one: PortBounds) -> usize
     requires zero { zero.lowest.0 ≤ zero.highest.0 }
     requires one { one.lowest.0 ≤ one.highest.0 }
@@ -74,7 +75,7 @@ fn link_places(zero: PortBounds, one: PortBounds) -> usize
     RECORDS_OF_A_PORT * ports + RECORDS_OF_NO_PORT + RECORDS_IN_A_DATAGRAM
 }
 
-/// How many ports lie between bounds.
+/// Returns how many ports lie between bounds.
 fn ports_in(bounds: PortBounds) -> usize
     requires { bounds.lowest.0 ≤ bounds.highest.0 }
     ensures count { result ≡ ports_in bounds }
@@ -83,7 +84,7 @@ fn ports_in(bounds: PortBounds) -> usize
     usize::from(bounds.highest.0) + 1 - usize::from(bounds.lowest.0)
 }
 
-/// The link of a gateway that has just booted.
+/// Returns the link of a gateway that has just booted.
 fn link_of(alloc: Global, settings: &Settings, id: GatewayId, boot: u64) -> Result<Link, NoMemory>
     requires { 0 < boot }
     ensures fresh { IfOk result (λ l. l ≡ fresh id boot
@@ -97,7 +98,7 @@ fn link_of(alloc: Global, settings: &Settings, id: GatewayId, boot: u64) -> Resu
     Ok(link)
 }
 
-/// What a gateway has beside its networks and its table.
+/// The parts of a gateway beside its networks and its table.
 #[derive(Drop)]
 struct Parts {
     link: Link,
@@ -106,7 +107,7 @@ struct Parts {
     kept: WaitingPackets,
 }
 
-/// The interfaces of a gateway on both sides, whose routers stand in Initialize.
+/// Returns a gateway's interfaces on both sides, whose routers are in Initialize.
 fn stations_of(
     alloc: Global,
     settings: &Settings,
@@ -121,7 +122,7 @@ fn stations_of(
     Ok((inside, outside))
 }
 
-/// The parts of a gateway that has just booted.
+/// Returns the parts of a gateway that has just booted.
 fn parts_of(alloc: Global, settings: &Settings, id: GatewayId, boot: u64) -> Result<Parts, NoMemory>
     requires { 0 < boot }
     ensures link { IfOk result (λ p. p.link ≡ fresh id boot
@@ -142,7 +143,8 @@ fn parts_of(alloc: Global, settings: &Settings, id: GatewayId, boot: u64) -> Res
     })
 }
 
-/// A gateway of these parts at moment 0. It takes no memory, so that no part is let go here.
+/// Returns a gateway of these parts at time 0. Takes no memory, so that no part has to be dropped
+/// after an Err.
 fn joined(settings: &Settings, id: GatewayId, parts: Parts, core: Core) -> Forwarder
     ensures networks { (shown_of result).networks ≡ networks_of settings.now id }
     ensures moment { (shown_of result).moment ≡ 0 }
@@ -168,7 +170,7 @@ fn joined(settings: &Settings, id: GatewayId, parts: Parts, core: Core) -> Forwa
     }
 }
 
-/// A gateway without a table.
+/// Returns a gateway without a table.
 #[tactic(auto, unfolding(spec_step::specs::Founding::begun))]
 fn begin_unsynced(
     alloc: Global,
@@ -192,7 +194,7 @@ fn begin_unsynced(
     Ok(joined(settings, id, parts, core))
 }
 
-/// Gateway 0, founded alone: its routers are started.
+/// Returns gateway 0, founded alone, with its routers started.
 #[tactic(auto, unfolding(spec_step::specs::Founding::begun, spec_step::specs::Founding::founded))]
 fn begin_founded(
     alloc: Global,
@@ -217,8 +219,8 @@ fn begin_founded(
     Ok(forwarder)
 }
 
-/// A gateway in the life of this number: gateway 0 that is founded anew is synced, and its routers
-/// are started; any other isn't.
+/// Returns a gateway in this boot. Where `found` is set, it is gateway 0 founded anew: synced, with
+/// its routers started. Otherwise the gateway isn't synced.
 pub(crate) fn begin(
     alloc: Global,
     settings: &Settings,

@@ -1,4 +1,4 @@
-//! A datagram of the other gateway.
+//! Datagrams of the other gateway.
 ghost use Rattle.std.specs.Prelude.{◌≡◌, ◌≤◌, ℕ, [], Ok, false, true, length, vec_capacity};
 ghost use Rattle.std.specs.Prelude.{if◌then◌else◌};
 ghost use Rattle.link.specs.declared.datagrams.Datagram.{Datagram};
@@ -24,8 +24,8 @@ use packet_rules::Reason;
 use spec_step::Outcome;
 use waiting::HeldPacket;
 
-/// A greater boot of the peer was heard: the core begins anew, and the packets that waited for pairs
-/// are taken again. `list` is an empty list with room for all packets that wait.
+/// Follows a restart of the peer: the core begins anew, and the packets that waited for pairs are
+/// taken again. `list` is an empty list with capacity for all packets that wait.
 fn reset(forwarder: &mut Forwarder, page: &mut OutputBuffer, list: Vec<HeldPacket>)
     requires empty { list.items ≡ [] }
     requires list { length forwarder.old.kept ≤ vec_capacity list }
@@ -51,7 +51,7 @@ fn reset(forwarder: &mut Forwarder, page: &mut OutputBuffer, list: Vec<HeldPacke
     forwarder.release_all(page, list);
 }
 
-/// The same, where a greater boot was heard.
+/// Follows a restart of the peer (`reset`), where there was one.
 fn reset_where(
     forwarder: &mut Forwarder,
     page: &mut OutputBuffer,
@@ -79,8 +79,8 @@ fn reset_where(
     }
 }
 
-/// Takes a datagram that may begin a session anew, or drops it. `list` is an empty list with room
-/// for all packets that wait.
+/// Takes a datagram that may begin a new session, or drops it. `list` is an empty list with
+/// capacity for all packets that wait.
 pub(crate) fn take_first(
     forwarder: &mut Forwarder,
     page: &mut OutputBuffer,
@@ -110,7 +110,7 @@ pub(crate) fn take_first(
     }
 }
 
-/// Takes a datagram that can't begin a session anew, or drops it.
+/// Takes a datagram that can't begin a new session, or drops it.
 pub(crate) fn take_further(
     forwarder: &mut Forwarder,
     page: &mut OutputBuffer,

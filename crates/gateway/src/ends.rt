@@ -11,7 +11,7 @@ use forwarder::Forwarder;
 use link::Link;
 use output::{OutputBuffer, WriteBytes};
 
-/// The next datagram of a link, as its bytes.
+/// The next datagram of a link, which writes its bytes.
 #[derive(Drop)]
 struct NextDatagram<'a> {
     link: &'a Link,
@@ -30,7 +30,7 @@ impl WriteBytes for NextDatagram<'_> {
     }
 }
 
-/// Sends the next datagram.
+/// Appends the next datagram to the page.
 fn send(forwarder: &Forwarder, page: &mut OutputBuffer)
     requires fed { wanted forwarder.now.link ≡ 0 }
     requires datagrams { 1 ≤ page.old.room.datagrams }
@@ -42,7 +42,7 @@ fn send(forwarder: &Forwarder, page: &mut OutputBuffer)
     page.make_datagram(&NextDatagram { link, serves });
 }
 
-/// Sends the datagram that is due at the end of a tick.
+/// Sends the datagram that is due at the end of a tick, if one is.
 #[cold]
 pub(crate) fn end_tick(forwarder: &mut Forwarder, page: &mut OutputBuffer)
     requires promised { length forwarder.old.core.coming ≡ forwarder.old.link.promised }
@@ -57,7 +57,7 @@ pub(crate) fn end_tick(forwarder: &mut Forwarder, page: &mut OutputBuffer)
     }
 }
 
-/// Sends the datagram that is due at the end of any other step.
+/// Sends the datagram that is due at the end of any other step, if one is.
 pub(crate) fn end_other(forwarder: &mut Forwarder, page: &mut OutputBuffer)
     requires promised { length forwarder.old.core.coming ≡ forwarder.old.link.promised }
     requires datagrams { 1 ≤ page.old.room.datagrams }

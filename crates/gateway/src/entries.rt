@@ -1,4 +1,4 @@
-//! Entry after entry of a table.
+//! A table's entries in order, and the numbers of packets that wait.
 ghost use Rattle.std.specs.Prelude.{◌≡◌, ◌∷◌, [], Some, IfNone, IfSome};
 ghost use Rattle.bindings.specs.Lists.{after_key};
 ghost use Rattle.resync.specs.Batch.{CanBeSent};
@@ -9,7 +9,8 @@ use bindings::{Entry, Table};
 use nat_types::Key;
 use waiting::HeldPacket;
 
-/// The entry that follows a key, or the first one: what stands behind the key is that entry and what stands behind it.
+/// Returns the entry that follows a key in the order by protocol (icmp first) and port, or the
+/// first one where there is no key.
 pub(crate) fn entry_after(table: &Table, last: Option<Key>) -> Option<Entry>
     requires { CanBeSent table.now }
     ensures exact { result ≡ after_key last table.now.entries }
@@ -21,7 +22,7 @@ pub(crate) fn entry_after(table: &Table, last: Option<Key>) -> Option<Entry>
     table.entry_after(last)
 }
 
-/// How many packets wait for pairs.
+/// Returns how many packets wait for pairs.
 pub(crate) fn pair_count(packets: &[HeldPacket]) -> usize
     ensures { result ≡ pairs_in packets.now }
 {
@@ -31,7 +32,7 @@ pub(crate) fn pair_count(packets: &[HeldPacket]) -> usize
         .count()
 }
 
-/// How many packets wait for next hops.
+/// Returns how many packets wait for next hops.
 pub(crate) fn hop_count(packets: &[HeldPacket]) -> usize
     ensures { result ≡ hops_in packets.now }
 {

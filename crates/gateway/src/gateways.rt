@@ -38,7 +38,7 @@ use std::alloc::Global;
 use std::marker::Model;
 use vrrp_states::State;
 
-/// One gateway of the pair. Moments are in centiseconds.
+/// One gateway of the pair. Times are in centiseconds.
 #[derive(Drop)]
 pub struct Gateway {
     alloc: Global,
@@ -65,8 +65,9 @@ fn recall_address(address: Ip)
 }
 
 impl Gateway {
-    /// A gateway in the life of that number. Gateway 0 of a pair that is founded anew is synced at
-    /// once, any other isn't until it is loaded. Its table hashes endpoints by the caller's hashers.
+    /// Returns a gateway in this boot. With `found`, gateway 0 of a pair that is founded anew,
+    /// which is synced at once; otherwise the gateway isn't synced until its table is loaded. The
+    /// table hashes endpoints by the caller's hashers. Fails where there isn't enough memory.
     pub fn new(
         alloc: Global,
         settings: &Settings,
@@ -101,11 +102,11 @@ impl Gateway {
         self.forwarder.outside.recall();
     }
 
-    /// Ends it, and gives its memory back. A caller that lets a gateway go by this call alone proves
-    /// nothing of its parts.
+    /// Drops the gateway, and frees its memory. A caller that drops gateways by this call alone
+    /// needs no proof about their parts.
     pub fn end(self) {}
 
-    /// No step makes more notes than this.
+    /// Returns a number of notes that no step exceeds.
     pub fn most_notes(&self) -> usize
         ensures { result ≡ most_notes self.now }
     {
@@ -114,21 +115,21 @@ impl Gateway {
         entry_count(&self.forwarder) + freed + RECORDS_IN_A_DATAGRAM * (1 + freed) + PACKET_NOTES
     }
 
-    /// Its clock's moment, in centiseconds.
+    /// Returns the time of the gateway's clock, in centiseconds.
     pub fn moment(&self) -> u64
         ensures { result ≡ self.now.moment }
     {
         self.forwarder.moment
     }
 
-    /// Whether its table is loaded.
+    /// Whether the gateway's table is loaded.
     pub fn synced(&self) -> bool
         ensures { result ≡ is_synced self.now.ledger.book.stage }
     {
         self.forwarder.core.is_synced()
     }
 
-    /// Whether it gave way to the other gateway: then no router of it is Active.
+    /// Whether the gateway gave way to the other one; then none of its routers is Active.
     pub fn is_away(&self) -> bool
         ensures { result ≡ self.now.away }
     {
@@ -142,7 +143,7 @@ impl Gateway {
         self.forwarder.station(side).is_active()
     }
 
-    /// The state of the virtual router on a side.
+    /// Returns the state of the virtual router on a side.
     pub fn role(&self, side: Side) -> State
         ensures { result ≡ (station_on self.now side).router.state }
     {
@@ -162,7 +163,7 @@ impl Gateway {
         self.forwarder.station(side).is_in()
     }
 
-    /// The boot of the other gateway that it knows; 0 where it knows none.
+    /// Returns the boot of the other gateway that is known, or 0.
     pub fn known_peer(&self) -> u64
         ensures { result ≡ self.now.link.known }
     {
@@ -177,46 +178,47 @@ impl Gateway {
         self.forwarder.link.hears(self.forwarder.moment)
     }
 
-    /// The moment at which the other gateway last counted as heard.
+    /// Returns the time at which the other gateway last counted as heard, in centiseconds.
     pub fn heard(&self) -> Option<u64>
         ensures { result ≡ self.now.link.heard }
     {
         self.forwarder.link.heard()
     }
 
-    /// Whether the other gateway serves: it is heard so, and said last that it serves.
+    /// Whether the other gateway serves: it was heard at most 300 centiseconds ago, and said last
+    /// that it serves.
     pub fn peer_serves(&self) -> bool
         ensures { result ≡ peer_serves self.now.link self.now.moment }
     {
         self.forwarder.link.peer_serves(self.forwarder.moment)
     }
 
-    /// How many packets wait for a pair.
+    /// Returns how many packets wait for a pair.
     pub fn waiting_for_pairs(&self) -> usize
         ensures { result ≡ pairs_waiting self.now.kept }
     {
         pair_count(self.forwarder.kept.packets())
     }
 
-    /// How many packets wait for the address of their next hop.
+    /// Returns how many packets wait for the hardware address of their next hop.
     pub fn waiting_for_hops(&self) -> usize
         ensures { result ≡ hops_in self.now.kept }
     {
         hop_count(self.forwarder.kept.packets())
     }
 
-    /// The entry of an outside port, whatever its state.
+    /// Returns the entry of a key, whatever its state.
     pub fn entry(&self, key: Key) -> Option<Entry>
         ensures { result ≡ slot_of self.now.ledger.book.entries key }
     {
         self.forwarder.core.table().pair_of_port(key)
     }
 
-    /// The entry that follows a key in the order by protocol (icmp first) and port, whatever its state; of `None` the
-    /// first one. The key needs no entry of its own.
+    /// Returns the entry that follows a key in the order by protocol (icmp first) and port,
+    /// whatever its state; for None the first one. The key need not have an entry.
     pub fn entry_after(&self, last: Option<Key>) -> Option<Entry>
         ensures exact { result ≡ after_key last self.now.ledger.book.entries }
-        // Behind the key it stands first, and what is behind it stands behind the key too.
+        // The entry is the first one after the key, and the entries after it are after the key too.
         ensures next { IfSome result (λ e. behind last self.now.ledger.book.entries
             ≡ e ∷ behind (Some e.pair.key) self.now.ledger.book.entries) }
         ensures none { IfNone result (behind last self.now.ledger.book.entries ≡ []) }
@@ -225,7 +227,7 @@ impl Gateway {
         entries::entry_after(self.forwarder.core.table(), last)
     }
 
-    /// How many entries its table has, whatever their state.
+    /// Returns how many entries the table has, whatever their state.
     pub fn entry_count(&self) -> usize
         ensures count { result ≡ length self.now.ledger.book.entries }
         ensures few { result ≤ 1000000 }
@@ -233,7 +235,8 @@ impl Gateway {
         entry_count(&self.forwarder)
     }
 
-    /// All pairs of its table, by protocol (icmp first) and port; a proposal given up is none.
+    /// Returns all pairs of the table, by protocol (icmp first) and port, without proposals that
+    /// were given up. Fails where there isn't enough memory.
     pub fn pairs(&self) -> Result<Vec<Pair>, NoMemory>
         ensures listed { IfOk result (λ v. v.items
             ≡ pairs_in is_pair self.now.ledger.book.entries) }
@@ -243,7 +246,8 @@ impl Gateway {
         Ok(pairs)
     }
 
-    /// The pairs that translate, in the same order.
+    /// Returns the pairs that translate, by protocol (icmp first) and port. Fails where there isn't
+    /// enough memory.
     pub fn translating(&self) -> Result<Vec<Pair>, NoMemory>
         ensures listed { IfOk result (λ v. v.items
             ≡ pairs_in translates self.now.ledger.book.entries) }
@@ -253,12 +257,13 @@ impl Gateway {
         Ok(pairs)
     }
 
-    /// The ports that it owns, rising; none where it isn't synced.
+    /// Returns the ports that the gateway owns, rising; none where it isn't synced. Fails where
+    /// there isn't enough memory.
     pub fn owned(&self) -> Result<Vec<Port>, NoMemory>
         ensures ports { IfOk result (λ v. v.items
             ≡ (if is_synced self.now.ledger.book.stage
             then map port_at self.now.ledger.book.owned else [])) }
-        // Where there is none to list, no memory is taken.
+        // Where there is no port to list, no memory is taken.
         ensures none { is_synced self.now.ledger.book.stage ≡ false → IsOk result }
         ensures refused { OnErr result (WasRefused 1) }
     {
@@ -266,20 +271,20 @@ impl Gateway {
         Ok(ports)
     }
 
-    /// One step: takes an event, and appends to the page of an `Out` what is sent and noted with it.
-    /// An `Err` stands for a refused growth; nothing has changed then. The word of a side is never
-    /// refused.
+    /// Takes one step: handles an event, appends what is sent and noted to the page of an `Out`,
+    /// and returns the event's outcome. Fails where there isn't enough memory; nothing has changed
+    /// then. An event `Side` never fails.
     pub fn step(&mut self, event: Event<'_>, page: &mut OutputBuffer) -> Result<Outcome, NoMemory>
         ensures outcome { IfOk result (λ o. o ≡ outcome_on self.old event.entry) }
         ensures step { OnOk result (IsStepOn (scene self.old page.old.told) event.entry
             (scene self.new page.new.told)) }
-        // The bytes that came in are bytes.
+        // The input consists of bytes.
         ensures bytes { HasBytes event.entry }
         ensures err { OnErr result (self.new ≡ self.old) }
         ensures untold { OnErr result (page.new.told ≡ page.old.told) }
-        // A growth was refused that this event needs, and for which this page had no room.
+        // The event needs memory that was refused, and for which this page had no capacity.
         ensures lacks { OnErr result (LacksMemory self.old page.old event.entry) }
-        // The word of a side takes no memory.
+        // An event `Side` takes no memory.
         ensures plugged { is_of_side event.entry ≡ true → IsOk result }
     {
         steps::step(self.alloc, &mut self.forwarder, page, event)

@@ -1,5 +1,5 @@
-//! One gateway of the pair: frames, datagrams and ticks go in; frames and datagrams come out, with
-//! a note of each thing that it does with its pairs.
+//! One gateway of the pair. Frames, datagrams, ticks and commands go in; frames, datagrams and
+//! notes about its pairs come out.
 #![tactic(auto)]
 
 mod arrivals;

@@ -1,4 +1,4 @@
-//! The records of a datagram, each taken with what follows from it.
+//! The records of a datagram, and what follows from each.
 ghost use Rattle.std.specs.Prelude.{◌≡◌, ◌≤◌, ◌<◌, ◌+◌, ◌*◌, true, ℕ, length};
 ghost use Rattle.std.specs.List.{AllByRecursion};
 ghost use Rattle.link.specs.declared.datagrams.TheConstants.{RECORDS_IN_A_DATAGRAM};
@@ -20,7 +20,7 @@ use output::OutputBuffer;
 use spec_binding::rows_leave;
 use waiting::WaitsFor;
 
-/// Takes a record with the core. The answer is the endpoint whose packets needn't wait any more.
+/// Passes a record to the core, and returns the endpoint whose packets needn't wait any more.
 fn take_alone(forwarder: &mut Forwarder, page: &mut OutputBuffer, entry: Record) -> Option<Endpoint>
     requires formed { IsWellFormedRecord entry }
     requires places { needs_answer entry ≡ true → 0 < free_places forwarder.old.link }
@@ -46,7 +46,7 @@ fn take_alone(forwarder: &mut Forwarder, page: &mut OutputBuffer, entry: Record)
     ended
 }
 
-/// Takes a record, and starts the routers of a gateway that became synced by it, where it is neither
+/// Takes a record, and starts the routers where the gateway became synced by it and is neither
 /// stopped nor away.
 fn take_and_start(
     forwarder: &mut Forwarder,
@@ -75,7 +75,7 @@ fn take_and_start(
     ended
 }
 
-/// Takes a record, and the packets again that needn't wait any more.
+/// Takes a record, and takes the packets again that needn't wait any more.
 pub(crate) fn take_record(forwarder: &mut Forwarder, page: &mut OutputBuffer, entry: Record)
     requires formed { IsWellFormedRecord entry }
     requires moment { IsMoment forwarder.old.moment }
@@ -84,7 +84,7 @@ pub(crate) fn take_record(forwarder: &mut Forwarder, page: &mut OutputBuffer, en
     ensures scene { scene_on forwarder.new page.new
         ≡ record_done (scene_on forwarder.old page.old) entry }
     ensures spends { Spends (records_need 1) forwarder.old page.old forwarder.new page.new }
-    // What is pushed leaves places of the link free, where they were.
+    // What is pushed leaves places of the link free, if so many were free before.
     ensures places { (more : ℕ) → more ≤ places_for_answers
         → more + answers_to entry ≤ free_places forwarder.old.link
         → more ≤ free_places forwarder.new.link }
@@ -96,7 +96,7 @@ pub(crate) fn take_record(forwarder: &mut Forwarder, page: &mut OutputBuffer, en
     }
 }
 
-/// Takes the records of a datagram, one after another.
+/// Takes the records of a datagram, in order.
 pub(crate) fn take_records(forwarder: &mut Forwarder, page: &mut OutputBuffer, records: &[Record])
     requires formed { AllByRecursion IsWellFormedRecord records.now }
     requires few { length records.now ≤ RECORDS_IN_A_DATAGRAM }

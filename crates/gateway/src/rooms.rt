@@ -1,4 +1,4 @@
-//! The memory that a step takes before it begins.
+//! The memory that a step takes before it begins, by event.
 ghost use Rattle.std.specs.Prelude.{◌≡◌, ◌≤◌, OnErr, OnOk, IfOk, length, vec_capacity, []};
 ghost use Rattle.output.specs.Output.{IsWithin};
 ghost use Rattle.forwarder.specs.Forwarder.{scene_on};
@@ -16,83 +16,84 @@ use output::{OutputBuffer, Room};
 use std::alloc::Global;
 use waiting::HeldPacket;
 
-/// Any endpoint: of new pairs the count is told alone.
+/// A placeholder: `Core::ready` uses only the number of new pairs.
 const ANY_ENDPOINT: Endpoint = Endpoint {
     protocol: Protocol::Tcp,
     address: Ip(0),
     port: Port(1),
 };
 
-/// A packet that is taken sends its own frame, and a request behind it.
+/// The most frames of a packet that is taken: its own, and an ARP request after it.
 const PACKET_FRAMES: usize = 2;
 
-/// A packet that is taken makes at most so many notes: of a new pair, and of the use of two.
+/// The most notes of a packet that is taken: one of a new pair, and two of pairs that are used.
 pub(crate) const PACKET_NOTES: usize = 3;
 
-/// Both routers that are told something send at most so many frames: an advertisement each, and the
-/// frame that tells an address.
+/// The most frames of both routers for one cue: an advertisement each, and a gratuitous ARP frame
+/// each.
 const ROUTER_FRAMES: usize = 4;
 
-/// So many packets may wait for pairs.
+/// The most packets that may wait for pairs.
 pub(crate) const WAITING: usize = 64;
 
-/// The frames that they send at most when they are taken again.
+/// The most frames of the packets that waited for pairs, when they are taken again.
 const WAITING_FRAMES: usize = PACKET_FRAMES * WAITING;
 
-/// The notes that they make at most then.
+/// The most notes of the packets that waited for pairs, when they are taken again.
 const WAITING_NOTES: usize = PACKET_NOTES * WAITING;
 
-/// The frames of a datagram's records at most: each may end the wait of a packet.
+/// The most frames of a datagram's records: each may end the wait of a packet.
 const RECORD_FRAMES: usize = PACKET_FRAMES * RECORDS_IN_A_DATAGRAM;
 
-/// The notes of a datagram's records at most: each has one, beside those of the packet whose wait it
+/// The most notes of a datagram's records: one of each, beside those of the packet whose wait it
 /// ends.
 const RECORD_NOTES: usize = (1 + PACKET_NOTES) * RECORDS_IN_A_DATAGRAM;
 
-/// The new pairs of a datagram's records at most: each may be one, and end the wait of a packet.
+/// The most new pairs of a datagram's records: each may be one, and end the wait of a packet.
 pub(crate) const RECORD_PAIRS: usize = 2 * RECORDS_IN_A_DATAGRAM;
 
-/// For so many new pairs a core is made ready, at most.
+/// The most new pairs for which a core is made ready.
 pub(crate) const MOST_PAIRS: usize = WAITING + RECORD_PAIRS;
 
 const ENDPOINTS: [Endpoint; MOST_PAIRS] = [ANY_ENDPOINT; MOST_PAIRS];
 
-/// Room for the datagram at the end alone.
+/// The capacity for the datagram at the end alone.
 pub(crate) const END_ROOM: Room = Room {
     frames: 0,
     datagrams: 1,
     notes: 0,
 };
 
-/// What a frame asks room for that is taken: an answer, and a packet.
+/// The capacity for a frame that is taken: an answer, and a packet.
 pub(crate) const FRAME_ROOM: Room = Room {
     frames: 1 + PACKET_FRAMES,
     datagrams: 1,
     notes: PACKET_NOTES,
 };
 
-/// What a frame asks room for of which something may be said: that, and a request behind it.
+/// The capacity for a packet whose time to live is over: an error, and an ARP request after it.
 pub(crate) const OVER_ROOM: Room = Room {
     frames: PACKET_FRAMES,
     datagrams: 1,
     notes: 0,
 };
 
-/// What a datagram asks room for that can't begin a session anew: its records.
+/// The capacity for a datagram that can't begin a new session: that of its records.
 pub(crate) const RECORDS_ROOM: Room = Room {
     frames: RECORD_FRAMES,
     datagrams: 1,
     notes: RECORD_NOTES,
 };
 
-/// What the stop of both routers asks room for.
+/// The capacity for the stop of both routers.
 pub(crate) const STOP_ROOM: Room = Room {
     frames: ROUTER_FRAMES,
     datagrams: 1,
     notes: 0,
 };
 
-/// What a tick asks room for: a stop of both routers and their tick, and the notes of idle pairs.
+/// Returns the capacity for a tick: a stop of both routers and their tick, and the notes of idle
+/// pairs.
 pub(crate) fn tick_room(forwarder: &Forwarder) -> Room
     ensures { result ≡ room_for (tick_needs forwarder.now) }
 {
@@ -103,8 +104,8 @@ pub(crate) fn tick_room(forwarder: &Forwarder) -> Room
     }
 }
 
-/// What the word that the other gateway is off asks room for: a note of each entry, and the packets
-/// that waited for pairs.
+/// Returns the capacity for the operator's word that the other gateway is off: a note of each
+/// entry, and the packets that waited for pairs.
 pub(crate) fn word_room(forwarder: &Forwarder) -> Room
     ensures { result ≡ room_for (waiting_needs forwarder.now) }
 {
@@ -115,7 +116,8 @@ pub(crate) fn word_room(forwarder: &Forwarder) -> Room
     }
 }
 
-/// What a datagram asks room for that may begin a session anew: what that does, and its records.
+/// Returns the capacity for a datagram that may begin a new session: a note of each entry, the
+/// packets that waited for pairs, and the records.
 pub(crate) fn restart_room(forwarder: &Forwarder) -> Room
     ensures { result ≡ room_for (restart_needs forwarder.now) }
 {
@@ -134,8 +136,9 @@ fn recall_entries(forwarder: &Forwarder)
     forwarder.core.table().recall();
 }
 
-/// Makes a page ready for so much, and a core for so many new pairs. An `Err` stands for a refused
-/// growth; nothing shows then. It alone has the name for it.
+/// Makes a page ready for this capacity, and a core for so many new pairs. Fails where there isn't
+/// enough memory; nothing that contracts see has changed then. No other function unfolds
+/// `WasUnready`.
 #[inline(always)]
 #[tactic(auto, unfolding(crate::specs::Lacks::WasUnready))]
 pub(crate) fn make_ready(
@@ -167,7 +170,7 @@ pub(crate) fn make_ready(
     Ok(())
 }
 
-/// How many entries the table has.
+/// Returns how many entries the table has.
 pub(crate) fn entry_count(forwarder: &Forwarder) -> usize
     ensures count { result ≡ length forwarder.now.core.table.entries }
     ensures few { result ≤ most_entries }
@@ -177,8 +180,8 @@ pub(crate) fn entry_count(forwarder: &Forwarder) -> usize
     forwarder.core.table().len()
 }
 
-/// An empty list with room for all packets that wait. It alone has the name for it that there is no
-/// memory for one.
+/// Returns an empty list with capacity for all packets that wait. Fails where there isn't enough
+/// memory. No other function unfolds `WasUnlisted`.
 #[tactic(auto, unfolding(crate::specs::Lacks::WasUnlisted))]
 pub(crate) fn list_for(alloc: Global, forwarder: &Forwarder) -> Result<Vec<HeldPacket>, NoMemory>
     ensures empty { IfOk result (λ v. v.items ≡ []) }

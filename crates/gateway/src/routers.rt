@@ -1,4 +1,4 @@
-//! The virtual routers of a gateway: what they are told, and the frames of what they do then.
+//! The virtual routers of a gateway: their cues, and the frames of the actions that follow.
 ghost use Rattle.std.specs.Prelude.{◌≡◌, ◌≤◌, ◌+◌, ⊤};
 ghost use Rattle.arp.specs.declared.packets.TheConstants.{ARP_FRAME};
 ghost use Rattle.vrrp_packet.specs.declared.TheConstants.{ADVERT_FRAME};
@@ -22,7 +22,7 @@ use output::{OutputBuffer, WriteBytes};
 use vrrp_packet::Advert;
 use vrrp_states::Action;
 
-/// What a router is told.
+/// A cue for a virtual router.
 #[derive(Clone, Copy, Debug, PartialEq, Eq)]
 pub(crate) enum Cue {
     Tick,
@@ -31,7 +31,7 @@ pub(crate) enum Cue {
     Heard(Advert, Ip),
 }
 
-/// The frame of an advertisement.
+/// The frame of a VRRP advertisement.
 #[derive(Drop)]
 struct AdvertFrame<'a> {
     station: &'a Interface,
@@ -50,7 +50,7 @@ impl WriteBytes for AdvertFrame<'_> {
     }
 }
 
-/// The frame that tells everyone where the virtual address is.
+/// The gratuitous ARP frame, which tells everyone the hardware address of the virtual address.
 #[derive(Drop)]
 struct GratuitousFrame<'a> {
     station: &'a Interface,
@@ -68,7 +68,7 @@ impl WriteBytes for GratuitousFrame<'_> {
     }
 }
 
-/// Sends the frames of an action.
+/// Appends the frames of a router's action to the page.
 fn send_action(page: &mut OutputBuffer, side: Side, station: &Interface, action: Action)
     requires { 2 ≤ page.old.room.frames }
     ensures told { (g : Shown) → scene g page.new.told
@@ -87,7 +87,7 @@ fn send_action(page: &mut OutputBuffer, side: Side, station: &Interface, action:
     }
 }
 
-/// Tells a router something, and gives what it does then.
+/// Gives a cue to a router, and returns the router's action.
 fn tell(station: &mut Interface, cue: Cue, now: u64) -> Action
     requires { IsMoment now }
     ensures { IsRouterStep station.old (event_of cue) now result station.new }
@@ -99,7 +99,7 @@ fn tell(station: &mut Interface, cue: Cue, now: u64) -> Action
     }
 }
 
-/// Tells the router on a side something, and sends its frames.
+/// Gives a cue to the router on a side, and sends the frames of its action.
 #[cold]
 pub(crate) fn cue_router(forwarder: &mut Forwarder, page: &mut OutputBuffer, side: Side, cue: Cue)
     requires moment { IsMoment forwarder.old.moment }
@@ -125,7 +125,7 @@ pub(crate) fn cue_router(forwarder: &mut Forwarder, page: &mut OutputBuffer, sid
     }
 }
 
-/// Tells both routers something, that of the inside first.
+/// Gives a cue to both routers, that of the inside first.
 pub(crate) fn cue_both(forwarder: &mut Forwarder, page: &mut OutputBuffer, cue: Cue)
     requires moment { IsMoment forwarder.old.moment }
     requires room { HasRoomFor both_routers forwarder.old page.old }
@@ -148,7 +148,7 @@ fn start_station(station: &mut Interface, now: u64)
     station.start(now);
 }
 
-/// Starts both routers, of a gateway that was founded or loaded, or came back.
+/// Starts both routers of a gateway that was founded or loaded, or came back.
 pub(crate) fn start_routers(forwarder: &mut Forwarder)
     requires { IsMoment forwarder.old.moment }
     ensures { forwarder.new ≡ record forwarder.old {

@@ -1,4 +1,4 @@
-//! A whole step: the memory that it takes, its event's own parts, and the datagram at its end.
+//! A whole step: the memory that it takes, the handling of its event, and the datagram at its end.
 ghost use Rattle.std.specs.Prelude.{◌≡◌, ◌≤◌, ◌⊎◌, IfOk, IsOk, Ok, OnErr, OnOk, false, length};
 ghost use Rattle.std.specs.Prelude.{true};
 ghost use Rattle.link.specs.declared.datagrams.Datagram.{Datagram};
@@ -75,7 +75,7 @@ fn frame_came(
     }
 }
 
-/// A datagram that may begin a session anew: there is to be room for all that follows from that.
+/// Handles a datagram that may begin a new session, with memory for all that follows from that.
 #[cold]
 fn first_came(
     alloc: Global,
@@ -106,7 +106,7 @@ fn first_came(
     }
 }
 
-/// Any other datagram: its records need room alone, and no list.
+/// Handles any other datagram, with memory for its records, and no list.
 fn further_came(
     forwarder: &mut Forwarder,
     page: &mut OutputBuffer,
@@ -222,7 +222,8 @@ fn word_came(
     }
 }
 
-/// An event's own parts. An `Err` stands for a refused growth; nothing shows then.
+/// Handles an event, without the datagram at the end. Fails where there isn't enough memory;
+/// nothing has changed then.
 #[inline(always)]
 fn take_event(
     alloc: Global,
@@ -253,7 +254,7 @@ fn take_event(
     }
 }
 
-/// Sends the datagram that is due at an event's end.
+/// Sends the datagram that is due at the end of an event, if one is.
 fn end_event(forwarder: &mut Forwarder, page: &mut OutputBuffer, event: Event<'_>)
     requires promised { length forwarder.old.core.coming ≡ forwarder.old.link.promised }
     requires datagrams { most_datagrams event ≤ page.old.room.datagrams }
@@ -284,8 +285,8 @@ fn recall_event(event: Event<'_>)
     }
 }
 
-/// One step: takes an event, and writes on the page what is sent and noted with it. An `Err` stands
-/// for a refused growth; nothing shows then.
+/// Takes one step: handles an event, and appends what is sent and noted to the page. Fails where
+/// there isn't enough memory; nothing has changed then.
 pub(crate) fn step(
     alloc: Global,
     forwarder: &mut Forwarder,

@@ -15,17 +15,17 @@ use forwarder::Forwarder;
 use output::OutputBuffer;
 use spec_step::idle_at_once;
 
-/// The greatest moment of a clock, in centiseconds.
+/// The greatest time of a clock, in centiseconds.
 const LAST_MOMENT: u64 = 4_000_000_000_000;
 
-/// The clock after a tick: it never runs back.
+/// Returns the time of a clock after a tick. The clock never runs back.
 fn clock_after(moment: u64, now: u64) -> u64
     ensures { result ≡ clock_after moment now }
 {
     moment.max(now.min(LAST_MOMENT))
 }
 
-/// Lets the idle pairs go.
+/// Releases the idle pairs that may go.
 fn release_idle(forwarder: &mut Forwarder, page: &mut OutputBuffer)
     requires room { HasRoomFor (idle_needs forwarder.old) forwarder.old page.old }
     ensures scene { scene_on forwarder.new page.new
@@ -39,7 +39,7 @@ fn release_idle(forwarder: &mut Forwarder, page: &mut OutputBuffer)
     page.put_notes(notes);
 }
 
-/// Moves the clock, and does what is due then, but for the datagram at the end. It begins with a turn,
+/// Moves the clock, and does what is due then, but for the datagram at the end. Begins with a turn,
 /// where the gateway is to give way or to come back.
 pub(crate) fn take_tick(forwarder: &mut Forwarder, page: &mut OutputBuffer, now: u64)
     requires moment { IsMoment forwarder.old.moment }

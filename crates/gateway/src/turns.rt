@@ -1,4 +1,4 @@
-//! Giving way: the turn with which a tick begins, and a gateway's cables.
+//! Giving way: the turn with which a tick begins, and the cables of a gateway.
 ghost use Rattle.std.specs.Prelude.{◌≡◌};
 ghost use Rattle.vrrp_states.specs.Table.{IsMoment};
 ghost use Rattle.interfaces.specs.Stations.{with_plug};
@@ -15,7 +15,7 @@ use nat_types::Side;
 use output::OutputBuffer;
 use spec_step::Turn;
 
-/// Gives way: both routers are stopped.
+/// Gives way: stops both routers.
 fn leave(forwarder: &mut Forwarder, page: &mut OutputBuffer)
     requires moment { IsMoment forwarder.old.moment }
     requires room { HasRoomFor both_routers forwarder.old page.old }
@@ -32,7 +32,7 @@ fn leave(forwarder: &mut Forwarder, page: &mut OutputBuffer)
     forwarder.away = true;
 }
 
-/// Comes back: where it is up, both routers are started.
+/// Comes back: starts both routers, where the gateway is up.
 fn come_back(forwarder: &mut Forwarder)
     requires { IsMoment forwarder.old.moment }
     ensures turn { shown_of forwarder.new ≡ returned (shown_of forwarder.old) }
@@ -67,7 +67,7 @@ pub(crate) fn take_turn(forwarder: &mut Forwarder, page: &mut OutputBuffer)
     }
 }
 
-/// Is told that the cable of a side is in (`up`) or out; nothing is told to anyone.
+/// Notes that the cable of a side is in (`up`) or out, and sends nothing.
 #[cold]
 pub(crate) fn plug(forwarder: &mut Forwarder, side: Side, up: bool)
     ensures { let g = shown_of forwarder.old in let station = station_on g side in

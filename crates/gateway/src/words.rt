@@ -12,7 +12,7 @@ use packet_rules::Reason;
 use spec_step::Outcome;
 use waiting::HeldPacket;
 
-/// Why the word isn't taken.
+/// Returns why the word is refused, or None where it is taken.
 fn word_refusal(forwarder: &Forwarder, boot: u64) -> Option<Reason>
     ensures { result ≡ word_refusal (shown_of forwarder.now) boot }
 {
@@ -25,8 +25,8 @@ fn word_refusal(forwarder: &Forwarder, boot: u64) -> Option<Reason>
     }
 }
 
-/// The session ends, pairs are revived, and the gateway is alone; the packets that waited for pairs
-/// are taken again.
+/// Goes on alone: ends the link's session, revives the pairs, and takes the packets that waited for
+/// pairs again.
 fn go_alone(forwarder: &mut Forwarder, page: &mut OutputBuffer, boot: u64, list: Vec<HeldPacket>)
     requires heard { word_refusal (shown_of forwarder.old) boot ≡ None }
     requires empty { list.items ≡ [] }
@@ -44,8 +44,8 @@ fn go_alone(forwarder: &mut Forwarder, page: &mut OutputBuffer, boot: u64, list:
     forwarder.release_all(page, list);
 }
 
-/// Takes the word that this boot of the other gateway is off, or refuses it. `list` is an empty list
-/// with room for all packets that wait.
+/// Takes the word that this boot of the other gateway is off, or refuses it. `list` is an empty
+/// list with capacity for all packets that wait.
 pub(crate) fn take_word(
     forwarder: &mut Forwarder,
     page: &mut OutputBuffer,

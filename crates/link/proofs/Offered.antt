@@ -2,15 +2,15 @@
 
 -- What a datagram does to an end of the link.
 pub use Rattle.link.proofs.Ends.{passes, length-takeable, pushed_is, formed, restart_is, all_taken, met_restart, met_same, begins, goes_on, pushed_agrees, promised_agrees, fed_agrees, boot_of}
--- it is of a session that wasn't closed
+-- a datagram that isn't refused is of a session that wasn't closed
 pub use Rattle.link.proofs.Ends.{is_open}
--- and it stays within what was handed in
+-- no datagram has records beyond those passed to the end
 pub use Rattle.link.proofs.Ends.{within_handed}
--- the known boot is the datagram's
+-- the known boot after taking is the datagram's
 pub use Rattle.link.proofs.Ends.{known_of}
 -- A field that is read is the field that was written, and what was written is read again.
 pub use Rattle.link.proofs.Fields.{IsBytes-drop, IsBytes-take}
--- Letters: that what is sent is one, and that what is taken of one is read record by record.
+-- Letters (datagrams in flight, specs/Letters.antt): what is sent is one, and what is taken of one is read record by record.
 pub use Rattle.link.proofs.Letters.{is_letter, is_next}
 -- The two laws of the grammar: what is read is spelled so, and what is spelled so is read.
 pub use Rattle.link.proofs.Wholes.{reading_takes}

@@ -3,11 +3,11 @@ use Rattle.std.specs.Prelude.{ℕ, ◌-◌, Bool, false, ◌&&◌, nat_le, Optio
 use Rattle.link.specs.Link.{Link}
 use Rattle.link.specs.declared.session.TheConstants.{HEARD_FOR}
 
--- it was heard at that moment, at most 300 cs (HEARD_FOR) ago
+-- whether the peer was heard (at the time in the option) at most 300 cs (HEARD_FOR) before now
 abbrev pub is_heard : Option ℕ → ℕ → Bool
 is_heard None now = false
 is_heard (Some last) now = nat_le (now - last) HEARD_FOR
 
--- it was heard lately, and the last datagram by which it counted as heard says that it serves
+-- whether the peer was heard at most 300 cs before now, and the last datagram by which it counted as heard says that it serves
 abbrev pub peer_serves : Link → ℕ → Bool
 peer_serves e now = is_heard e.heard now && e.status

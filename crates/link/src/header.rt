@@ -50,7 +50,7 @@ use crate::{LinkFault, RECORDS_IN_A_DATAGRAM};
 use byteorder::{BigEndian, ByteOrder};
 use nat_types::GatewayId;
 
-/// Where the fields lie.
+/// Offsets of a header's fields, in bytes.
 mod field {
     pub const VERSION: usize = 2;
 
@@ -67,17 +67,17 @@ mod field {
     pub const FIRST: usize = 29;
 
     pub const COUNT: usize = 37;
-    /// The bytes of a header.
+    /// The length of a header.
     pub const HEADER: usize = 38;
 }
 
-/// The version of the link that is spoken here.
+/// The version of the link's format that is written, and the only one that is read.
 const VERSION: u8 = 3;
 
-/// The number behind the last one that a record may have.
+/// The first number above those that a record may have, 2^63.
 const NUMBERS_END: u64 = 9_223_372_036_854_775_808;
 
-/// What stands before the records.
+/// The fields of a header, without the marker and the version.
 #[derive(Clone, Copy)]
 pub(crate) struct Header {
     pub sender: GatewayId,
@@ -131,7 +131,7 @@ fn number_from(bytes: &[u8], start: usize) -> u64
     BigEndian::read_u64(&bytes[start..])
 }
 
-/// The fields of a header that is there.
+/// Returns the fields of a header from bytes that have a whole one.
 fn fields_of(bytes: &[u8]) -> Header
     requires { 38 ≤ length bytes.now }
     ensures { result ≡ header bytes.now }
@@ -147,7 +147,7 @@ fn fields_of(bytes: &[u8]) -> Header
     }
 }
 
-/// The header of a datagram, or the first of its tests that fails.
+/// Returns the header of a datagram, or the Err of the first test that fails.
 #[tactic(auto, unfolding(crate::specs::Reading::header_at))]
 pub(crate) fn header_of(bytes: &[u8]) -> Result<Header, LinkFault>
     ensures exact { Gives (λ h. h) result (header_at bytes.now) }
@@ -173,7 +173,7 @@ pub(crate) fn header_of(bytes: &[u8]) -> Result<Header, LinkFault>
     Ok(header)
 }
 
-/// What stands behind the header.
+/// Returns the bytes after the header.
 pub(crate) fn behind_header(bytes: &[u8]) -> &[u8]
     requires { 38 ≤ length bytes.now }
     ensures { result.now ≡ drop 38 bytes.now }
@@ -203,7 +203,7 @@ fn put_number(out: &mut Part, number: u64)
     put(out, &number.to_be_bytes());
 }
 
-/// Writes the header.
+/// Appends a header's bytes to an empty part.
 pub(crate) fn put_header(out: &mut Part, header: &Header)
     requires { length out.old.items ≡ 0 }
     ensures { out.new.items ≡ header_spelling header.now }

@@ -1,4 +1,4 @@
--- What a reader of frames gets.
+-- The model of a frame that an iterator lends.
 use Rattle.output.specs.declared.readers.Frame.{Frame}
 use Rattle.output.specs.Output.{Sent}
 

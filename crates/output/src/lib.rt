@@ -1,4 +1,4 @@
-//! What the steps of a gateway tell: the frames and the datagrams that they send, and their notes.
+//! The output of a gateway's steps: frames to send, datagrams for the other gateway, and notes.
 #![tactic(auto)]
 
 mod outs;

@@ -1,4 +1,4 @@
-//! What callers of a gateway see.
+//! The output of a gateway's steps, as callers see it.
 ghost use Rattle.std.specs.Prelude.{◌≡◌, length};
 ghost use Rattle.output.specs.Output.{none_told};
 
@@ -8,11 +8,11 @@ use nat_types::Note;
 use std::alloc::Global;
 use std::marker::Model;
 
-/// What the steps of a gateway told: frames, datagrams and notes, each in order. Its memory is used
-/// again after `clear`.
+/// The output of a gateway's steps: frames, datagrams and notes, each in order. `clear` keeps the
+/// memory for the next steps.
 #[derive(Debug, Drop)]
 pub struct Out {
-    /// Where a step writes. What there is room for is no part of what was told.
+    /// The buffer that steps fill. Its spare capacity is no part of the output.
     pub page: OutputBuffer,
 }
 
@@ -25,7 +25,7 @@ impl Model for Out {
 }
 
 impl Out {
-    /// With nothing told.
+    /// Returns an empty output.
     pub fn new(alloc: Global) -> Out
         ensures { result ≡ none_told }
     {
@@ -34,35 +34,35 @@ impl Out {
         }
     }
 
-    /// Tells nothing any more, and keeps the memory for the next steps.
+    /// Empties the output, and keeps the memory for the next steps.
     pub fn clear(&mut self)
         ensures { self.new ≡ none_told }
     {
         self.page.clear();
     }
 
-    /// The frames that were sent, in order.
+    /// Returns the frames to send, in order.
     pub fn frames(&self) -> Frames<'_>
         ensures { result ≡ self.now.frames }
     {
         self.page.frames()
     }
 
-    /// How many datagrams there are.
+    /// Returns how many datagrams there are.
     pub fn datagram_count(&self) -> usize
         ensures { result ≡ length self.now.datagrams }
     {
         self.page.datagram_count()
     }
 
-    /// The datagrams that were sent to the other gateway, in order.
+    /// Returns the datagrams for the other gateway, in order.
     pub fn datagrams(&self) -> ByteStrings<'_>
         ensures { result ≡ self.now.datagrams }
     {
         self.page.datagrams()
     }
 
-    /// What was noted, in order.
+    /// Returns the notes, in order.
     pub fn notes(&self) -> &[Note]
         ensures { result.now ≡ self.now.notes }
     {

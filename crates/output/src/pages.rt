@@ -1,4 +1,4 @@
-//! The page on which a step writes what it tells.
+//! The buffer that a step fills with its output.
 ghost use Rattle.std.specs.Prelude.{◌≡◌, ◌≤◌, ◌<◌, ◌+◌, ◌-◌, ◌++◌, length, vec_len, vec_capacity};
 ghost use Rattle.std.specs.Prelude.{OnOk, OnErr, IsOk};
 ghost use Rattle.output.specs.Output.{none_told, no_room, with_frame, with_datagram, with_note};
@@ -13,14 +13,14 @@ use std::alloc::{AllocError, Global};
 use std::marker::Model;
 use std::{mem, slice};
 
-/// The bytes of the longest frame that is sent.
+/// The most bytes of a frame that is sent.
 const LONGEST_FRAME: usize = 1514;
 
-/// The bytes of the longest datagram: a header of 38 and 64 records of at most 34.
+/// The most bytes of a datagram: a header of 38 and 64 records of at most 34.
 const LONGEST_DATAGRAM: usize = 2214;
 
-/// For how much there is room: frames of up to 1,514 bytes each, datagrams of up to 2,214 bytes
-/// each, and notes.
+/// A capacity: numbers of frames of up to 1,514 bytes each, of datagrams of up to 2,214 bytes each,
+/// and of notes.
 #[derive(Clone, Copy, Debug, PartialEq, Eq, Default)]
 pub struct Room {
     pub frames: usize,
@@ -28,8 +28,8 @@ pub struct Room {
     pub notes: usize,
 }
 
-/// What was told so far, and for how much more there is room. What is added takes no memory:
-/// `ready` takes it.
+/// The output so far, and the capacity that is left. `ready` takes the memory; what is added
+/// afterwards takes none.
 #[derive(Debug, Drop)]
 pub struct OutputBuffer {
     sides: Vec<Side>,
@@ -74,7 +74,7 @@ fn note_reserved(list: &mut Vec<Note>, notes: &[Note])
 }
 
 impl OutputBuffer {
-    /// With nothing told, and no room.
+    /// Returns an empty buffer without capacity.
     pub fn new(alloc: Global) -> OutputBuffer
         ensures told { result.told ≡ none_told }
         ensures room { result.room ≡ no_room }
@@ -92,7 +92,8 @@ impl OutputBuffer {
         }
     }
 
-    /// Makes room for so much, in all.
+    /// Sets the capacity that is left to this one, and takes the memory for it. Fails where there
+    /// isn't enough; output and capacity are then as before.
     #[inline(always)]
     pub fn ready(&mut self, room: Room) -> Result<(), AllocError>
         requires few_frames { room.frames ≤ 4096 }
@@ -111,7 +112,7 @@ impl OutputBuffer {
         Ok(())
     }
 
-    /// Tells nothing any more, and keeps the memory.
+    /// Removes all output, and keeps the memory.
     pub fn clear(&mut self)
         ensures told { self.new.told ≡ none_told }
         ensures room { self.new.room ≡ self.old.room }
@@ -122,7 +123,7 @@ impl OutputBuffer {
         self.notes.clear();
     }
 
-    /// Adds a frame that goes to this side, and is made where it lies.
+    /// Appends a frame for this side. The frame writes its bytes directly into the buffer.
     #[inline(always)]
     pub fn make_frame<W: WriteBytes>(&mut self, side: Side, frame: &W)
         requires ready { W.can_write frame.now }
@@ -137,7 +138,7 @@ impl OutputBuffer {
         self.room.frames -= 1;
     }
 
-    /// Adds a datagram that is made where it lies.
+    /// Appends a datagram, which writes its bytes directly into the buffer.
     pub fn make_datagram<W: WriteBytes>(&mut self, datagram: &W)
         requires ready { W.can_write datagram.now }
         requires room { 0 < self.old.room.datagrams }
@@ -150,7 +151,7 @@ impl OutputBuffer {
         self.room.datagrams -= 1;
     }
 
-    /// Adds a note.
+    /// Appends a note.
     pub fn note(&mut self, note: &Note)
         requires { 0 < self.old.room.notes }
         ensures told { self.new.told ≡ with_note self.old.told note.now }
@@ -160,8 +161,8 @@ impl OutputBuffer {
         self.room.notes -= 1;
     }
 
-    /// Hands the list of notes out, to what appends notes to a list with room; `put_notes` takes it
-    /// back.
+    /// Takes the list of notes out of the buffer, for a call that appends notes to a list with
+    /// capacity; `put_notes` puts it back.
     pub fn take_notes(&mut self) -> Vec<Note>
         ensures notes { result.items ≡ self.old.told.notes }
         ensures room { vec_len result + self.old.room.notes ≤ vec_capacity result }
@@ -172,7 +173,7 @@ impl OutputBuffer {
         mem::replace(&mut self.notes, Vec::new(alloc))
     }
 
-    /// Takes a list of notes in place of the one that was there, with the room that it has.
+    /// Puts a list of notes in place of the present one; the capacity for notes is then the list's.
     pub fn put_notes(&mut self, notes: Vec<Note>)
         ensures told { self.new.told ≡ record self.old.told { notes = notes.items } }
         ensures room { self.new.room
@@ -182,28 +183,28 @@ impl OutputBuffer {
         self.notes = notes;
     }
 
-    /// The frames, in order.
+    /// Returns the frames, in order.
     pub fn frames(&self) -> Frames<'_>
         ensures { result ≡ self.now.told.frames }
     {
         Frames::of(&self.sides, self.frames.strings())
     }
 
-    /// How many datagrams there are.
+    /// Returns how many datagrams there are.
     pub fn datagram_count(&self) -> usize
         ensures { result ≡ length self.now.told.datagrams }
     {
         self.datagrams.count()
     }
 
-    /// The datagrams, in order.
+    /// Returns the datagrams, in order.
     pub fn datagrams(&self) -> ByteStrings<'_>
         ensures { result ≡ self.now.told.datagrams }
     {
         self.datagrams.strings()
     }
 
-    /// The notes, in order.
+    /// Returns the notes, in order.
     pub fn notes(&self) -> &[Note]
         ensures { result.now ≡ self.now.told.notes }
     {

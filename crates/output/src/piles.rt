@@ -1,4 +1,4 @@
-//! Strings of bytes that lie one behind the other, so that none takes memory of its own.
+//! Byte strings one after the other in one buffer, so that none takes memory of its own.
 ghost use Rattle.std.specs.Prelude.{◌≡◌, ◌≤◌, ◌<◌, ◌+◌, ◌++◌, ◌∷◌, [], length, OnOk, OnErr, IsOk};
 ghost use Rattle.output.specs.Memory.{LacksPile};
 
@@ -29,7 +29,7 @@ impl Model for Pile {
 }
 
 impl Pile {
-    /// With no string and no room.
+    /// Returns a pile without strings or capacity.
     pub(crate) fn new(alloc: Global) -> Pile
         ensures { result.strings ≡ [] }
     {
@@ -39,7 +39,8 @@ impl Pile {
         }
     }
 
-    /// Makes room for so many more strings, and for so many more bytes in all.
+    /// Makes capacity for `places` more strings, and for `octets` more bytes in all. Fails where
+    /// there isn't enough memory.
     pub(crate) fn ready(&mut self, places: usize, octets: usize) -> Result<(), AllocError>
         ensures strings { self.new.strings ≡ self.old.strings }
         ensures places { OnOk result (places ≤ self.new.places) }
@@ -54,7 +55,7 @@ impl Pile {
         Ok(())
     }
 
-    /// Takes all strings off, and keeps the room.
+    /// Removes all strings, and keeps the capacity.
     pub(crate) fn clear(&mut self)
         ensures strings { self.new.strings ≡ [] }
         ensures places { self.old.places ≤ self.new.places }
@@ -64,7 +65,7 @@ impl Pile {
         self.bytes.clear();
     }
 
-    /// Lets a string be made behind the others.
+    /// Appends the string that a source writes.
     #[inline(always)]
     pub(crate) fn write<W: WriteBytes>(&mut self, source: &W)
         requires ready { W.can_write source.now }
@@ -79,14 +80,14 @@ impl Pile {
         self.sizes.push_reserved(self.bytes.len() - start);
     }
 
-    /// How many strings there are.
+    /// Returns how many strings there are.
     pub(crate) fn count(&self) -> usize
         ensures { result ≡ length self.now.strings }
     {
         self.sizes.len()
     }
 
-    /// The strings, in order.
+    /// Returns the strings, in order.
     pub(crate) fn strings(&self) -> ByteStrings<'_>
         ensures { result ≡ self.now.strings }
     {

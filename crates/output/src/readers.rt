@@ -1,4 +1,4 @@
-//! What was told, to be taken one after another.
+//! Iterators over an output's frames and datagrams.
 ghost use Rattle.std.specs.Prelude.{◌≡◌, length, sum};
 ghost use Rattle.std.specs.Iterator.{at_most};
 ghost use Rattle.std.specs.Map.Iter.{TakesFirst, deref};
@@ -9,7 +9,7 @@ ghost use Rattle.output.specs.Readers.{sent_of};
 use nat_types::Side;
 use std::marker::Model;
 
-/// Strings of bytes, each lent in turn.
+/// An iterator over byte strings, which lends each in turn.
 #[derive(Debug, Drop)]
 pub struct ByteStrings<'a> {
     sizes: &'a [usize],
@@ -52,14 +52,14 @@ impl<'a> Iterator for ByteStrings<'a> {
     }
 }
 
-/// A frame that is sent, and the network that it goes to.
+/// A frame to send, and the side on which it goes out.
 #[derive(Clone, Copy, Debug, PartialEq, Eq)]
 pub struct Frame<'a> {
     pub side: Side,
     pub bytes: &'a [u8],
 }
 
-/// The frames that are sent, in order.
+/// An iterator over the frames to send, in order.
 #[derive(Debug, Drop)]
 pub struct Frames<'a> {
     sides: &'a [Side],

@@ -1,18 +1,18 @@
-//! What puts its bytes where they are to lie.
+//! The trait of things that write their bytes into a buffer.
 ghost use Rattle.std.specs.Prelude.{◌≡◌, ◌≤◌, ◌+◌, ◌++◌, ℕ, List, vec_len, vec_capacity};
 
-/// A frame or a datagram that is made where it is to lie, behind others.
+/// A frame or a datagram that can write its bytes to the end of a buffer.
 pub trait WriteBytes {
-    /// When it can be made.
+    /// The condition for writing.
     ghost can_write: { Self → Type 0 };
 
-    /// Its bytes.
+    /// The bytes that are written.
     ghost bytes: { Self → List ℕ };
 
-    /// For how many bytes it wants room: it may need more on the way than it leaves.
+    /// The capacity in bytes that writing requires, which may be more than the bytes written.
     ghost room: { Self → ℕ };
 
-    /// Puts the bytes behind a list with room for them.
+    /// Appends the bytes to a list with capacity for them.
     fn write_to(&self, list: &mut Vec<u8>)
         requires ready { can_write self.now }
         requires room { vec_len list.old + room self.now ≤ vec_capacity list.old }

@@ -1,4 +1,4 @@
--- The first run of the owned ports from one on, and those behind it.
+-- The first run of the owned ports from one on, and the runs after it.
 use Rattle.std.proofs.Common.{◌≡◌, ℕ, suc, ◌+◌, ◌-◌, ◌<◌, ◌≤◌, ◌==◌, nat_le, Bool, true, false, cond, ◌&&◌, Option, Some, None, ◌⊎◌, inl, inr, List, [], ◌∷◌, refl, sym, ap, ◌∙◌, subst, arith}
 use Rattle.std.proofs.lemmas.Bool.{both_ways, cond-false, and_parts, or_cases, or_left, or_right, eq-eqb, eqb-true, leb-true, le-leb, lt-leb, cases_lt}
 use Rattle.std.proofs.lemmas.List.Elements.{filter_agree}
@@ -36,7 +36,7 @@ from-from a b xs le = filter-filter (nat_le a) (nat_le b) xs ∙ filter_agree (�
         none true = refl
         none false = refl
 
--- a run that has begun: to its end, and the ports behind it
+-- a run from first to last is the head of the runs of first and ps
 record IsHead (first last : ℕ) (ps : List ℕ) : Type 0 where
   run : PortBounds
   is : runs_on first last ps ≡ run ∷ runs_of (ports_from_on (run.highest.0 + 1) ps)
@@ -80,7 +80,7 @@ head first last (p ∷ ps) r = at (p == suc last) refl (head first p ps r.1)
       there = inl refl;
     }
 
--- the first run from a port on
+-- run is the first run of the ports from a port on, and what follows it
 pub record IsNext (from : ℕ) (ports : List ℕ) (run : PortBounds) : Type 0 where
   pub is : runs_of (ports_from_on from ports) ≡ run ∷ runs_of (ports_from_on (run.highest.0 + 1) ports)
   pub low : from ≤ run.lowest.0
@@ -143,11 +143,11 @@ first-none : (rs : List PortBounds) → first_of rs ≡ None → rs ≡ []
 first-none [] h = refl
 first-none (r ∷ rs) h = cc
 
--- no run is left where none is found
+-- where no run is found, none is left
 pub no-run : (from : ℕ) (ports : List ℕ) → first_run from ports ≡ None → runs_of (ports_from_on from ports) ≡ []
 no-run from ports h = first-none (runs_of (ports_from_on from ports)) h
 
--- the owned ports of a table that can be sent are ports
+-- an owned port of a table that can be sent is from 1 to 65535
 pub owned-small : (t : Table) (q : ℕ) → IsTable t → CanBeSent t → is_listed q t.owned ≡ true → (0 < q) × (q < 65536)
 owned-small t q is sent h = (listed-above 0 t.owned q is.rising h, small)
   where
@@ -169,14 +169,14 @@ run-formed t from run is sent next = record {
   order = next.order;
 }
 
--- behind the highest port there is none
+-- after the highest port there is no run
 pub none-ahead : (t : Table) (n : ℕ) → IsTable t → CanBeSent t → n ≡ 65535 → runs_of (ports_from_on (n + 1) t.owned) ≡ []
 none-ahead t n is sent top = ap runs_of (from-none (n + 1) t.owned (λ q h. let small = owned-small t q is sent h in omega arith))
 
 pub all-ahead : (ports : List ℕ) → ports_from_on 0 ports ≡ ports
 all-ahead ports = from-all 0 ports (λ q h. omega arith)
 
--- the port behind a run, or none
+-- the runs after a run are those from the next port on, or none
 pub ahead : (t : Table) (h : Port) (r : Option Port) → IsTable t → CanBeSent t → IfSome r (λ p. p.0 ≡ h.0 + 1) → IfNone r (h.0 ≡ 65535) → runs_from r t.owned ≡ runs_of (ports_from_on (h.0 + 1) t.owned)
 ahead t h None is sent some none = sym (none-ahead t h.0 is sent none)
 ahead t h (Some p) is sent some none = ap (λ (n : ℕ). runs_of (ports_from_on n t.owned)) some

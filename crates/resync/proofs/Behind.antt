@@ -1,4 +1,4 @@
--- The settled pairs behind a key, in the order of a table.
+-- The settled pairs after a key, in the order of a table.
 use Rattle.std.proofs.Common.{◌≡◌, ℕ, suc, ◌+◌, ◌*◌, ◌<◌, ◌≤◌, ◌==◌, Bool, true, false, cond, ◌&&◌, Option, Some, None, inl, inr, List, [], ◌∷◌, map, refl, sym, ap, ◌∙◌, subst, arith}
 use Rattle.std.specs.List.{filter, AllByRecursion}
 use Rattle.std.proofs.lemmas.Bool.{both_ways, cond-true, cond-false, eq-eqb, ltb-true, lt-ltb, le-ltb}
@@ -18,7 +18,7 @@ use Rattle.resync.specs.Batch.{is_settled, CanBeSent}
 use Rattle.resync.specs.Cursor.{is_behind, pairs_behind, place_after}
 use Rattle.resync.proofs.Slotted.{all-slots}
 
--- each stands above the one before it, and the first not below this place
+-- entries in strict order: each is after the one before it, and the first is not below this place
 abbrev pub IsStrict : ℕ → List Entry → Type 0
 IsStrict low [] = Unit {0}
 IsStrict low (x ∷ xs) = (low ≤ place_of x.pair) × IsStrict (suc (place_of x.pair)) xs
@@ -26,7 +26,7 @@ IsStrict low (x ∷ xs) = (low ≤ place_of x.pair) × IsStrict (suc (place_of x
 abbrev pub IsSmall : Entry → Type 0
 IsSmall e = e.pair.key.port.0 < 65536
 
--- two keys at one place are the same
+-- two keys at one place are equal
 same-place : (a b : Key) → a.port.0 < 65536 → b.port.0 < 65536 → key_place a ≡ key_place b → same_key b a ≡ true
 unfolding same_key
 same-place a b small other same = at a.protocol b.protocol same
@@ -64,13 +64,13 @@ table-strict t is sent = strict 0 t.entries is.order is.keys (all-slots IsSmall 
 pub found-sent : (t : Table) (last : Option Key) (e : Entry) → IsTable t → CanBeSent t → after_key last t.entries ≡ Some e → IsWellFormedPair e.pair
 found-sent t last e is sent h = sent.pairs e.pair.key e (found-slot (stands_behind last) t.entries e is.keys h)
 
--- ---- what is behind
+-- ---- what is after a key
 
 same-test : (last : Option Key) (x : Entry) → stands_behind last x ≡ is_behind last x.pair
 same-test None x = refl
 same-test (Some k) x = refl
 
--- a settled pair that is behind, one that isn't, and one that isn't settled
+-- the pairs after a key, of a list that begins with a settled entry after it, one that isn't after it, or one that isn't settled
 kept : (last : Option Key) (x : Entry) (xs : List Entry) → is_behind last x.pair ≡ true → pairs_behind last (x ∷ xs) ≡ cond (is_settled x.state) (x.pair ∷ pairs_behind last xs) (pairs_behind last xs)
 kept last x xs behind = at (is_settled x.state)
   where
@@ -85,7 +85,7 @@ left last x xs before = at (is_settled x.state)
     at true = cond-false (is_behind last x.pair) (x.pair ∷ pairs_behind last xs) (pairs_behind last xs) before
     at false = refl
 
--- where each is behind, the key leaves none out
+-- where each entry is after the key, none is left out
 all-behind : (last : Option Key) (low : ℕ) (es : List Entry) → IsStrict low es → ((p : Pair) → low ≤ place_of p → is_behind last p ≡ true) → pairs_behind last es ≡ pairs_in is_settled es
 all-behind last low [] s h = refl
 all-behind last low (x ∷ xs) s h =
@@ -108,7 +108,7 @@ found-above last low (x ∷ xs) e s h =
       | inr w ↦ (let up : suc (place_of x.pair) ≤ place_of e.pair = found-above last (suc (place_of x.pair)) xs e s.1 w.1 in let from : low ≤ place_of x.pair = s.0 in omega arith)
     ]
 
--- the next entry, and what is behind it
+-- the pairs after a key are those of the next entry and those after that entry
 pub pairs-next : (last : Option Key) (low : ℕ) (es : List Entry) (e : Entry) → IsStrict low es → after_key last es ≡ Some e
     → pairs_behind last es ≡ cond (is_settled e.state) (e.pair ∷ pairs_behind (Some e.pair.key) es) (pairs_behind (Some e.pair.key) es)
 pairs-next last low [] e s h = cc
@@ -140,7 +140,7 @@ pub behind-none : (ps : List Pair) → filter (is_behind None) ps ≡ ps
 behind-none [] = refl
 behind-none (p ∷ ps) = ap (λ qs. p ∷ qs) (behind-none ps)
 
--- ---- the walk ends
+-- ---- a walk over the entries ends
 
 pub place-on : (last : Option Key) (es : List Entry) (e : Entry) → after_key last es ≡ Some e → place_after last < place_of e.pair
 place-on None es e h = at e.pair.key.protocol

@@ -1,4 +1,4 @@
--- How the records to come go on.
+-- What is still to be drawn after each record.
 use Rattle.std.proofs.Common.{◌≡◌, ℕ, zero, suc, ◌+◌, ◌≤◌, true, cond, Option, Some, None, List, [], ◌∷◌, ◌++◌, length, map, take, drop, refl, sym, ap, ◌∙◌, arith, length-append}
 use Rattle.std.specs.List.{filter, AllByRecursion}
 use Rattle.std.proofs.lemmas.List.{length-map}
@@ -15,7 +15,7 @@ use Rattle.resync.specs.declared.cursor.Cursor.TheVariants as at
 use Rattle.resync.proofs.Behind.{behind-none}
 use Rattle.resync.proofs.Slotted.{all-slots}
 
--- where no run is left, the Puts come
+-- where no run is left, the Puts are next
 pub no-owners : (from : Option Port) (t : Table) → runs_from from t.owned ≡ [] → coming (at.Owners from) t ≡ coming (at.Puts None) t
 no-owners from t h =
     ap (λ rs. owners_of rs ++ (puts_of t.entries ++ Done ∷ [])) h
@@ -44,7 +44,7 @@ pub first-none : {X : Type 0} (xs : List X) → first_of xs ≡ None → xs ≡ 
 first-none [] h = refl
 first-none (x ∷ xs) h = cc
 
--- where none is left, more aren't drawn
+-- where nothing is left after i records, n of them are no more than i
 pub all-drawn : {X : Type 0} (i n : ℕ) (xs : List X) → drop i xs ≡ [] → i ≤ n → take n xs ≡ take i xs
 all-drawn zero zero xs h le = refl
 all-drawn zero (suc n) [] h le = refl

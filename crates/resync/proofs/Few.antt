@@ -62,7 +62,7 @@ few-owned t is =
     subst (λ (n : ℕ). n ≤ key_count t.zero t.one) (length-map t.owned port_entry)
     (few t.zero t.one (map port_entry t.owned) (port-keys 0 t.owned is.rising) (λ k x h. is.owned k.port.0 (slot-listed t.owned k x h)))
 
--- with the owned ports of the table, and any entries for which it has room
+-- a batch of the table's owned ports and of any entries that fit in the table has at most 2 * capacity + 2 records
 pub few-of : (t : Table) (es : List Entry) → IsTable t → length es ≤ t.capacity → length (batch_of t.owned es) ≤ 2 * t.capacity + 2
 few-of t es is within =
     let pairs : length (pairs_in is_settled es) ≡ length (filter (λ (e : Entry). is_settled e.state) es) = length-map (filter (λ (e : Entry). is_settled e.state) es) (λ (e : Entry). e.pair) in

@@ -41,7 +41,7 @@ all-in-not z o p n m is outside = in-step z o p n m is ∙ and_left (in_either z
 pub all-in-last : (z o : PortBounds) (p n : ℕ) → n ≡ 1 → all_in z o p n ≡ in_either z o p
 all-in-last z o p n is = in-step z o p n 0 (let e : n ≡ suc 0 = omega arith in e) ∙ and-true (in_either z o p)
 
--- one port fewer at the beginning of a run
+-- a run without its first port
 within-less : (p last q : ℕ) → p < last → is_within p last q ≡ ((p == q) || is_within (p + 1) last q)
 within-less p last q lt =
     elim (cases_lt q p) [
@@ -69,7 +69,7 @@ not-or : (a b : Bool) → (not a && not b) ≡ not (a || b)
 not-or true b = refl
 not-or false b = refl
 
--- a port is given up, and then the rest of the run
+-- removing a port and then the rest of the run removes the run
 pub unnamed-on : (p last : ℕ) (xs : List ℕ) → p < last → unnamed (p + 1) last (without_port p xs) ≡ unnamed p last xs
 unnamed-on p last xs lt =
     filter-filter (λ q. not (is_within (p + 1) last q)) (λ q. not (q == p)) xs

@@ -107,7 +107,7 @@ batch-loads t l later is whole owned within =
     inside : AllByRecursion (λ (p : Pair). in_either l.zero l.one p.key.port.0 ≡ true) (pairs_in is_settled t.entries)
     inside = all-inside l.zero l.one t.entries listed
 
--- drawn in any parts, at any load of the same two ranges
+-- a batch drawn in any parts loads its table, at any load of the same two ranges
 pub table-loads : (t : Table) → IsTable t → AreInRanges t → HasNoDoomed t.entries → (l : Load) → l.zero ≡ t.zero → l.one ≡ t.one → (sizes : List ℕ) (later : List Record)
     → undrawn sizes (batch_of t.owned t.entries) ≡ []
     → until_done l (drawn sizes (batch_of t.owned t.entries) ++ later) ≡ Some (record { load = load_of_table t; behind = later })

@@ -13,7 +13,7 @@ use Rattle.resync.specs.Batch.{owners_of}
 use Rattle.resync.specs.Loading.{Load, all_in, names_run, none_yet, with_run, where_}
 use Rattle.resync.specs.Whole.{or_as_before, after_record, until_done, last_of}
 
--- so many ports from the first one on lie in the ranges, where each does
+-- so many ports from the first one on lie in the ranges, where each of them does
 pub all-in : (z o : PortBounds) (first count : ℕ) → ((q : ℕ) → first ≤ q → q < first + count → in_either z o q ≡ true) → all_in z o first count ≡ true
 all-in z o first zero h = refl
 all-in z o first (suc count) h =
@@ -40,7 +40,7 @@ or-or : (a b c : Bool) → ((a || b) || c) ≡ (a || (b || c))
 or-or true b c = refl
 or-or false b c = refl
 
--- one port more at the end of a run
+-- a run with one port more at its end
 within-more : (first last p q : ℕ) → p ≡ suc last → first ≤ last → is_within first p q ≡ (is_within first last q || (p == q))
 within-more first last p q is order =
     elim (cases_lt q first) [
@@ -61,7 +61,7 @@ within-more first last p q is order =
           ]
     ]
 
--- a run of one port
+-- a run of one port has that port alone
 pub within-one : (p q : ℕ) → is_within p p q ≡ (p == q)
 within-one p q =
     elim (cases_eq p q) [
@@ -72,7 +72,7 @@ within-one p q =
       ]
     ]
 
--- the load once all runs were named: one from the one port to the other, and those of the ports behind it
+-- the load once all runs were named: the one from first to last, and those of the ports after it
 abbrev pub after_runs : Load → ℕ → ℕ → List ℕ → Load
 after_runs l first last ps = record l { named = last_of last ps; owned = filter (λ q. not (is_within first last q || is_listed q ps)) l.owned }
 
@@ -90,14 +90,14 @@ named-in-place l first last begun none above order within =
     at true h = refl
     at false h = cc
 
--- a run that goes on by one port, and the ports behind it
+-- naming a run that goes on by one port, and the runs after it
 runs-longer : (l : Load) (first last p : ℕ) (ps : List ℕ) → p ≡ suc last → first ≤ last → after_runs l first p ps ≡ after_runs l first last (p ∷ ps)
 runs-longer l first last p ps is order =
     ap (λ (owned : List ℕ). let m : Load = record l { named = last_of p ps; owned = owned } in m)
     (filter_agree (λ q. not (is_within first p q || is_listed q ps)) (λ q. not (is_within first last q || ((p == q) || is_listed q ps)))
     (λ q. ap (λ b. not (b || is_listed q ps)) (within-more first last p q is order) ∙ ap not (or-or (is_within first last q) (p == q) (is_listed q ps))) l.owned)
 
--- a run that is named, and then the next ones
+-- naming a run, and then the next ones
 runs-next : (l : Load) (first last p : ℕ) (ps : List ℕ) → after_runs (with_run l first last) p p ps ≡ after_runs l first last (p ∷ ps)
 runs-next l first last p ps =
     ap (λ (owned : List ℕ). let m : Load = record l { named = last_of p ps; owned = owned } in m)

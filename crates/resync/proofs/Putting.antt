@@ -20,13 +20,13 @@ use Rattle.resync.specs.Batch.{is_settled}
 use Rattle.resync.specs.Loading.{Load, loaded_state, is_new, with_pair, where_}
 use Rattle.resync.specs.Whole.{Ended, or_as_before, after_record, until_done}
 
--- a pair before another one in the batch
+-- q comes before p in a batch, and differs from it in key and endpoint
 pub record IsBefore (q p : Pair) : Type 0 where
   pub order : place_of q ≤ place_of p
   pub key : same_key q.key p.key ≡ false
   pub endpoint : same_endpoint q.endpoint p.endpoint ≡ false
 
--- each before all that follow it
+-- each pair is before all that follow it
 abbrev pub AreApart : List Pair → Type 0
 AreApart [] = Unit {0}
 AreApart (p ∷ ps) = AllByRecursion (IsBefore p) ps × AreApart ps
@@ -91,7 +91,7 @@ done-in-place l tail begun = at l.begun begun
 put-more : (l : Load) (before : List Pair) (p : Pair) → l.entries ≡ map (entry_at l.owned) before → AreBefore before p → put_in (entry_at l.owned p) l.entries ≡ map (entry_at l.owned) (before ++ p ∷ [])
 put-more l before p entries h = ap (put_in (entry_at l.owned p)) entries ∙ put-last l.owned before p h
 
--- all Puts, and Done
+-- all Puts and then Done are loaded
 pub puts-load : (l : Load) (before ps : List Pair) (tail : List Record) → l.begun ≡ true → l.entries ≡ map (entry_at l.owned) before
     → AllByRecursion (AreBefore before) ps → AreApart ps → AllByRecursion (λ p. in_either l.zero l.one p.key.port.0 ≡ true) ps
     → until_done l (map (λ p. Put p) ps ++ Done ∷ tail) ≡ Some (record { load = record l { begun = false; entries = map (entry_at l.owned) (before ++ ps) }; behind = tail })
@@ -115,7 +115,7 @@ other-endpoint a b fails = false_from_ne_true (same_endpoint b a) (λ h. both_wa
 not-serving : (s : EntryState) (b : Bool) → is_pair s ≡ true → (is_pair s && b) ≡ false → b ≡ false
 not-serving s b is h = sym (ap (λ c. c && b) is) ∙ h
 
--- an entry is before all that follow it in a table
+-- a table's entry is before all that follow it
 first-before : (z o : PortBounds) (x : Entry) (low : ℕ) (es : List Entry) → place_of x.pair ≤ low → Rises low es → slot_of es x.pair.key ≡ None → entry_of es x.pair.endpoint ≡ None → AllByRecursion (IsListed z o) es
     → AllByRecursion (IsBefore x.pair) (pairs_in is_settled es)
 first-before z o x low [] le rises key endpoint listed = tt

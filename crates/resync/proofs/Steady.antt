@@ -22,7 +22,7 @@ steady (at.Owners from) owned es fs h = ap (λ (ps : List Pair). owners_of (runs
 steady (at.Puts last) owned es fs h = ap (λ (ps : List Pair). map (λ p. Put p) (filter (is_behind last) ps) ++ Done ∷ []) h
 steady at.Over owned es fs h = refl
 
--- the pairs of a list that begins so
+-- the settled pairs of a list, by whether its first entry is settled
 abbrev pairs_by : Bool → Entry → List Entry → List Pair
 pairs_by b x xs = map (λ (e : Entry). e.pair) (cond b (x ∷ filter (λ (e : Entry). is_settled e.state) xs) (filter (λ (e : Entry). is_settled e.state) xs))
 

@@ -13,7 +13,7 @@ use Rattle.bindings.specs.Table.{Table}
 use Rattle.link.specs.Grammar.{IsWellFormedPair}
 use Rattle.nat_types.specs.Granted.{IsPort}
 
--- the pair was agreed: a proposal that waits for its answer, or was given up, is no part of a batch
+-- whether the pair was agreed: a proposal that waits for its answer, or was given up, is no part of a batch
 abbrev pub is_settled : EntryState → Bool
 is_settled Pending = false
 is_settled Doomed = false

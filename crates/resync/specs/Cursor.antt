@@ -1,4 +1,4 @@
--- What of a batch is still to be drawn.
+-- Which records of a batch are still to be drawn.
 use Rattle.std.specs.Prelude.{ℕ, ◌-◌, Bool, true, nat_lt, Option, Some, None, List, [], ◌∷◌, ◌++◌, map}
 use Rattle.std.specs.List.{filter}
 use Rattle.addresses.specs.declared.transport.Port.{Port}
@@ -21,12 +21,12 @@ abbrev pub runs_from : Option Port → List ℕ → List PortBounds
 runs_from None owned = []
 runs_from (Some from) owned = runs_of (ports_from_on from.0 owned)
 
--- a pair stands behind a key in the order; each does where there is none
+-- whether a pair comes after a key in the order of a table; each does where there is no key
 abbrev pub is_behind : Option Key → Pair → Bool
 is_behind None p = true
 is_behind (Some key) p = nat_lt (key_place key) (place_of p)
 
--- the settled pairs behind a key
+-- the settled pairs after a key
 abbrev pub pairs_behind : Option Key → List Entry → List Pair
 pairs_behind last entries = filter (is_behind last) (pairs_in is_settled entries)
 

@@ -19,8 +19,7 @@ use Rattle.resync.specs.declared.loading.Loaded.{Loaded}
 use Rattle.resync.specs.declared.loading.Loaded.TheVariants.{Prepared, Paired, Whole}
 use Rattle.port_range.specs.Ports.{is_listed, is_within}
 
--- A table as it is loaded, between the two ranges: whether Begin was taken (and Done not yet), the last port that an
--- Owner named, the entries, and the ports that the gateway is to own.
+-- The load: a table as it is loaded, with its two ranges, whether Begin was taken (and Done not yet), the last port that an Owner named, the entries, and the ports that the gateway is to own.
 pub record Load : Type 0 where
   pub zero : PortBounds
   pub one : PortBounds
@@ -29,7 +28,7 @@ pub record Load : Type 0 where
   pub entries : List Entry
   pub owned : List ℕ
 
--- How far a loading is: between which ranges, whether Begin was taken (and Done not yet), and the last port named.
+-- The progress of a loading: its two ranges, whether Begin was taken (and Done not yet), and the last port named.
 pub record Progress : Type 0 where
   pub zero : PortBounds
   pub one : PortBounds
@@ -39,30 +38,30 @@ pub record Progress : Type 0 where
 abbrev pub fresh : PortBounds → PortBounds → Progress
 fresh z o = record { zero = z; one = o; begun = false; named = 0 }
 
--- with the table that it loads
+-- the load of a progress and the table that it loads
 abbrev pub load_of : Progress → Table → Load
 load_of p t = record { zero = t.zero; one = t.one; begun = p.begun; named = p.named; entries = t.entries; owned = t.owned }
 
--- the ports but those from one to another
+-- the ports but those from first to last
 abbrev pub unnamed : ℕ → ℕ → List ℕ → List ℕ
 unnamed first last owned = filter (λ p. not (is_within first last p)) owned
 
--- so many ports from this one on lie in the ranges
+-- whether so many ports from this one on lie in the ranges
 abbrev pub all_in : PortBounds → PortBounds → ℕ → ℕ → Bool
 all_in z o first zero = true
 all_in z o first (suc k) = in_either z o first && all_in z o (first + 1) k
 
--- an Owner in its place: above the one before, not ending before it begins, and within the ranges
+-- whether a run is an Owner's in its place: above the one before, not ending before it begins, and within the ranges
 abbrev pub names_run : Load → ℕ → ℕ → Bool
 names_run l first last =
     nat_lt l.named first && (not (nat_lt last first) && all_in l.zero l.one first (last + 1 - first))
 
--- nothing is loaded yet
+-- whether no pair is loaded yet
 abbrev pub none_yet : List Entry → Bool
 none_yet [] = true
 none_yet (x ∷ xs) = false
 
--- a Put in its place: on a port of the ranges, and new in key and endpoint
+-- whether a pair is a Put's in its place: on a port of the ranges, and new in key and endpoint
 abbrev pub is_new : Load → Pair → Bool
 is_new l p = in_either l.zero l.one p.key.port.0
     && (is_none (slot_of l.entries p.key) && is_none (entry_of l.entries p.endpoint))
@@ -71,7 +70,7 @@ is_new l p = in_either l.zero l.one p.key.port.0
 abbrev pub loaded_state : List ℕ → ℕ → EntryState
 loaded_state owned port = (if is_listed port owned then Live else Held)
 
--- Begin empties the table, and all ports are to be owned that no Owner will name
+-- Begin empties the table, and all ports are to be owned until an Owner names them
 abbrev pub begun : Load → Load
 begun l = record l { begun = true; named = 0; entries = []; owned = all_ports l.zero l.one }
 
@@ -81,11 +80,11 @@ with_run l first last = record l { named = last; owned = unnamed first last l.ow
 abbrev pub with_pair : Load → Pair → Load
 with_pair l p = record l { entries = put_in (entry_in (loaded_state l.owned p.key.port.0) p) l.entries }
 
--- where the record is in its place there is a load after it
+-- the load after a record, where the record is in its place
 abbrev pub where_ : Bool → Load → Option Load
 where_ place l = (if place then Some l else None)
 
--- what a record makes of the load, where it is in its place
+-- the load after this record, or None where the record is out of its place
 abbrev pub loaded : Load → Record → Option Load
 loaded l (Install p) = None
 loaded l (Accept k) = None
@@ -116,7 +115,7 @@ is_put Want = false
 is_put (Grant g) = false
 is_put (Owner first last) = false
 
--- what it did: put its pair, ended the loading, or prepared the table
+-- the effect of the record: it put its pair, ended the loading, or prepared the table
 abbrev pub what_of : Record → Loaded
 what_of (Install p) = Prepared
 what_of (Accept k) = Prepared
@@ -150,7 +149,7 @@ lives_taken now Want es ls = ls
 lives_taken now (Grant g) es ls = ls
 lives_taken now (Owner first last) es ls = ls
 
--- the same of any past: a pair's life begins now, not by Install, and other lives go on; Begin leaves none
+-- the clause on lives, of any past: a pair's life begins now, not by Install, and other lives go on; Begin leaves none
 abbrev pub LivesGoOn : ℕ → Record → Table → Table → Type 0
 LivesGoOn now (Install p) old new = new.lives ≡ old.lives
 LivesGoOn now (Accept k) old new = new.lives ≡ old.lives

@@ -16,12 +16,12 @@ use Rattle.resync.specs.Loading.{Load, loaded}
 
 -- ---- draws
 
--- what draws of these sizes give, one behind the other
+-- the records that draws of these sizes give, in order
 abbrev pub drawn : List ℕ → List Record → List Record
 drawn [] batch = []
 drawn (n ∷ sizes) batch = take n batch ++ drawn sizes (drop n batch)
 
--- and what they leave
+-- the records that these draws leave
 abbrev pub undrawn : List ℕ → List Record → List Record
 undrawn [] batch = batch
 undrawn (n ∷ sizes) batch = undrawn sizes (drop n batch)
@@ -50,11 +50,11 @@ or_as_before l (Some after) = after
 abbrev pub after_record : Load → Record → Load
 after_record l r = or_as_before l (loaded l r)
 
--- the record is Done, in its place
+-- whether the record is Done, in its place
 abbrev pub ends : Load → Record → Bool
 ends l r = is_done r && is_some (loaded l r)
 
--- a load that is whole, and the records that came behind its Done
+-- a load that is whole, and the records that came after its Done
 pub record Ended : Type 0 where
   pub load : Load
   pub behind : List Record
@@ -73,11 +73,11 @@ until_done l (r ∷ rs) =
 abbrev pub ports_left : PortBounds → PortBounds → List ℕ → List ℕ
 ports_left zero one owned = filter (λ p. not (is_listed p owned)) (all_ports zero one)
 
--- a pair on a port that the sender owns is Held, another one Live
+-- the entry of a loaded pair: Held on a port that the sender owns, else Live
 abbrev pub entry_loaded : List ℕ → Pair → Entry
 entry_loaded owned p = entry_in (if is_listed p.key.port.0 owned then Held else Live) p
 
--- the settled pairs, each once, in order
+-- the entries of the settled pairs, each once, in order
 abbrev pub entries_loaded : List ℕ → List Entry → List Entry
 entries_loaded owned entries = map (entry_loaded owned) (pairs_in is_settled entries)
 
@@ -85,7 +85,7 @@ abbrev pub last_of : ℕ → List ℕ → ℕ
 last_of n [] = n
 last_of n (p ∷ ps) = last_of p ps
 
--- the whole load
+-- the load of a whole table
 abbrev pub load_of_table : Table → Load
 load_of_table t = record {
   zero = t.zero;

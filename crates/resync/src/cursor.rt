@@ -1,4 +1,4 @@
-//! The batch of a table, record by record.
+//! A table's batch (Begin, Owners, Puts, Done), drawn record by record.
 ghost use Rattle.std.specs.Prelude.{◌≡◌, ◌+◌, ◌<◌, ◌≤◌, ◌==◌, ◌++◌, ◌∷◌, ℕ, List, [], length, take, drop};
 ghost use Rattle.std.specs.Prelude.{IfSome, IfNone, Some};
 ghost use Rattle.std.specs.List.{AllByRecursion};
@@ -15,17 +15,18 @@ use arrayvec::ArrayVec;
 use bindings::{Entry, PortBounds, Table};
 use nat_types::{EntryState, Key, Pair, Record};
 
-/// Where in a table's batch the drawing stands. It copies nothing of the table, which may get proposals and close pairs
-/// meanwhile.
+/// The place in a table's batch up to which its records are drawn. A cursor copies nothing of the
+/// table, which may get proposals and close pairs between two draws.
 #[derive(Clone, Copy, Debug, PartialEq, Eq)]
 pub enum Cursor {
-    /// Nothing is drawn.
+    /// No record is drawn.
     Begin,
-    /// Begin is drawn, and an Owner for each run below this port; `None` where no port is above them.
+    /// Begin is drawn, and an Owner for each run below this port; `None` where no port is above the
+    /// last run.
     Owners(Option<Port>),
     /// All Owners are drawn, and a Put for each pair up to this key.
     Puts(Option<Key>),
-    /// All is drawn.
+    /// All records are drawn.
     Over,
 }
 
@@ -38,7 +39,7 @@ fn is_settled_state(state: EntryState) -> bool
     }
 }
 
-/// The port above one, where there is one.
+/// Returns the next higher port, or None for 65535.
 fn port_above(port: Port) -> Option<Port>
     ensures some { IfSome result (λ p. p.0 ≡ port.0 + 1) }
     ensures none { IfNone result (port.0 ≡ 65535) }
@@ -50,7 +51,7 @@ fn port_above(port: Port) -> Option<Port>
     }
 }
 
-/// The first run of owned ports from one on, and the first port behind it.
+/// Returns the first run of owned ports at or above a port, and the first port after the run.
 fn next_run(table: &Table, from: Option<Port>) -> Option<(PortBounds, Option<Port>)>
     requires { CanBeSent table.now }
     ensures some { IfSome result (λ r. runs_from from table.now.owned
@@ -69,7 +70,7 @@ fn next_run(table: &Table, from: Option<Port>) -> Option<(PortBounds, Option<Por
     }
 }
 
-/// How many unbroken runs the owned ports have.
+/// Returns how many unbroken runs the owned ports have.
 fn run_count(table: &Table) -> usize
     requires { CanBeSent table.now }
     ensures exact { result ≡ length (runs_of table.now.owned) }
@@ -84,7 +85,7 @@ fn run_count(table: &Table) -> usize
     count
 }
 
-/// How many records the batch of a table has in which no pair waits for its answer.
+/// Returns how many records the batch of a table has. No entry of the table may be Pending.
 pub fn batch_len(table: &Table) -> usize
     requires sent { CanBeSent table.now }
     requires settled { HasNoPending table.now.entries }
@@ -106,7 +107,8 @@ fn key_of(entry: Entry) -> Key
     entry.pair.key
 }
 
-/// The first settled pair behind a key, or the first of all.
+/// Returns the first settled pair (neither Pending nor Doomed) after a key, or the first of all
+/// where there is no key.
 fn next_pair(table: &Table, last: Option<Key>) -> Option<Pair>
     requires { CanBeSent table.now }
     ensures some { IfSome result (λ p. pairs_behind last table.now.entries
@@ -126,7 +128,7 @@ fn next_pair(table: &Table, last: Option<Key>) -> Option<Pair>
 }
 
 impl Cursor {
-    /// At the beginning of a batch.
+    /// Returns a cursor at the beginning of a batch.
     pub fn new() -> Cursor
         ensures start { result ≡ at.Begin }
         ensures whole { (owned : List ℕ) → (entries : List Row) → to_come result owned entries
@@ -135,7 +137,7 @@ impl Cursor {
         Cursor::Begin
     }
 
-    /// Whether all is drawn.
+    /// Whether the whole batch is drawn.
     pub fn is_over(&self) -> bool
         ensures { (owned : List ℕ) → (entries : List Row) → result
             ≡ (length (to_come self.now owned entries) == 0) }
@@ -199,7 +201,7 @@ impl Cursor {
         }
     }
 
-    /// Appends the next records of the batch, so many or all that are left.
+    /// Appends the next `n` records of the batch, or all that are left.
     pub fn draw(&mut self, table: &Table, n: usize, out: &mut ArrayVec<Record, 64>)
         requires room { array_vec_len out.old + n ≤ 64 }
         requires sent { CanBeSent table.now }

@@ -16,9 +16,10 @@ ghost use Rattle.resync.specs.Loading.{Load};
 ghost use Rattle.resync.specs.Whole.{drawn, undrawn, until_done, load_of_table, ports_left};
 ghost use Rattle.resync.specs.declared.cursor.Cursor.{Cursor as Place};
 
-/// What is loaded at Done is exactly what was drawn. A table's batch that is drawn in any parts, whatever records come
-/// behind it, and at whatever load it is taken: at its Done the load has the settled pairs, each once and in order,
-/// Held on ports that the sender owns, else Live, and is to own all other ports of the ranges.
+/// What a gateway has loaded at Done is exactly what the peer drew. A table's batch is drawn in any
+/// parts, is taken at any load, and may be followed by any records: at its Done the load has the
+/// settled pairs, each once and in order, Held on ports that the sender owns, else Live, and is to
+/// own all other ports of the ranges.
 pub fn whole_table_law()
     ensures loaded { (t : Seen) → IsTable t → AreInRanges t → HasNoDoomed t.entries
         → (l : Load)
@@ -33,8 +34,8 @@ pub fn whole_table_law()
         ≡ (not (is_listed port t.owned) && in_either t.zero t.one port) }
 {}
 
-/// What is still to be drawn hangs on the owned ports and the settled pairs alone: it stays as proposals come, and as
-/// an entry goes from one settled state into another.
+/// What is still to be drawn depends on the owned ports and the settled pairs alone: it stays as
+/// proposals come, and as an entry goes from one settled state into another.
 pub fn steady_batch_law()
     ensures settled { (c : Place) (owned : List ℕ) (es fs : List Row) → pairs_in is_settled es
         ≡ pairs_in is_settled fs → to_come c owned es ≡ to_come c owned fs }
@@ -46,7 +47,7 @@ pub fn steady_batch_law()
         → to_come c owned (with_state key s es) ≡ to_come c owned es }
 {}
 
-/// How long a batch can be: no table has more runs than keys, nor more entries.
+/// A batch has at most two records for each entry that the table can have, and two more.
 pub fn batch_room_law()
     ensures { (t : Seen) → IsTable t
         → length (batch_of t.owned t.entries) ≤ 2 * t.capacity + 2 }

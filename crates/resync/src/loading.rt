@@ -21,28 +21,28 @@ use nat_types::{Endpoint, EntryState, Key, Pair, Record};
 use std::marker::Model;
 use thiserror::Error;
 
-/// What a record in its place did to the table.
+/// The effect of a record in its place on the table.
 #[derive(Clone, Copy, Debug, PartialEq, Eq)]
 pub enum Loaded {
-    /// The loading began, or ports were named: no pair came.
+    /// The record was Begin or an Owner: the loading began, or ports were named.
     Prepared,
-    /// The record's pair was put.
+    /// The record's pair was added to the table.
     Paired,
-    /// The table is whole.
+    /// The record was Done: the table is whole.
     Whole,
 }
 
-/// The record isn't in its place, and changed nothing.
+/// The refusal of a record that isn't in its place in a batch, and changed nothing.
 #[derive(Clone, Copy, Debug, PartialEq, Eq, Error)]
 #[error("the record is out of place")]
 pub struct OutOfPlace;
 
-/// How far the loading of a table is whose ports lie in these two ranges.
+/// The progress of loading a table whose ports lie in these two ranges.
 #[derive(Clone, Copy, Debug)]
 pub struct Loading {
     zero: PortBounds,
     one: PortBounds,
-    /// Whether Begin came, and Done not yet.
+    /// Whether Begin was taken, and Done not yet.
     begun: bool,
     /// The last port that an Owner named, or 0.
     named: Port,
@@ -69,7 +69,7 @@ fn lies_in_ranges(zero: PortBounds, one: PortBounds, port: u16) -> bool
     zero.holds(Port(port)) || one.holds(Port(port))
 }
 
-/// Whether all ports of a run lie in the ranges.
+/// Whether all ports of a run, from `first` to `last`, lie in the ranges.
 fn lie_in_ranges(zero: PortBounds, one: PortBounds, first: Port, last: Port) -> bool
     requires { first.0 ≤ last.0 }
     ensures { result ≡ all_in zero one first.0 (last.0 + 1 - first.0) }
@@ -82,7 +82,7 @@ fn lie_in_ranges(zero: PortBounds, one: PortBounds, first: Port, last: Port) -> 
     lies_in_ranges(zero, one, last.0)
 }
 
-/// The gateway isn't to own the port, if it was.
+/// Removes a port from those that the gateway is to own.
 fn give_up(table: &mut Table, port: u16)
     requires { table.old.entries ≡ [] }
     ensures { table.new ≡ record table.old { owned = without_port port table.old.owned } }
@@ -92,7 +92,7 @@ fn give_up(table: &mut Table, port: u16)
     }
 }
 
-/// The gateway isn't to own the ports of a run.
+/// Removes the ports of a run from those that the gateway is to own.
 fn give_up_run(table: &mut Table, first: Port, last: Port)
     requires order { first.0 ≤ last.0 }
     requires entries { table.old.entries ≡ [] }
@@ -116,7 +116,7 @@ fn endpoint_of(pair: Pair) -> Endpoint
     pair.endpoint
 }
 
-/// The state of a loaded pair: Live on a port that the gateway is to own, else Held.
+/// Returns the state of a loaded pair: Live on a port that the gateway is to own, else Held.
 fn state_on(table: &Table, port: Port) -> EntryState
     ensures { result ≡ loaded_state table.now.owned port.0 }
 {
@@ -127,7 +127,7 @@ fn state_on(table: &Table, port: Port) -> EntryState
     }
 }
 
-/// Puts a pair that is new, on a port of the ranges.
+/// Adds a pair that is new, on a port of the ranges.
 fn put(table: &mut Table, pair: Pair, now: u64)
     requires ready { 0 < table.old.ready }
     requires within { AreInRanges table.old }
@@ -160,7 +160,7 @@ fn put(table: &mut Table, pair: Pair, now: u64)
 impl Loading {
     ghost use Rattle.resync.specs.Loading.{fresh};
 
-    /// Nothing is loaded yet, of a table for these two ranges.
+    /// Returns the progress of a loading that has not begun, for a table with these two ranges.
     pub fn new(zero: PortBounds, one: PortBounds) -> Loading
         ensures { result ≡ fresh zero one }
     {
@@ -275,9 +275,10 @@ impl Loading {
         Ok(Loaded::Whole)
     }
 
-    /// Takes a record of the peer's batch. Begin empties the table, which is to own all ports of both ranges; an Owner
-    /// takes its run out, and a Put adds its pair, whose life begins now; Done ends the loading. Before a Put the table
-    /// has to be ready for one more pair.
+    /// Takes a record of the peer's batch. Begin empties the table, which is then to own all ports
+    /// of both ranges. An Owner removes its run from them. A Put adds its pair, whose life begins
+    /// now (centiseconds). Done ends the loading. A record out of its place is refused and changes
+    /// nothing. Before a Put, the table must be ready for one more pair.
     pub fn take(&mut self, table: &mut Table, item: Record, now: u64) -> Result<Loaded, OutOfPlace>
         requires zero { self.old.zero ≡ table.old.zero }
         requires one { self.old.one ≡ table.old.one }

@@ -1,4 +1,4 @@
--- A packet whose next hop was asked for is the same packet.
+-- Noting that a next hop was asked for changes the time of one packet alone.
 use Rattle.std.proofs.Common.{◌≡◌, ℕ, Bool, true, false, not, cond, nat_lt, List, [], ◌∷◌, length, get_or, map, refl, ◌∙◌, ap, arith}
 use Rattle.std.specs.List.{AllByRecursion, filter, sum_by}
 use Rattle.std.proofs.lemmas.List.{length-map, get_or-map}
@@ -9,7 +9,7 @@ use Rattle.waiting.specs.declared.waits.WaitsFor.TheVariants.{Pair, Hop}
 use Rattle.waiting.specs.Waits.{ends, is_for_pair, same_wait}
 use Rattle.waiting.specs.Packets.{AreApart, HeldPacket, IsKept, asked_packet, ended_by, hop_count, is_young, left_by, with_asked, with_room, without_first_hop}
 
--- what no moment of asking changes
+-- f doesn't depend on the time at which a next hop was asked for
 abbrev pub Ignores : {X : Type 0} → (HeldPacket → X) → Type 0
 Ignores f = (w : HeldPacket) (now : ℕ) → f (record w { asked = now }) ≡ f w
 
@@ -23,7 +23,7 @@ same-packet {X} f ignores now wait w = by (same_wait wait w.wait)
 pub length-asked : (now : ℕ) (wait : WaitsFor) (ws : List HeldPacket) → length (with_asked now wait ws) ≡ length ws
 length-asked now wait ws = length-map ws (asked_packet now wait)
 
--- a look at all of them
+-- a map that ignores the time of asking is unchanged
 pub map-asked : {X : Type 0} (f : HeldPacket → X) → Ignores f → (now : ℕ) (wait : WaitsFor) (ws : List HeldPacket) → map f (with_asked now wait ws) ≡ map f ws
 map-asked f ignores now wait [] = refl
 map-asked {X} f ignores now wait (w ∷ ws) =
@@ -41,7 +41,7 @@ sum-asked f ignores now wait (w ∷ ws) =
       sum_by-cons f w ws,
     )
 
--- the packets that pass a test
+-- a filter that ignores the time of asking passes the same packets
 pub filter-asked : (p : HeldPacket → Bool) → Ignores p → (now : ℕ) (wait : WaitsFor) (ws : List HeldPacket) → filter p (with_asked now wait ws) ≡ with_asked now wait (filter p ws)
 filter-asked p ignores now wait [] = refl
 filter-asked p ignores now wait (w ∷ ws) =
@@ -64,7 +64,7 @@ left-asked ended = filter-asked (λ (w : HeldPacket). not (ends ended w.wait)) (
 pub young-asked : (moment now : ℕ) (wait : WaitsFor) (ws : List HeldPacket) → filter (is_young moment) (with_asked now wait ws) ≡ with_asked now wait (filter (is_young moment) ws)
 young-asked moment = filter-asked (is_young moment) (λ w now. refl)
 
--- what is true of each packet
+-- what holds of each packet, at whatever time it was asked for, holds still
 pub all-asked : (P : HeldPacket → Type 0) → ((w : HeldPacket) (now : ℕ) → P w → P (record w { asked = now })) → (now : ℕ) (wait : WaitsFor) (ws : List HeldPacket) → AllByRecursion P ws → AllByRecursion P (with_asked now wait ws)
 all-asked P more now wait [] all = tt
 all-asked P more now wait (w ∷ ws) all = (by (same_wait wait w.wait), all-asked P more now wait ws all.1)
@@ -89,7 +89,7 @@ all-room P (Hop side host) ws all = by (nat_lt (hop_count ws) 64)
     by true = all
     by false = all-left P ws all
 
--- what the list keeps
+-- no two wait for the same, still
 pub apart-asked : (now : ℕ) (wait : WaitsFor) (ws : List HeldPacket) → AreApart ws → AreApart (with_asked now wait ws)
 apart-asked now wait ws once i j d less within =
     let long = length-asked now wait ws in

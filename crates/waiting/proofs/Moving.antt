@@ -1,4 +1,4 @@
--- A loop that takes the packets whose wait is over off a list.
+-- A loop that moves the packets whose wait is over to another list.
 use Rattle.std.proofs.Common.{◌≡◌, ℕ, suc, ◌≤◌, ◌<◌, Bool, true, false, not, List, [], ◌∷◌, ◌++◌, length, take, drop, refl, sym, ap, ◌∙◌, arith, append_assoc, length-append}
 use Rattle.std.proofs.Math.Seq.{take-append_seam, drop-append_seam}
 use Rattle.std.proofs.lemmas.List.{length-take-le}
@@ -7,7 +7,7 @@ use Rattle.waiting.specs.declared.waits.Ended.{Ended}
 use Rattle.waiting.specs.Waits.{ends}
 use Rattle.waiting.specs.Packets.{HeldPacket, ended_by, left_by}
 
--- what was passed stays or was taken; what is ahead is as it was
+-- the packets passed stayed or were moved; those ahead are as they were
 pub record IsMoving (ended : Ended) (all before kept list : List HeldPacket) (at : ℕ) : Type 0 where
   pub within : at ≤ length kept
   pub left : left_by ended all ≡ take at kept ++ left_by ended (drop at kept)
@@ -19,7 +19,7 @@ filter-yes p w ws is = rw is refl
 filter-no : (p : HeldPacket → Bool) (w : HeldPacket) (ws : List HeldPacket) → p w ≡ false → filter p (w ∷ ws) ≡ filter p ws
 filter-no p w ws isnt = rw isnt refl
 
--- the list without its packet at a place
+-- the list without its packet at an index
 abbrev without_at : List HeldPacket → ℕ → List HeldPacket
 without_at kept at = take at kept ++ drop (suc at) kept
 
@@ -38,7 +38,7 @@ within-same kept at below =
     let long : length (take at kept) ≡ at = length-take-le at kept (omega arith) in
     omega (arith, long, length-append (take at kept) (drop (suc at) kept))
 
--- the packet at the place goes to the other list
+-- the packet at the index is moved to the other list
 pub moving-takes : (ended : Ended) (all before kept list : List HeldPacket) (at : ℕ) (w : HeldPacket) → at < length kept → drop at kept ≡ w ∷ drop (suc at) kept
     → ends ended w.wait ≡ true → IsMoving ended all before kept list at → IsMoving ended all before (without_at kept at) (list ++ w ∷ []) at
 moving-takes ended all before kept list at w below here is was =
@@ -54,7 +54,7 @@ moving-takes ended all before kept list at w below here is was =
       taken = was.taken ∙ ap (λ ws. list ++ ws) taken_here ∙ sym (rw (back-same kept at below) (append_assoc list (w ∷ []) (ended_by ended rest)));
     }
 
--- or stays
+-- the packet at the index stays
 pub moving-passes : (ended : Ended) (all before kept list : List HeldPacket) (at : ℕ) (w : HeldPacket) → at < length kept → drop at kept ≡ w ∷ drop (suc at) kept
     → take (suc at) kept ≡ take at kept ++ w ∷ [] → ends ended w.wait ≡ false → IsMoving ended all before kept list at → IsMoving ended all before kept list (suc at)
 moving-passes ended all before kept list at w below here more isnt was =

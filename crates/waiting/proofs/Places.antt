@@ -1,4 +1,4 @@
--- What the list of waiting packets keeps.
+-- The invariant of the list of waiting packets.
 use Rattle.std.proofs.Common.{◌≡◌, ℕ, zero, suc, ◌+◌, ◌-◌, ◌≤◌, ◌<◌, Bool, true, false, ◌||◌, not, cond, nat_lt, ap, Option, Some, None, List, [], ◌∷◌, ◌++◌, length, get_or, refl, arith}
 use Rattle.std.specs.List.{filter, list_any, position, remove}
 use Rattle.std.proofs.lemmas.Bool.{and_parts, ltb-true, not-true, both_ways}
@@ -27,9 +27,9 @@ counts-length kept =
 pub length-most : (kept : List HeldPacket) → IsKept kept → length kept ≤ 128
 length-most kept is = omega (arith, counts-length kept, is.pairs, is.hops)
 
--- ---- room for one more
+-- ---- a place for one more
 
--- without the first that waits for a next hop
+-- ---- the list without the first packet that waits for a next hop
 pass-of : (b : Bool) → not b ≡ false → b ≡ true
 pass-of true e = refl
 pass-of false e = cc
@@ -58,7 +58,7 @@ dropped-at ws i d found =
 pub dropped-none : (ws : List HeldPacket) → position for_hop ws ≡ None → without_first_hop ws ≡ ws
 dropped-none ws none = first-hop-none ws (passes-none for_hop ws none)
 
--- how many are left of each kind
+-- how many packets of each kind are left
 pairs-left : (ws : List HeldPacket) → pair_count (without_first_hop ws) ≡ pair_count ws
 pairs-left [] = refl
 pairs-left (w ∷ ws) = by (is_for_pair w.wait) refl (pairs-left ws)
@@ -81,7 +81,7 @@ hops-left (w ∷ ws) = by (is_for_pair w.wait) refl (hops-left ws)
     by true is rest = omega (arith, sum_by-cons f w (without_first_hop ws), sum_by-cons f w ws, ap {B = ℕ} (λ (t : Bool). cond (not t) 1 0) is, rest)
     by false is rest = omega (arith, sum_by-cons f w ws, ap {B = ℕ} (λ (t : Bool). cond (not t) 1 0) is)
 
--- those that are left are apart, and none waits for what none waited for
+-- the packets that are left wait for different things, and none waits for what none waited for
 apart-left : (ws : List HeldPacket) → AreApart ws → AreApart (without_first_hop ws)
 apart-left [] once = once
 apart-left (w ∷ ws) once = by (position for_hop (w ∷ ws)) refl
@@ -102,7 +102,7 @@ none-left p (w ∷ ws) none = by (is_for_pair w.wait) (or-parts (p w) (list_any 
     by true parts rest = rw parts.0 (rest parts.1)
     by false parts rest = parts.1
 
--- the list that makes room
+-- the list in which a place is made has the invariant, and fewer than 64 next hops
 hop-room : (b : Bool) (kept : List HeldPacket) → nat_lt (hop_count kept) 64 ≡ b → IsKept kept → IsKept (cond b kept (without_first_hop kept)) × (hop_count (cond b kept (without_first_hop kept)) < 64)
 hop-room true kept few is = (is, ltb-true _ _ few)
 hop-room false kept many is = (
@@ -126,7 +126,7 @@ none-in-room (Hop side host) p kept none = by (nat_lt (hop_count kept) 64)
     by true = none
     by false = none-left p kept none
 
--- a place, and then fewer than 64 of the kind
+-- where a pair has a place, fewer than 64 packets wait for pairs
 pair-few : (kept : List HeldPacket) (endpoint : Endpoint) → has_place kept (Pair endpoint) ≡ true → pair_count kept < 64
 pair-few kept endpoint place =
     let test : Bool = list_any (λ (w : HeldPacket). same_wait w.wait (Pair endpoint)) kept in
@@ -138,7 +138,7 @@ place-room kept (Hop side host) is place =
     let room = hop-room (nat_lt (hop_count kept) 64) kept refl is in
     omega (arith, counts-length (with_room (Hop side host) kept), room.1, room.0.pairs)
 
--- none of the others waits for the same
+-- where a wait has a place, no packet waits for the same
 apart : (kept : List HeldPacket) (wait : WaitsFor) → has_place kept wait ≡ true → (k : ℕ) (d : HeldPacket) → k < length (with_room wait kept) → same_wait (get_or (with_room wait kept) k d).wait wait ≡ false
 apart kept wait place k d within = go (same_wait (get_or (with_room wait kept) k d).wait wait) refl
   where
@@ -164,7 +164,7 @@ counts-push kept w (Hop side host) for place is =
     let h = sum_by_push (λ (v : HeldPacket). cond (not (is_for_pair v.wait)) 1 0) (with_room (Hop side host) kept) w in
     (omega (arith, rw hop at p, room.0.pairs), omega (arith, rw hop at h, room.1))
 
--- one more packet, where it has a place
+-- the invariant holds with one more packet, where it has a place
 pub kept-push : (kept : List HeldPacket) (w : HeldPacket) → IsKept kept → has_place kept w.wait ≡ true → IsKept (with_room w.wait kept ++ w ∷ [])
 kept-push kept w is place =
     let counts = counts-push kept w w.wait refl place is in
@@ -174,7 +174,7 @@ kept-push kept w is place =
       once = all_pairs_push (λ (a b : HeldPacket). same_wait a.wait b.wait ≡ false) (with_room w.wait kept) w (room-kept w.wait kept is).once (apart kept w.wait place);
     }
 
--- some of the packets
+-- the invariant holds of some of the packets
 pub kept-filter : (p : HeldPacket → Bool) (kept : List HeldPacket) → IsKept kept → IsKept (filter p kept)
 kept-filter p kept is = record {
   pairs = omega (arith, sum_by-filter_both p (λ (w : HeldPacket). not (p w)) (λ _. refl) (λ (w : HeldPacket). cond (is_for_pair w.wait) 1 0) kept, is.pairs);

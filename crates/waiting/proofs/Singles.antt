@@ -35,7 +35,7 @@ wait-self : (w : WaitsFor) → same_wait w w ≡ true
 wait-self (Pair a) = endpoint-self a
 wait-self (Hop s a) = and_from (same_side s s) (nat_eq a.0 a.0) (side-self s) (eq-eqb a.0 a.0 refl)
 
--- two that are the same as a third
+-- two waits that are the same as a third are the same
 waits-same : (w a b : WaitsFor) → same_wait w a ≡ true → same_wait w b ≡ true → same_wait a b ≡ true
 waits-same w a b one two = rw (← wait-eq w a one, ← wait-eq w b two) (wait-self w)
 
@@ -98,7 +98,7 @@ one-passes p (w ∷ ws) (suc i) d below is others =
 
 -- ---- the packet that waits for one thing
 
--- so many packets before the first that passes
+-- none of the packets before the first that passes passes
 none-first : (p : HeldPacket → Bool) (ws : List HeldPacket) → length ws ≤ position_or_len p ws → (k : ℕ) (d : HeldPacket) → k < length ws → p (get_or ws k d) ≡ false
 none-first p [] past k d below = absurd (omega arith)
 none-first p (w ∷ ws) past k d below = at (p w) refl (none-first p ws) k below
@@ -115,17 +115,17 @@ no-place : (b : Bool) (n : ℕ) → (let o : Option ℕ = cond b (Some n) None i
 no-place true n e = cc
 no-place false n e = refl
 
--- none passes
+-- where no position is found, none passes
 pub passes-none : (p : HeldPacket → Bool) (ws : List HeldPacket) → position p ws ≡ None → (k : ℕ) (d : HeldPacket) → k < length ws → p (get_or ws k d) ≡ false
 passes-none p ws none = none-first p ws (ltb-false (position_or_len p ws) (length ws) (no-place (nat_lt (position_or_len p ws) (length ws)) (position_or_len p ws) none))
 
--- nobody waits for it
+-- where no position is found, no packet waits for this
 pub nobody : (w : WaitsFor) (ws : List HeldPacket) → position (λ (v : HeldPacket). same_wait w v.wait) ws ≡ None → NonePass (λ (v : HeldPacket). same_wait w v.wait) ws
 nobody w ws none =
     let p : HeldPacket → Bool = λ v. same_wait w v.wait in
     none-pass p ws (passes-none p ws none)
 
--- the one at that place does, and no other
+-- where a position is found, the packet there waits for this, and no other
 pub only : (w : WaitsFor) (ws : List HeldPacket) (i : ℕ) (d : HeldPacket) → AreApart ws → position (λ (v : HeldPacket). same_wait w v.wait) ws ≡ Some i → OnePasses (λ (v : HeldPacket). same_wait w v.wait) ws i d
 only w ws i d apart found = one-passes p ws i d known.0 known.1 others
   where

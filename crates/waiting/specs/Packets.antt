@@ -7,7 +7,7 @@ use Rattle.waiting.specs.declared.waits.WaitsFor.TheVariants.{Pair, Hop}
 use Rattle.waiting.specs.declared.waits.Ended.{Ended}
 use Rattle.waiting.specs.Waits.{is_for_pair, same_wait, ends}
 
--- a packet that waits: where it came in, as it came, since when, for what, and when its next hop was
+-- a packet that waits: the side on which it came in, its bytes, since when it waits, for what, and when its next hop was
 -- last asked for (of a packet that waits for a pair: since when it waits)
 pub record HeldPacket : Type 0 where
   pub side : Side
@@ -16,23 +16,23 @@ pub record HeldPacket : Type 0 where
   pub wait : WaitsFor
   pub asked : ℕ
 
--- it was kept less than 300 centiseconds ago
+-- whether a packet has waited for less than 300 centiseconds
 abbrev pub is_young : ℕ → HeldPacket → Bool
 is_young now packet = nat_lt (now - packet.since) 300
 
--- how many wait for pairs, and how many for next hops
+-- how many packets wait for pairs, and how many for next hops
 abbrev pub pair_count : List HeldPacket → ℕ
 pair_count kept = count_by (λ packet. is_for_pair packet.wait) kept
 
 abbrev pub hop_count : List HeldPacket → ℕ
 hop_count kept = count_by (λ packet. not (is_for_pair packet.wait)) kept
 
--- fewer than 64 wait for pairs; of those for next hops the first makes room
+-- whether one more packet may wait for this: for a pair where fewer than 64 do, for a next hop always
 abbrev pub has_room : WaitsFor → List HeldPacket → Bool
 has_room (Pair endpoint) kept = nat_lt (pair_count kept) 64
 has_room (Hop side host) kept = true
 
--- there is room, and none waits for the same
+-- whether a packet that waits for this can be kept: it may wait, and none waits for the same
 abbrev pub has_place : List HeldPacket → WaitsFor → Bool
 has_place kept wait =
     has_room wait kept && not (list_any (λ packet. same_wait packet.wait wait) kept)
@@ -43,18 +43,18 @@ without_first_hop [] = []
 without_first_hop (packet ∷ kept) =
     if is_for_pair packet.wait then packet ∷ without_first_hop kept else kept
 
--- the packets once one more comes: where it waits for a next hop and 64 do, the first of these goes
+-- the packets before one more is kept: where it waits for a next hop and 64 do, without the first of these
 abbrev pub with_room : WaitsFor → List HeldPacket → List HeldPacket
 with_room (Pair endpoint) kept = kept
 with_room (Hop side host) kept =
     if nat_lt (hop_count kept) 64 then kept else without_first_hop kept
 
--- a packet waits for this, and its next hop was last asked for 100 centiseconds ago or more
+-- whether a packet waits for this, and its next hop was last asked for 100 centiseconds ago or more
 abbrev pub asks_again : ℕ → WaitsFor → List HeldPacket → Bool
 asks_again now wait kept =
     list_any (λ packet. same_wait wait packet.wait && nat_le 100 (now - packet.asked)) kept
 
--- the packets, where the next hop of the one that waits for this was asked for at the moment `now`
+-- a packet, and all packets, once the next hop of the one that waits for this was asked for at now
 abbrev pub asked_packet : ℕ → WaitsFor → HeldPacket → HeldPacket
 asked_packet now wait packet =
     if same_wait wait packet.wait then record packet { asked = now } else packet
@@ -62,23 +62,23 @@ asked_packet now wait packet =
 abbrev pub with_asked : ℕ → WaitsFor → List HeldPacket → List HeldPacket
 with_asked now wait kept = map (asked_packet now wait) kept
 
--- the packets whose wait is over, and the others, both in the order of keeping
+-- the packets whose wait is over, and the others, both in the order in which they were kept
 abbrev pub ended_by : Ended → List HeldPacket → List HeldPacket
 ended_by ended kept = filter (λ packet. ends ended packet.wait) kept
 
 abbrev pub left_by : Ended → List HeldPacket → List HeldPacket
 left_by ended kept = filter (λ packet. not (ends ended packet.wait)) kept
 
--- a packet that was taken off, as a list
+-- the packet that was taken off, or none, as a list
 abbrev pub listed : Option HeldPacket → List HeldPacket
 listed None = []
 listed (Some packet) = packet ∷ []
 
--- no two wait for the same
+-- no two packets wait for the same
 abbrev pub AreApart : List HeldPacket → Type 0
 AreApart kept = AllPairs (λ a b. same_wait a.wait b.wait ≡ false) kept
 
--- at most 64 wait for pairs and 64 for next hops, and no two for the same
+-- the invariant of a list: at most 64 wait for pairs and 64 for next hops, and no two for the same
 pub record IsKept (kept : List HeldPacket) : Type 0 where
   pub pairs : pair_count kept ≤ 64
   pub hops : hop_count kept ≤ 64

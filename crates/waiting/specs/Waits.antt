@@ -1,4 +1,4 @@
--- What packets wait for, and when their waits are over.
+-- The things that packets wait for, and the ends of these waits.
 use Rattle.std.specs.Prelude.{Bool, true, false, ◌&&◌, ◌==◌}
 use Rattle.nat_types.specs.Same.{same_endpoint}
 use Rattle.nat_types.specs.declared.gateways.Side.{Side}
@@ -18,14 +18,14 @@ abbrev pub is_for_pair : WaitsFor → Bool
 is_for_pair (Pair endpoint) = true
 is_for_pair (Hop side host) = false
 
--- for the pair of one endpoint, or for one host on one side
+-- whether both wait for the pair of one endpoint, or for one host on one side
 abbrev pub same_wait : WaitsFor → WaitsFor → Bool
 same_wait (Pair a) (Pair b) = same_endpoint a b
 same_wait (Pair a) (Hop t b) = false
 same_wait (Hop s a) (Pair b) = false
 same_wait (Hop s a) (Hop t b) = same_side s t && (a.0 == b.0)
 
--- it is among the waits that are over
+-- whether a wait is among those that are over
 abbrev pub ends : Ended → WaitsFor → Bool
 ends (One ended) wait = same_wait ended wait
 ends AllPairs wait = is_for_pair wait

@@ -1,4 +1,4 @@
-//! Buffers of packets that wait no more, for those to come.
+//! Spare buffers: those of packets that no longer wait, kept for packets to come.
 ghost use Rattle.std.specs.Prelude.{◌≡◌, length, IfOk, OnErr};
 ghost use Rattle.memory.specs.Memory.{WasRefused};
 ghost use Rattle.waiting.specs.Memory.{LacksCopy};
@@ -6,13 +6,13 @@ ghost use Rattle.waiting.specs.Memory.{LacksCopy};
 use std::alloc::{AllocError, Global};
 use std::marker::Model;
 
-/// How many buffers are kept at most.
+/// The most spare buffers that are kept.
 const SPARE: usize = 64;
 
-/// The bytes of the longest frame that comes in.
+/// The most bytes of a frame that comes in.
 const LONGEST_FRAME: usize = 1514;
 
-/// Empty buffers, whose memory serves again.
+/// A list of empty buffers, kept so that packets to come need no new memory.
 #[derive(Debug, Drop)]
 pub(crate) struct SpareBuffers {
     buffers: Vec<Vec<u8>>,
@@ -21,7 +21,7 @@ pub(crate) struct SpareBuffers {
 impl Model for SpareBuffers {
     ghost use Rattle.std.specs.Prelude.{ℕ, ◌≤◌, vec_capacity, length};
 
-    // How many there are.
+    // The number of buffers.
     ghost Value = { ℕ };
 
     ghost view = { λ s. length s.buffers.items };
@@ -30,7 +30,7 @@ impl Model for SpareBuffers {
 }
 
 impl SpareBuffers {
-    /// None yet. The list of them takes its memory here.
+    /// Returns an empty list. Takes the memory of the list, and fails where there isn't enough.
     pub(crate) fn new(alloc: Global) -> Result<SpareBuffers, AllocError>
         ensures refused { OnErr result (WasRefused 64) }
     {
@@ -38,7 +38,8 @@ impl SpareBuffers {
         Ok(SpareBuffers { buffers })
     }
 
-    /// A buffer with these bytes: a spare one, or a new one, which takes memory.
+    /// Returns a buffer with a copy of these bytes: a spare one, or else a new one, which takes
+    /// memory. Fails where there isn't enough.
     pub(crate) fn copy_of(&mut self, alloc: Global, bytes: &[u8]) -> Result<Vec<u8>, AllocError>
         ensures items { IfOk result (λ v. v.items ≡ bytes.now) }
         ensures refused { OnErr result (LacksCopy (length bytes.now)) }

@@ -1,4 +1,4 @@
-//! The list of the packets that wait.
+//! Packets that wait, and the list of them.
 ghost use Rattle.std.specs.Prelude.{◌≡◌, ◌≤◌, ◌+◌, ◌++◌, ◌∷◌, [], ◌==◌, ◌-◌, ◌&&◌, length, IfOk, IsTrue, not, nat_le, if◌then◌else◌};
 ghost use Rattle.std.specs.Prelude.{vec_len, vec_capacity, position};
 ghost use Rattle.std.specs.List.{filter, list_any, AllPass};
@@ -16,27 +16,27 @@ use nat_types::Side;
 use std::alloc::{AllocError, Global};
 use std::marker::Model;
 
-/// How many packets may wait for pairs, and how many for next hops.
+/// The most packets that may wait for pairs, and the most that may wait for next hops.
 const PLACES: usize = 64;
 
-/// After how long a next hop is asked for again, in centiseconds.
+/// The time after which a next hop is asked for again, in centiseconds.
 const ASKED_AFTER: u64 = 100;
 
-/// How long a packet waits, in centiseconds.
+/// The longest time that a packet waits, in centiseconds.
 const LONGEST_WAIT: u64 = 300;
 
-/// A packet that waits.
+/// A packet that waits, as the frame in which it came.
 #[derive(Debug, Drop)]
 pub struct HeldPacket {
-    /// Where it came in.
+    /// The side on which the frame came in.
     pub side: Side,
-    /// The frame, as it came.
+    /// The bytes of the frame, unchanged.
     pub bytes: Vec<u8>,
-    /// The moment since which it waits, in centiseconds.
+    /// The time since which the packet waits, in centiseconds.
     pub since: u64,
     pub wait: WaitsFor,
-    /// The moment at which its next hop was last asked for, in centiseconds; of a packet that waits
-    /// for a pair, since when it waits.
+    /// The time at which the packet's next hop was last asked for, in centiseconds; for a packet
+    /// that waits for a pair, the time since which it waits.
     pub asked: u64,
 }
 
@@ -55,7 +55,8 @@ impl Model for HeldPacket {
 }
 
 impl HeldPacket {
-    /// The same packet, which waits from now on for something else; a next hop is asked for now.
+    /// Returns the same packet, waiting from `since` on for something else; a next hop counts as
+    /// asked for at `since`.
     pub fn again(self, since: u64, wait: WaitsFor) -> HeldPacket
         ensures { result ≡ record self { since = since; wait = wait; asked = since } }
     {
@@ -81,7 +82,8 @@ impl HeldPacket {
         now.saturating_sub(self.since) < LONGEST_WAIT
     }
 
-    /// Whether it waits for this, and its next hop was last asked for 100 centiseconds ago or more.
+    /// Whether the packet waits for this, and its next hop was last asked for 100 centiseconds ago
+    /// or more.
     fn asks_again(&self, wait: WaitsFor, now: u64) -> bool
         ensures { result
             ≡ (same_wait wait self.now.wait && nat_le 100 (now - self.now.asked)) }
@@ -90,9 +92,9 @@ impl HeldPacket {
     }
 }
 
-/// The packets that wait, in the order of keeping: at most 64 for pairs, one an endpoint, and at
-/// most 64 for next hops, one a side and address. The buffers of packets that wait no more serve
-/// those to come.
+/// The packets that wait, in the order in which they were kept: at most 64 for pairs, one for each
+/// endpoint, and at most 64 for next hops, one for each side and address. The buffers of packets
+/// that no longer wait are used again.
 #[derive(Debug, Drop)]
 pub struct WaitingPackets {
     packets: Vec<HeldPacket>,
@@ -110,7 +112,7 @@ impl Model for WaitingPackets {
     ghost invariant = { λ k. IsKept k.packets.items × (128 ≤ vec_capacity k.packets) };
 }
 
-/// How many packets wait for pairs.
+/// Returns how many packets wait for pairs.
 fn pair_count(packets: &[HeldPacket]) -> usize
     ensures { result ≡ pair_count packets.now }
 {
@@ -120,7 +122,7 @@ fn pair_count(packets: &[HeldPacket]) -> usize
         .count()
 }
 
-/// How many packets wait for next hops.
+/// Returns how many packets wait for next hops.
 fn hop_count(packets: &[HeldPacket]) -> usize
     ensures { result ≡ hop_count packets.now }
 {
@@ -130,7 +132,8 @@ fn hop_count(packets: &[HeldPacket]) -> usize
         .count()
 }
 
-/// Whether a packet of that kind finds room.
+/// Whether one more packet may wait for this: for a pair where fewer than 64 do, for a next hop
+/// always.
 fn has_room(packets: &[HeldPacket], wait: WaitsFor) -> bool
     ensures { result ≡ has_room wait packets.now }
 {
@@ -146,14 +149,14 @@ fn is_awaited(packets: &[HeldPacket], wait: WaitsFor) -> bool
     packets.iter().any(|packet| packet.wait.is_same(wait))
 }
 
-/// Where the first packet stands that waits for this.
+/// Returns the index of the first packet that waits for this.
 fn place_for(packets: &[HeldPacket], wait: WaitsFor) -> Option<usize>
     ensures { result ≡ position (λ packet. same_wait wait packet.wait) packets.now }
 {
     packets.iter().position(|packet| wait.is_same(packet.wait))
 }
 
-/// Where the first packet stands that waits for a next hop.
+/// Returns the index of the first packet that waits for a next hop.
 fn first_hop(packets: &[HeldPacket]) -> Option<usize>
     ensures { result ≡ position (λ packet. not (is_for_pair packet.wait)) packets.now }
 {
@@ -172,8 +175,8 @@ fn drop_first_hop(packets: &mut Vec<HeldPacket>)
     }
 }
 
-/// Makes room for a packet that is to wait for this: where it is a next hop and 64 packets wait for
-/// such, the first of these is dropped.
+/// Drops the first packet that waits for a next hop, where a packet is to wait for a next hop and
+/// 64 do already.
 fn make_room(packets: &mut Vec<HeldPacket>, wait: WaitsFor)
     ensures items { packets.new.items ≡ with_room wait packets.old.items }
     ensures capacity { vec_capacity packets.new ≡ vec_capacity packets.old }
@@ -195,7 +198,7 @@ fn asks_again(packets: &[HeldPacket], wait: WaitsFor, now: u64) -> bool
     packets.iter().any(|packet| packet.asks_again(wait, now))
 }
 
-/// Notes that the next hop of the packet that waits for this was asked for.
+/// Notes that the next hop of the packet that waits for this was asked for at `now`.
 fn note_asked(packets: &mut Vec<HeldPacket>, wait: WaitsFor, now: u64)
     requires once { AreApart packets.old.items }
     ensures items { packets.new.items ≡ with_asked now wait packets.old.items }
@@ -207,7 +210,7 @@ fn note_asked(packets: &mut Vec<HeldPacket>, wait: WaitsFor, now: u64)
     }
 }
 
-/// Moves the packets whose wait is over behind another list, which has room for them.
+/// Moves the packets whose wait is over to the end of another list, which has capacity for them.
 fn move_ended(packets: &mut Vec<HeldPacket>, ended: Ended, list: &mut Vec<HeldPacket>)
     requires room { vec_len list.old + vec_len packets.old ≤ vec_capacity list.old }
     ensures left { packets.new.items ≡ left_by ended packets.old.items }
@@ -247,7 +250,8 @@ fn retain_young(packets: &mut Vec<HeldPacket>, now: u64)
 }
 
 impl WaitingPackets {
-    /// None yet. All its places take their memory here.
+    /// Returns an empty list. Takes the memory of all its places, and fails where there isn't
+    /// enough.
     pub fn new(alloc: Global) -> Result<WaitingPackets, AllocError>
         ensures none { IfOk result (λ k. k ≡ []) }
         ensures refused { OnErr result LacksPackets }
@@ -257,8 +261,9 @@ impl WaitingPackets {
         Ok(WaitingPackets { packets, spare })
     }
 
-    /// A packet that waits from now on; its next hop is asked for now. The copy of its bytes lies in
-    /// a buffer of a packet that waits no more, or takes memory.
+    /// Returns a packet that waits from `since` on; a next hop counts as asked for at `since`. The
+    /// bytes are copied into the buffer of a packet that no longer waits, or else into a new one.
+    /// Fails where there isn't enough memory.
     pub fn copy(
         &mut self,
         alloc: Global,
@@ -288,7 +293,7 @@ impl WaitingPackets {
         })
     }
 
-    /// Keeps the buffer of a packet that waits no more for one to come.
+    /// Keeps the buffer of a packet that no longer waits for a packet to come.
     pub fn reuse(&mut self, packet: HeldPacket)
         ensures same { self.new ≡ self.old }
     {
@@ -302,14 +307,14 @@ impl WaitingPackets {
         self.spare.put(bytes);
     }
 
-    /// The packets, in the order of keeping.
+    /// Returns the packets in the order in which they were kept.
     pub fn packets(&self) -> &[HeldPacket]
         ensures { result.now ≡ self.now }
     {
         self.packets.as_slice()
     }
 
-    /// How many wait.
+    /// Returns how many packets wait.
     pub fn len(&self) -> usize
         ensures count { result ≡ length self.now }
         ensures most { result ≤ 128 }
@@ -317,7 +322,7 @@ impl WaitingPackets {
         self.packets.len()
     }
 
-    /// Whether none waits.
+    /// Whether no packet waits.
     pub fn is_empty(&self) -> bool
         ensures { result ≡ (length self.now == 0) }
     {
@@ -332,8 +337,8 @@ impl WaitingPackets {
         has_room(&self.packets, wait) && !is_awaited(&self.packets, wait)
     }
 
-    /// Puts a packet behind the others. Where it is the 65th that waits for a next hop, the one of
-    /// these that was kept first is dropped.
+    /// Appends a packet. Where the packet is the 65th that waits for a next hop, the oldest of
+    /// these is dropped.
     pub fn keep(&mut self, packet: HeldPacket)
         requires { IsTrue (has_place self.old packet.wait) }
         ensures { self.new ≡ with_room packet.wait self.old ++ packet ∷ [] }
@@ -342,8 +347,8 @@ impl WaitingPackets {
         self.packets.push_reserved(packet);
     }
 
-    /// Whether the next hop for which a packet waits is to be asked for again at the moment `now`, in
-    /// centiseconds: it was last asked for 100 ago or more. If so, it counts as asked for now.
+    /// Whether the next hop for which a packet waits is to be asked for again at `now`
+    /// (centiseconds): it was last asked for 100 cs ago or more. If so, it counts as asked for now.
     pub fn ask_again(&mut self, wait: WaitsFor, now: u64) -> bool
         ensures asks { result ≡ asks_again now wait self.old }
         ensures after { self.new ≡ (if result then with_asked now wait self.old else self.old) }
@@ -355,8 +360,8 @@ impl WaitingPackets {
         asks
     }
 
-    /// Takes the packets off whose wait is over, and puts them behind a list with room for all that
-    /// wait, in the order of keeping.
+    /// Moves the packets whose wait is over to the end of `list`, in the order in which they were
+    /// kept. `list` must have capacity for all that wait.
     pub fn take_ended(&mut self, ended: Ended, list: &mut Vec<HeldPacket>)
         requires room { vec_len list.old + length self.old ≤ vec_capacity list.old }
         ensures left { self.new ≡ left_by ended self.old }
@@ -364,13 +369,13 @@ impl WaitingPackets {
         ensures gone { AllPass (λ packet. not (ends ended packet.wait)) self.new }
         ensures count { vec_len list.new + length self.new ≡ vec_len list.old + length self.old }
         ensures capacity { vec_capacity list.new ≡ vec_capacity list.old }
-        // At most 64 wait for pairs.
+        // At most 64 packets wait for pairs.
         ensures pairs { length (ended_by AllPairs self.old) ≤ 64 }
     {
         move_ended(&mut self.packets, ended, list);
     }
 
-    /// Takes off the packet that waits for this, if one does.
+    /// Takes off the packet that waits for this, if there is one.
     pub fn take_one(&mut self, wait: WaitsFor) -> Option<HeldPacket>
         ensures left { self.new ≡ left_by (One wait) self.old }
         ensures taken { listed result ≡ ended_by (One wait) self.old }
@@ -378,7 +383,7 @@ impl WaitingPackets {
         remove_one(&mut self.packets, wait)
     }
 
-    /// Drops the packets that were kept 300 centiseconds ago or earlier.
+    /// Drops the packets that have waited for 300 centiseconds or more.
     pub fn drop_old(&mut self, now: u64)
         ensures young { self.new ≡ filter (is_young now) self.old }
     {

@@ -1,4 +1,4 @@
-//! What packets wait for, and when their waits are over.
+//! The things that packets wait for, and the ends of these waits.
 ghost use Rattle.std.specs.Prelude.{◌≡◌};
 ghost use Rattle.nat_types.specs.Same.{same_endpoint};
 ghost use Rattle.waiting.specs.Waits.{same_side, is_for_pair, same_wait, ends};
@@ -6,21 +6,21 @@ ghost use Rattle.waiting.specs.Waits.{same_side, is_for_pair, same_wait, ends};
 use addresses::Ip;
 use nat_types::{Endpoint, Side};
 
-/// What a packet waits for.
+/// A thing that a packet waits for.
 #[derive(Clone, Copy, Debug, PartialEq, Eq)]
 pub enum WaitsFor {
-    /// That the pair of this endpoint is Pending no longer.
+    /// The peer's answer on this endpoint's pair, after which the pair isn't Pending.
     Pair(Endpoint),
     /// The Ethernet address of this host, its next hop on this side.
     Hop(Side, Ip),
 }
 
-/// Which waits are over.
+/// The waits that are over.
 #[derive(Clone, Copy, Debug, PartialEq, Eq)]
 pub enum Ended {
-    /// All for this.
+    /// The waits for this thing.
     One(WaitsFor),
-    /// All for a pair.
+    /// The waits for any pair.
     AllPairs,
 }
 
@@ -38,7 +38,7 @@ fn is_endpoint(endpoint: Endpoint, other: Endpoint) -> bool
 }
 
 impl WaitsFor {
-    /// Whether it is a pair that the packet waits for.
+    /// Whether the packet waits for a pair.
     pub fn is_for_pair(self) -> bool
         ensures { result ≡ is_for_pair self }
     {

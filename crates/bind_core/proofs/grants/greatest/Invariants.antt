@@ -3,7 +3,7 @@ use Rattle.spec_binding.specs.Rows.{as_ports}
 use Rattle.bind_core.specs.Grants.{spares_between}
 use Rattle.bind_core.proofs.grants.greatest.Given as goal
 
--- those so far, and the first of what is left
+-- the ports chosen so far and the first of those left are the choice
 abbrev pub invariant-loop-taken : goal.invariant-loop-taken
 invariant-loop-taken l = record {
   end : l.below ≤ 65536;

@@ -4,7 +4,7 @@ use Rattle.spec_binding.specs.Resets.{back_in, retaken}
 use Rattle.bind_core.proofs.Walking.{behind}
 use Rattle.bind_core.proofs.resets.note_back.Given as goal
 
--- those passed are noted
+-- the pairs of the entries passed are noted
 pub record Noted (l : goal.Live-loop-entry) : Type 0 where
   pub items : l.notes.items ++ retaken l.by l.at (back_in (behind l.last l.table.entries)) ≡ l.fn.notes.items ++ retaken l.by l.at (back_in l.table.entries)
   pub len : vec_len l.notes + length (behind l.last l.table.entries) ≤ vec_len l.fn.notes + length l.table.entries

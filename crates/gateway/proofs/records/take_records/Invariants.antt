@@ -6,7 +6,7 @@ use Rattle.spec_step.specs.Parts.{records_done}
 use Rattle.forwarder.specs.Forwarder.{scene_on}
 use Rattle.gateway.proofs.records.take_records.Given as goal
 
--- what is still to be taken leads to the same end, and there is room for it
+-- the records still to be taken lead to the same end, and there is capacity for them
 pub record SoFar (l : goal.Live-loop-entry) : Type 0 where
   pub scene : records_done (scene_on l.forwarder l.page) (drop l.entry-index l.records) ≡ records_done (scene_on l.fn.forwarder l.fn.page) l.records
   pub moment : l.forwarder.moment ≡ l.fn.forwarder.moment

@@ -3,7 +3,7 @@ use Rattle.bindings.specs.Runs.{runs_of}
 use Rattle.resync.specs.Cursor.{runs_from, ports_ahead}
 use Rattle.resync.proofs.cursor.run_count.Given as goal
 
--- those so far, and those ahead
+-- the runs counted and the runs ahead are all runs
 abbrev pub invariant-loop-next : goal.invariant-loop-next
 invariant-loop-next l = record {
   counted : l.count + length (runs_from l.from l.table.owned) ≡ length (runs_of l.table.owned);

@@ -50,7 +50,7 @@ returns-then-is_synced-clause-works c = λ e h n l agrees boot greater from.
     works-as c.args.now (l ∷ []) [] b e n (restarted b) (book_of c.revive.new.self) (restart_link b c.args.link.now) c.promise.new.link 0 _ h (promised c) (returns-then-is_synced-clause-link c)
     (c.restart_works.ensures c.args.now b e c.args.link.now n h l c.recall.ensures.book agrees boot greater from)
 
--- ---- another one forgets what it has
+-- ---- a gateway that isn't synced empties its table
 
 pub returns-else-is_synced-clause-ledger : goal.returns-else-is_synced-clause-ledger
 returns-else-is_synced-clause-ledger c =

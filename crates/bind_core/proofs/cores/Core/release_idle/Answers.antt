@@ -45,7 +45,7 @@ loop-i-preserved c =
       capacity = c.release.ensures.capacity ∙ c.loop-i.invariant.capacity;
     }
 
--- nothing has changed yet but the list
+-- before the first key, only the list of idle keys has changed
 pub loop-i-init : goal.loop-i-init
 loop-i-init c =
     let keys = idle_keys_of c.args.self.now.table (is_lone c.args.self.now.stage) c.args.now in

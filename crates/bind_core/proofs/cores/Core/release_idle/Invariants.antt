@@ -5,7 +5,7 @@ use Rattle.spec_binding.specs.Ledgers.{let_go}
 use Rattle.bind_core.specs.Cores.{ledger_of}
 use Rattle.bind_core.proofs.cores.Core.release_idle.Given as goal
 
--- the keys that are left lead to the same end
+-- releasing the keys that are left gives what releasing all would give
 pub record SoFar (l : goal.Live-loop-i) : Type 0 where
   pub ledger : (let_go l.now (drop l.i (idle_keys_of l.fn.self.table (is_lone l.fn.self.stage) l.now)) (ledger_of l.self) l.link).ledger ≡ (let_go l.now (idle_keys_of l.fn.self.table (is_lone l.fn.self.stage) l.now) (ledger_of l.fn.self) l.fn.link).ledger
   pub link : (let_go l.now (drop l.i (idle_keys_of l.fn.self.table (is_lone l.fn.self.stage) l.now)) (ledger_of l.self) l.link).link ≡ (let_go l.now (idle_keys_of l.fn.self.table (is_lone l.fn.self.stage) l.now) (ledger_of l.fn.self) l.fn.link).link

@@ -9,7 +9,7 @@ use Rattle.spec_step.specs.Shown.{GatewayAndOutput}
 use Rattle.forwarder.specs.Forwarder.{scene_on}
 use Rattle.forwarder.proofs.forwarders.Forwarder.release_all.Goals as goal
 
--- the next of the packets
+-- taking the next packet, and then the others
 next-taken : (s : GatewayAndOutput) (all : List HeldPacket) (n m : ℕ) (w : HeldPacket) → n < length all → w ≡ get_or all n w → m ≡ suc n → all_taken (taken_again s w) (drop m all) ≡ all_taken s (drop n all)
 next-taken s all n m w below is more =
     ap (λ (k : ℕ). all_taken (taken_again s w) (drop k all)) more

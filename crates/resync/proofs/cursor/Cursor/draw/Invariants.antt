@@ -5,7 +5,7 @@ use Rattle.link.specs.Grammar.{IsWellFormedRecord}
 use Rattle.resync.specs.Cursor.{coming}
 use Rattle.resync.proofs.cursor.Cursor.draw.Given as goal
 
--- so many are drawn
+-- the records of the rounds so far are drawn
 abbrev pub invariant-loop : goal.invariant-loop
 invariant-loop l = record {
   len : array_vec_len l.out ≡ array_vec_len l.fn.out + l.counter;
