@@ -1,5 +1,5 @@
-//! The checker of traces. The checker goes through the notes once, and keeps the list of open pairs and which gateways
-//! are synced.
+//! The checker of traces. The checker goes through the notes once, and keeps the list of open pairs
+//! and which gateways are synced.
 ghost use Rattle.std.specs.Prelude.{◌≡◌, ◌+◌, not, List, ◌∷◌, filter, reverse, ◌&&◌, IsTrue, ◌↔◌, OnOk, OnErr, IfErr, All, Contains};
 ghost use Rattle.nat_types.specs.Same.{other, same, same_pair};
 ghost use Rattle.nat_types.specs.declared.notes.Note.{Note as Noted};
@@ -19,8 +19,8 @@ use thiserror::Error;
 pub enum AuditFault {
     #[error("out of memory")]
     NoMemory,
-    /// The pair used at this note shares only its key, or only its endpoint, with a pair that is open just before the
-    /// note.
+    /// The pair used at this note shares only its key, or only its endpoint, with a pair that is
+    /// open just before the note.
     #[error("note {0} uses a pair that does not fit the open pairs")]
     NotFits(usize),
     #[error("a synced gateway does not hold an open pair")]
@@ -80,7 +80,8 @@ fn synced_after(synced: bool, gateway: GatewayId, note: Note) -> bool
     }
 }
 
-/// Whether a gateway has let a pair go after a note, where `gone` says whether it had before the note.
+/// Whether a gateway has let a pair go after a note, where `gone` says whether it had before the
+/// note.
 fn let_go_after(gone: bool, gateway: GatewayId, pair: Pair, note: &Note) -> bool
     ensures { result ≡ past.let_go_after gateway pair note.now.by note.now.what gone }
 {
@@ -128,8 +129,8 @@ fn has_all(table: &[Pair], opens: &[Pair]) -> bool
     opens.iter().all(|open| has(table, *open))
 }
 
-/// Whether each synced gateway has all open pairs in its table. `zero` and `one` are the tables of gateway 0 and
-/// gateway 1.
+/// Whether each synced gateway has all open pairs in its table. `zero` and `one` are the tables of
+/// gateway 0 and gateway 1.
 fn are_kept(opens: &[Pair], synced: (bool, bool), zero: &[Pair], one: &[Pair]) -> bool
     ensures { IsTrue result
         ↔ ((IsTrue synced.0 → All (Contains zero.now) opens.now)
@@ -153,7 +154,8 @@ fn of_gateway(gateway: GatewayId, zero: bool, one: bool) -> bool
     }
 }
 
-/// Judges one note. `opens` has the pairs open before the note, and `synced` says whether its gateway is synced there.
+/// Judges one note. `opens` has the pairs open before the note, and `synced` says whether its
+/// gateway is synced there.
 fn judge(opens: &[Pair], synced: bool, note: &Note, position: usize) -> Result<(), AuditFault>
     ensures ok { OnOk result
         ((t : List Noted) → AreOpen opens.now t → synced ≡ past.is_synced note.now.by t →
@@ -177,8 +179,8 @@ fn judge(opens: &[Pair], synced: bool, note: &Note, position: usize) -> Result<(
     }
 }
 
-/// Changes the list of open pairs as one note does. `before` has the notes before it, and `alone` says that the other
-/// gateway isn't synced. Answers `NoMemory` where the list can't grow.
+/// Changes the list of open pairs as one note does. `before` has the notes before it, and `alone`
+/// says that the other gateway isn't synced. Answers `NoMemory` where the list can't grow.
 fn follow(
     opens: &mut Vec<Pair>,
     before: &[Note],
@@ -208,9 +210,10 @@ fn follow(
     }
 }
 
-/// Checks a trace, the oldest note first, and the pairs that gateway 0 and gateway 1 hold after it. Answers the fault
-/// with the smallest position. Of two faults at one note `NotSilent` is answered, and `NotKept` is answered only where
-/// no note has a fault. Answers `NoMemory` where the list of open pairs can't grow.
+/// Checks a trace, the oldest note first, and the pairs that gateway 0 and gateway 1 hold after it.
+/// Answers the fault with the smallest position. Of two faults at one note `NotSilent` is answered,
+/// and `NotKept` is answered only where no note has a fault. Answers `NoMemory` where the list of
+/// open pairs can't grow.
 pub fn audit(alloc: Global, trace: &[Note], zero: &[Pair], one: &[Pair]) -> Result<(), AuditFault>
     ensures fits { OnOk result (Fits trace.now) }
     ensures silent { OnOk result (Silent trace.now) }
