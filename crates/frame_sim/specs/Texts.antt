@@ -1,4 +1,4 @@
--- Why an event was refused, as a text.
+-- The texts of the faults of refused events.
 use Rattle.std.specs.Prelude.{ℕ, List, codes}
 use Rattle.frame_sim.specs.declared.events.WorldFault.{WorldFault}
 use Rattle.frame_sim.specs.declared.events.WorldFault.TheVariants.{PremiseBroken, NoSuchDatagram, NoMemory}
