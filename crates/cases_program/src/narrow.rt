@@ -1,4 +1,4 @@
-//! A writer that takes a number of bytes, and then no more.
+//! A writer that takes a number of bytes, and then fails.
 
 use std::io::{self, ErrorKind, Write};
 

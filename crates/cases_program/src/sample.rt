@@ -1,4 +1,4 @@
-//! The built-in settings, as the text that spells them.
+//! The text of the built-in settings.
 
 use addresses::Ip;
 use cases_words::Case;
