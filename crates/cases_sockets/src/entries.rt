@@ -1,4 +1,4 @@
-//! What the words of a line about a box's records stand for.
+//! The words of a line about a box's records, and what they mean.
 
 use cases_words::Case;
 use journal::{Cause, Entry, Format, Origin, Role};
@@ -26,7 +26,7 @@ pub(crate) fn origin_in(case: &mut Case) -> Origin {
     case.pick(&ORIGINS, Origin::Own)
 }
 
-/// A reason by its number, or `NoMemory`.
+/// Returns a cause: a reason by its number, or `NoMemory`.
 pub(crate) fn cause_in(case: &mut Case) -> Cause {
     let read = cause_of(case.word());
     case.or(read, Cause::NoMemory)
@@ -45,7 +45,7 @@ fn cause_of(word: &str) -> Option<Cause> {
     None
 }
 
-/// A change of a box.
+/// Returns the change of a box that the words say.
 pub(crate) fn entry_in(case: &mut Case) -> Entry {
     match case.word() {
         "role" => Entry::Role(case.side(), case.pick(&ROLES, Role::Initialize)),

@@ -9,7 +9,7 @@ use std::cell::RefCell;
 use std::io;
 use std::time::Duration;
 
-/// What the wire answers; where it is a fault, nothing is sent either.
+/// The answer of the wire to a receive; where it is a fault, sending fails, too.
 #[derive(Drop)]
 pub(crate) enum Coming {
     Nothing,
