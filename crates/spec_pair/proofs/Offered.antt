@@ -9,5 +9,5 @@ pub use Rattle.spec_pair.proofs.Boxes.{same_boxes}
 -- Steps of a gateway: two joined into one, set after other notes and letters, and of one act or
 -- none.
 pub use Rattle.spec_pair.proofs.StepLaws.{steps_join, rests, steps_anywhere, more_is_handed}
--- Whatever record stands at the next number, the act that the record table names takes it.
+-- Whatever record is at the next number, the act that the record table names takes it.
 pub use Rattle.spec_pair.proofs.Taking.{got}

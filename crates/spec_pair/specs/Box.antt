@@ -17,7 +17,7 @@ pub record Box : Type 0 where
   pub up : Bool
   -- the number of its last boot, or 0
   pub boot : ℕ
-  -- its table is loaded, so the gateway translates
+  -- the gateway's table is loaded, so it translates
   pub synced : Bool
   -- the other needn't agree to what it does: it has heard nothing of the other since the founding, or since the
   -- operator's word
@@ -29,11 +29,11 @@ pub record Box : Type 0 where
   -- the records that it pushed in this session, and how many of the peer's records it took
   pub sent : List MachineRecord
   pub taken : ℕ
-  -- it is loading its table: unsynced, it has taken Begin
+  -- the gateway is loading its table: unsynced, it has taken Begin
   pub loading : Bool
   -- the ports that it owns; while it loads, the ports that it will own once it is synced
   pub owned : ℕ → Bool
-  -- it has sent a Want that isn't answered yet
+  -- the gateway has sent a Want that isn't answered yet
   pub wants : Bool
   -- the last port that an Owner of the batch named
   pub named : ℕ

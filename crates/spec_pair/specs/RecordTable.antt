@@ -32,7 +32,7 @@ pub record Facts : Type 0 where
   pub found : Finding
   -- the pair of an Ask is idle, or came by Install and was never used here since
   pub rests : Bool
-  -- its table is empty; and the run of an Owner is in the ranges and above the last run named
+  -- the gateway's table is empty; and the run of an Owner is in the ranges and above the last run named
   pub is_empty : Bool
   pub rises : Bool
   -- the ports to grant at a Want; and those of a Grant that become owned
@@ -57,19 +57,23 @@ abbrev pub accepted : Key → Slot → Deed
 accepted k (Pending e) = Agreed k e
 accepted k s = Skip (Accept k)
 
+-- a synced gateway's deed at a Refuse, by the slot at the record's key
 abbrev pub refused : Key → Slot → Deed
 refused k (Pending e) = Rejected k
 refused k (Doomed e) = Rejected k
 refused k s = Skip (Refuse k)
 
+-- a synced gateway's deed at an Ask, by the slot at its key; `rests` says that the pair is idle or unused
 abbrev pub asked : Bool → Key → Slot → Deed
 asked rests k (Held e) = cond rests (Leave k e) (Stay k e)
 asked rests k s = Pass k
 
+-- a synced gateway's deed at a Yes, by the slot at its key
 abbrev pub agreed_to : Key → Slot → Deed
 agreed_to k (Closing e) = Left k e
 agreed_to k s = Skip (Yes k)
 
+-- a synced gateway's deed at a No, by the slot at its key
 abbrev pub denied : Key → Slot → Deed
 denied k (Closing e) = Stayed k e
 denied k s = Skip (No k)

@@ -65,6 +65,7 @@ with (x ∷ xs) = set_at (with xs) x.key x.slot
 abbrev pub live_first : List Placed
 live_first = slot_on 20000 (Live (host 5000)) ∷ []
 
+-- that pair as gateway 1 holds it
 abbrev pub held_first : List Placed
 held_first = slot_on 20000 (Held (host 5000)) ∷ []
 
@@ -332,6 +333,7 @@ alone_notes =
 abbrev pub first_part : Letter
 first_part = letter_of 1 1 0 (Begin ∷ Put pair_p.key pair_p.endpoint ∷ [])
 
+-- the part of that batch that was promised
 abbrev pub last_part : Letter
 last_part = letter_of 1 1 2 (Done ∷ [])
 

@@ -149,7 +149,7 @@ pub fn steps_anywhere()
         IsStep r i moment a b ls ws t (ns ++ t) mail (ms ++ mail) }
 {}
 
-/// Whatever record stands at the next number of a letter, the record table names the act that takes it, at a gateway
+/// Whatever record is at the next number of a letter, the record table names the act that takes it, at a gateway
 /// that isn't lone. Of granted ports those become owned that are in the ranges, aren't owned and have no entry.
 pub fn any_record_is_taken()
     ensures taken { (r : Ranges) (i : GatewayId) (a : Box) (l : Letter) (offset : ℕ) (f : Facts)
