@@ -35,7 +35,7 @@ abbrev pub promised_of : Link → Option ℕ
 promised_of e = cond (e.promised == 0) None (Some (e.acknowledged + length e.fed + e.promised - 1))
 
 -- The box of a book and its end of the link, where `h` has the records pushed or promised in the session, and `n` of
--- the peer's records are taken. The number stands apart because the link counts all records of a datagram at once.
+-- the peer's records are taken. The number is given apart because the link counts all records of a datagram at once.
 abbrev pub box_at : Book → Link → List Record → ℕ → Box
 box_at b e h n = record {
   up = true;

@@ -92,6 +92,7 @@ accepted_row p Live = quiet
 accepted_row p Closing = quiet
 accepted_row p Held = quiet
 
+-- the row of an Accept, by the entry at its key
 abbrev pub accept_row : Option Entry → Transition
 accept_row None = quiet
 accept_row (Some x) = accepted_row x.pair x.state
@@ -104,6 +105,7 @@ refused_row p Live = quiet
 refused_row p Closing = quiet
 refused_row p Held = quiet
 
+-- the row of a Refuse, by the entry at its key
 abbrev pub refuse_row : Option Entry → Transition
 refuse_row None = quiet
 refuse_row (Some x) = refused_row x.pair x.state
@@ -122,6 +124,7 @@ asked_row p rests Held =
     then row (Drop p.key) (Some (Yes p.key)) (Some (Released p))
     else answering (No p.key)
 
+-- the row of an Ask, by the entry at its key; an Ask for a pair that isn't there is answered by Yes
 abbrev pub ask_row : Key → Bool → Option Entry → Transition
 ask_row k rests None = answering (Yes k)
 ask_row k rests (Some x) = asked_row x.pair rests x.state
@@ -134,6 +137,7 @@ left_row p Live = quiet
 left_row p Closing = row (Drop p.key) None None
 left_row p Held = quiet
 
+-- the row of a Yes, by the entry at its key
 abbrev pub yes_row : Option Entry → Transition
 yes_row None = quiet
 yes_row (Some x) = left_row x.pair x.state
@@ -146,6 +150,7 @@ stayed_row p Live = quiet
 stayed_row p Closing = row (Renew p.key) None (Some (Retaken p))
 stayed_row p Held = quiet
 
+-- the row of a No, by the entry at its key
 abbrev pub no_row : Option Entry → Transition
 no_row None = quiet
 no_row (Some x) = stayed_row x.pair x.state
@@ -299,6 +304,7 @@ released_row lone ask p Live =
 released_row lone ask p Closing = quiet
 released_row lone ask p Held = (if lone then row (Drop p.key) None (Some (Released p)) else quiet)
 
+-- the row of an idle pair, by the entry at its key
 abbrev pub release_row : Bool → Bool → Option Entry → Transition
 release_row lone ask None = quiet
 release_row lone ask (Some x) = released_row lone ask x.pair x.state
@@ -317,6 +323,7 @@ used_row p Live = row Keep None (Some (Used p))
 used_row p Closing = quiet
 used_row p Held = row Keep None (Some (Used p))
 
+-- the row of a packet that is translated, by the entry of its pair
 abbrev pub use_row : Option Entry → Transition
 use_row None = quiet
 use_row (Some x) = used_row x.pair x.state
@@ -383,6 +390,7 @@ abbrev pub stage_after : Stage → Record → Stage
 stage_after s Done = Paired
 stage_after s r = s
 
+-- the book after a record was taken into the table that is loaded, or was out of place
 abbrev pub load_taken : Book → Record → Option Load → Book
 load_taken b r None = b
 load_taken b r (Some l) = record (with_load b l) { stage = stage_after b.stage r }
@@ -391,6 +399,7 @@ load_taken b r (Some l) = record (with_load b l) { stage = stage_after b.stage r
 abbrev pub unsynced_after : Book → Record → Book
 unsynced_after b r = load_taken b r (loaded (load_of b) r)
 
+-- the note of a record that was taken into the table that is loaded, if any
 abbrev pub load_what : Record → Option Load → Option NoteKind
 load_what (Put p) (Some l) = Some (Retaken p)
 load_what Done (Some l) = Some Synced

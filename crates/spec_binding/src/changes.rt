@@ -21,10 +21,10 @@ pub enum Change {
     Yield(Key, Pair),
     /// The gateway has a Want open from now on.
     Want,
-    /// These ports are granted to the peer: the gateway doesn't own them any more.
+    /// The gateway grants these ports to the peer, and doesn't own them any more.
     Give(Granted),
-    /// These ports were granted by the peer. Those that are in the ranges, aren't owned and have no
-    /// entry become owned, and the Want is closed.
+    /// The peer granted these ports. Those that are in the ranges, aren't owned and have no entry
+    /// become owned, and the Want is closed.
     Gain(Granted),
 }
 
