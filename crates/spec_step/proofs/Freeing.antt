@@ -64,7 +64,7 @@ filter-either f g xs =
     second false true = refl
     second false false = refl
 
--- ---- the same elements
+-- ---- lists with the same elements
 
 -- the middle part of a list goes to its end
 moved : {X : Type 0} (l z g h y : List X) → IsPermutation (((l ++ z) ++ g) ++ (h ++ y)) ((l ++ g) ++ (h ++ (y ++ z)))

@@ -47,7 +47,7 @@ within-by g g2 same within = (subst IsWithin (sym same.0) within.0, subst IsWith
 abbrev pub at_hand : Side → List ℕ → AtHand
 at_hand side bytes = record { side = side; bytes = bytes }
 
--- ---- the same elements
+-- ---- lists with the same elements
 
 pub swap-front : {X : Type 0} (a b c : List X) → IsPermutation (a ++ (b ++ c)) (b ++ (a ++ c))
 swap-front a b c =

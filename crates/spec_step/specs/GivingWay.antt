@@ -30,5 +30,6 @@ TakesTurn s Leaves s2 = (middle : GatewayAndOutput) × BothAct s table.Stop midd
 TakesTurn s Returns s2 = s2 ≡ scene (returned s.shown) s.told
 TakesTurn s Stays s2 = s2 ≡ s
 
+-- the scene after the turn with which a tick begins
 abbrev pub GivingWay : GatewayAndOutput → GatewayAndOutput → Type 0
 GivingWay s s2 = TakesTurn s (turn_of s.shown) s2

@@ -58,6 +58,7 @@ abbrev pub letter_in : Result Letters LinkFault → List Letter
 letter_in (Ok d) = letter_of d ∷ []
 letter_in (Err fault) = []
 
+-- the letter that an event brings: one at most, of the datagram that comes
 abbrev pub letters_in : Event → List Letter
 letters_in (Frame side bytes) = []
 letters_in (Datagram bytes) = letter_in (reading bytes.now)

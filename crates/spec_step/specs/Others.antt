@@ -66,9 +66,11 @@ unfoldable pub is_other : Networks → Side → List ℕ → Bool
 is_other networks side bytes =
     not (is_own_frame networks side bytes) && (not (is_translation side bytes) && not (is_error_frame bytes))
 
+-- the other frames among these
 abbrev pub other_frames : Networks → List Sent → List Sent
 other_frames networks frames = filter (λ f. is_other networks f.side f.bytes) frames
 
+-- these frames, sent at a side
 abbrev pub sent_on : Side → List (List ℕ) → List Sent
 sent_on side frames = map (λ bytes. record { side = side; bytes = bytes }) frames
 
@@ -77,6 +79,7 @@ abbrev pub answers_by : Interface → ArpPacket → Option Mac → List (List �
 answers_by station p (Some mac) = answer_frame station.network p mac ∷ []
 answers_by station p None = []
 
+-- the answer to an ARP packet at an interface, or nothing
 abbrev pub answers : Interface → ArpPacket → List (List ℕ)
 answers station p = answers_by station p (answer_to station.network (is_active station) p)
 
@@ -114,6 +117,7 @@ FrameOwes g side (Ok (Error packet)) own = own ≡ []
 FrameOwes g side (Ok (Asked echo)) own = own ≡ []
 FrameOwes g side (Err reason) own = own ≡ []
 
+-- the frames that an event has the gateway send by itself
 abbrev pub Owes : Shown → Event → List Sent → Type 0
 Owes g (Frame side bytes) own = FrameOwes g side (reading_on g side bytes.now) own
 Owes g (Datagram bytes) own = own ≡ []
@@ -153,6 +157,7 @@ frees_heard s d None w = let e = s.shown.link in
     else free_by after (records_taken e d) w
 frees_heard s d (Some fault) w = false
 
+-- whether a datagram ends a packet's wait, where it is read and let through
 abbrev pub frees_read : GatewayAndOutput → Result Letters LinkFault → HeldPacket → Bool
 frees_read s (Ok d) w = frees_heard s d (refusal s.shown.link d) w
 frees_read s (Err fault) w = false
@@ -162,6 +167,7 @@ abbrev pub frees_unless : Option Reason → HeldPacket → Bool
 frees_unless None w = ends AllPairs w.wait
 frees_unless (Some reason) w = false
 
+-- whether an event ends a packet's wait
 abbrev pub is_freed : GatewayAndOutput → Event → HeldPacket → Bool
 is_freed s (Frame side bytes) w = frees_as s.shown side (reading_on s.shown side bytes.now) w
 is_freed s (Datagram bytes) w = frees_read s (reading bytes.now) w
@@ -193,6 +199,7 @@ packet_as side bytes (Err TtlOver) = record { side = side; bytes = bytes } ∷ [
 packet_as side bytes (Err TooLong) = record { side = side; bytes = bytes } ∷ []
 packet_as side bytes (Err reason) = []
 
+-- the packet of an event, if there is one
 abbrev pub packet_in : Shown → Event → List AtHand
 packet_in g (Frame side bytes) = packet_as side bytes.now (reading_on g side bytes.now)
 packet_in g (Datagram bytes) = []
@@ -210,6 +217,7 @@ retaken_in Synced = []
 retaken_in Crashed = []
 retaken_in (Booted number) = []
 
+-- the pairs of the Retaken notes, in the order of the notes
 abbrev pub retaken_pairs : List Note → List Pair
 retaken_pairs notes = flat_map (λ note. retaken_in note.what) notes
 
@@ -291,6 +299,7 @@ pub data Cause : Type 0 where
   Sends : Cause
   Drops : Cause
 
+-- whether the packet of a request comes to wait
 abbrev pub has_come : Cause → Bool
 has_come Waits = true
 has_come Sends = false
@@ -303,9 +312,11 @@ pub record Asking : Type 0 where
   pub host : Ip
   pub cause : Cause
 
+-- the frame of a request
 abbrev pub request_of : Shown → Asking → Sent
 request_of g a = record { side = a.exit; bytes = request_by g a.exit a.host }
 
+-- the frames of these requests
 abbrev pub requests : Shown → List Asking → List Sent
 requests g askings = map (request_of g) askings
 
@@ -325,6 +336,7 @@ IsHost k may packet exit host Sends =
     IsNextHop k may packet exit host ⊎ (IsTold k packet × IsBack k packet exit host)
 IsHost k may packet exit host Drops = IsNextHop k may packet exit host
 
+-- the request may be made: for this host, and for this cause
 pub record IsDue (g : Shown) (k : Known) (may : Pair → Type 0) (a : Asking) : Type 0 where
   pub hop : IsHost k may a.packet a.exit a.host a.cause
   pub cause : IsCause g k a.exit a.host a.cause
@@ -362,6 +374,7 @@ noted_at now exit host Waits kept = kept
 noted_at now exit host Sends kept = kept
 noted_at now exit host Drops kept = with_asked now (wait.Hop exit host) kept
 
+-- the packets, where each request that goes out again is noted at the packet that waits for its host
 abbrev pub all_noted : ℕ → List Asking → List HeldPacket → List HeldPacket
 all_noted now [] kept = kept
 all_noted now (a ∷ askings) kept = all_noted now askings (noted_at now a.exit a.host a.cause kept)

@@ -95,6 +95,7 @@ own_reply g side bytes (Ok (reply.Ask hop)) = []
 own_reply g side bytes (Ok (reply.AskAgain hop)) = []
 own_reply g side bytes (Err reason) = own_refused g side side bytes reason
 
+-- the complaint of a packet that is refused, or nothing
 abbrev pub own_plan : Shown → Side → List ℕ → Flow → Result Plan Reason → List Sent
 own_plan g side bytes flow (Ok plan) = []
 own_plan g side bytes flow (Err reason) =
@@ -111,6 +112,7 @@ own_read g side bytes (Ok (Error packet)) = []
 own_read g side bytes (Ok (Asked echo)) = own_reply g side bytes (reply_to g side echo)
 own_read g side bytes (Err reason) = own_refused g side side bytes reason
 
+-- the own frames of one taking of a packet
 abbrev pub own_of : Shown → Side → List ℕ → List Sent
 own_of g side bytes = own_read g side bytes (reading_on g side bytes)
 
@@ -127,6 +129,7 @@ pub record SaysJust (old new : GatewayAndOutput) (own : List Sent) : Type 0 wher
 
 -- ---- how much is said
 
+-- the tally after an own frame of this purpose was sent at the time `now`
 abbrev pub counted_for : Purpose → ℕ → Tally → Tally
 counted_for Answers now tally = replied now tally
 counted_for (Complains reason exit) now tally = complained now tally

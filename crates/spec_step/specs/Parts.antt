@@ -91,9 +91,11 @@ carried_by s k p = let g = s.shown in
 abbrev pub flags_in : List ℕ → TcpFlags
 flags_in bytes = (segment_of (payload_of (frame_of bytes).body)).flags
 
+-- the far end of a session
 abbrev pub remote : Ip → Port → Remote
 remote address port = record { address = address; port = port }
 
+-- a packet as the session of its pair sees it
 abbrev pub carried : Remote → Way → TcpFlags → ℕ → Carried
 carried r way flags now = record { remote = r; way = way; flags = flags; at = now }
 
@@ -117,6 +119,7 @@ wanted_for s flow (Outward p) = wanted_by s (source_of flow)
 wanted_for s flow (Inward p) = s
 wanted_for s flow (Hairpin own other) = wanted_by s (source_of flow)
 
+-- the scene after a frame was sent at a side
 abbrev pub framed : GatewayAndOutput → Side → List ℕ → GatewayAndOutput
 framed s side bytes = scene s.shown (with_frame s.told side bytes)
 
@@ -197,6 +200,7 @@ complained_to s side bytes complaint (Some next) =
     else s
 complained_to s side bytes complaint None = s
 
+-- the scene after the complaint of a dropped packet, if there is one
 abbrev pub complained : GatewayAndOutput → Side → List ℕ → Option Complaint → GatewayAndOutput
 complained s side bytes (Some complaint) =
     complained_to s side bytes complaint (next_back s.shown side (sender_in bytes))
@@ -218,10 +222,12 @@ by_refusal s side bytes flow reason =
     let way = direction_of s.shown.networks side flow.protocol flow.source.0 flow.destination.0 in
     refused s side (exit_for side way) bytes reason
 
+-- the scene after the verdict on a packet was carried out: a plan, or a refusal
 abbrev pub by_verdict : GatewayAndOutput → Side → List ℕ → Flow → Result Plan Reason → GatewayAndOutput
 by_verdict s side bytes flow (Ok plan) = by_plan s side bytes flow plan
 by_verdict s side bytes flow (Err reason) = by_refusal s side bytes flow reason
 
+-- the scene after a packet was taken
 abbrev pub flow_taken : GatewayAndOutput → Side → List ℕ → Flow → GatewayAndOutput
 flow_taken s side bytes flow = by_verdict s side bytes flow (plan_of s.shown side flow (length_in bytes))
 
@@ -240,10 +246,12 @@ by_error_plan s side bytes flow (AskAgain by hop) = asked_again s (exit_by by) h
 -- no error waits for a pair
 by_error_plan s side bytes flow (WaitFor endpoint) = s
 
+-- the scene after the verdict on an error was carried out: a plan, or a drop
 abbrev pub by_error_verdict : GatewayAndOutput → Side → List ℕ → ErrorFlow → Result Plan Reason → GatewayAndOutput
 by_error_verdict s side bytes flow (Ok plan) = by_error_plan s side bytes flow plan
 by_error_verdict s side bytes flow (Err reason) = s
 
+-- the scene after an ICMP error was taken
 abbrev pub error_taken : GatewayAndOutput → Side → List ℕ → ErrorFlow → GatewayAndOutput
 error_taken s side bytes flow = by_error_verdict s side bytes flow (error_plan s.shown side flow (length_in bytes))
 
@@ -258,10 +266,12 @@ by_reply s side bytes source (reply.Ask hop) =
     framed (keeping s side bytes (wait.Hop side hop)) side (request_by s.shown side hop)
 by_reply s side bytes source (reply.AskAgain hop) = asked_again s side hop
 
+-- the scene after the verdict on an Echo was carried out: a plan, or a drop
 abbrev pub by_reply_verdict : GatewayAndOutput → Side → List ℕ → Ip → Result Reply Reason → GatewayAndOutput
 by_reply_verdict s side bytes source (Ok plan) = by_reply s side bytes source plan
 by_reply_verdict s side bytes source (Err reason) = refused s side side bytes reason
 
+-- the scene after an Echo to the gateway was taken
 abbrev pub echo_taken : GatewayAndOutput → Side → List ℕ → Echo → GatewayAndOutput
 echo_taken s side bytes echo = by_reply_verdict s side bytes echo.source (reply_to s.shown side echo)
 
@@ -274,6 +284,7 @@ retaken_by s side bytes (Ok (Advert a from)) = s
 retaken_by s side bytes (Ok (Asked echo)) = echo_taken s side bytes echo
 retaken_by s side bytes (Err reason) = refused s side side bytes reason
 
+-- the scene after a kept packet was taken again
 abbrev pub taken_again : GatewayAndOutput → HeldPacket → GatewayAndOutput
 taken_again s w = retaken_by s w.side w.bytes (reading_on s.shown w.side w.bytes)
 
@@ -289,6 +300,7 @@ released s ended =
 
 -- ---- ARP and VRRP
 
+-- the scene after an ARP request was answered, where it is
 abbrev pub answered_by : GatewayAndOutput → Side → ArpPacket → Option Mac → GatewayAndOutput
 answered_by s side p (Some mac) = framed s side (answer_frame (station_on s.shown side).network p mac)
 answered_by s side p None = s
@@ -302,6 +314,7 @@ arp_taken s side p =
     let told = answered_by heard side p (answer_to station.network (is_active station) p) in
     if is_learnable station.network p then released told (One (wait.Hop side p.sender_ip)) else told
 
+-- the scene after these frames were sent at a side, in order
 abbrev pub all_framed : GatewayAndOutput → Side → List (List ℕ) → GatewayAndOutput
 all_framed s side [] = s
 all_framed s side (frame ∷ frames) = all_framed (framed s side frame) side frames
@@ -330,6 +343,7 @@ started_in Initialize r now = record r {
 started_in Backup r now = r
 started_in Active r now = r
 
+-- the interface whose router begins
 abbrev pub started : Interface → ℕ → Interface
 started s now = record s { router = started_in s.router.state s.router now }
 
@@ -371,23 +385,28 @@ record_shown g r = let book = g.ledger.book in
       link = answered g.link (taken_answer book (rests_for g.moment g.ledger r) r);
     })
 
+-- the output after a record was taken
 abbrev pub record_told : Shown → Record → Output → Output
 record_told g r told = let book = g.ledger.book in
     with_notes told (noted_by (id_of g) g.moment (taken_what book (rests_for g.moment g.ledger r) r))
 
+-- the scene after the packets that waited for the endpoint's pair were taken again
 abbrev pub wait_ended : Option Endpoint → GatewayAndOutput → GatewayAndOutput
 wait_ended None s = s
 wait_ended (Some e) s = released s (One (wait.Pair e))
 
+-- the scene after a record was taken, with the packets whose wait it ended
 abbrev pub record_done : GatewayAndOutput → Record → GatewayAndOutput
 record_done s r = let g = s.shown in
     wait_ended (taken_ended g.ledger.book (rests_for g.moment g.ledger r) r)
     (scene (record_shown g r) (record_told g r s.told))
 
+-- the scene after these records were taken, one after another
 abbrev pub records_done : GatewayAndOutput → List Record → GatewayAndOutput
 records_done s [] = s
 records_done s (r ∷ rs) = records_done (record_done s r) rs
 
+-- the scene with another end of the link
 abbrev pub with_link : GatewayAndOutput → Link → GatewayAndOutput
 with_link s e = scene (record s.shown { link = e }) s.told
 
@@ -397,14 +416,17 @@ heard_by s d = let e = s.shown.link in
     let after = with_link s (after_take e d s.shown.moment) in
     records_done (if is_restart e d then reset after else after) (records_taken e d)
 
+-- the scene after a datagram that is let through was heard; one that is not changes nothing
 abbrev pub heard_unless : GatewayAndOutput → Datagram → Option LinkFault → GatewayAndOutput
 heard_unless s d None = heard_by s d
 heard_unless s d (Some fault) = s
 
+-- the scene after a datagram that was read; bytes that are no datagram change nothing
 abbrev pub datagram_read : GatewayAndOutput → Result Datagram LinkFault → GatewayAndOutput
 datagram_read s (Ok d) = heard_unless s d (refusal s.shown.link d)
 datagram_read s (Err fault) = s
 
+-- the scene after these bytes came over the link
 abbrev pub datagram_taken : GatewayAndOutput → List ℕ → GatewayAndOutput
 datagram_taken s bytes = datagram_read s (reading bytes)
 
@@ -424,6 +446,7 @@ abbrev pub idle_done : GatewayAndOutput → Key → GatewayAndOutput
 idle_done s k = let g = s.shown in
     by_row s (idle_row g.ledger.book (may_ask g.moment g.link) k)
 
+-- the scene after the idle pairs of these keys were let go, one after another
 abbrev pub all_idle_done : GatewayAndOutput → List Key → GatewayAndOutput
 all_idle_done s [] = s
 all_idle_done s (k ∷ ks) = all_idle_done (idle_done s k) ks
@@ -446,6 +469,7 @@ handed_in g = let book = g.ledger.book in let n = wanted g.link in
       link = with_fed g.link (take n book.coming);
     }
 
+-- the bytes of the datagram that is due
 abbrev pub datagram_in : Shown → List ℕ
 datagram_in g = spelling (datagram_of (serves g) g.link)
 
@@ -454,6 +478,7 @@ abbrev pub answer_sent : Shown → Output → GatewayAndOutput
 answer_sent g told =
     scene (record g { link = sent_on_answer g.link }) (if g.link.due then with_datagram told (datagram_in g) else told)
 
+-- the scene after the end of a step: the batch is fed, and the datagram that is due is sent
 abbrev pub link_answered : GatewayAndOutput → GatewayAndOutput
 link_answered s = answer_sent (handed_in s.shown) s.told
 
@@ -464,5 +489,6 @@ tick_sent g told =
     then scene (record g { link = sent_on_tick g.link g.moment }) (with_datagram told (datagram_in g))
     else scene g told
 
+-- the scene after the end of a tick: the batch is fed, and the datagram that is due is sent
 abbrev pub link_ticked : GatewayAndOutput → GatewayAndOutput
 link_ticked s = tick_sent (handed_in s.shown) s.told

@@ -31,6 +31,7 @@ pub record IsPassedOn (k : Known) (may : Pair → Type 0) (packet : AtHand) (by 
   pub hop : mac_at (hop_of k.networks by (error_flow_in packet.bytes).destination.0) k.moment (near_on k (exit_by by)) ≡ Some next
   pub bytes_are : sent.bytes ≡ passed_frame k.networks by next packet.bytes
 
+-- each of these sendings is an error passed on
 abbrev pub ArePassedOn : Known → (Pair → Type 0) → List Sending → Type 0
 ArePassedOn k may passed = AllByRecursion (λ d. IsPassedOn k may d.packet d.by d.sent) passed
 

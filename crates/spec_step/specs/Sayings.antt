@@ -84,6 +84,7 @@ own_heard s d None = let e = s.shown.link in
     else own_records after (records_taken e d)
 own_heard s d (Some fault) = []
 
+-- the own frames at a datagram, where it is read
 abbrev pub own_datagram : GatewayAndOutput → Result Datagram LinkFault → List Sent
 own_datagram s (Ok d) = own_heard s d (refusal s.shown.link d)
 own_datagram s (Err fault) = []

@@ -14,6 +14,7 @@ use Rattle.spec_step.specs.Shown.{Shown, scene}
 use Rattle.spec_step.specs.Steps.{IsStepOn}
 use Rattle.spec_step.specs.Truly.{hand_of}
 
+-- whether an own frame of this purpose is an answer
 abbrev pub is_answer : Purpose → Bool
 is_answer Answers = true
 is_answer (Complains reason exit) = false

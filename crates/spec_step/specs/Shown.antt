@@ -68,6 +68,7 @@ pub record GatewayAndOutput : Type 0 where
   pub shown : Shown
   pub told : Output
 
+-- the scene of a gateway with this output
 abbrev pub scene : Shown → Output → GatewayAndOutput
 scene g told = record { shown = g; told = told }
 

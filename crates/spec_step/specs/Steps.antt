@@ -53,6 +53,7 @@ word_refusal g n =
     if not (is_synced g.ledger.book.stage) then Some NotUp
     else (if (n == 0) || nat_lt n g.link.known then Some OldWord else None)
 
+-- the scene after the operator's word; a word that isn't taken changes nothing
 abbrev pub word_by : GatewayAndOutput → ℕ → Option Reason → GatewayAndOutput
 word_by s n None = word_taken s n
 word_by s n (Some reason) = s
@@ -85,10 +86,12 @@ pub record IsStepOn (s : GatewayAndOutput) (event : Event) (s2 : GatewayAndOutpu
 
 -- ---- the outcome of an event
 
+-- the outcome of a datagram
 abbrev pub outcome_heard : Result Taken LinkFault → Outcome
 outcome_heard (Ok t) = Done
 outcome_heard (Err fault) = Dropped BadDatagram
 
+-- the outcome of the operator's word
 abbrev pub outcome_word : Option Reason → Outcome
 outcome_word None = Done
 outcome_word (Some reason) = Dropped reason

@@ -71,6 +71,7 @@ pub record Known : Type 0 where
   pub near_inside : Neighbours
   pub near_outside : Neighbours
 
+-- what a gateway knows of that
 abbrev pub known_of : Shown → Known
 known_of g = record {
   networks = g.networks;
@@ -79,6 +80,7 @@ known_of g = record {
   near_outside = unasked g.outside.neighbours;
 }
 
+-- the neighbours on a side
 abbrev pub near_on : Known → Side → Neighbours
 near_on k Inside = k.near_inside
 near_on k Outside = k.near_outside
@@ -107,6 +109,7 @@ pub record Sending : Type 0 where
   pub by : Translation
   pub sent : Sent
 
+-- each of these sendings is a packet's translation
 abbrev pub AreSent : Known → List Sending → Type 0
 AreSent k [] = Unit {0}
 AreSent k (d ∷ ds) = IsSentBy k d.packet d.by d.sent × AreSent k ds

@@ -65,9 +65,11 @@ abbrev pub plan_to : Shown → Translation → Ip → Option Mac → Result Plan
 plan_to g by hop (Some next) = Ok (Send by next)
 plan_to g by hop None = (if has_place g.kept (wait.TheVariants.Hop (exit_by by) hop) then Ok (Ask by hop) else Ok (AskAgain by hop))
 
+-- the plan for what goes to this address by its pairs
 abbrev pub plan_via : Shown → Translation → Ip → Result Plan Reason
 plan_via g by to = plan_to g by (hop_to g by to) (next_to g by to)
 
+-- the plan for a packet by its pairs
 abbrev pub plan_by : Shown → Flow → Translation → Result Plan Reason
 plan_by g flow by = plan_via g by flow.destination
 
@@ -94,10 +96,12 @@ pair_in Live p = Ok p
 pair_in Closing p = Err CannotWait
 pair_in Held p = Ok p
 
+-- the pair of an entry that was found, or the reason why there is none to translate with
 abbrev pub pair_at : Option Entry → Result Pair Reason
 pair_at None = Err NoBinding
 pair_at (Some x) = pair_in x.state x.pair
 
+-- the pair of the outside port to which a packet goes
 abbrev pub target_pair : Shown → Flow → Result Pair Reason
 target_pair g flow = pair_at (slot_of g.ledger.book.entries (target_of flow))
 
@@ -197,6 +201,7 @@ reply_to g side echo =
 
 -- ---- the outcome of a frame
 
+-- the outcome of a packet or an error, by its plan
 abbrev pub outcome_by : Result Plan Reason → Outcome
 outcome_by (Ok (Send by next)) = Sent
 outcome_by (Ok (Ask by hop)) = Waiting
@@ -204,12 +209,14 @@ outcome_by (Ok (AskAgain by hop)) = Dropped CannotWait
 outcome_by (Ok (Wait endpoint)) = Waiting
 outcome_by (Err reason) = Dropped reason
 
+-- the outcome of an Echo, by its plan
 abbrev pub outcome_reply : Result Reply Reason → Outcome
 outcome_reply (Ok (reply.Send next)) = Sent
 outcome_reply (Ok (reply.Ask hop)) = Waiting
 outcome_reply (Ok (reply.AskAgain hop)) = Dropped CannotWait
 outcome_reply (Err reason) = Dropped reason
 
+-- the outcome of a frame, by what it is read as
 abbrev pub outcome_read : Shown → Side → Result Reading Reason → Outcome
 outcome_read g side (Ok (Arp p)) = Done
 outcome_read g side (Ok (Advert a from)) = Done
@@ -218,5 +225,6 @@ outcome_read g side (Ok (Error packet)) = outcome_by (error_plan g side packet.f
 outcome_read g side (Ok (Asked echo)) = outcome_reply (reply_to g side echo)
 outcome_read g side (Err reason) = Dropped reason
 
+-- the verdict on a frame: its outcome
 abbrev pub verdict : Shown → Side → List ℕ → Outcome
 verdict g side bytes = outcome_read g side (reading_on g side bytes)
