@@ -50,6 +50,7 @@ kth k xs = if k == 0 then None else slice_get xs (k - 1)
 abbrev pub datagram_for : World → GatewayId → ℕ → Option (List ℕ)
 datagram_for w i k = kth k (half w (other i)).sent
 
+-- no fault where the event is allowed, else this one
 abbrev pub unless : Bool → WorldFault → Option WorldFault
 unless allowed fault = if allowed then None else Some fault
 
@@ -110,6 +111,7 @@ abbrev pub Turns : World → GatewayId → Half → Note → Output → Outcome 
 Turns w i h note told outcome told2 w2 =
     (outcome ≡ Done) × (told2 ≡ with_note told note) × (w2 ≡ with_half w i h (w.trace ++ note ∷ []))
 
+-- a note of gateway `i` at a time
 abbrev pub noting : GatewayId → ℕ → NoteKind → Note
 noting i moment what = record { by = i; at = moment; what = what }
 

@@ -55,6 +55,7 @@ pub record IsThat (ports : PortRanges) (i : GatewayId) (number : ℕ) (g : Shown
   pub boot : g.link.boot ≡ number
   pub pushed : HasPushed g h
 
+-- a gateway that is up is gateway i of the pair; one that is down may be any
 abbrev pub IsHalf : PortRanges → GatewayId → ℕ → Option Shown → List Record → Type 0
 IsHalf ports i boot None h = Unit {0}
 IsHalf ports i boot (Some g) h = IsThat ports i boot g h

@@ -34,9 +34,11 @@ pub record World : Type 0 where
   pub one : Half
   pub trace : List Note
 
+-- the half of a gateway
 abbrev pub half : World → GatewayId → Half
 half w i = of_gateway w.zero w.one i
 
+-- the gateway of this number, where it is up
 abbrev pub gateway_at : World → GatewayId → Option Shown
 gateway_at w i = (half w i).gateway
 
@@ -60,6 +62,7 @@ founding settings = record {
 
 -- ---- a gateway that may be down
 
+-- whether a gateway is up
 abbrev pub is_up : Option Shown → Bool
 is_up None = false
 is_up (Some g) = true
@@ -69,6 +72,7 @@ abbrev pub synced_at : Option Shown → Bool
 synced_at None = false
 synced_at (Some g) = is_synced g.ledger.book.stage
 
+-- the entries of a gateway's table; none while it is down
 abbrev pub entries_of : Option Shown → List Entry
 entries_of None = []
 entries_of (Some g) = g.ledger.book.entries
