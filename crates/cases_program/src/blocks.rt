@@ -22,7 +22,7 @@ impl BlockFile {
     ///
     /// - `new` makes a file of zero bytes, whose name isn't kept yet; `file BYTES` one that is kept, with its name
     /// - `reads COUNT whole|stuck` sets how many bytes a read gives at most, and whether the folder can be synced
-    /// - `trouble CALLS once|before|within|short BYTES` sets what goes wrong after so many good calls, and what a torn
+    /// - `trouble CALLS once|before|within|short BYTES` sets what goes wrong after CALLS good calls, and what a torn
     ///   write leaves; `short` is a write that fails by its count
     /// - `init`, `start`, `found` make a boot file, start, and start as the founder
     fn change(&mut self, case: &mut Case) {

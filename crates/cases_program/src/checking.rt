@@ -85,6 +85,7 @@ fn tell(rt: &HostRuntime, options: &str, case: &mut Case) {
     case.end();
 }
 
+/// The cases of `check` and `compare`.
 #[derive(Drop)]
 pub(crate) struct Checks<'a> {
     pub(crate) rt: HostRuntime,

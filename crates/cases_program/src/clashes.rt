@@ -30,6 +30,7 @@ fn places_in(places: &str) -> OnLoopback {
     }
 }
 
+/// The cases of loopback ports that clash.
 #[derive(Drop)]
 pub(crate) struct Clashes<'a> {
     pub(crate) sample: &'a str,

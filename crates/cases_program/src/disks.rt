@@ -104,6 +104,7 @@ fn change(disk: &mut ModelDisk, case: &mut Case) {
     }
 }
 
+/// Makes a boot file on a disk, and prints `made` or the fault.
 pub(crate) fn made<D: Disk>(disk: &mut D, case: &mut Case) {
     match init(disk) {
         Ok(()) => case.put("made"),
@@ -111,6 +112,7 @@ pub(crate) fn made<D: Disk>(disk: &mut D, case: &mut Case) {
     }
 }
 
+/// Starts from the boot file on a disk, and prints the boot's number or the fault.
 pub(crate) fn started<D: Disk>(disk: &mut D, found: bool, case: &mut Case) {
     match next_boot(disk, found) {
         Ok(boot) => case.say("boot ", boot),
@@ -118,6 +120,7 @@ pub(crate) fn started<D: Disk>(disk: &mut D, found: bool, case: &mut Case) {
     }
 }
 
+/// Returns the trouble that the next word names.
 pub(crate) fn trouble(case: &mut Case) -> Trouble {
     case.pick(&TROUBLES, Trouble::None)
 }

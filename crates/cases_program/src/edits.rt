@@ -43,6 +43,7 @@ pub(crate) fn edited(text: &str, case: &mut Case) -> String {
     case.or_empty(edited)
 }
 
+/// The cases of edited settings.
 #[derive(Drop)]
 pub(crate) struct Edits<'a> {
     pub(crate) sample: &'a str,

@@ -9,6 +9,7 @@ use faults::Fault;
 use simulation::{Capture, looped, read_job};
 use std::alloc::Global;
 
+/// The cases of scripts through a channel.
 #[derive(Drop)]
 pub(crate) struct Lines {
     pub(crate) rt: HostRuntime,

@@ -20,6 +20,7 @@ fn listed(alloc: Global, sample: &str, count: usize, first: &str) -> Result<Stri
     Ok(text)
 }
 
+/// The cases of lists of neighbours.
 #[derive(Drop)]
 pub(crate) struct Lists<'a> {
     pub(crate) sample: &'a str,

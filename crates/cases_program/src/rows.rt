@@ -9,6 +9,7 @@ use simulation::{Progress, sim};
 use std::alloc::{AllocError, Global};
 use std::io::Write;
 
+/// The cases of scripts.
 #[derive(Drop)]
 pub(crate) struct Rows {
     pub(crate) rt: HostRuntime,

@@ -60,6 +60,7 @@ fn tell(words: &[String], case: &mut Case) {
     case.end();
 }
 
+/// The cases of command lines.
 #[derive(Drop)]
 pub(crate) struct Tasks;
 

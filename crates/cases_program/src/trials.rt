@@ -31,6 +31,7 @@ pub struct Trials {
 }
 
 impl Trials {
+    /// Returns the runs of a file with these bytes, whose numbers have to be above `last`.
     pub fn of(file: [u8; 32], last: u64) -> Trials {
         Trials {
             file,

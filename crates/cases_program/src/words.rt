@@ -10,6 +10,7 @@ use mio::net::UdpSocket;
 use std::alloc::Global;
 use std::os::fd::AsRawFd;
 
+/// The cases of whole commands.
 #[derive(Drop)]
 pub(crate) struct Words {
     pub(crate) rt: HostRuntime,
