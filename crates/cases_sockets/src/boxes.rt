@@ -39,6 +39,7 @@ const PORTS: [Ports; 4] = [
     },
 ];
 
+/// The boxes of the cases, and what an inherited descriptor stands for.
 #[derive(Drop)]
 pub(crate) struct Boxes {
     /// Box zero, box one, the hub, and the box with ways of its own, once it is opened.
@@ -48,6 +49,7 @@ pub(crate) struct Boxes {
 }
 
 impl Boxes {
+    /// Opens box zero, box one and the hub, and the socket for an inherited descriptor.
     pub(crate) fn open(rt: &HostRuntime) -> Result<Boxes> {
         let inherited = UdpSocket::bind(rt, "127.0.0.1:27321")?;
         inherited.connect("127.0.0.1:27322")?;

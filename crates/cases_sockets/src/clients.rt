@@ -12,6 +12,7 @@ pub(crate) struct Clients {
 }
 
 impl Clients {
+    /// Returns no clients.
     pub(crate) fn none(rt: &HostRuntime) -> Clients {
         Clients {
             streams: Vec::new(rt.alloc()),

@@ -18,10 +18,12 @@ const ROLES: [(&str, Role); 3] = [
     ("Active", Role::Active),
 ];
 
+/// Returns the format of records that the next word names.
 pub(crate) fn format_in(case: &mut Case) -> Format {
     case.pick(&FORMATS, Format::Text)
 }
 
+/// Returns the origin of an event that the next word names.
 pub(crate) fn origin_in(case: &mut Case) -> Origin {
     case.pick(&ORIGINS, Origin::Own)
 }

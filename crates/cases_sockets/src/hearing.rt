@@ -6,13 +6,14 @@ use cases_words::{Actor, Case};
 use sockets::{End, LONGEST, Network, Peer, PlaceSocket, Sender};
 use std::alloc::Global;
 
+/// The cases of a place over a transport in memory.
 #[derive(Drop)]
 pub(crate) struct Hearing {
     place: PlaceSocket<Memory>,
 }
 
 impl Actor for Hearing {
-    /// - `far udp END`, `far vxlan ADDRESS NUMBER`, `far interface`: a new place with this peer; the words behind it
+    /// - `far udp END`, `far vxlan ADDRESS NUMBER`, `far interface`: a new place with this peer; the words after it
     ///   are what is to arrive there, from whom and which bytes, each with `from`
     /// - `refuse N END ..`: a place that speaks by UDP, and whose transport's call N fails
     /// - `stuck`: a new place, all calls of whose transport fail
@@ -39,6 +40,7 @@ impl Actor for Hearing {
 }
 
 impl Hearing {
+    /// Returns the cases with a place at which nothing is to arrive.
     pub(crate) fn new(alloc: Global) -> Hearing {
         Hearing {
             place: PlaceSocket::new(Memory::empty(alloc), Peer::Interface),

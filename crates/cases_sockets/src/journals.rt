@@ -19,6 +19,7 @@ pub(crate) struct Journals<'a> {
 }
 
 impl<'a> Journals<'a> {
+    /// Returns the cases without a log, whose writer has this state.
     pub(crate) fn new(rt: HostRuntime, state: &'a Cell<WriterState>) -> Journals<'a> {
         Journals {
             rt,

@@ -27,6 +27,7 @@ pub(crate) struct Network {
 }
 
 impl Network {
+    /// Opens the boxes, without clients.
     pub(crate) fn open(rt: HostRuntime) -> Result<Network> {
         Ok(Network {
             rt,

@@ -21,6 +21,7 @@ pub(crate) struct Controls {
 }
 
 impl Controls {
+    /// Returns the controls as they are before the first line.
     pub(crate) fn new() -> Controls {
         Controls {
             state: Cell::new(WriterState::Open),
@@ -41,6 +42,7 @@ pub(crate) struct Taps<'a> {
 }
 
 impl<'a> Taps<'a> {
+    /// Returns the cases without a tapped wire.
     pub(crate) fn new(rt: HostRuntime, controls: &'a Controls) -> Taps<'a> {
         Taps {
             rt,
@@ -63,7 +65,7 @@ impl Actor for Taps<'_> {
     ///
     /// - `begin ID`: begins a new capture
     /// - `page room`, `page none`, `page fails`, `page takes COUNT`: its writer takes all from now on; a write would
-    ///   wait; it fails; it takes so many bytes at most
+    ///   wait; it fails; it takes at most COUNT bytes
     /// - `clock TIME`: the clock is at this time
     /// - all else is done by `act_on` and `act_on_files`
     fn act(&mut self, case: &mut Case) {

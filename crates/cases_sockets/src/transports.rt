@@ -28,6 +28,7 @@ pub(crate) struct Memory {
 }
 
 impl Memory {
+    /// Returns a transport at which these datagrams are to arrive.
     pub(crate) fn new(alloc: Global, coming: Vec<Datagram>) -> Memory {
         Memory {
             alloc,

@@ -25,6 +25,7 @@ pub(crate) struct MemoryWire<'a> {
 }
 
 impl<'a> MemoryWire<'a> {
+    /// Returns a wire that answers what `coming` has.
     pub(crate) fn new(rt: HostRuntime, coming: &'a RefCell<Coming>) -> MemoryWire<'a> {
         MemoryWire { rt, coming }
     }

@@ -21,6 +21,7 @@ pub(crate) fn place_in(case: &mut Case) -> Place {
     case.pick(&PLACES, Place::Link)
 }
 
+/// Returns the name of a place.
 pub(crate) fn name_of(place: Place) -> &'static str {
     match place {
         Place::Link => "link",

@@ -28,6 +28,7 @@ pub(crate) struct Printer<'a> {
 }
 
 impl<'a> Printer<'a> {
+    /// Returns a writer of this state.
     pub(crate) fn new(rt: HostRuntime, state: &'a Cell<WriterState>) -> Printer<'a> {
         Printer { rt, state }
     }
@@ -63,6 +64,7 @@ pub(crate) struct SetClock<'a> {
 }
 
 impl<'a> SetClock<'a> {
+    /// Returns a clock that shows this time.
     pub(crate) fn new(time: &'a Cell<u64>) -> SetClock<'a> {
         SetClock { time }
     }
