@@ -231,8 +231,8 @@ by_verdict s side bytes flow (Err reason) = by_refusal s side bytes flow reason
 abbrev pub flow_taken : GatewayAndOutput → Side → List ℕ → Flow → GatewayAndOutput
 flow_taken s side bytes flow = by_verdict s side bytes flow (plan_of s.shown side flow (length_in bytes))
 
--- The scene after an error's plan was carried out: with one frame, one request or one waiting packet more. No pair is
--- made, used, renewed or ended, nothing is noted, and nothing is pushed.
+-- The scene after an error's plan was carried out: the error is sent, or it waits and its next hop is asked for, or that
+-- hop is asked for again. No pair is made, used, renewed or ended, nothing is noted, and nothing is pushed.
 abbrev pub by_error_plan : GatewayAndOutput → Side → List ℕ → ErrorFlow → Plan → GatewayAndOutput
 by_error_plan s side bytes flow (Send by next) =
     renewed_behind
@@ -255,8 +255,8 @@ by_error_verdict s side bytes flow (Err reason) = s
 abbrev pub error_taken : GatewayAndOutput → Side → List ℕ → ErrorFlow → GatewayAndOutput
 error_taken s side bytes flow = by_error_verdict s side bytes flow (error_plan s.shown side flow (length_in bytes))
 
--- The scene after the plan for an Echo to the gateway was carried out: with its Reply, one request or one waiting
--- packet more. An Echo is no use of a pair.
+-- The scene after the plan for an Echo to the gateway was carried out: the Echo is answered, or it waits and the next hop
+-- of its answer is asked for, or that hop is asked for again. An Echo is no use of a pair.
 abbrev pub by_reply : GatewayAndOutput → Side → List ℕ → Ip → Reply → GatewayAndOutput
 by_reply s side bytes source (reply.Send next) =
     renewed_behind
