@@ -78,8 +78,8 @@ impl Trials {
     }
 }
 
-/// Starts, and returns the last number after it where the answer is right, else None. The answer is right where it is
-/// an error with trouble, and without a greater number, or that no number is left.
+/// Starts, and returns the last number afterwards, or None where the answer is wrong. With trouble an error is right,
+/// and without trouble a number above `last`; that no number is left is right in both.
 fn started(
     disk: &mut ModelDisk,
     torn: &[u8; 32],
