@@ -9,7 +9,7 @@ use std::net::Shutdown;
 use std::os::fd::AsRawFd;
 use std::os::unix::net::UnixStream;
 
-/// Prints what comes of the descriptor of a text, which isn't open.
+/// Reads a text as a service manager's descriptor, which isn't open, and prints its number, or `none`.
 pub(crate) fn read_manager(case: &mut Case) {
     match ServiceManager::read(case.word()) {
         Err(Fault::ManagerNotOpen(number)) => case.say("  descriptor ", number),
