@@ -57,11 +57,11 @@ past_owners : (os : List Run) (rs out : List MachineRecord) (n : ℕ) → nth (o
 past_owners [] rs out n = let e : 0 + n ≡ n = omega arith in ap (nth (rs ++ out)) e
 past_owners (o ∷ os) rs out n = let e : suc (length os) + n ≡ suc (length os + n) = omega arith in ap (nth (Owner o.first o.last ∷ (owners os rs ++ out))) e ∙ past_owners os rs out n
 
--- the record after Begin and the Owners taken so far
+-- the next record of the batch is the first of the rest after Begin and the Owners taken so far
 next_name : (front back : List Run) (ps : List Pair) (out : List MachineRecord) → nth (batch (front ++ back) ps ++ out) (suc (length front)) ≡ nth (owners back (puts ps ++ Done ∷ []) ++ out) 0
 next_name front back ps out = next_owner front back (puts ps ++ Done ∷ []) out
 
--- the record after Begin, the Owners, and the Puts taken so far
+-- the next record of the batch is the first of the rest after Begin, the Owners, and the Puts taken so far
 pub next_load : (os : List Run) (front back : List Pair) (out : List MachineRecord) → nth (batch os (front ++ back) ++ out) (suc (length os + length front)) ≡ nth ((puts back ++ Done ∷ []) ++ out) 0
 next_load os front back out = past_owners os (puts (front ++ back) ++ Done ∷ []) out (length front) ∙ next_put front back out
 
