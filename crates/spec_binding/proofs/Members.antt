@@ -85,7 +85,7 @@ distinct-falling h (suc k) le = (first h k le, distinct-falling (h - 1) k (omega
     first h zero le = refl
     first h (suc k) le = falling-below (h - 1) (suc k) h (omega (arith, le))
 
--- numbers as ports, and back
+-- ports made of numbers have these numbers
 pub numbers-back : (ps : List ℕ) → map (λ (p : Port). p.0) (map (λ p. (let q : Port = record { 0 = p } in q)) ps) ≡ ps
 numbers-back [] = refl
 numbers-back (p ∷ ps) = ap (λ z. p ∷ z) (numbers-back ps)
