@@ -555,7 +555,7 @@ released-asks frames s ended w =
     sides now Inside host t = t
     sides now Outside host t = t
 
--- a wait for a pair ends
+-- the other frames are as they should be where a wait for a pair ends
 pub pairs-ask : Frames → (s : GatewayAndOutput) (ended : Ended) → ((x : WaitsFor) → is_for_pair x ≡ false → ends ended x ≡ false) → Ask-on [] (λ w. ends ended w.wait) s (released s ended)
 pairs-ask frames s ended apart = λ w. record { asks = released-asks frames s ended w; hops = λ p hop. apart p.wait hop; waits = λ p n. refl }
 

@@ -75,7 +75,7 @@ wish-known Live p is = refl
 wish-known Closing p is = absurd (cc)
 wish-known Held p is = refl
 
--- the answer of a synced gateway to an endpoint's wish
+-- a synced gateway answers an endpoint's wish by the entry of the endpoint
 look-synced : (g : Shown) (flow : Flow) → is_synced g.ledger.book.stage ≡ true
     → look_for g flow ≡ (wish_by g.ledger.book (is_full g.link) (source_of flow) (entry_of g.ledger.book.entries (source_of flow))).answer
 look-synced g flow synced =
@@ -473,7 +473,7 @@ chooses-refuses g side bytes is w r look refuses =
     ∙ ap (λ (o : Result Direction Reason). outcome_by (and_then o (λ x. and_then (plan_on g flow x) (if_fits (fits_at g (exit_of x) length))))) is.goes
     ∙ ap (λ (o : Result Plan Reason). outcome_by (and_then o (if_fits (fits_at g (exit_of is.way) length)))) (needs-refuses g flow is.way w r is.needs look refuses)
 
--- the answer of a synced gateway to the wish of an endpoint without a pair
+-- a synced gateway answers the wish of an endpoint without a pair as unknown_wish says
 look-none : (g : Shown) (side : Side) (bytes : List ℕ) (is : NeedsPort g side bytes) → look_for g is.packet.flow ≡ (unknown_wish g.ledger.book (is_full g.link) (source_of is.packet.flow)).answer
 look-none g side bytes is =
     look-synced g is.packet.flow (synced-reads g side bytes (Packet is.packet) is.reads)

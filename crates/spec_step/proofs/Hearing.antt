@@ -42,7 +42,7 @@ alone-stays g g2 alone stays = λ t. at (alone (stays.lone t))
     at (inr closed) = inr (stays.closed ∙ closed)
 
 module _ (letters : List Letter) (words : List ℕ) where
-  -- a part in which no record is taken
+  -- a part in which no record is taken leaves as many taken as the link says
   pub arrives-by : (s s2 : GatewayAndOutput) (h : List Record) → Going letters words s s2 → Stands s.shown.ledger.book s.shown.link h → IsSound s.shown → IsAlone s.shown → Arrives letters words s s2 h
   arrives-by s s2 h going stands is alone =
       let x = going s.shown.link.taken h stands is in
@@ -181,7 +181,7 @@ module _ (reads : Reads) (s : GatewayAndOutput) (h : List Record) (bytes : List 
         alone = λ t. let none = not-alone l [] (is_lone done.shown.ledger.book.stage) (is_lone mid.shown.ledger.book.stage) second.stays.lone lone in let same : true ≡ false = sym t ∙ none in absurd (cc);
       }
 
-  -- a datagram of the session that there is
+  -- a datagram of the session that there is does so
   on : is_restart e d ≡ false → IsAlone s.shown → Arrives (l ∷ []) [] s (records_done after rs) h
   on same alone =
       let b = s.shown.ledger.book in
@@ -200,7 +200,7 @@ module _ (reads : Reads) (s : GatewayAndOutput) (h : List Record) (bytes : List 
       append-nothing [] = refl
       append-nothing (x ∷ xs) = ap (λ ys. x ∷ ys) (append-nothing xs)
 
-  -- a datagram of a greater boot
+  -- a datagram of a greater boot does so
   anew : is_restart e d ≡ true → Arrives (l ∷ []) [] s (records_done (reset after) rs) h
   anew greater =
       let g = after.shown in let b = g.ledger.book in

@@ -352,7 +352,7 @@ plugged-asks s Outside up = quiet-asks [] s (side_plugged s Outside up)
 
 -- ---- a frame
 
--- a frame that is refused as it is read
+-- a frame that is refused as it is read has only the other frames that it should have
 refused-others : Frames → (s : GatewayAndOutput) (side : Side) (bytes : List ℕ) (reason : Reason) → AreBytes bytes → IsFit s.shown
     → Sends-others (FrameOwes s.shown side (Err reason)) (packet_as side bytes (Err reason)) (frees_as s.shown side (Err reason)) s (refused s side side bytes reason)
 refused-others frames s side bytes reason are w = at reason
@@ -551,7 +551,7 @@ tick-others frames s now turned middle takes acts w =
 
 -- ---- an event's own parts
 
--- an event at which no packet is old
+-- an event at which no packet is old has only the other frames that it should have
 others-at : (s : GatewayAndOutput) (event : Event) (done : GatewayAndOutput) → ((w : HeldPacket) → is_old s.shown event w ≡ false) → Sends-others (Owes s.shown event) (packet_in s.shown event) (is_freed s event) s done → AreOthers s event done
 others-at s event done young x = record {
   frames = x.frames;
@@ -573,7 +573,7 @@ others-at s event done young x = record {
   of_hand = x.of_hand;
 }
 
--- an event that has the gateway send nothing by itself
+-- an event that has the gateway send nothing by itself has only requests for next hops
 asks-alone : (s : GatewayAndOutput) (event : Event) (done : GatewayAndOutput) → Owes s.shown event [] → IsFit s.shown → Asks (packet_in s.shown event) (is_freed s event) s done → Sends-others (Owes s.shown event) (packet_in s.shown event) (is_freed s event) s done
 asks-alone s event done owed w asks = others-then (Owes s.shown event) (packet_in s.shown event) (is_freed s event) [] s s done owed (gives-here s w) asks
 
@@ -651,7 +651,7 @@ end-others s Stop done x = others-end s Stop done (link_answered done) (answered
 end-others s (PeerOff n) done x = others-end s (PeerOff n) done (link_answered done) (answered-ends done) x
 end-others s (SideIs side up) done x = x
 
--- the other frames of a whole step
+-- a whole step has only the other frames that it should have
 pub step-others : Frames → (s : GatewayAndOutput) (event : Event) (s2 : GatewayAndOutput) → IsStepOn s event s2 → HasBytes event → IsBook s.shown.ledger.book → IsFit s.shown → AreOthers s event s2
 step-others frames s event s2 step has is w =
     subst (λ (x : GatewayAndOutput). AreOthers s event x) (sym step.sends) (end-others s event step.done (does-others frames s event step.done step.does has is w))

@@ -60,7 +60,7 @@ justly-then xs ys a b c x said y = λ is w.
     let mid = said is w in
     just-then xs ys a b c (x is w) (y mid.0.sound mid.0.wired)
 
--- a part that sends no frame of the gateway's own
+-- a part that sends no frame of the gateway's own adds none to those of the next part
 none-just : (own : List Sent) (s mid s2 : GatewayAndOutput) → Just s mid [] → Just mid s2 own → Just s s2 own
 none-just own s mid s2 first rest = just-then [] own s mid s2 first rest
 
@@ -269,7 +269,7 @@ end-frames Stop done = answered-frames done
 end-frames (PeerOff n) done = answered-frames done
 end-frames (SideIs side up) done = refl
 
--- the own frames of a whole step
+-- the own frames of a whole step are exactly those of its takings
 pub step-just : Frames → (s : GatewayAndOutput) (event : Event) (s2 : GatewayAndOutput) → IsStepOn s event s2 → HasBytes event → IsSound s.shown → IsSetUp s.shown → SaysJust s s2 (own_in s event)
 step-just frames s event s2 step has is w =
     let done = (does-just frames s event step.done step.does has is w).says in

@@ -80,7 +80,7 @@ module _ (letters : List Letter) (words : List ℕ) where
     stays = stays-then s.shown s2.shown s3.shown a.stays c.stays;
   }
 
-  -- a part that is no act of the machine
+  -- a part that is no act of the machine is a part of a step of the machine
   pub unseen : (s s2 : GatewayAndOutput) (n : ℕ) (h : List Record) → Stands s.shown.ledger.book s.shown.link h → IsBook s.shown.ledger.book
       → s2.shown.ledger.book ≡ s.shown.ledger.book → s2.shown.link ≡ s.shown.link → s2.told.notes ≡ s.told.notes → s2.told.datagrams ≡ s.told.datagrams → s2.shown.moment ≡ s.shown.moment
       → KeepsBytes s2.shown → Goes-on letters words s n s2 n h

@@ -67,7 +67,7 @@ pub by-join : (id : GatewayId) (now : ℕ) (ns ns2 : List Note) → AreBy id now
 by-join id now [] ns2 x y = y
 by-join id now (n ∷ ns) ns2 x y = (x.0, by-join id now ns ns2 x.1 y)
 
--- two parts, one after the other
+-- the ledger accounts for two parts, one after the other, where it does for each
 pub resting-then : (a b c : GatewayAndOutput) → Resting a b → Resting b c → Resting a c
 resting-then a b c x y = λ is.
     let one = x is in
@@ -85,7 +85,7 @@ resting-then a b c x y = λ is.
       sound = two.sound;
     }
 
--- a part that notes nothing and leaves the ledger as it is
+-- the ledger accounts for a part that notes nothing and leaves the ledger as it is
 pub resting-unseen : (s s2 : GatewayAndOutput) → s2.shown.ledger ≡ s.shown.ledger → s2.told.notes ≡ s.told.notes → s2.shown.moment ≡ s.shown.moment → (KeepsBytes s.shown → KeepsBytes s2.shown) → Resting s s2
 resting-unseen s s2 ledger notes moment kept = λ is. record {
   notes = [];
@@ -101,7 +101,7 @@ resting-unseen s s2 ledger notes moment kept = λ is. record {
 pub resting-nothing : (s : GatewayAndOutput) → Resting s s
 resting-nothing s = resting-unseen s s refl refl refl (λ k. k)
 
--- a part that changes the ledger and makes these notes
+-- the ledger accounts for a part that changes it and makes these notes, where it accounts for them
 pub resting-noted : (s : GatewayAndOutput) (l : Ledger) (e : Link) (notes : List Note) → AreBy (id_of s.shown) s.shown.moment notes → l.book.id ≡ id_of s.shown → (IsBook s.shown.ledger.book → IsBook l.book)
     → ((before : List Note) → IsBook s.shown.ledger.book → Accounts s.shown.moment s.shown.ledger before → Accounts s.shown.moment l (reverse notes ++ before))
     → Resting s (scene (record s.shown { ledger = l; link = e }) (with_notes s.told notes))
@@ -194,7 +194,7 @@ plan-rests s side bytes flow (WaitFor e) are formed fits =
     let one = wanted_by s e in
     resting-then s one _ (wanted-rests s e fits) (keeping-rests one side bytes (wait.Pair e) are)
 
--- a frame of the gateway's own
+-- the ledger accounts for what the gateway says itself, which notes nothing
 said-rests : (s : GatewayAndOutput) (side : Side) → Said (λ x. Resting s x) s side
 said-rests s Inside = λ frame tally hop.
     let one = said_scene s Inside frame tally in

@@ -336,7 +336,7 @@ load-roots b (rec.Owner first last) = at (b.begun && (none_yet b.entries && name
     at true = λ i now. same-rooted b.entries b.entries [] refl
     at false = λ i now. same-rooted b.entries b.entries [] refl
 
--- a record at any gateway
+-- a record at any gateway leads only to pairs that translated before or are taken up
 pub taken-roots : (b : Book) (rests : Bool) (r : Record) (i : GatewayId) (now : ℕ) → Rooted b.entries (taken_book b rests r).entries (retaken_pairs (noted_by i now (taken_what b rests r)))
 taken-roots b rests r i now = at (is_synced b.stage)
   where

@@ -291,7 +291,7 @@ pub complaint-own : Frames → (g : Shown) (side : Side) (bytes : List ℕ) (com
 complaint-own frames g side bytes complaint next are w there =
     frames.own.complaint g.networks side complaint next bytes w.0.0 w.0.1.placed (back-six g side (sender_in bytes) next w there) are
 
--- the frame of a packet, and the notes of its pairs
+-- what is told of a packet that is sent is true: its frame, and the notes of its pairs
 pub sending-tells : (s : GatewayAndOutput) (side : Side) (bytes : List ℕ) (flow : Flow) (flags : TcpFlags) (by : Translation) (frame : List ℕ)
     → IsSentBy (known_of s.shown) (at_hand side bytes) by (let x : Sent = record { side = exit_by by; bytes = frame } in x) → is_own_frame s.shown.networks (exit_by by) frame ≡ false → is_translation (exit_by by) frame ≡ true → AllTranslate s.shown.ledger.book by
     → Told (at_hand side bytes ∷ []) s (carried_all (framed s (exit_by by) frame) flow flags by)

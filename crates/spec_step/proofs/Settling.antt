@@ -80,7 +80,7 @@ Calming s s2 = IsCalm s.shown → IsCalm s2.shown
 calming-then : (a b c : GatewayAndOutput) → Calming a b → Calming b c → Calming a c
 calming-then a b c x y = λ is. y (x is)
 
--- a part that leaves the routers as they are, and whether they run
+-- a part that leaves the routers as they are, and whether they run, keeps a gateway settled
 calm-by : (g g2 : Shown) → is_running g2 ≡ is_running g → g2.inside.router.state ≡ g.inside.router.state → g2.outside.router.state ≡ g.outside.router.state → (IsKept g.kept → IsKept g2.kept) → IsCalm g → IsCalm g2
 calm-by g g2 runs inside outside kept is = record {
   running = λ r. let b = is.running (sym runs ∙ r) in (λ i. b.0 (sym inside ∙ i), λ o. b.1 (sym outside ∙ o));
@@ -123,7 +123,7 @@ keeping-calms s side bytes w place =
     calm-by s.shown (keeping s side bytes w).shown refl refl refl
     (λ k. kept-push s.shown.kept (waiting side bytes s.shown.moment w) k place)
 
--- a neighbour, or a next hop, is asked for
+-- a gateway stays settled where a neighbour, or a next hop, is asked for
 renewed-calms : (s : GatewayAndOutput) (exit : Side) (hop : Ip) → Calming s (renewed_behind s exit hop)
 renewed-calms s exit hop = at exit (asks_at hop.0 s.shown.moment (station_on s.shown exit).neighbours)
   where
@@ -139,7 +139,7 @@ again-calms s exit hop = at (asks_again s.shown.moment (wait.Hop exit hop) s.sho
     at true = calm-by s.shown (record s.shown { kept = with_asked s.shown.moment (wait.Hop exit hop) s.shown.kept }) refl refl refl (kept-asked s.shown.moment (wait.Hop exit hop) s.shown.kept)
     at false = nothing-calms s
 
--- a frame of the gateway's own
+-- a gateway stays settled where it says something itself
 said-calms : (s : GatewayAndOutput) (side : Side) → Said (λ x. Calming s x) s side
 said-calms s Inside = λ frame tally hop.
     let one = said_scene s Inside frame tally in
@@ -220,7 +220,7 @@ released-calms s ended =
 
 -- ---- interfaces
 
--- another interface, whose router is in Initialize exactly where the one before was
+-- a gateway stays settled with another interface, whose router is in Initialize exactly where the one before was
 station-calms : (g : Shown) (side : Side) (station : Interface) → ((station_on g side).router.state ≡ Initialize → station.router.state ≡ Initialize) → (station.router.state ≡ Initialize → (station_on g side).router.state ≡ Initialize)
     → IsCalm g → IsCalm (with_station g side station)
 station-calms g Inside station idle was is = record {
@@ -335,7 +335,7 @@ turn-calms s turned gives = λ is.
     (λ middle both. left-calms s middle both is) (λ starts up. back-calms s.shown starts up is) is
     (turn_of s.shown) gives
 
--- a change of a side's cable
+-- a gateway stays settled at a change of a side's cable
 plug-calms : (s : GatewayAndOutput) (side : Side) (up : Bool) → Calming s (side_plugged s side up)
 plug-calms s side up = station-calms s.shown side (with_plug (station_on s.shown side) up s.shown.moment) (λ idle. idle) (λ idle. idle)
 

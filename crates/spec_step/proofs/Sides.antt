@@ -23,7 +23,7 @@ use Rattle.spec_step.proofs.Turning.{back_as, turn-by}
 use Rattle.spec_step.proofs.Packets.{Reads, framed-goes, here, kept-filter, released-goes}
 
 module _ (letters : List Letter) (words : List ℕ) where
-  -- an interface changes
+  -- a change of an interface is no act of the machine
   station-goes : (s : GatewayAndOutput) (side : Side) (station : Interface) → Going letters words s (scene (with_station s.shown side station) s.told)
   station-goes s Inside station = going-unseen letters words s _ refl refl refl refl refl (λ k. k)
   station-goes s Outside station = going-unseen letters words s _ refl refl refl refl refl (λ k. k)

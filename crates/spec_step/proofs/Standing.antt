@@ -92,7 +92,7 @@ carried-all-stands s flow flags (Hairpin own other) = stands-by s (carried_all s
 keeping-stands : (s : GatewayAndOutput) (side : Side) (bytes : List ℕ) (w : WaitsFor) → Stands s (keeping s side bytes w)
 keeping-stands s side bytes w = stands-by s (keeping s side bytes w) refl refl
 
--- a neighbour, or a next hop, is asked for
+-- a router that has begun stays as it was where a neighbour, or a next hop, is asked for
 renewed-stands : (s : GatewayAndOutput) (exit : Side) (hop : Ip) → Stands s (renewed_behind s exit hop)
 renewed-stands s exit hop = at exit (asks_at hop.0 s.shown.moment (station_on s.shown exit).neighbours)
   where
@@ -108,7 +108,7 @@ again-stands s exit hop = at (asks_again s.shown.moment (wait.Hop exit hop) s.sh
     at true = record { inside = λ begun. refl; outside = λ begun. refl }
     at false = nothing-moves s
 
--- a frame of the gateway's own
+-- a router that has begun stays as it was where the gateway says something itself
 said-stands : (s : GatewayAndOutput) (side : Side) → Said (λ x. Stands s x) s side
 said-stands s Inside = λ frame tally hop.
     let one = said_scene s Inside frame tally in
@@ -197,7 +197,7 @@ after-router station p now = at (is_learnable station.network p)
     at true = refl
     at false = refl
 
--- another interface with the same router
+-- a router that has begun stays as it was where another interface has the same router
 station-stands : (s : GatewayAndOutput) (side : Side) (station : Interface) → station.router ≡ (station_on s.shown side).router → Stands s (scene (with_station s.shown side station) s.told)
 station-stands s Inside station same = record { inside = λ begun. same; outside = λ begun. refl }
 station-stands s Outside station same = record { inside = λ begun. refl; outside = λ begun. same }

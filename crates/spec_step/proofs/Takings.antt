@@ -103,7 +103,7 @@ room-made (wait.Hop exit host) kept = let m = at (nat_lt (hop_count kept) 64) (f
     at true first = ([], IsPermutation-refl (packets_of kept))
     at false first = first
 
--- a packet is kept
+-- what is told of a packet that is kept is true
 pub keeping-tells : (s : GatewayAndOutput) (side : Side) (bytes : List ℕ) (w : WaitsFor) → Told (at_hand side bytes ∷ []) s (keeping s side bytes w)
 keeping-tells s side bytes w =
     let view = λ (x : HeldPacket). at_hand x.side x.bytes in

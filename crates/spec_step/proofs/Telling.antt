@@ -127,7 +127,7 @@ own-append k (o ∷ os) ps x y = (x.0, own-append k os ps x.1 y)
 
 -- ---- parts
 
--- packets at hand that are dropped
+-- nothing false is told where packets at hand are dropped
 pub tells-nothing : (s : GatewayAndOutput) (hand : List AtHand) → Told hand s s
 tells-nothing s hand = record {
   all = record {
@@ -221,7 +221,7 @@ module _ (h h2 : List AtHand) (a b c : GatewayAndOutput) (same : known_of c.show
       ∙ ap (tallied c.shown.moment side y.all.own) (one ∙ ap (λ (n : ℕ). tallied n side x.all.own ta) (sym moment))
       ∙ sym (tallied-append c.shown.moment side x.all.own y.all.own ta)
 
-  -- two parts, one after the other
+  -- what is told of two parts, one after the other, is true of both together
   pub tells-then : Told (h ++ h2) a c
   tells-then = record {
     all = record {
@@ -249,7 +249,7 @@ module _ (h h2 : List AtHand) (a b c : GatewayAndOutput) (same : known_of c.show
     later = omega (arith, x.later, y.later);
   }
 
--- a part of which only these notes are told, and that leaves the packets that wait
+-- nothing false is told of a part that makes only these notes, which name no use, and leaves the packets that wait
 pub tells-quietly : (s s2 : GatewayAndOutput) (notes : List Note) → s2.told.frames ≡ s.told.frames → s2.told.notes ≡ s.told.notes ++ notes → used_pairs notes ≡ [] → s2.shown.kept ≡ s.shown.kept
     → ((p : Pair) → IsTranslated s2.shown.ledger.book.entries p → MayGoBy s.shown notes p) → SameSaid s.shown s2.shown → Told [] s s2
 tells-quietly s s2 notes frames noted none kept roots said = record {
@@ -278,12 +278,12 @@ tells-quietly s s2 notes frames noted none kept roots said = record {
   later = said.1.1;
 }
 
--- a part of which nothing is told, and that leaves the table
+-- nothing false is told of a part that sends and notes nothing, and leaves the table
 pub tells-unseen : (s s2 : GatewayAndOutput) → s2.told.frames ≡ s.told.frames → s2.told.notes ≡ s.told.notes → s2.shown.ledger.book.entries ≡ s.shown.ledger.book.entries → s2.shown.kept ≡ s.shown.kept → SameSaid s.shown s2.shown → Told [] s s2
 tells-unseen s s2 frames notes entries kept said =
     tells-quietly s s2 [] frames (notes ∙ sym (append-nil s.told.notes)) refl kept (same-rooted s.shown.ledger.book.entries s2.shown.ledger.book.entries [] entries) said
 
--- a frame of another kind is sent
+-- nothing false is told where a frame of another kind is sent
 pub framed-tells : (s : GatewayAndOutput) (side : Side) (bytes : List ℕ) → is_other s.shown.networks side bytes ≡ true → Told [] s (framed s side bytes)
 framed-tells s side bytes other =
     let none = other-none s.shown.networks side bytes other in

@@ -67,7 +67,7 @@ pair-is p e port a b c =
 -- ---- the pair of an endpoint whose packet is translated at once
 
 module _ (b : Book) (full : Bool) (e : Endpoint) (is : IsBook b) where
-  -- the pair of an endpoint that had one
+  -- packets are translated by the pair that an endpoint has already, where its entry translates
   known-owns : is_synced b.stage ≡ true → (x : Entry) → entry_of b.entries e ≡ Some x → (port : Port) → x.pair.key.port ≡ port → translates x.state ≡ true → Translates b (new_pair e port)
   known-owns synced x there port at live =
       let found = found-slot (serves e) b.entries x is.keys there in
@@ -90,7 +90,7 @@ module _ (b : Book) (full : Bool) (e : Endpoint) (is : IsBook b) where
   known-says synced x there p state.Closing pair st port says = absurd (cc)
   known-says synced x there p state.Held pair st port says = let one : p.key.port ≡ port = cc in known-owns synced x there port (ap (λ (q : Pair). q.key.port) pair ∙ one) (ap translates st)
 
-  -- the pair that is added for an endpoint
+  -- packets are translated by the pair that is added for an endpoint
   new-owns : is_synced b.stage ≡ true → (q port : Port) → port_for b e ≡ Some q → q ≡ port → Translates (after b (row (Add (entry_in state.Live (new_pair e q))) None (Some (Retaken (new_pair e q))))) (new_pair e port)
   new-owns synced q port chosen same =
       let fresh = chosen-says b e q chosen in

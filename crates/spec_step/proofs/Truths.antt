@@ -59,7 +59,7 @@ use Rattle.spec_step.proofs.Telling.{Told, at_hand, old-tells, tells-quietly, te
 use Rattle.spec_step.proofs.Unused.{idle-useless, restart-useless, retaken-useless, taken-useless}
 use Rattle.spec_step.specs.Others.{is_other}
 
--- a part that leaves what decides where packets go
+-- what is told of a part that leaves what decides where packets go is true
 pub speaks-of : (h : List AtHand) (s s2 : GatewayAndOutput) → Saying h s s2 → Speaks h s s2
 speaks-of h s s2 x = λ is w. (x is w).0
 
@@ -365,7 +365,7 @@ ticked-speaks s now = λ is w. record {
   wired = w;
 }
 
--- the turn of a tick
+-- nothing false is told at the turn of a tick
 turn-says : Frames → (s s2 : GatewayAndOutput) → GivingWay s s2 → Saying [] s s2
 turn-says frames s s2 takes =
     turn-by (λ x. Saying [] s x) s s2
@@ -392,7 +392,7 @@ turn-says frames s s2 takes =
       refl,
     )
 
--- a change of a side's cable
+-- nothing false is told at a change of a side's cable
 plugged-says : (s : GatewayAndOutput) (side : Side) (up : Bool) → Saying [] s (side_plugged s side up)
 plugged-says s Inside up = λ is w. (
   record { tells = tells-unseen s (side_plugged s Inside up) refl refl refl refl (refl, (refl, omega arith)); sound = record { book = is.book; kept = is.kept }; wired = (w.0, (record { own = w.1.0.own; known = w.1.0.known }, w.1.1)) },
