@@ -35,7 +35,7 @@ pub all-read : AreRead → (ds : List Datagram) → AllByRecursion IsWellFormed 
 all-read read [] are = refl
 all-read read (d ∷ ds) are = ap (λ (r : Result Datagram _). letter_in r ++ flat_map letters_read (map spelling ds)) (read d are.0) ∙ ap (λ ls. letter_of d ∷ ls) (all-read read ds are.1)
 
--- a gateway's mail after it sent more datagrams
+-- a gateway's mail after it sent more datagrams has their letters, too
 pub more-mail : AreRead → (sent more : List (List ℕ)) (ds : List Datagram) → more ≡ map spelling ds → AllByRecursion IsWellFormed ds → mail_of (sent ++ more) ≡ reverse (map letter_of ds) ++ mail_of sent
 more-mail read sent more ds is are =
     ap reverse (flat_map-append letters_read sent more ∙ ap (λ ls. flat_map letters_read sent ++ ls) (ap (flat_map letters_read) is ∙ all-read read ds are))

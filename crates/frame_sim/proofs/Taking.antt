@@ -78,7 +78,7 @@ pub hand-takes : {E : Type 0} (w : World) (i : GatewayId) (result : Result Outco
 hand-takes w i (Ok o) event told told2 h2 trace2 s = takes-so w i (gateway_at w i) event told o told2 h2 trace2 s
 hand-takes w i (Err e) event told told2 h2 trace2 s = tt
 
--- the answer to a datagram that the other sent, or to a number without one
+-- the answer to a datagram that the other sent, or to a number without one, is as Answers says
 pub receive-answers : (w : World) (i : GatewayId) (result : Result Outcome WorldFault) (number : ℕ) (told told2 : Output) (h2 : Half) (trace2 : List Note)
     → IfOk result (λ o. Receives (half w i) (half w (other i)) number w.trace told o told2 h2 trace2)
     → IfErr result (λ fault. fault ≡ fault_of (unless (is_some (kth number (half w (other i)).sent)) NoSuchDatagram))
